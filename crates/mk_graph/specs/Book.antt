@@ -1,0 +1,38 @@
+-- The book of rules: the entries of a makefile, in their order. All else is read off this list.
+use Rattle.std.specs.Prelude.{◌&&◌, ◌||◌, Bool, not, List, [], ◌∷◌, Option, filter, find, ◌==◌, nat_eq}
+use Rattle.std.specs.List.{flat_map, list_any, starts_with}
+use Rattle.mk_text.specs.Names.{Name, same_name, has, firsts}
+
+-- an entry: its targets, each once, its prerequisites, and whether it has commands
+pub record Entry : Type 0 where
+  pub targets : List Name
+  pub prerequisites : List Name
+  pub has_commands : Bool
+
+-- the entry is a target rule of the name
+abbrev pub names_target : Name → Entry → Bool
+names_target t e = has same_name e.targets t
+
+-- all targets, each where it first stands
+abbrev pub targets_of : List Entry → List Name
+targets_of entries = firsts same_name (flat_map (λ e. e.targets) entries)
+
+-- the prerequisites of a name: those of all its target rules joined, each where it first stands
+abbrev pub prerequisites_of : List Entry → Name → List Name
+prerequisites_of entries t = firsts same_name (flat_map (λ e. e.prerequisites) (filter (names_target t) entries))
+
+-- a target rule names it
+abbrev pub is_target : List Entry → Name → Bool
+is_target entries t = list_any (names_target t) entries
+
+-- a target rule of it has commands
+abbrev pub has_recipe : List Entry → Name → Bool
+has_recipe entries t = list_any (λ e. names_target t e && e.has_commands) entries
+
+-- the name may be the default goal: it does not begin with a period, or holds a slash
+abbrev pub may_be_goal : Name → Bool
+may_be_goal t = not (starts_with nat_eq t (46 ∷ [])) || list_any (λ b. b == 47) t
+
+-- the first target that may be it
+abbrev pub default_goal : List Entry → Option Name
+default_goal entries = find may_be_goal (targets_of entries)

@@ -1,0 +1,4 @@
+//! The rules of a makefile, and the graph that they make: who makes each name, and the serial order.
+#![tactic(auto)]
+
+pub mod maker;

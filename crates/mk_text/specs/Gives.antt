@@ -1,0 +1,15 @@
+-- What a call says that gives a value, a fault or want of memory.
+use Rattle.std.specs.Prelude.{◌≡◌, Result, Ok, Err}
+use Rattle.mk_text.specs.Told.{Told}
+use Rattle.mk_text.specs.declared.fault.Halt.{Halt}
+use Rattle.mk_text.specs.declared.fault.Halt.TheVariants as halts
+
+-- want of memory may come in place of any answer; a fault is the answer's own
+abbrev pub Halts : {Y : Type 0} → Halt → Result Y Told → Type 0
+Halts halts.Memory answer = Unit {0}
+Halts (halts.Fault fault) answer = answer ≡ Err fault
+
+-- a call gives this value or this fault, unless memory ran out
+abbrev pub Gives : {Y : Type 0} → Result Y Halt → Result Y Told → Type 0
+Gives (Ok value) answer = answer ≡ Ok value
+Gives (Err halt) answer = Halts halt answer
