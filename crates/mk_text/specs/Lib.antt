@@ -1,3 +1,4 @@
 pub mod Gives
 pub mod Names
+pub mod Spelling
 pub mod Told

@@ -1,9 +1,9 @@
 //! Faults: what is wrong with an input, and where.
-ghost use Rattle.std.specs.Prelude.{◌≡◌};
+ghost use Rattle.std.specs.Prelude.{◌≡◌, [], ◌∷◌, IfOk};
 ghost use Rattle.mk_text.specs.declared.fault.Halt.TheVariants.{Memory};
 
 use crate::name::Name;
-use std::alloc::{AllocError, AllocFailed};
+use std::alloc::{AllocError, AllocFailed, Global};
 use std::marker::Model;
 
 /// The text, or the stage, that a fault is in.
@@ -88,6 +88,20 @@ impl Fault {
             place,
             names,
         }
+    }
+
+    /// The fault of a text that spells no name: `BadName` at place 0, which tells the text.
+    /// The only error is want of memory.
+    pub fn bad_name(alloc: Global, source: Source, text: &[u8]) -> Result<Fault, AllocError>
+        ensures { IfOk result (λ fault. fault ≡ record { kind = Kind.BadName; source = source; place = 0; names = text.now ∷ [] }) }
+    {
+        let name = Name::from_bytes(Vec::from_slice(alloc, text)?);
+        Ok(Fault {
+            kind: Kind::BadName,
+            source,
+            place: 0,
+            names: vec![in alloc; name]?,
+        })
     }
 
     /// The same fault in another source, at another place.

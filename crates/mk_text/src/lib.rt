@@ -1,5 +1,9 @@
 //! What every other crate speaks of: names of files, faults, devices, the listing and logical lines.
 #![tactic(auto)]
 
+mod components;
 pub mod fault;
+mod limits;
 pub mod name;
+pub mod root;
+pub mod spelling;
