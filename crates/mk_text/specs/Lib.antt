@@ -1,4 +1,5 @@
 pub mod Gives
 pub mod Names
+pub mod Shown
 pub mod Spelling
 pub mod Told

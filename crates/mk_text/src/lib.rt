@@ -5,5 +5,6 @@ mod components;
 pub mod fault;
 mod limits;
 pub mod name;
+pub mod report;
 pub mod root;
 pub mod spelling;
