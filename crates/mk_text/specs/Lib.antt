@@ -1,3 +1,4 @@
+pub mod Device
 pub mod Gives
 pub mod Names
 pub mod Shown

@@ -8,3 +8,8 @@ pub mod name;
 pub mod report;
 pub mod root;
 pub mod spelling;
+pub mod device;
+pub mod fault;
+pub mod feed;
+pub mod name;
+pub mod spout;
