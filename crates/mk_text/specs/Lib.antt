@@ -1,3 +1,5 @@
 pub mod Gives
+pub mod LogicalLine
 pub mod Names
+pub mod Pieces
 pub mod Told
