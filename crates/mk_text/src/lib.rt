@@ -4,6 +4,7 @@
 mod components;
 pub mod fault;
 mod limits;
+pub mod line;
 pub mod name;
 pub mod report;
 pub mod root;
