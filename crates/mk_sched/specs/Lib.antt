@@ -1,0 +1,4 @@
+pub mod Stores
+pub mod Events
+pub mod Runs
+pub mod Laws
