@@ -1,4 +1,4 @@
-pub mod Stores
 pub mod Events
-pub mod Runs
 pub mod Laws
+pub mod Runs
+pub mod Stores

@@ -2,7 +2,7 @@ pub mod Device
 pub mod Gives
 pub mod LogicalLine
 pub mod Names
+pub mod Pieces
 pub mod Shown
 pub mod Spelling
-pub mod Pieces
 pub mod Told

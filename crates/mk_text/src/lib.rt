@@ -2,15 +2,13 @@
 #![tactic(auto)]
 
 mod components;
+pub mod device;
 pub mod fault;
+pub mod feed;
 mod limits;
 pub mod line;
 pub mod name;
 pub mod report;
 pub mod root;
 pub mod spelling;
-pub mod device;
-pub mod fault;
-pub mod feed;
-pub mod name;
 pub mod spout;
