@@ -1,3 +1,4 @@
 pub mod Joins
+pub mod ListingLines
 pub mod Visible
 mod Written
