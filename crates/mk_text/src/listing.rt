@@ -1,7 +1,7 @@
 //! The listing: the files that exist, one path a line.
 ghost use Rattle.std.specs.Prelude.{◌≡◌, ◌<◌, ◌∷◌, [], List, ℕ, Ok, OnOk, IfErr, MatchOption, IfSome, length};
 ghost use Rattle.mk_text.specs.Gives.{Gives, Halts};
-ghost use Rattle.mk_text.specs.Listing.{listing_of, line_names, lines, with_names};
+ghost use Rattle.mk_text.specs.Listing.{in_order, listing_of, line_names, lines, with_names};
 ghost use Rattle.mk_text.specs.Names.{has, same_name};
 
 use crate::fault::{Halt, Source};
@@ -86,3 +86,8 @@ fn add_line(
         Err(Halt::Memory) => Err(Halt::Memory),
     }
 }
+
+/// The order of names and the repeats among them change nothing: the same names are listed.
+pub fn listed_in_any_order()
+    ensures { (names : List (List ℕ)) (name : List ℕ) → has same_name (in_order names) name ≡ has same_name names name }
+{}
