@@ -37,7 +37,7 @@ impl Name {
     pub fn as_bytes(&self) -> &[u8]
         ensures { result.now ≡ self.now }
     {
-        self.bytes.as_slice()
+        &self.bytes
     }
 
     /// The name with its first `cut` bytes, or all where it has fewer, and then the tail.
