@@ -1,5 +1,11 @@
+pub mod Blocks
 pub mod Gives
+pub mod GivesLines
 pub mod LogicalLine
+pub mod LogicalLines
 pub mod Names
+pub mod Outside
 pub mod Pieces
+pub mod PlainLines
+pub mod Slices
 pub mod Told

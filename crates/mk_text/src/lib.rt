@@ -3,4 +3,5 @@
 
 pub mod fault;
 pub mod line;
+pub mod lines;
 pub mod name;

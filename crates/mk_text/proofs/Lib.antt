@@ -1,0 +1,6 @@
+mod Places
+mod PlainText
+mod Searches
+mod Stand
+mod Steps
+mod Words
