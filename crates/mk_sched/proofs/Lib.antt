@@ -1,2 +1,4 @@
 pub mod Basics
 pub mod OneRun
+pub mod TwoRuns
+pub mod Determinate
