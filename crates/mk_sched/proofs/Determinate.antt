@@ -4,14 +4,14 @@ use mathlib.Core.List.{reverse_aux, reverse_aux-eq}
 use Rattle.std.proofs.lemmas.List.{reverse-reverse}
 use Rattle.mk_text.specs.Names.{Name}
 use Rattle.mk_foot.specs.Jobs.{Jobs, IsValid, IsRaceFree, Before, node_count, has_recipe}
-use Rattle.mk_foot.proofs.JobsLemmas.{before_less, writer_live, live_node}
+use Rattle.mk_foot.proofs.JobsLemmas.{before_less}
 use Rattle.mk_sched.specs.Stores.{Bytes, Store, bytes_of}
 use Rattle.mk_sched.specs.Events.{Act, Skip, Start, Look, Put, Erase, Finish, Event, Entry, Looked, Wrote, entries, is_started, phase, acts_of, history, store_after}
 use Rattle.mk_sched.specs.Runs.{AlikeSteps, Agree, IsRun, IsComplete, RecipesAgree}
 use Rattle.mk_sched.specs.Laws.{SameOutcome, Headline}
 use Rattle.mk_sched.proofs.Basics.{split, is_begun, passed_begun}
-use Rattle.mk_sched.proofs.OneRun.{chain_passed, wrote, decided, moment, unstarted_empty}
-use Rattle.mk_sched.proofs.TwoRuns.{same_bytes, look_alike, stale_alike}
+use Rattle.mk_sched.proofs.OneRun.{chain_passed, decided, moment, unstarted_empty}
+use Rattle.mk_sched.proofs.TwoRuns.{same_files, look_alike, stale_alike}
 
 -- a look in a history is an act
 abbrev IsLookAmong : List Act → Name → Option Bytes → List Entry → Type 0
@@ -110,9 +110,7 @@ module _ (jobs : Jobs) (opening : Store) (tie : Bool) (limit other : ℕ) (valid
     same_outcome = record {
       starts = λ n inside. start_alike n inside (λ m smaller. all_alike m (omega arith));
       histories = all_alike;
-      files = λ x. same_bytes jobs opening tie tie limit other a b x valid free run_a run_b
-          (λ m c some. all_alike m (live_node jobs m (writer_live jobs m x (wrote jobs tie limit opening a m x c run_a some).0)))
-          (λ m c some. all_alike m (live_node jobs m (writer_live jobs m x (wrote jobs tie other opening b m x c run_b some).0)));
+      files = λ x. same_files jobs opening tie tie limit other a b x valid free run_a run_b all_alike;
     }
 
 pub headline : Headline

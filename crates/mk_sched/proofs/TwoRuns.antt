@@ -3,12 +3,12 @@ use Rattle.std.proofs.Common.{ℕ, ◌≡◌, ◌<◌, ◌==◌, ◌⊎◌, inl,
 use Rattle.std.proofs.lemmas.Bool.{or_left}
 use Rattle.mk_text.specs.Names.{Name}
 use Rattle.mk_foot.specs.Jobs.{Jobs, IsValid, IsRaceFree, IsPrerequisite, Before, node_count, name_of, prerequisites_of, is_phony, may_read}
-use Rattle.mk_foot.proofs.JobsLemmas.{before_less}
+use Rattle.mk_foot.proofs.JobsLemmas.{before_less, writer_live, live_node}
 use Rattle.mk_sched.specs.Stores.{Bytes, File, Store, bytes_of, outdates, is_stale}
 use Rattle.mk_sched.specs.Events.{Event, Running, is_passed, is_started, phase, history, store_after}
 use Rattle.mk_sched.specs.Runs.{IsRun}
 use Rattle.mk_sched.proofs.Basics.{list_any-alike, last_of, LeftBy}
-use Rattle.mk_sched.proofs.OneRun.{own_file, own_last, IsLater, after_writers, Touched, last_write}
+use Rattle.mk_sched.proofs.OneRun.{own_file, own_last, IsLater, after_writers, wrote, Touched, last_write}
 
 -- no two nodes are before one another
 pub before_once : {jobs : Jobs} {a b : ℕ} → IsValid jobs → Before jobs a b → Before jobs b a → ⊥
@@ -61,6 +61,13 @@ module _ (jobs : Jobs) (opening : Store) (tie other_tie : Bool) (limit other : �
           | inr tb ↦ same_touched a b x valid ta tb (in_a ta.writer _ ta.left) (in_b tb.writer _ tb.left)
         ]
       ]
+
+  -- every name holds the same in two runs in which every node did the same
+  pub same_files : (a b : List Event) (x : Name) → IsValid jobs → IsRaceFree jobs → IsRun jobs tie limit opening a → IsRun jobs other_tie other opening b
+      → ((m : ℕ) → m < node_count jobs → history a m ≡ history b m) → bytes_of (store_after opening a x) ≡ bytes_of (store_after opening b x)
+  same_files a b x valid free run_a run_b same = same_bytes a b x valid free run_a run_b
+      (λ m c some. same m (live_node jobs m (writer_live jobs m x (wrote jobs tie limit opening a m x c run_a some).0)))
+      (λ m c some. same m (live_node jobs m (writer_live jobs m x (wrote jobs other_tie other opening b m x c run_b some).0)))
 
   -- a running node reads the same in two runs, if it and all nodes before it did the same in both
   pub look_alike : (a b : List Event) (n : ℕ) (x : Name) → IsValid jobs → IsRaceFree jobs → IsRun jobs tie limit opening a → IsRun jobs other_tie other opening b

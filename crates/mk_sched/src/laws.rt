@@ -1,5 +1,6 @@
 //! Laws of runs. Each function's contract is a law, and its body is empty.
 ghost use Rattle.mk_sched.specs.Laws.{OwnFile, StaleAlike, LookAlike, Headline};
+ghost use Rattle.mk_sched.specs.Serial.{Serialised};
 
 /// Until a node starts, its own file is as at the opening.
 pub fn own_file()
@@ -19,4 +20,9 @@ pub fn look_alike()
 /// Valid jobs that are race-free are determinate.
 pub fn headline()
     ensures { Headline }
+{}
+
+/// The serial list of a complete run is a complete serial run with the same outcome.
+pub fn serialised()
+    ensures { Serialised }
 {}
