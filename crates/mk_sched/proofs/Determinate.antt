@@ -1,12 +1,12 @@
 -- The headline: race-free jobs are determinate. By the numbers of the nodes, and for each node along its two histories.
-use Rattle.std.proofs.Common.{ℕ, zero, suc, ◌≡◌, ◌<◌, ◌&&◌, inl, inr, Bool, true, false, List, [], ◌∷◌, ◌++◌, Option, Some, None, refl, sym, ap, ◌∙◌, reverse, arith}
+use Rattle.std.proofs.Common.{ℕ, zero, suc, ◌≡◌, ◌<◌, ◌&&◌, Bool, List, [], ◌∷◌, ◌++◌, Option, refl, sym, ap, ◌∙◌, reverse, arith}
 use mathlib.Core.List.{reverse_aux, reverse_aux-eq}
 use Rattle.std.proofs.lemmas.List.{reverse-reverse}
 use Rattle.mk_text.specs.Names.{Name}
 use Rattle.mk_foot.specs.Jobs.{Jobs, IsValid, IsRaceFree, Before, node_count, has_recipe}
 use Rattle.mk_foot.proofs.JobsLemmas.{before_less}
-use Rattle.mk_sched.specs.Stores.{Bytes, Store, bytes_of}
-use Rattle.mk_sched.specs.Events.{Act, Skip, Start, Look, Put, Erase, Finish, Event, Entry, Looked, Wrote, entries, is_started, phase, acts_of, history, store_after}
+use Rattle.mk_sched.specs.Stores.{Bytes, Store}
+use Rattle.mk_sched.specs.Events.{Act, Skip, Start, Look, Put, Erase, Finish, Event, Entry, Looked, Wrote, entries, is_started, phase, acts_of, history}
 use Rattle.mk_sched.specs.Runs.{AlikeSteps, Agree, IsRun, IsComplete, RecipesAgree}
 use Rattle.mk_sched.specs.Laws.{SameOutcome, Headline}
 use Rattle.mk_sched.proofs.Basics.{split, is_begun, passed_begun}

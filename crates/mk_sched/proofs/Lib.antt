@@ -3,3 +3,7 @@ pub mod OneRun
 pub mod TwoRuns
 pub mod Determinate
 pub mod InOrder
+pub mod ByTable
+pub mod Moving
+pub mod Plainly
+pub mod Surely

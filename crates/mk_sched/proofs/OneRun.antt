@@ -1,11 +1,11 @@
 -- Facts about one run: what has passed is final, whose file a node's name is, who wrote a name last, and the moment at which
 -- each act was allowed.
-use Rattle.std.proofs.Common.{ℕ, ◌≡◌, ◌≢◌, ◌<◌, ◌==◌, ◌⊎◌, inl, inr, Bool, true, false, List, [], ◌∷◌, ◌++◌, Option, Some, None, refl, sym, ap, ◌∙◌, subst, if◌then◌else◌, eqb-true, eq-eqb, ne_eqb, ◌||◌}
+use Rattle.std.proofs.Common.{ℕ, ◌≡◌, ◌<◌, ◌==◌, ◌⊎◌, inl, inr, Bool, true, false, List, [], ◌∷◌, ◌++◌, Option, Some, None, refl, sym, ap, ◌∙◌, subst, eqb-true, eq-eqb}
 use Rattle.std.proofs.lemmas.Bool.{false≢true, cases_eq, or_left, or_right, false_from_ne_true}
 use Rattle.mk_text.specs.Names.{Name, same_name}
-use Rattle.mk_foot.specs.Jobs.{Jobs, IsValid, IsRaceFree, IsPrerequisite, Before, edge, further, Clash, node_count, name_of, may_read, may_write, may_touch}
+use Rattle.mk_foot.specs.Jobs.{Jobs, IsValid, IsRaceFree, IsPrerequisite, Before, edge, further, node_count, name_of, may_write, may_touch}
 use Rattle.mk_sched.specs.Stores.{Bytes, File, Store, bytes_of, must_run}
-use Rattle.mk_sched.specs.Events.{Act, Skip, Start, Look, Put, Erase, Finish, Event, Phase, Waiting, Running, Skipped, Ran, Entry, Looked, Wrote, entries, written, is_passed, is_started, acts_of, phase, phase_after, history, store_after}
+use Rattle.mk_sched.specs.Events.{Act, Skip, Start, Look, Put, Erase, Finish, Event, Running, entries, is_passed, is_started, acts_of, phase, phase_after, history, store_after}
 use Rattle.mk_sched.specs.Runs.{May, IsRun, IsReady}
 use Rattle.mk_sched.proofs.Basics.{split, split_option, same_name-true, is_begun, passed_begun, touch, last_of, written-untouched, last_of-untouched, last_of-touched, bytes_of-touched, LeftBy, LeftBy-weaker, LeftBy-act}
 

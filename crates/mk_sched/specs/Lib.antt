@@ -3,3 +3,8 @@ pub mod Events
 pub mod Runs
 pub mod Laws
 pub mod Serial
+pub mod Table
+pub mod InTime
+pub mod Counter
+pub mod Plain
+pub mod Sure
