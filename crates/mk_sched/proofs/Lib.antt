@@ -7,3 +7,4 @@ pub mod ByTable
 pub mod Moving
 pub mod Plainly
 pub mod Surely
+pub mod Computed

@@ -8,3 +8,5 @@ pub mod InTime
 pub mod Counter
 pub mod Plain
 pub mod Sure
+pub mod MissingHeader
+pub mod SmallCases
