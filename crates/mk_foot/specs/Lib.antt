@@ -1,3 +1,3 @@
 pub mod Jobs
-pub mod Shape
 pub mod Laws
+pub mod Shape

@@ -1,5 +1,5 @@
--- Allowed events as the format of logs tells them: a state of a store, a set of passed nodes and a set of running nodes, and
--- a table of what each event asks and changes.
+-- Allowed events as the format of logs tells them: a state, which is a store and two sets of nodes, and a table of what each
+-- event asks of it and changes.
 use Rattle.std.specs.Prelude.{ℕ, ◌≡◌, ◌<◌, ◌⊎◌, ◌==◌, ◌↔◌, Bool, true, false, List, [], ◌∷◌, reverse, Some, None, if◌then◌else◌}
 use Rattle.mk_text.specs.Names.{Name, same_name}
 use Rattle.mk_foot.specs.Jobs.{Jobs, IsPrerequisite, node_count, has_recipe, may_read, may_write}
