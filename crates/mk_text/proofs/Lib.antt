@@ -1,6 +1,7 @@
 pub mod Joins
 pub mod ListingLines
 pub mod Ordered
+pub mod Plain
 pub mod Reduced
 pub mod Visible
 mod Written
