@@ -2,6 +2,7 @@ pub mod Joins
 pub mod ListingLines
 pub mod Ordered
 mod Places
+pub mod Plain
 mod PlainText
 pub mod Reduced
 mod Searches
