@@ -1,3 +1,4 @@
+mod Agree
 mod Places
 mod PlainText
 mod Searches
