@@ -224,16 +224,17 @@ pub fn plain_answers_stand()
     ensures { (text : List ℕ) → PlainAnswer text }
 {}
 
-/// The logical lines of a makefile's text, in their order (POSIX.1-2024 XCU make, "Makefile Syntax"). The pieces of the
-/// lines are slices of the text, one behind another.
+/// The logical lines of a makefile's text, in their order (POSIX.1-2024 XCU make, "Makefile
+/// Syntax"). The pieces of the lines are slices of the text, one behind another.
 ///
-/// Today only plain texts have lines: a line that begins with a tab and is not blank may not end in a backslash, any other
-/// may not hold `$`, `#` or a backslash, and none may be an assignment.
+/// Today only plain texts have lines: a line that begins with a tab and is not blank may not end in
+/// a backslash, any other may not hold `$`, `#` or a backslash, and none may be an assignment.
 ///
-/// Errors: a text of more than [`TEXT_LIMIT`] bytes is `TextTooLarge` at line 0. Else the first line that is not plain, or
-/// is wrong by itself, is answered, in the source `Makefile` and without names: `NotYet` where it is not plain; `NoColon`
-/// without a sign; `DoubleColon`; `Include` for an include line; `StrayRecipe` for a command line with no entry above it
-/// (profile: neither an empty line nor a comment ends an entry). Want of memory may come in place of any answer.
+/// Errors, in the source `Makefile` and without names: a text of more than [`TEXT_LIMIT`] bytes is
+/// `TextTooLarge` at line 0. Else the first line that is wrong is answered: `NotYet` where it is not
+/// plain; `NoColon` without a sign; `DoubleColon`; `Include` for an include line; `StrayRecipe` for
+/// a command line with no entry above it (profile: neither an empty line nor a comment ends one).
+/// Want of memory may come in place of any answer.
 pub fn lines<'a>(alloc: Global, text: &'a [u8]) -> Result<Vec<Line<'a>>, Halt>
     ensures lines { GivesLines result (plain_lines text.now) }
     ensures slices { IfOk result (λ lines. StandIn text.now (flat_map (λ line. line.pieces) lines.items)) }
