@@ -1,17 +1,15 @@
 -- Where everything is plain, the answer is that of the definition.
-use Rattle.std.proofs.Common.{◌≡◌, ℕ, ◌+◌, ◌-◌, ◌<◌, Bool, true, false, not, cond, List, [], ◌∷◌, Option, Some, None, Result, Ok, Err, length, get_or, nat_lt, ◌==◌, ◌||◌, arith, refl, sym, ap, subst, ◌∙◌, ◌⊎◌, inl, inr, ⊎_elim}
-use Rattle.std.specs.List.{list_any}
-use Rattle.std.proofs.lemmas.Bool.{cases_Bool, cases_lt, cond-true, cond-false, not-true, ne_eqb}
+use Rattle.std.proofs.Common.{◌≡◌, ℕ, ◌+◌, Bool, true, false, List, [], ◌∷◌, Option, Some, None, Result, Ok, Err, length, nat_lt, refl, sym, ap, ◌∙◌, ◌⊎◌, inl, inr, ⊎_elim}
+use Rattle.std.proofs.lemmas.Bool.{cases_Bool, cond-true, cond-false}
 use Rattle.mk_text.specs.Told.{Told}
 use Rattle.mk_text.specs.declared.fault.Kind.{Kind}
 use Rattle.mk_text.specs.declared.fault.Kind.TheVariants.{BadAssignment, NotYet, TextTooLarge}
 use Rattle.mk_text.specs.declared.line.LineKind.{LineKind}
 use Rattle.mk_text.specs.declared.line.LineKind.TheVariants.{Assign, Entry, Recipe}
 use Rattle.mk_text.specs.LogicalLine.{LogicalLine}
-use Rattle.mk_text.specs.Blocks.{tab, backslash, ends_in_backslash, blocks_of, physical_lines}
-use Rattle.mk_text.specs.LogicalLines.{sort_of, opens, with_block, fault_at, lines_of, logical_lines, text_limit}
-use Rattle.mk_text.specs.PlainLines.{is_plain, PlainAnswer, without_assignment, plain_sort, plain_lines_of, plain_lines}
-use Rattle.mk_text.proofs.Searches.{none_at}
+use Rattle.mk_text.specs.Blocks.{ends_in_backslash, blocks_of, physical_lines}
+use Rattle.mk_text.specs.LogicalLines.{sort_of, opens, with_block, fault_at, lines_of, text_limit}
+use Rattle.mk_text.specs.PlainLines.{is_plain, PlainAnswer, without_assignment, plain_sort, plain_lines_of}
 use Rattle.mk_text.proofs.PlainText.{no_backslash}
 
 sort_cases : (sort : Result (Option LineKind) Kind) → (without_assignment sort ≡ Err NotYet) ⊎ (without_assignment sort ≡ sort)

@@ -1,5 +1,5 @@
 -- What the definition of logical lines says of a text without dollar signs.
-use Rattle.std.proofs.Common.{◌≡◌, ℕ, zero, suc, ◌+◌, ◌-◌, ◌<◌, ◌≤◌, Bool, true, false, not, cond, List, [], ◌∷◌, Option, Some, None, Result, Ok, Err, length, get_or, take, drop, arith, refl, sym, ap, ◌∙◌, ◌==◌, ◌||◌, ⊎_elim}
+use Rattle.std.proofs.Common.{◌≡◌, ℕ, zero, suc, ◌+◌, ◌-◌, Bool, true, false, not, cond, List, [], ◌∷◌, Option, Some, Result, Ok, Err, length, get_or, drop, arith, refl, sym, ap, ◌∙◌, ◌==◌, ◌||◌, ⊎_elim}
 use Rattle.std.specs.List.{list_any, join_with_byte}
 use Rattle.std.proofs.lemmas.Bool.{cases_Bool, or_parts, or_from, not-true, cond-true, cond-false}
 use Rattle.mk_text.specs.declared.fault.Kind.{Kind}
@@ -7,10 +7,10 @@ use Rattle.mk_text.specs.declared.fault.Kind.TheVariants.{BadAssignment, NotYet}
 use Rattle.mk_text.specs.declared.line.Operator.{Operator}
 use Rattle.mk_text.specs.declared.line.Operator.TheVariants.{Delayed, Append, Conditional}
 use Rattle.mk_text.specs.declared.line.LineKind.{LineKind}
-use Rattle.mk_text.specs.declared.line.LineKind.TheVariants.{Assign, Entry, Recipe}
+use Rattle.mk_text.specs.declared.line.LineKind.TheVariants.{Assign}
 use Rattle.mk_text.specs.Blocks.{tab, space, backslash, are_blanks, ends_in_backslash}
 use Rattle.mk_text.specs.Outside.{dollar, place_outside}
-use Rattle.mk_text.specs.LogicalLines.{number_sign, colon, equals, pieces_of, sort_of_command, is_include, assignment, at_equals, at_colon, by_sign, sort_of_text}
+use Rattle.mk_text.specs.LogicalLines.{number_sign, colon, equals, pieces_of, is_include, assignment, at_equals, at_colon, by_sign, sort_of_text}
 use Rattle.mk_text.specs.PlainLines.{is_plain, without_assignment, plain_sort}
 use Rattle.mk_text.proofs.Searches.{none_at}
 
