@@ -1,3 +1,4 @@
+mod Agree
 pub mod Joins
 pub mod ListingLines
 pub mod Ordered

@@ -1,14 +1,12 @@
 -- The first byte outside of references, by a search of bytes.
-use Rattle.std.proofs.Common.{◌≡◌, ℕ, zero, suc, ◌+◌, ◌-◌, ◌<◌, ◌≤◌, Bool, true, false, List, [], ◌∷◌, Option, Some, None, length, get_or, take, drop, arith, refl, sym, ap, ◌∙◌, ◌==◌}
-use Rattle.std.specs.Option.{is_some, option_map}
+use Rattle.std.proofs.Common.{◌≡◌, ℕ, zero, suc, ◌+◌, ◌<◌, ◌≤◌, Bool, false, List, [], ◌∷◌, Option, Some, None, length, get_or, drop, arith, refl, ap, ◌∙◌, ◌==◌}
+use Rattle.std.specs.Option.{option_map}
 use Rattle.std.specs.List.{list_any}
-use Rattle.std.proofs.lemmas.Bool.{false_from_ne_true, false≢true}
+use Rattle.std.proofs.lemmas.Bool.{false_from_ne_true}
 use Rattle.std.proofs.lemmas.List.{drop_all, drop_more}
-use Rattle.std.proofs.lemmas.List.Folds.{list_any_at}
 use Rattle.memchr.specs.Find.{IsFirstByte}
 use Rattle.mk_text.proofs.Searches.{none_at}
-use Rattle.mk_text.specs.Outside.{Standing, dollar, behind, is_outside, place_from, place_outside}
-use Rattle.mk_text.specs.Outside.Standing.{Outside, Opening, Within}
+use Rattle.mk_text.specs.Outside.{dollar, place_outside}
 
 later_none : (o : Option ℕ) → o ≡ option_map (λ n. n + 0) o
 later_none None = refl

@@ -1,17 +1,18 @@
 -- What the definition of logical lines says of a text without dollar signs.
-use Rattle.std.proofs.Common.{◌≡◌, ℕ, zero, suc, ◌+◌, ◌-◌, ◌<◌, ◌≤◌, Bool, true, false, not, cond, List, [], ◌∷◌, Option, Some, None, Result, Ok, Err, length, get_or, take, drop, arith, refl, sym, ap, ◌∙◌, ◌==◌, ◌||◌}
+use Rattle.std.proofs.Common.{◌≡◌, ℕ, zero, suc, ◌+◌, ◌-◌, Bool, true, false, not, cond, List, [], ◌∷◌, Option, Some, Result, Ok, Err, length, get_or, drop, arith, refl, sym, ap, ◌∙◌, ◌==◌, ◌||◌, ⊎_elim}
 use Rattle.std.specs.List.{list_any, join_with_byte}
-use Rattle.std.proofs.lemmas.Bool.{or_parts, or_from, not-true, cond-true, cond-false}
+use Rattle.std.proofs.lemmas.Bool.{cases_Bool, or_parts, or_from, not-true, cond-true, cond-false}
 use Rattle.mk_text.specs.declared.fault.Kind.{Kind}
 use Rattle.mk_text.specs.declared.fault.Kind.TheVariants.{BadAssignment, NotYet}
 use Rattle.mk_text.specs.declared.line.Operator.{Operator}
 use Rattle.mk_text.specs.declared.line.Operator.TheVariants.{Delayed, Append, Conditional}
 use Rattle.mk_text.specs.declared.line.LineKind.{LineKind}
-use Rattle.mk_text.specs.declared.line.LineKind.TheVariants.{Assign, Entry, Recipe}
+use Rattle.mk_text.specs.declared.line.LineKind.TheVariants.{Assign}
 use Rattle.mk_text.specs.Blocks.{tab, space, backslash, are_blanks, ends_in_backslash}
 use Rattle.mk_text.specs.Outside.{dollar, place_outside}
-use Rattle.mk_text.specs.LogicalLines.{number_sign, colon, equals, pieces_of, sort_of_command, is_include, assignment, at_equals, at_colon, by_sign, sort_of_text}
+use Rattle.mk_text.specs.LogicalLines.{number_sign, colon, equals, pieces_of, is_include, assignment, at_equals, at_colon, by_sign, sort_of_text}
 use Rattle.mk_text.specs.PlainLines.{is_plain, without_assignment, plain_sort}
+use Rattle.mk_text.proofs.Searches.{none_at}
 
 -- what no byte of a text passes, no byte of its end passes
 pub none_behind : (test : ℕ → Bool) (n : ℕ) (xs : List ℕ) → list_any test xs ≡ false → list_any test (drop n xs) ≡ false
@@ -87,3 +88,19 @@ sorted_as_text below line plain blank text =
     cond-true (is_plain line) _ _ plain
     ∙ ap without_assignment (cond-false (are_blanks line) _ _ blank ∙ cond-false (get_or line 0 0 == tab) _ _ text
     ∙ ap (λ pieces. sort_of_text (join_with_byte space pieces)) (one_piece line plain text))
+
+-- no sign stands at the end
+last_is_none : (line : List ℕ) → list_any (λ b. b == dollar || b == number_sign || b == backslash) line ≡ false → ends_in_backslash line ≡ false
+last_is_none [] none = refl
+last_is_none (b ∷ line) none =
+    let none_last = none_at (λ b. b == dollar || b == number_sign || b == backslash) (b ∷ line) none (length line) (omega arith) in
+    let last : length (b ∷ line) - 1 ≡ length line = omega arith in
+    rw last (or_parts _ _ none_last).1
+
+-- a plain line does not end in a backslash
+pub no_backslash : (line : List ℕ) → is_plain line ≡ true → ends_in_backslash line ≡ false
+no_backslash line plain =
+    ⊎_elim
+    (λ command. not-true _ (sym (cond-true (get_or line 0 0 == tab) _ _ command) ∙ plain))
+    (λ text. last_is_none line (no_sign line plain text))
+    (cases_Bool (get_or line 0 0 == tab))

@@ -1,5 +1,5 @@
 -- What is answered of logical lines today: texts in which everything is plain.
-use Rattle.std.specs.Prelude.{ℕ, ◌+◌, Bool, false, List, [], ◌∷◌, length, drop, slice_index, Option, None, Some, Result, Ok, Err, ◌==◌, ◌||◌, nat_lt, not, if◌then◌else◌}
+use Rattle.std.specs.Prelude.{◌≡◌, ℕ, ◌+◌, Bool, false, List, [], ◌∷◌, length, drop, slice_index, Option, None, Some, Result, Ok, Err, ◌==◌, ◌||◌, ◌⊎◌, nat_lt, not, if◌then◌else◌}
 use Rattle.std.specs.List.{list_any}
 use Rattle.mk_text.specs.Told.{Told}
 use Rattle.mk_text.specs.declared.fault.Kind.{Kind}
@@ -9,7 +9,7 @@ use Rattle.mk_text.specs.declared.line.LineKind.TheVariants.{Assign, Entry, Reci
 use Rattle.mk_text.specs.LogicalLine.{LogicalLine}
 use Rattle.mk_text.specs.Blocks.{tab, backslash, physical_lines, ends_in_backslash}
 use Rattle.mk_text.specs.Outside.{dollar}
-use Rattle.mk_text.specs.LogicalLines.{number_sign, sort_of, opens, with_block, fault_at, text_limit}
+use Rattle.mk_text.specs.LogicalLines.{number_sign, sort_of, opens, with_block, fault_at, text_limit, logical_lines}
 
 -- a physical line that stands for itself: a line with a tab at its front does not end in a backslash, and any other holds
 -- no `$`, `#` or backslash
@@ -48,3 +48,7 @@ abbrev pub plain_lines : List ℕ → Result (List LogicalLine) Told
 plain_lines text =
     if nat_lt text_limit (length text) then Err (fault_at TextTooLarge 0)
     else plain_lines_of false 1 (physical_lines text)
+
+-- the answer for a text is that of the definition, or that a line is not plain
+abbrev pub PlainAnswer : List ℕ → Type 0
+PlainAnswer text = ((place : ℕ) × (plain_lines text ≡ Err (fault_at NotYet place))) ⊎ (plain_lines text ≡ logical_lines text)

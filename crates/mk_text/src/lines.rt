@@ -6,7 +6,7 @@ ghost use Rattle.std.specs.Option.{option_map_or};
 ghost use Rattle.mk_text.specs.Blocks.{tab, is_blank, are_blanks, past_blanks, ends_in_backslash, physical_lines};
 ghost use Rattle.mk_text.specs.Outside.{dollar};
 ghost use Rattle.mk_text.specs.LogicalLines.{is_include, begins_with_operator, sort_of_command, sort_of_text, entry, at_colon, opens, fault_at, first_word, later_words};
-ghost use Rattle.mk_text.specs.PlainLines.{is_plain, without_assignment, plain_sort, plain_piece, plain_lines};
+ghost use Rattle.mk_text.specs.PlainLines.{is_plain, without_assignment, plain_sort, plain_piece, plain_lines, PlainAnswer};
 ghost use Rattle.mk_text.specs.GivesLines.{GivesLines};
 ghost use Rattle.mk_text.specs.Slices.{StandIn};
 
@@ -14,6 +14,9 @@ use crate::fault::{Fault, Halt, Kind, Source};
 use crate::line::{Line, LineKind};
 use memchr::{memchr, memchr2, memchr3};
 use std::alloc::Global;
+
+#[cfg(test)]
+mod tests;
 
 /// A makefile's text has at most so many bytes (profile).
 pub const TEXT_LIMIT: usize = 1_048_576;
@@ -216,16 +219,22 @@ fn fault_at(alloc: Global, kind: Kind, place: u64) -> Halt
     Halt::Fault(Fault::new(kind, Source::Makefile, place, Vec::new(alloc)))
 }
 
-/// The logical lines of a makefile's text, in their order (POSIX.1-2024 XCU make, "Makefile Syntax"). The pieces of the
-/// lines are slices of the text, one behind another.
+/// A law: an answer that is not `NotYet` is that of the full definition of logical lines.
+pub fn plain_answers_stand()
+    ensures { (text : List ℕ) → PlainAnswer text }
+{}
+
+/// The logical lines of a makefile's text, in their order (POSIX.1-2024 XCU make, "Makefile
+/// Syntax"). The pieces of the lines are slices of the text, one behind another.
 ///
-/// Today only plain texts have lines: a line that begins with a tab and is not blank may not end in a backslash, any other
-/// may not hold `$`, `#` or a backslash, and none may be an assignment.
+/// Today only plain texts have lines: a line that begins with a tab and is not blank may not end in
+/// a backslash, any other may not hold `$`, `#` or a backslash, and none may be an assignment.
 ///
-/// Errors: a text of more than [`TEXT_LIMIT`] bytes is `TextTooLarge` at line 0. Else the first line that is not plain, or
-/// is wrong by itself, is answered, in the source `Makefile` and without names: `NotYet` where it is not plain; `NoColon`
-/// without a sign; `DoubleColon`; `Include` for an include line; `StrayRecipe` for a command line with no entry above it
-/// (profile: neither an empty line nor a comment ends an entry). Want of memory may come in place of any answer.
+/// Errors, in the source `Makefile` and without names: a text of more than [`TEXT_LIMIT`] bytes is
+/// `TextTooLarge` at line 0. Else the first line that is wrong is answered: `NotYet` where it is not
+/// plain; `NoColon` without a sign; `DoubleColon`; `Include` for an include line; `StrayRecipe` for
+/// a command line with no entry above it (profile: neither an empty line nor a comment ends one).
+/// Want of memory may come in place of any answer.
 pub fn lines<'a>(alloc: Global, text: &'a [u8]) -> Result<Vec<Line<'a>>, Halt>
     ensures lines { GivesLines result (plain_lines text.now) }
     ensures slices { IfOk result (λ lines. StandIn text.now (flat_map (λ line. line.pieces) lines.items)) }

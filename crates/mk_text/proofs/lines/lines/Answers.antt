@@ -1,8 +1,7 @@
-use Rattle.std.proofs.Common.{◌≡◌, ◌+◌, ◌∙◌, ◌∷◌, [], Ok, sym, ap, subst}
+use Rattle.std.proofs.Common.{◌+◌, ◌∙◌, ◌∷◌, [], Ok, sym, ap, subst}
 use Rattle.std.specs.Option.{option_map_or}
 use Rattle.std.proofs.lemmas.List.{append-nil}
 use Rattle.std.proofs.lemmas.List.Splits.{join_with_byte-slice_split}
-use Rattle.mk_text.specs.LogicalLine.{LogicalLine}
 use Rattle.mk_text.specs.Blocks.{newline, physical_lines}
 use Rattle.mk_text.specs.Slices.{StandIn}
 use Rattle.mk_text.proofs.Stand.{all_pieces, lines_stand}
