@@ -7,6 +7,7 @@ pub mod Plain
 pub mod Runs
 pub mod Serial
 pub mod SmallCases
+pub mod Steps
 pub mod Stores
 pub mod Sure
 pub mod Table
