@@ -4,6 +4,7 @@ pub mod InTime
 pub mod Laws
 pub mod MissingHeader
 pub mod Plain
+pub mod Programs
 pub mod Runs
 pub mod Serial
 pub mod SmallCases

@@ -1,8 +1,9 @@
 //! Laws of runs. Each function's contract is a law, and its body is empty.
 ghost use Rattle.mk_sched.specs.Laws.{OwnFile, StaleAlike, LookAlike, Headline};
-ghost use Rattle.mk_sched.specs.Serial.{Serialised};
+ghost use Rattle.mk_sched.specs.Serial.{Serialised, EqualsSerialRun};
 ghost use Rattle.mk_sched.specs.Sure.{SurelyStale};
 ghost use Rattle.mk_sched.specs.Plain.{AgreeMeans, IdleIsFresh, IdleNeverStarts, ListingAgrees};
+ghost use Rattle.mk_sched.specs.Programs.{ProgramsAgree};
 ghost use Rattle.mk_sched.specs.Table.{StateIsTold, MayIsTable, RunsByTable};
 ghost use Rattle.mk_sched.specs.InTime.{InTime, BeginningIsRun};
 ghost use Rattle.mk_sched.specs.Counter.{CounterMoves};
@@ -30,6 +31,16 @@ pub fn headline()
 /// The serial list of a complete run is a complete serial run with the same outcome.
 pub fn serialised()
     ensures { Serialised }
+{}
+
+/// Where jobs are determinate, each complete run has the outcome of a serial one.
+pub fn equals_serial_run()
+    ensures { EqualsSerialRun }
+{}
+
+/// Recipes that follow the same programs agree.
+pub fn programs_agree()
+    ensures { ProgramsAgree }
 {}
 
 /// A node that is surely stale by the times of the opening is stale in every run, until it starts.
