@@ -8,3 +8,4 @@ pub mod Moving
 pub mod Plainly
 pub mod Surely
 pub mod Computed
+pub mod Listing

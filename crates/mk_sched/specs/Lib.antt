@@ -1,3 +1,4 @@
+pub mod Controls
 pub mod Counter
 pub mod Events
 pub mod InTime
