@@ -34,4 +34,6 @@ FollowsPrograms programs past = (n : ℕ) → is_started (phase past n) ≡ true
 
 -- the recipes of two runs agree if they follow the same programs
 abbrev pub ProgramsAgree : Type 0
-ProgramsAgree = (programs : ℕ → Program) (a b : List Event) → FollowsPrograms programs a → FollowsPrograms programs b → RecipesAgree a b
+ProgramsAgree =
+    (programs : ℕ → Program) (a b : List Event)
+    → FollowsPrograms programs a → FollowsPrograms programs b → RecipesAgree a b
