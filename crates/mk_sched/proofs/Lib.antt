@@ -1,11 +1,11 @@
 pub mod Basics
-pub mod OneRun
-pub mod TwoRuns
+pub mod ByTable
+pub mod Computed
 pub mod Determinate
 pub mod InOrder
-pub mod ByTable
+pub mod Listing
 pub mod Moving
+pub mod OneRun
 pub mod Plainly
 pub mod Surely
-pub mod Computed
-pub mod Listing
+pub mod TwoRuns
