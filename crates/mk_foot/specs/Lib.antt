@@ -1,3 +1,4 @@
+pub mod Chains
 pub mod Jobs
 pub mod Laws
 pub mod Shape

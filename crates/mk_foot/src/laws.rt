@@ -1,4 +1,5 @@
 //! Laws of jobs. Each function's contract is a law, and its body is empty.
+ghost use Rattle.mk_foot.specs.Chains.{ChainIsBefore, BeforeHasChain};
 ghost use Rattle.mk_foot.specs.Laws.{ShapeIsValid, ChainsRise, ClashIsLive, ClashTurns};
 
 /// Jobs of the full shape are valid.
@@ -19,4 +20,14 @@ pub fn clash_is_live()
 /// If a clashes with b, b clashes with a.
 pub fn clash_turns()
     ensures { ClashTurns }
+{}
+
+/// A chain that goes edge by edge leads from its first node to nodes that it is before.
+pub fn chain_is_before()
+    ensures { ChainIsBefore }
+{}
+
+/// Where a is before b, a chain leads from a to b edge by edge.
+pub fn before_has_chain()
+    ensures { BeforeHasChain }
 {}

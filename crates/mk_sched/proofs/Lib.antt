@@ -3,6 +3,7 @@ pub mod ByTable
 pub mod Computed
 pub mod Determinate
 pub mod InOrder
+pub mod Listing
 pub mod Moving
 pub mod OneRun
 pub mod Plainly

@@ -1,11 +1,13 @@
 -- Agreeing recipes and idle recipes in plain words.
-use Rattle.std.proofs.Common.{ℕ, zero, suc, ◌≡◌, ◌&&◌, not, Bool, true, false, List, [], ◌∷◌, Option, Some, None, refl, sym, ap, ◌∙◌, take, is_some, is_none}
+use Rattle.std.proofs.Common.{subst, reverse, slice_get, ℕ, zero, suc, ◌≡◌, ◌&&◌, not, Bool, true, false, List, [], ◌∷◌, Option, Some, None, refl, sym, ap, ◌∙◌, take, is_some, is_none}
 use Rattle.std.proofs.lemmas.Bool.{false≢true, and_parts, not-true, false_from_ne_true}
 use Rattle.mk_foot.specs.Jobs.{name_of, prerequisites_of, has_recipe, is_phony, is_listed, is_empty}
 use Rattle.mk_sched.specs.Stores.{File}
-use Rattle.mk_sched.specs.Events.{Entry, phase, is_started, store_after}
+use Rattle.mk_sched.specs.Events.{Entry, Looked, Wrote, history, phase, is_started, store_after}
 use Rattle.mk_sched.specs.Runs.{Agree}
-use Rattle.mk_sched.specs.Plain.{GoOnAlike, AgreeMeans, IdleIsFresh, IdleNeverStarts, ListingAgrees}
+use Rattle.mk_sched.specs.Plain.{NextAlike, GoOnAlike, AgreeMeans, IdleIsFresh, IdleNeverStarts, ListingAgrees}
+use Rattle.mk_sched.specs.Programs.{Request, ToLook, ToWrite, IsAnswer, ProgramsAgree}
+use Rattle.mk_sched.specs.Serial.{EqualsSerialRun}
 use Rattle.mk_sched.proofs.Basics.{started_begun}
 use Rattle.mk_sched.proofs.OneRun.{own_file, decided}
 
@@ -60,3 +62,29 @@ idle_never_starts jobs tie limit opening past n valid agrees run inside idle = f
 
 pub listing_agrees : ListingAgrees
 listing_agrees jobs listed opening same agrees n inside = agrees (name_of jobs n) ∙ sym (same n inside)
+
+-- the answers to one request go on alike
+answers_alike : (request : Option Request) (e f : Option Entry) → IsAnswer request e → IsAnswer request f → NextAlike e f
+answers_alike None None None one other = tt
+answers_alike None None (Some f) one other = other
+answers_alike None (Some e) f one other = absurd one
+answers_alike (Some (ToLook path)) (Some (Looked x seen)) (Some (Looked y told)) one other = sym one ∙ other
+answers_alike (Some (ToLook path)) (Some (Looked x seen)) (Some (Wrote y kept)) one other = absurd other
+answers_alike (Some (ToLook path)) (Some (Looked x seen)) None one other = other
+answers_alike (Some (ToLook path)) (Some (Wrote x kept)) f one other = absurd one
+answers_alike (Some (ToLook path)) None f one other = absurd one
+answers_alike (Some (ToWrite path left)) (Some (Wrote x mine)) (Some (Wrote y kept)) one other = (sym one.0 ∙ other.0, sym one.1 ∙ other.1)
+answers_alike (Some (ToWrite path left)) (Some (Wrote x mine)) (Some (Looked y told)) one other = absurd other
+answers_alike (Some (ToWrite path left)) (Some (Wrote x mine)) None one other = other
+answers_alike (Some (ToWrite path left)) (Some (Looked x seen)) f one other = absurd one
+answers_alike (Some (ToWrite path left)) None f one other = absurd one
+
+pub programs_agree : ProgramsAgree
+programs_agree programs a b follows_a follows_b n starts_a starts_b =
+    on_agree (reverse (history a n)) (reverse (history b n)) (λ k shared.
+    answers_alike (programs n (take k (reverse (history a n)))) _ _ (follows_a n starts_a k)
+    (subst (λ h. IsAnswer (programs n h) (slice_get (reverse (history b n)) k)) (sym shared) (follows_b n starts_b k)))
+
+pub equals_serial_run : EqualsSerialRun
+equals_serial_run jobs tie limit opening past list determinate agrees run complete serial whole agree =
+    determinate opening tie limit 1 past list agrees run serial.run complete whole agree

@@ -17,5 +17,6 @@ Moves Finish old new = suc new ≡ old
 -- so moves the number of running nodes at each event of a run
 abbrev pub CounterMoves : Type 0
 CounterMoves =
-    (jobs : Jobs) (tie : Bool) (limit : ℕ) (opening : Store) (e : Event) (past : List Event) → IsRun jobs tie limit opening (e ∷ past)
+    (jobs : Jobs) (tie : Bool) (limit : ℕ) (opening : Store) (e : Event) (past : List Event)
+    → IsRun jobs tie limit opening (e ∷ past)
     → Moves e.act (running_below past (node_count jobs)) (running_below (e ∷ past) (node_count jobs))

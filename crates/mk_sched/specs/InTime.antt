@@ -8,7 +8,8 @@ use Rattle.mk_sched.specs.Runs.{IsRun, May}
 -- after this past each event, the oldest first, is allowed in its turn
 abbrev pub GoesOn : Jobs → Bool → ℕ → Store → List Event → List Event → Type 0
 GoesOn jobs tie limit opening past [] = Unit {0}
-GoesOn jobs tie limit opening past (e ∷ events) = May jobs tie limit opening past e.node e.act × GoesOn jobs tie limit opening (e ∷ past) events
+GoesOn jobs tie limit opening past (e ∷ events) =
+    May jobs tie limit opening past e.node e.act × GoesOn jobs tie limit opening (e ∷ past) events
 
 -- events in the order of time are each allowed in their turn exactly where their reverse, a past, is a run
 abbrev pub InTime : Type 0

@@ -1,12 +1,15 @@
+pub mod Controls
 pub mod Counter
 pub mod Events
 pub mod InTime
 pub mod Laws
 pub mod MissingHeader
 pub mod Plain
+pub mod Programs
 pub mod Runs
 pub mod Serial
 pub mod SmallCases
+pub mod Steps
 pub mod Stores
 pub mod Sure
 pub mod Table

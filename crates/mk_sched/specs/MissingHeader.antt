@@ -9,36 +9,45 @@ use Rattle.mk_sched.specs.Events.{Act, Skip, Start, Look, Put, Finish, Event, st
 use Rattle.mk_sched.specs.Runs.{IsRun, IsComplete, RecipesAgree}
 use Rattle.mk_sched.specs.Laws.{IsDeterminate}
 
--- the bytes of `gen.sh`, `gen.h`, `a.c`, `a.o`, `all`
+-- the bytes of `gen.sh`
 abbrev pub gen_sh : Name
 gen_sh = 103 ∷ 101 ∷ 110 ∷ 46 ∷ 115 ∷ 104 ∷ []
 
+-- of `gen.h`
 abbrev pub gen_h : Name
 gen_h = 103 ∷ 101 ∷ 110 ∷ 46 ∷ 104 ∷ []
 
+-- of `a.c`
 abbrev pub a_c : Name
 a_c = 97 ∷ 46 ∷ 99 ∷ []
 
+-- of `a.o`
 abbrev pub a_o : Name
 a_o = 97 ∷ 46 ∷ 111 ∷ []
 
+-- of `all`
 abbrev pub all : Name
 all = 97 ∷ 108 ∷ 108 ∷ []
 
--- a file that is there; a target with a recipe that is not; a target without a recipe
+-- a file that is there
 abbrev pub source : Name → Node
 source name = record { name = name; prerequisites = []; maker = Nothing; phony = false; listed = true }
 
+-- a target with a recipe, which is not there
 abbrev pub made : Name → List ℕ → Node
 made name prerequisites = record { name = name; prerequisites = prerequisites; maker = Rule; phony = false; listed = false }
 
+-- a target without a recipe, which is not there
 abbrev pub gathered : Name → List ℕ → Node
 gathered name prerequisites = record { name = name; prerequisites = prerequisites; maker = Nothing; phony = false; listed = false }
 
 -- `gen.h` is made of `gen.sh`, and `a.o` of these prerequisites; the recipe of `a.o` reads `a.c` and `gen.h`
 abbrev pub header_jobs : List ℕ → Jobs
 header_jobs prerequisites = record {
-  plan = record { nodes = source gen_sh ∷ made gen_h (0 ∷ []) ∷ source a_c ∷ made a_o prerequisites ∷ gathered all (1 ∷ 3 ∷ []) ∷ []; wait_uses = 0 };
+  plan = record {
+    nodes = source gen_sh ∷ made gen_h (0 ∷ []) ∷ source a_c ∷ made a_o prerequisites ∷ gathered all (1 ∷ 3 ∷ []) ∷ [];
+    wait_uses = 0;
+  };
   reads = [] ∷ (gen_sh ∷ []) ∷ [] ∷ (a_c ∷ gen_h ∷ []) ∷ [] ∷ [];
   writes = [] ∷ (gen_h ∷ []) ∷ [] ∷ (a_o ∷ []) ∷ [] ∷ [];
 }

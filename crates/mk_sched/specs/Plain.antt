@@ -39,4 +39,5 @@ IdleNeverStarts =
 abbrev pub ListingAgrees : Type 0
 ListingAgrees =
     (jobs : Jobs) (listed : Name → Bool) (opening : Store)
-    → ((n : ℕ) → n < node_count jobs → is_listed jobs n ≡ listed (name_of jobs n)) → AgreesWithListing listed opening → AgreesWith jobs opening
+    → ((n : ℕ) → n < node_count jobs → is_listed jobs n ≡ listed (name_of jobs n))
+    → AgreesWithListing listed opening → AgreesWith jobs opening

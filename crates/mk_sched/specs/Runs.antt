@@ -73,4 +73,6 @@ Agree (e ∷ es) [] = ⊥
 
 -- the recipes of two runs agree: so do the histories of each node that starts in both
 abbrev pub RecipesAgree : List Event → List Event → Type 0
-RecipesAgree a b = (n : ℕ) → is_started (phase a n) ≡ true → is_started (phase b n) ≡ true → Agree (reverse (history a n)) (reverse (history b n))
+RecipesAgree a b =
+    (n : ℕ) → is_started (phase a n) ≡ true → is_started (phase b n) ≡ true
+    → Agree (reverse (history a n)) (reverse (history b n))

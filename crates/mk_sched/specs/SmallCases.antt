@@ -9,14 +9,18 @@ use Rattle.mk_sched.specs.Runs.{IsRun}
 use Rattle.mk_sched.specs.Serial.{serial}
 use Rattle.mk_sched.specs.MissingHeader.{source, by}
 
--- `a` is made of `b`; both are there, of the time 5
+-- `a` is made of `b`
 abbrev pub two_files : Jobs
 two_files = record {
-  plan = record { nodes = source (98 ∷ []) ∷ record { name = 97 ∷ []; prerequisites = 0 ∷ []; maker = Rule; phony = false; listed = true } ∷ []; wait_uses = 0 };
+  plan = record {
+    nodes = source (98 ∷ []) ∷ record { name = 97 ∷ []; prerequisites = 0 ∷ []; maker = Rule; phony = false; listed = true } ∷ [];
+    wait_uses = 0;
+  };
   reads = [] ∷ ((98 ∷ []) ∷ []) ∷ [];
   writes = [] ∷ ((97 ∷ []) ∷ []) ∷ [];
 }
 
+-- both are there, of the time 5
 abbrev pub same_age : Store
 same_age x =
     if same_name (97 ∷ []) x then Some (record { bytes = 97 ∷ []; time = 5 })
@@ -31,8 +35,9 @@ pub record EqualTimes : Type 0 where
 -- a parallel run of `a.o` (1, of `a.c`, 0), `b.o` (3, of `b.c`, 2) and their link (4), in the order of time
 abbrev pub interleaved : Name → Name → Name → Name → List Event
 interleaved c_file object other program =
-    by 2 Skip ∷ by 3 Start ∷ by 0 Skip ∷ by 1 Start ∷ by 1 (Look c_file (Some (97 ∷ []))) ∷ by 3 (Put other (66 ∷ []) 5) ∷ by 1 (Put object (65 ∷ []) 9)
-    ∷ by 1 Finish ∷ by 3 Finish ∷ by 4 Start ∷ by 4 (Look object (Some (65 ∷ []))) ∷ by 4 (Put program (112 ∷ []) 10) ∷ by 4 Finish ∷ []
+    by 2 Skip ∷ by 3 Start ∷ by 0 Skip ∷ by 1 Start ∷ by 1 (Look c_file (Some (97 ∷ [])))
+    ∷ by 3 (Put other (66 ∷ []) 5) ∷ by 1 (Put object (65 ∷ []) 9) ∷ by 1 Finish ∷ by 3 Finish
+    ∷ by 4 Start ∷ by 4 (Look object (Some (65 ∷ []))) ∷ by 4 (Put program (112 ∷ []) 10) ∷ by 4 Finish ∷ []
 
 -- the same, node after node, the puts at 2, 3 and 4
 abbrev pub in_rising_number : Name → Name → Name → Name → List Event
@@ -44,4 +49,5 @@ in_rising_number c_file object other program =
 -- where the greatest time of the opening is 1, the serial list of the first is the second
 abbrev pub InterleavedInOrder : Type 0
 InterleavedInOrder =
-    (c_file object other program : Name) → serial 1 (reverse (interleaved c_file object other program)) 5 ≡ reverse (in_rising_number c_file object other program)
+    (c_file object other program : Name)
+    → serial 1 (reverse (interleaved c_file object other program)) 5 ≡ reverse (in_rising_number c_file object other program)

@@ -8,7 +8,8 @@ use Rattle.mk_sched.specs.Runs.{IsRun}
 
 -- the nodes' files in this store have these times
 abbrev pub HasTimes : Jobs → (ℕ → ℕ) → Store → Type 0
-HasTimes jobs times store = (n : ℕ) (file : File) → n < node_count jobs → store (name_of jobs n) ≡ Some file → file.time ≡ times n
+HasTimes jobs times store =
+    (n : ℕ) (file : File) → n < node_count jobs → store (name_of jobs n) ≡ Some file → file.time ≡ times n
 
 -- n is surely stale: phony or not listed, or one of its prerequisites is phony, not listed or newer by these times
 abbrev pub surely_stale : Jobs → (ℕ → ℕ) → ℕ → Bool

@@ -35,7 +35,11 @@ changed s n (Put path bytes time) = record {
   passed = s.passed;
   running = s.running;
 }
-changed s n (Erase path) = record { store = λ x. if same_name path x then None else s.store x; passed = s.passed; running = s.running }
+changed s n (Erase path) = record {
+  store = λ x. if same_name path x then None else s.store x;
+  passed = s.passed;
+  running = s.running;
+}
 changed s n Finish = record { store = s.store; passed = with_node s.passed n; running = without_node s.running n }
 
 -- n is a node that has neither passed nor runs, and all its prerequisites have passed
@@ -47,10 +51,13 @@ pub record CanBegin (jobs : Jobs) (s : State) (n : ℕ) : Type 0 where
 
 -- what each act of n asks of the state
 abbrev pub IsAllowed : Jobs → Bool → ℕ → State → ℕ → Act → Type 0
-IsAllowed jobs tie limit s n Skip = CanBegin jobs s n × ((has_recipe jobs n ≡ false) ⊎ (is_stale jobs tie s.store n ≡ false))
+IsAllowed jobs tie limit s n Skip =
+    CanBegin jobs s n × ((has_recipe jobs n ≡ false) ⊎ (is_stale jobs tie s.store n ≡ false))
 IsAllowed jobs tie limit s n Start =
-    CanBegin jobs s n × (has_recipe jobs n ≡ true) × (is_stale jobs tie s.store n ≡ true) × (count_to s.running (node_count jobs) < limit)
-IsAllowed jobs tie limit s n (Look path seen) = (s.running n ≡ true) × (may_read jobs n path ≡ true) × (seen ≡ bytes_of (s.store path))
+    CanBegin jobs s n × (has_recipe jobs n ≡ true) × (is_stale jobs tie s.store n ≡ true)
+    × (count_to s.running (node_count jobs) < limit)
+IsAllowed jobs tie limit s n (Look path seen) =
+    (s.running n ≡ true) × (may_read jobs n path ≡ true) × (seen ≡ bytes_of (s.store path))
 IsAllowed jobs tie limit s n (Put path bytes time) =
     (s.running n ≡ true) × (may_write jobs n path ≡ true) × ((x : Name) (file : File) → s.store x ≡ Some file → file.time < time)
 IsAllowed jobs tie limit s n (Erase path) = (s.running n ≡ true) × (may_write jobs n path ≡ true)
@@ -59,7 +66,8 @@ IsAllowed jobs tie limit s n Finish = s.running n ≡ true
 -- each event, the oldest first, is allowed in the state that those before it left
 abbrev pub AllowedInTurn : Jobs → Bool → ℕ → State → List Event → Type 0
 AllowedInTurn jobs tie limit s [] = Unit {0}
-AllowedInTurn jobs tie limit s (e ∷ events) = IsAllowed jobs tie limit s e.node e.act × AllowedInTurn jobs tie limit (changed s e.node e.act) events
+AllowedInTurn jobs tie limit s (e ∷ events) =
+    IsAllowed jobs tie limit s e.node e.act × AllowedInTurn jobs tie limit (changed s e.node e.act) events
 
 -- the state that a past leaves, event by event
 abbrev pub state_after : Store → List Event → State
@@ -81,7 +89,8 @@ StateIsTold =
 abbrev pub MayIsTable : Type 0
 MayIsTable =
     (jobs : Jobs) (tie : Bool) (limit : ℕ) (opening : Store) (past : List Event) (n : ℕ) (a : Act)
-    → IsRun jobs tie limit opening past → May jobs tie limit opening past n a ↔ IsAllowed jobs tie limit (state_after opening past) n a
+    → IsRun jobs tie limit opening past
+    → May jobs tie limit opening past n a ↔ IsAllowed jobs tie limit (state_after opening past) n a
 
 -- a list of events is a run exactly where the table allows each of them in its turn
 abbrev pub RunsByTable : Type 0

@@ -1,10 +1,12 @@
 //! Laws of runs. Each function's contract is a law, and its body is empty.
 ghost use Rattle.mk_sched.specs.Laws.{OwnFile, StaleAlike, LookAlike, Headline};
-ghost use Rattle.mk_sched.specs.Serial.{Serialised};
+ghost use Rattle.mk_sched.specs.Serial.{Serialised, EqualsSerialRun, KeepsActs, PutsInTurn};
 ghost use Rattle.mk_sched.specs.Sure.{SurelyStale};
 ghost use Rattle.mk_sched.specs.Plain.{AgreeMeans, IdleIsFresh, IdleNeverStarts, ListingAgrees};
+ghost use Rattle.mk_sched.specs.Programs.{ProgramsAgree};
 ghost use Rattle.mk_sched.specs.Table.{StateIsTold, MayIsTable, RunsByTable};
 ghost use Rattle.mk_sched.specs.InTime.{InTime, BeginningIsRun};
+ghost use Rattle.mk_sched.specs.Controls.{ControlsTell};
 ghost use Rattle.mk_sched.specs.Counter.{CounterMoves};
 
 /// Until a node starts, its own file is as at the opening.
@@ -30,6 +32,26 @@ pub fn headline()
 /// The serial list of a complete run is a complete serial run with the same outcome.
 pub fn serialised()
     ensures { Serialised }
+{}
+
+/// The serial list has each node's acts in their old order, but for times.
+pub fn keeps_acts()
+    ensures { KeepsActs }
+{}
+
+/// The puts of the serial list have rising times, one after the other.
+pub fn puts_in_turn()
+    ensures { PutsInTurn }
+{}
+
+/// Where jobs are determinate, each complete run has the outcome of a serial one.
+pub fn equals_serial_run()
+    ensures { EqualsSerialRun }
+{}
+
+/// Recipes that follow the same programs agree.
+pub fn programs_agree()
+    ensures { ProgramsAgree }
 {}
 
 /// A node that is surely stale by the times of the opening is stale in every run, until it starts.
@@ -80,6 +102,11 @@ pub fn may_is_table()
 /// A list of events is a run exactly where the table allows each in its turn.
 pub fn runs_by_table()
     ensures { RunsByTable }
+{}
+
+/// Skips, starts and finishes alone say who has passed and who runs.
+pub fn controls_tell()
+    ensures { ControlsTell }
 {}
 
 /// The number of running nodes moves by one at a start and at a finish.

@@ -1,0 +1,39 @@
+-- Recipes as programs: what a recipe does next is a function of what it did and saw so far. Such recipes agree.
+use Rattle.std.specs.Prelude.{ℕ, ◌≡◌, true, List, Option, Some, None, take, slice_get, reverse}
+use Rattle.mk_text.specs.Names.{Name}
+use Rattle.mk_sched.specs.Stores.{Bytes}
+use Rattle.mk_sched.specs.Events.{Event, Entry, Looked, Wrote, phase, is_started, history}
+use Rattle.mk_sched.specs.Runs.{RecipesAgree}
+
+-- what a program does next: look at a file, or leave these bytes or nothing at a name
+pub data Request : Type 0 where
+  ToLook : (path : Name) → Request
+  ToWrite : (path : Name) (left : Option Bytes) → Request
+
+-- a program: by a history, the oldest entry first, what comes next, or the end
+abbrev pub Program : Type 0
+Program = List Entry → Option Request
+
+-- the entry is what was wanted, whatever a look told; or the history ends where the program does
+abbrev pub IsAnswer : Option Request → Option Entry → Type 0
+IsAnswer None None = Unit {0}
+IsAnswer (Some (ToLook path)) (Some (Looked x seen)) = path ≡ x
+IsAnswer (Some (ToWrite path left)) (Some (Wrote x kept)) = (path ≡ x) × (left ≡ kept)
+IsAnswer (Some (ToLook path)) (Some (Wrote x kept)) = ⊥
+IsAnswer (Some (ToWrite path left)) (Some (Looked x seen)) = ⊥
+IsAnswer None (Some entry) = ⊥
+IsAnswer (Some request) None = ⊥
+
+-- after each beginning of its history a node did what its program does next
+abbrev pub Follows : Program → List Entry → Type 0
+Follows program entries = (k : ℕ) → IsAnswer (program (take k entries)) (slice_get entries k)
+
+-- each node that started followed its program
+abbrev pub FollowsPrograms : (ℕ → Program) → List Event → Type 0
+FollowsPrograms programs past = (n : ℕ) → is_started (phase past n) ≡ true → Follows (programs n) (reverse (history past n))
+
+-- the recipes of two runs agree if they follow the same programs
+abbrev pub ProgramsAgree : Type 0
+ProgramsAgree =
+    (programs : ℕ → Program) (a b : List Event)
+    → FollowsPrograms programs a → FollowsPrograms programs b → RecipesAgree a b

@@ -1,0 +1,80 @@
+//! Events: what the nodes of a build do, one atomic step at a time.
+ghost use Rattle.std.specs.Prelude.{◌≡◌};
+ghost use Rattle.mk_sched.specs.Steps.{step_of, steps_at};
+
+use crate::contents::Contents;
+use mk_text::name::Name;
+
+/// One atomic step of one node, which is told by its number in the plan (profile).
+#[derive(Debug, Drop)]
+pub enum Event {
+    /// The node passes without its recipe.
+    Skip(u32),
+    /// The node's recipe starts.
+    Start(u32),
+    /// The recipe looks at a file, and sees what it holds, or that it is absent.
+    Look(u32, Name, Option<Contents>),
+    /// The recipe puts a file, which then has this time.
+    Put(u32, Name, Contents, u64),
+    /// The recipe erases a file, or finds it absent.
+    Erase(u32, Name),
+    /// The recipe finishes, and the node passes.
+    Finish(u32),
+}
+
+impl Event {
+    /// The number of the node whose step it is.
+    pub fn node(&self) -> u32
+        ensures { result ≡ (step_of self.now).node }
+    {
+        match self {
+            Event::Skip(node) | Event::Start(node) | Event::Finish(node) => *node,
+            Event::Look(node, _path, _seen) => *node,
+            Event::Put(node, _path, _contents, _time) => *node,
+            Event::Erase(node, _path) => *node,
+        }
+    }
+
+    /// The same event; a put then has this time.
+    pub fn at_time(self, time: u64) -> Event
+        ensures { step_of result ≡ steps_at time (step_of self) }
+    {
+        match self {
+            Event::Put(node, path, contents, _old) => Event::Put(node, path, contents, time),
+            other => other,
+        }
+    }
+}
+
+#[cfg(test)]
+mod tests {
+    use super::*;
+    use std::test::Fail;
+
+    // The time of a put.
+    fn time_of(event: &Event) -> u64 {
+        match event {
+            Event::Put(_, _, _, time) => *time,
+            _ => 0,
+        }
+    }
+
+    #[test]
+    fn tells_nodes_and_times(rt: HostRuntime) -> Result<(), Fail> {
+        let name = Name::from_bytes(vec![in rt.alloc(); b'a', b'.', b'o']?);
+        let contents = Contents::from_bytes(vec![in rt.alloc(); b'o', b'g']?);
+        let copy = contents.copy(rt.alloc())?;
+        assert_eq!(rt; copy.as_bytes(), b"og".as_slice());
+        let put = Event::Put(3, name, contents, 9).at_time(2);
+        assert_eq!(rt; put.node(), 3);
+        assert_eq!(rt; time_of(&put), 2);
+        for (event, node) in [
+            (Event::Skip(0), 0),
+            (Event::Start(4), 4),
+            (Event::Finish(7), 7),
+        ] {
+            assert_eq!(rt; event.at_time(2).node(), node);
+        }
+        Ok(())
+    }
+}
