@@ -1,9 +1,10 @@
 //! The book of rules: what a makefile says of each target.
-ghost use Rattle.std.specs.Prelude.{◌≡◌, ◌<◌, false, length, map, slice_get, IfOk, IfErr, OnOk};
+ghost use Rattle.std.specs.Prelude.{◌≡◌, ◌≢◌, ◌-◌, ◌<◌, false, [], ◌∷◌, ◌++◌, length, map, slice_get, Some, IfOk, IfErr, OnOk};
 ghost use Rattle.std.specs.List.{All};
 ghost use Rattle.std.specs.Option.{option_copied};
 ghost use Rattle.mk_text.specs.Names.{kept, same_name};
 ghost use Rattle.mk_text.specs.declared.fault.Halt.TheVariants.{Memory};
+ghost use Rattle.mk_graph.specs.Index.{NotesEntry, NotesTarget};
 ghost use Rattle.mk_graph.specs.Book.{default_goal, has_recipe, is_target, may_be_goal, places_of, prerequisites_of, recipe_place, targets_of};
 
 use indexmap::IndexSet;
@@ -22,6 +23,7 @@ pub struct Rule {
 }
 
 impl Model for Rule {
+    ghost use Rattle.mk_graph.specs.Index.{NotesEntry, NotesTarget};
     ghost use Rattle.mk_graph.specs.Book.{Entry};
 
     ghost Value = { Entry };
@@ -52,6 +54,7 @@ pub struct Rulebook {
 
 impl Model for Rulebook {
     ghost use Rattle.std.specs.Prelude.{List, map};
+    ghost use Rattle.mk_graph.specs.Index.{NotesEntry, NotesTarget};
     ghost use Rattle.mk_graph.specs.Book.{Entry};
     ghost use Rattle.mk_graph.specs.Index.{IsIndexed};
 
@@ -63,6 +66,22 @@ impl Model for Rulebook {
 }
 
 impl Rulebook {
+    /// The book of these entries. The only error is want of memory.
+    pub fn new(alloc: Global, rules: Vec<Rule>) -> Result<Rulebook, AllocError>
+        ensures { IfOk result (λ book. book ≡ rules.items) }
+    {
+        let mut targets = IndexSet::new(alloc);
+        let mut places = Vec::new(alloc);
+        for (place, rule) in rules.iter().enumerate() {
+            note_entry(alloc, &mut targets, &mut places, &rule.targets, place)?;
+        }
+        Ok(Rulebook {
+            rules,
+            targets,
+            places,
+        })
+    }
+
     /// The places of the entries that name it as a target, rising; none for a name that is no target.
     pub fn rules_of(&self, name: &Name) -> &[usize]
         ensures places { result.now ≡ places_of self.now name.now }
@@ -178,4 +197,55 @@ fn into_names(alloc: Global, names: IndexSet<Name>) -> Result<Vec<Name>, AllocEr
     ensures { IfOk result (λ list. list.items ≡ names.keys) }
 {
     names.into_iter().collect(alloc)
+}
+
+/// Puts a place at the end of a row, unless it stands there.
+fn add_place(row: &mut Vec<usize>, place: usize) -> Result<(), AllocError>
+    ensures there { OnOk result (slice_get row.old.items (length row.old.items - 1) ≡ Some place → row.new.items ≡ row.old.items) }
+    ensures added { OnOk result (slice_get row.old.items (length row.old.items - 1) ≢ Some place → row.new.items ≡ row.old.items ++ place ∷ []) }
+{
+    if row.last() != Some(&place) {
+        row.push(place)?;
+    }
+    Ok(())
+}
+
+/// Notes that the entry at a place, the last so far, names a target.
+fn note_target(
+    alloc: Global,
+    targets: &mut IndexSet<Name>,
+    places: &mut Vec<Vec<usize>>,
+    name: &Name,
+    place: usize,
+) -> Result<(), AllocError>
+    requires { length places.old.items ≡ length targets.old.keys }
+    ensures long { OnOk result (length places.new.items ≡ length targets.new.keys) }
+    ensures noted { OnOk result (NotesTarget name.now place targets.old.keys (map (λ row. row.items) places.old.items) targets.new.keys (map (λ row. row.items) places.new.items)) }
+{
+    match targets.get_index_of(name) {
+        Some(number) => add_place(&mut places[number], place)?,
+        None => {
+            targets.insert(name.copy(alloc)?)?;
+            places.push(vec![in alloc; place]?)?;
+        }
+    }
+    Ok(())
+}
+
+/// Notes that the entry at a place, the last so far, names these targets.
+fn note_entry(
+    alloc: Global,
+    targets: &mut IndexSet<Name>,
+    places: &mut Vec<Vec<usize>>,
+    names: &[Name],
+    place: usize,
+) -> Result<(), AllocError>
+    requires { length places.old.items ≡ length targets.old.keys }
+    ensures long { OnOk result (length places.new.items ≡ length targets.new.keys) }
+    ensures noted { OnOk result (NotesEntry names.now place targets.old.keys (map (λ row. row.items) places.old.items) targets.new.keys (map (λ row. row.items) places.new.items)) }
+{
+    for name in names {
+        note_target(alloc, targets, places, name, place)?;
+    }
+    Ok(())
 }
