@@ -40,6 +40,18 @@ impl Name {
         self.bytes.as_slice()
     }
 
+    /// The name with its first `cut` bytes, or all where it has fewer, and then the tail.
+    /// The only error is want of memory.
+    pub fn with_tail(&self, alloc: Global, cut: usize, tail: &[u8]) -> Result<Name, AllocError>
+        ensures { IfOk result (λ name. name ≡ take cut self.now ++ tail.now) }
+    {
+        let kept = cut.min(self.bytes.len());
+        let mut bytes = Vec::with_capacity(alloc, kept.saturating_add(tail.len()))?;
+        bytes.extend_from_slice(&self.bytes[..kept])?;
+        bytes.extend_from_slice(tail)?;
+        Ok(Name { bytes })
+    }
+
     /// An equal name. The only error is want of memory.
     pub fn copy(&self, alloc: Global) -> Result<Name, AllocError>
         ensures { IfOk result (λ name. name ≡ self.now) }

@@ -1,0 +1,53 @@
+//! The plain spelling of paths.
+ghost use Rattle.std.specs.Prelude.{◌≡◌, List, ℕ, [], ◌∷◌, map, IfOk, IfErr, Option};
+ghost use Rattle.mk_text.specs.Gives.{Gives, Halts};
+ghost use Rattle.mk_text.specs.Spelling as spec;
+
+use crate::components::{add_path, name_below};
+use crate::fault::{Fault, Halt, Kind, Source};
+use crate::limits::{is_absolute, is_path, is_word};
+use crate::name::Name;
+use crate::root::Root;
+use std::alloc::{AllocError, Global};
+
+/// The plain name of a word of a makefile, or of a goal (profile).
+///
+/// `BadName` with the word as it is written, where it is empty, has over 4,096 bytes, or holds a control
+/// byte, a blank or one of `# $ : ; = \ % ( ) * ? [ " ' & |`. Its source is the makefile and its place 0:
+/// the caller moves it by `Fault::at`.
+pub fn plain_word(alloc: Global, word: &[u8], root: &Root) -> Result<Name, Halt>
+    ensures { Gives result (spec.word_name root.now word.now) }
+{
+    if !is_word(word) {
+        let fault = Fault::bad_name(alloc, Source::Makefile, word)?;
+        return Err(Halt::Fault(fault));
+    }
+    Ok(plain_name(alloc, word, root)?)
+}
+
+/// The plain name of a path of a listing or of footprints (profile).
+///
+/// `BadName` without names, where the path is empty, has over 4,096 bytes, or holds NUL or a newline. Its
+/// source is the makefile and its place 0: the caller moves it by `Fault::at`.
+pub fn plain_path(alloc: Global, path: &[u8], root: &Root) -> Result<Name, Halt>
+    ensures { Gives result (spec.path_name root.now path.now) }
+{
+    if !is_path(path) {
+        let names = Vec::new(alloc);
+        let fault = Fault::new(Kind::BadName, Source::Makefile, 0, names);
+        return Err(Halt::Fault(fault));
+    }
+    Ok(plain_name(alloc, path, root)?)
+}
+
+/// The plain name of any bytes.
+fn plain_name(alloc: Global, path: &[u8], root: &Root) -> Result<Name, AllocError>
+    ensures { IfOk result (λ name. name ≡ spec.plain_name root.now path.now) }
+{
+    let mut parts = Vec::new(alloc);
+    if !is_absolute(path) {
+        add_path(&mut parts, root.text())?;
+    }
+    add_path(&mut parts, path)?;
+    name_below(alloc, root.parts(), parts.as_slice(), path.len())
+}
