@@ -1,5 +1,6 @@
 pub mod Device
 pub mod Gives
+pub mod Listing
 pub mod LogicalLine
 pub mod Names
 pub mod Pieces

@@ -1,5 +1,5 @@
 -- A logical line of a makefile.
-use Rattle.std.specs.Prelude.{ℕ, List, [], ◌∷◌, map}
+use Rattle.std.specs.Prelude.{ℕ, List}
 use Rattle.std.specs.List.{join_with_byte}
 use Rattle.mk_text.specs.declared.line.LineKind.{LineKind}
 

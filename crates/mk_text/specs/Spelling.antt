@@ -1,5 +1,5 @@
 -- The plain spelling of a path: its name, and what can be spelled.
-use Rattle.std.specs.Prelude.{ℕ, ◌-◌, Bool, false, List, [], ◌∷◌, ◌++◌, length, take, Option, Some, None, Result, Ok, Err, ◌==◌, ◌&&◌, ◌||◌, nat_lt, nat_le, nat_eq, not, fold, codes, if◌then◌else◌}
+use Rattle.std.specs.Prelude.{◌≢◌, ℕ, ◌-◌, Bool, false, List, [], ◌∷◌, ◌++◌, length, take, Option, Some, None, Result, Ok, Err, ◌==◌, ◌&&◌, ◌||◌, nat_lt, nat_le, nat_eq, not, fold, codes, if◌then◌else◌}
 use Rattle.std.specs.List.{slice_split, join_with_byte, list_all, list_any}
 use Rattle.std.specs.Cmp.Lexicographic.{pointwise}
 use Rattle.mk_text.specs.Told.{Told}
@@ -11,12 +11,20 @@ use Rattle.mk_text.specs.declared.fault.Source.TheVariants.{Makefile, Settings}
 abbrev pub components : List ℕ → List (List ℕ)
 components path = slice_split (λ b. b == 47) path
 
+-- a component that stands for itself: neither nothing, `.` nor `..`
+abbrev pub IsPlain : List ℕ → Type 0
+IsPlain part = (part ≢ []) × (part ≢ codes ".") × (part ≢ codes "..")
+
+-- the list without its last item, if it has any
+abbrev pub without_last : List (List ℕ) → List (List ℕ)
+without_last parts = take (length parts - 1) parts
+
 -- the reduced list of some components and one more at their end:
 -- nothing and `.` are dropped, `..` drops the one before it, and any other is kept
 abbrev pub one_more : List (List ℕ) → List ℕ → List (List ℕ)
 one_more kept part =
     if length part == 0 || pointwise nat_eq part (codes ".") then kept
-    else (if pointwise nat_eq part (codes "..") then take (length kept - 1) kept else kept ++ part ∷ [])
+    else (if pointwise nat_eq part (codes "..") then without_last kept else kept ++ part ∷ [])
 
 -- the reduced list of some components
 abbrev pub reduced : List (List ℕ) → List (List ℕ)

@@ -1,5 +1,5 @@
 //! The plain spelling of paths.
-ghost use Rattle.std.specs.Prelude.{◌≡◌, List, ℕ, [], ◌∷◌, map, IfOk, IfErr, Option};
+ghost use Rattle.std.specs.Prelude.{◌≡◌, List, ℕ, [], ◌∷◌, ◌++◌, All, codes, IfOk};
 ghost use Rattle.mk_text.specs.Gives.{Gives, Halts};
 ghost use Rattle.mk_text.specs.Spelling as spec;
 
@@ -51,3 +51,18 @@ fn plain_name(alloc: Global, path: &[u8], root: &Root) -> Result<Name, AllocErro
     add_path(&mut parts, path)?;
     name_below(alloc, root.parts(), parts.as_slice(), path.len())
 }
+
+/// The law of reduced components, by what stands at the end of a list: nothing gives nothing; an empty
+/// component and `.` leave what is before them, `..` drops the last of it, and any other follows it.
+pub fn reduced_by_its_end()
+    ensures nothing { spec.reduced [] ≡ [] }
+    ensures empty { (parts : List (List ℕ)) → spec.reduced (parts ++ [] ∷ []) ≡ spec.reduced parts }
+    ensures dot { (parts : List (List ℕ)) → spec.reduced (parts ++ codes "." ∷ []) ≡ spec.reduced parts }
+    ensures dots { (parts : List (List ℕ)) → spec.reduced (parts ++ codes ".." ∷ []) ≡ spec.without_last (spec.reduced parts) }
+    ensures other { (parts : List (List ℕ)) (part : List ℕ) → spec.IsPlain part → spec.reduced (parts ++ part ∷ []) ≡ spec.reduced parts ++ part ∷ [] }
+{}
+
+/// No reduced list has an empty component, a `.` or a `..`.
+pub fn reduced_is_plain()
+    ensures { (parts : List (List ℕ)) → All spec.IsPlain (spec.reduced parts) }
+{}
