@@ -1,5 +1,5 @@
 -- Lists in which each name stands once, and which names stand in them.
-use Rattle.std.proofs.Common.{◌≡◌, ℕ, Bool, true, false, ◌||◌, List, [], ◌∷◌, ◌++◌, if◌then◌else◌, refl, sym, ◌∙◌, ap, length, take, get_or, ◌+◌, ◌<◌}
+use Rattle.std.proofs.Common.{◌≡◌, ℕ, Bool, true, false, ◌||◌, List, [], ◌∷◌, ◌++◌, if◌then◌else◌, refl, sym, ◌∙◌, ap, length, take, get_or, ◌+◌, ◌<◌, arith}
 use lib.Pointwise.{bytes_decides}
 use Rattle.std.proofs.lemmas.Bool.{true≢false}
 use Rattle.std.proofs.lemmas.List.{take_more}
@@ -98,3 +98,9 @@ module _ {X : Type 0} (same : X → X → Bool) (laws : IsEquivalence same) wher
 
   pub has-firsts : (xs : List X) (x : X) → has same (firsts same xs) x ≡ has same xs x
   has-firsts xs x = has-kept [] xs x
+
+-- fewer than two names are each the first
+pub firsts_short : (xs : List Name) → length xs < 2 → xs ≡ firsts same_name xs
+firsts_short [] h = refl
+firsts_short (x ∷ []) h = refl
+firsts_short (x ∷ y ∷ xs) h = absurd (omega (arith, h))

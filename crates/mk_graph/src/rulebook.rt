@@ -1,11 +1,11 @@
 //! The book of rules: what a makefile says of each target.
-ghost use Rattle.std.specs.Prelude.{◌≡◌, ◌≢◌, ◌-◌, ◌<◌, false, [], ◌∷◌, ◌++◌, length, map, slice_get, Some, IfOk, IfErr, OnOk};
+ghost use Rattle.std.specs.Prelude.{◌≡◌, ◌≢◌, ◌-◌, ◌<◌, false, [], ◌∷◌, ◌++◌, length, map, slice_get, take, find, Some, IfOk, IfErr, OnOk};
 ghost use Rattle.std.specs.List.{All};
-ghost use Rattle.std.specs.Option.{option_copied};
-ghost use Rattle.mk_text.specs.Names.{kept, same_name};
+ghost use Rattle.std.specs.Option.{option_copied, option_map};
+ghost use Rattle.mk_text.specs.Names.{firsts, kept, same_name};
 ghost use Rattle.mk_text.specs.declared.fault.Halt.TheVariants.{Memory};
 ghost use Rattle.mk_graph.specs.Index.{NotesEntry, NotesTarget};
-ghost use Rattle.mk_graph.specs.Book.{default_goal, has_recipe, is_target, may_be_goal, places_of, prerequisites_of, recipe_place, targets_of};
+ghost use Rattle.mk_graph.specs.Book.{default_goal, has_recipe, is_target, may_be_goal, places_of, prerequisites_of, recipe_place, second_recipe, second_target, targets_of};
 
 use indexmap::IndexSet;
 use mk_text::fault::Halt;
@@ -32,15 +32,20 @@ impl Model for Rule {
 }
 
 impl Rule {
-    /// The entry of these parts. A target that stands twice counts once.
-    pub fn new(targets: Vec<Name>, prerequisites: Vec<Name>, has_commands: bool) -> Rule
-        ensures { result ≡ record { targets = targets.items; prerequisites = prerequisites.items; has_commands = has_commands } }
+    /// The entry of these parts. A target that stands twice counts once. The only error is want of memory.
+    pub fn new(
+        alloc: Global,
+        targets: Vec<Name>,
+        prerequisites: Vec<Name>,
+        has_commands: bool,
+    ) -> Result<Rule, AllocError>
+        ensures { IfOk result (λ rule. rule ≡ record { targets = firsts same_name targets.items; prerequisites = prerequisites.items; has_commands = has_commands }) }
     {
-        Rule {
-            targets,
+        Ok(Rule {
+            targets: distinct(alloc, targets)?,
             prerequisites,
             has_commands,
-        }
+        })
     }
 }
 
@@ -147,6 +152,48 @@ impl Rulebook {
         Ok(into_names(alloc, joined)?)
     }
 
+    /// The place of the first entry that gives commands to a target that an earlier one gave some, with the first such
+    /// target of it ("Target Rules": at most one has commands).
+    pub fn second_recipe(&self) -> Option<(usize, &Name)>
+        ensures { option_map (λ found. (found.0, found.1.now)) result ≡ second_recipe self.now }
+    {
+        for (place, rule) in self.rules.iter().enumerate() {
+            if let Some(name) = self.second_target(rule, place) {
+                return Some((place, name));
+            }
+        }
+        None
+    }
+
+    /// The first target of the entry at a place to which it gives commands, and an entry before it too.
+    fn second_target<'a>(&self, rule: &'a Rule, place: usize) -> Option<&'a Name>
+        ensures { option_copied result ≡ second_target self.now (place, rule.now) }
+    {
+        if !rule.has_commands {
+            return None;
+        }
+        self.first_with_recipe(&rule.targets, place)
+    }
+
+    /// The first of the names to which an entry before the place gives commands.
+    fn first_with_recipe<'a>(&self, names: &'a [Name], place: usize) -> Option<&'a Name>
+        ensures { option_copied result ≡ find (has_recipe (take place self.now)) names.now }
+    {
+        names
+            .iter()
+            .find(|name| self.has_recipe_before(name, place))
+    }
+
+    /// Whether an entry before the place gives the name commands.
+    fn has_recipe_before(&self, name: &Name, place: usize) -> bool
+        ensures { result ≡ has_recipe (take place self.now) name.now }
+    {
+        match self.recipe_place(name) {
+            Some(first) => first < place,
+            None => false,
+        }
+    }
+
     /// The goal where none is named: the first target whose first byte is no period, or in which a slash stands
     /// ("Target Rules").
     pub fn default_goal(&self) -> Option<&Name>
@@ -174,7 +221,7 @@ impl Rulebook {
 }
 
 /// Whether the name may be the default goal.
-fn may_be_goal(name: &Name) -> bool
+pub(crate) fn may_be_goal(name: &Name) -> bool
     ensures { result ≡ may_be_goal name.now }
 {
     !name.as_bytes().starts_with(b".") || name.as_bytes().contains(&b'/')
@@ -190,6 +237,18 @@ fn join(alloc: Global, joined: &mut IndexSet<Name>, names: &[Name]) -> Result<()
         }
     }
     Ok(())
+}
+
+/// The names, each where it first stands.
+fn distinct(alloc: Global, names: Vec<Name>) -> Result<Vec<Name>, AllocError>
+    ensures { IfOk result (λ list. list.items ≡ firsts same_name names.items) }
+{
+    if names.len() < 2 {
+        return Ok(names);
+    }
+    let mut seen = IndexSet::new(alloc);
+    join(alloc, &mut seen, &names)?;
+    into_names(alloc, seen)
 }
 
 /// The names of an ordered set.
