@@ -87,7 +87,7 @@ may_touch jobs n x = may_read jobs n x || may_write jobs n x
 abbrev pub IsPrerequisite : Jobs → ℕ → ℕ → Type 0
 IsPrerequisite jobs p n = Contains (prerequisites_of jobs n) p
 
--- a is before b: a chain of one or more edges leads from a to b
+-- a is before b: one edge leads there, or an edge from a node that a is before
 pub data Before (jobs : Jobs) (a : ℕ) : ℕ → Type 0 where
   edge : {b : ℕ} → IsPrerequisite jobs a b → Before jobs a b
   further : {b c : ℕ} → Before jobs a b → IsPrerequisite jobs b c → Before jobs a c

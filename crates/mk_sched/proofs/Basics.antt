@@ -1,5 +1,5 @@
 -- Facts about single acts: what an act leaves at a name, and what a history says was left there.
-use Rattle.std.proofs.Common.{ℕ, ◌≡◌, ◌<◌, ◌==◌, Bool, true, false, List, [], ◌∷◌, ◌++◌, Option, Some, None, refl, sym, ap, ◌∙◌, if◌then◌else◌, Contains, arith, eqb-true}
+use Rattle.std.proofs.Common.{ℕ, ◌≡◌, Bool, true, false, List, [], ◌∷◌, Option, Some, None, refl, ap, if◌then◌else◌, Contains, arith}
 use Rattle.std.specs.Cmp.Lexicographic.{pointwise}
 use Rattle.std.specs.Prelude.{nat_eq}
 use Rattle.std.specs.List.{list_any}
@@ -8,7 +8,7 @@ use Rattle.std.proofs.lemmas.Bool.Decides.{Decides-eqb}
 use Rattle.std.proofs.lemmas.List.Elements.{Contains-append_right}
 use Rattle.mk_text.specs.Names.{Name, same_name}
 use Rattle.mk_sched.specs.Stores.{Bytes, File, bytes_of}
-use Rattle.mk_sched.specs.Events.{Act, Skip, Start, Look, Put, Erase, Finish, Event, Phase, Waiting, Running, Skipped, Ran, Entry, Looked, Wrote, entries, written, is_passed, is_started}
+use Rattle.mk_sched.specs.Events.{Act, Skip, Start, Look, Put, Erase, Finish, Phase, Waiting, Running, Skipped, Ran, Entry, Looked, Wrote, entries, written, is_passed, is_started}
 
 -- by cases on a test, with the equation
 pub split : {X : Type 0} (b : Bool) → (b ≡ true → X) → (b ≡ false → X) → X

@@ -1,16 +1,15 @@
 -- Facts about one run: what has passed is final, whose file a node's name is, who wrote a name last, and the moment at which
 -- each act was allowed.
-use Rattle.std.proofs.Common.{ℕ, ◌≡◌, ◌≢◌, ◌<◌, ◌==◌, ◌⊎◌, inl, inr, Bool, true, false, List, [], ◌∷◌, ◌++◌, Option, Some, None, refl, sym, ap, ◌∙◌, subst, if◌then◌else◌, eqb-true, eq-eqb, ne_eqb, ◌||◌}
+use Rattle.std.proofs.Common.{ℕ, ◌≡◌, ◌<◌, ◌==◌, ◌⊎◌, inl, inr, Bool, true, false, List, [], ◌∷◌, ◌++◌, Option, Some, None, refl, sym, ap, ◌∙◌, subst, eqb-true, eq-eqb}
 use Rattle.std.proofs.lemmas.Bool.{false≢true, cases_eq, or_left, or_right, false_from_ne_true}
 use Rattle.mk_text.specs.Names.{Name, same_name}
-use Rattle.mk_foot.specs.Jobs.{Jobs, IsValid, IsRaceFree, IsPrerequisite, Before, edge, further, Clash, node_count, name_of, may_read, may_write, may_touch}
+use Rattle.mk_foot.specs.Jobs.{Jobs, IsValid, IsRaceFree, IsPrerequisite, Before, edge, further, node_count, name_of, may_write, may_touch}
 use Rattle.mk_sched.specs.Stores.{Bytes, File, Store, bytes_of, must_run}
-use Rattle.mk_sched.specs.Events.{Act, Skip, Start, Look, Put, Erase, Finish, Event, Phase, Waiting, Running, Skipped, Ran, Entry, Looked, Wrote, entries, written, is_passed, is_started, acts_of, phase, phase_after, history, store_after}
+use Rattle.mk_sched.specs.Events.{Act, Skip, Start, Look, Put, Erase, Finish, Event, Running, entries, is_passed, is_started, acts_of, phase, phase_after, history, store_after}
 use Rattle.mk_sched.specs.Runs.{May, IsRun, IsReady}
 use Rattle.mk_sched.proofs.Basics.{split, split_option, same_name-true, is_begun, passed_begun, touch, last_of, written-untouched, last_of-untouched, last_of-touched, bytes_of-touched, LeftBy, LeftBy-weaker, LeftBy-act}
 
 module _ (jobs : Jobs) (tie : Bool) (limit : ℕ) (opening : Store) where
-
   -- the act of an event of n was allowed to n
   pub may_own : (e : Event) (past : List Event) (n : ℕ) → IsRun jobs tie limit opening (e ∷ past) → (e.node == n) ≡ true → May jobs tie limit opening past n e.act
   may_own e past n run own = subst (λ k. May jobs tie limit opening past k e.act) (eqb-true _ _ own) run.1
@@ -48,8 +47,8 @@ module _ (jobs : Jobs) (tie : Bool) (limit : ℕ) (opening : Store) where
   ready (e ∷ past) n p run step begun =
       let earlier = ready past n p run.0 step in
       passed_stays e past p run (split (e.node == n)
-        (λ own. ready_act past n p e.act (may_own e past n run own) step earlier)
-        (λ other. earlier (rw other at begun)))
+      (λ own. ready_act past n p e.act (may_own e past n run own) step earlier)
+      (λ other. earlier (rw other at begun)))
 
   -- and so have all nodes before it
   pub chain_passed : (past : List Event) (m n : ℕ) → IsRun jobs tie limit opening past → Before jobs m n → is_begun (phase past n) ≡ true → is_passed (phase past m) ≡ true
@@ -96,19 +95,19 @@ module _ (jobs : Jobs) (tie : Bool) (limit : ℕ) (opening : Store) where
       split_option (touch (name_of jobs n) e.act)
       (λ none. written-untouched (name_of jobs n) e.act (store_after opening past (name_of jobs n)) none ∙ own_file past n valid run.0 inside before)
       (λ c some.
-        let t = toucher past e.node e.act (name_of jobs n) c run.1 some in
-        let own : e.node ≡ n = valid.own e.node n inside t.1 in
-        absurd (false≢true (sym before ∙ ap (λ k. is_started (phase past k)) (sym own) ∙ ap is_started t.0)))
+      let t = toucher past e.node e.act (name_of jobs n) c run.1 some in
+      let own : e.node ≡ n = valid.own e.node n inside t.1 in
+      absurd (false≢true (sym before ∙ ap (λ k. is_started (phase past k)) (sym own) ∙ ap is_started t.0)))
 
   -- who has a write of x in its history may write x, and waits no more
   pub wrote : (past : List Event) (n : ℕ) (x : Name) (c : Option Bytes) → IsRun jobs tie limit opening past → last_of x (history past n) ≡ Some c → (may_write jobs n x ≡ true) × (is_begun (phase past n) ≡ true)
   wrote [] n x c run some = cc
   wrote (e ∷ past) n x c run some = split (e.node == n)
       (λ own. let may = may_own e past n run own in
-        let writes : may_write jobs n x ≡ true = split_option (touch x e.act)
-          (λ none. (wrote past n x c run.0 (sym (last_of-untouched x e.act (acts_of n past) none) ∙ (rw own at some))).0)
-          (λ d touched. (toucher past n e.act x d may touched).1) in
-        (writes, rw own (begun_after past n e.act may)))
+      let writes : may_write jobs n x ≡ true = split_option (touch x e.act)
+      (λ none. (wrote past n x c run.0 (sym (last_of-untouched x e.act (acts_of n past) none) ∙ (rw own at some))).0)
+      (λ d touched. (toucher past n e.act x d may touched).1) in
+      (writes, rw own (begun_after past n e.act may)))
       (λ other. let earlier = wrote past n x c run.0 (rw other at some) in (earlier.0, rw other earlier.1))
 
   -- the time is later than the file at the opening of each node that has not started
@@ -132,7 +131,7 @@ module _ (jobs : Jobs) (tie : Bool) (limit : ℕ) (opening : Store) where
   own_last (e ∷ past) n valid run inside =
       let x : Name = name_of jobs n in
       let earlier = LeftBy-weaker (IsLater past) (IsLater (e ∷ past)) (λ time later m file below idle opens. later m file below (unstarted_before e past m run idle) opens)
-        (opening x) (store_after opening past x) (last_of x (history past n)) (own_last past n valid run.0 inside) in
+      (opening x) (store_after opening past x) (last_of x (history past n)) (own_last past n valid run.0 inside) in
       split (e.node == n)
       (λ own. rw own (LeftBy-act (IsLater (e ∷ past)) x e.act (acts_of n past) (opening x) (store_after opening past x) (on_put e past x valid run) earlier))
       (λ other. rw (other, written-untouched x e.act (store_after opening past x) (own_untouched e past n valid run inside other)) earlier)
@@ -142,10 +141,12 @@ module _ (jobs : Jobs) (tie : Bool) (limit : ℕ) (opening : Store) where
   after_writers past n m x c free run unpassed touches some =
       let w = wrote past m x c run some in
       elim (cases_eq m n) [
-        inl same ↦ inl same
+        | inl same ↦ inl same
         | inr different ↦ elim (free m n (x, record { different = different; first = or_right _ _ w.0; second = touches; written = or_left _ _ w.0 })) [
-          inl before ↦ inr before
-          | inr after ↦ absurd (false≢true (sym unpassed ∙ chain_passed past n m run after w.1)) ] ]
+          | inl before ↦ inr before
+          | inr after ↦ absurd (false≢true (sym unpassed ∙ chain_passed past n m run after w.1))
+        ]
+      ]
 
   -- no write to x so far
   abbrev pub IsUntouched : List Event → Name → Type 0
@@ -166,23 +167,24 @@ module _ (jobs : Jobs) (tie : Bool) (limit : ℕ) (opening : Store) where
       let now : Option File = store_after opening past x in
       split_option (touch x e.act)
       (λ none.
-        let same = ap bytes_of (written-untouched x e.act now none) in
-        elim (last_write past x free run.0) [
-          inl untouched ↦ inl (same ∙ untouched.0, λ m. last_of-kept e past m x none ∙ untouched.1 m)
-          | inr touched ↦ inr (record {
-            writer = touched.writer;
-            left = last_of-kept e past touched.writer x none ∙ (touched.left ∙ ap Some (sym same));
-            others = λ m c some. touched.others m c (sym (last_of-kept e past m x none) ∙ some);
-          }) ])
+      let same = ap bytes_of (written-untouched x e.act now none) in
+      elim (last_write past x free run.0) [
+        | inl untouched ↦ inl (same ∙ untouched.0, λ m. last_of-kept e past m x none ∙ untouched.1 m)
+        | inr touched ↦ inr (record {
+          writer = touched.writer;
+          left = last_of-kept e past touched.writer x none ∙ (touched.left ∙ ap Some (sym same));
+          others = λ m c some. touched.others m c (sym (last_of-kept e past m x none) ∙ some);
+        })
+      ])
       (λ c some.
-        let t = toucher past e.node e.act x c run.1 some in
-        inr (record {
-          writer = e.node;
-          left = rw (eq-eqb e.node e.node refl) (last_of-touched x e.act (acts_of e.node past) c some ∙ ap Some (sym (bytes_of-touched x e.act now c some)));
-          others = λ m d wrote_it. split (e.node == m)
+      let t = toucher past e.node e.act x c run.1 some in
+      inr (record {
+        writer = e.node;
+        left = rw (eq-eqb e.node e.node refl) (last_of-touched x e.act (acts_of e.node past) c some ∙ ap Some (sym (bytes_of-touched x e.act now c some)));
+        others = λ m d wrote_it. split (e.node == m)
             (λ own. inl (sym (eqb-true _ _ own)))
             (λ other. after_writers past e.node m x d free run.0 (open_if_may past e.node e.act run.1) (or_right _ _ t.1) (rw other at wrote_it));
-        }))
+      }))
 
   -- the acts of who had passed earlier are final
   abbrev pub IsFinal : List Event → List Event → Type 0
@@ -203,7 +205,7 @@ module _ (jobs : Jobs) (tie : Bool) (limit : ℕ) (opening : Store) where
   decided_on e past n run old same = record { earlier = old.earlier; run = old.run; ready = old.ready; chosen = same ∙ old.chosen; final = final_on e past old.earlier run old.final }
 
   decided_act : (past : List Event) (n : ℕ) (a : Act) → May jobs tie limit opening past n a → (is_begun (phase past n) ≡ true → Decided past n)
-    → (IsReady jobs past n × (is_started (phase_after (a ∷ acts_of n past)) ≡ must_run jobs tie (store_after opening past) n)) ⊎ (Decided past n × (is_started (phase_after (a ∷ acts_of n past)) ≡ is_started (phase past n)))
+      → (IsReady jobs past n × (is_started (phase_after (a ∷ acts_of n past)) ≡ must_run jobs tie (store_after opening past) n)) ⊎ (Decided past n × (is_started (phase_after (a ∷ acts_of n past)) ≡ is_started (phase past n)))
   decided_act past n Skip may old = inl (may.ready, sym may.fresh)
   decided_act past n Start may old = inl (may.ready, sym may.stale)
   decided_act past n (Look path seen) may old = inr (old (ap is_begun may.runs), refl)
@@ -215,8 +217,9 @@ module _ (jobs : Jobs) (tie : Bool) (limit : ℕ) (opening : Store) where
   decided [] n run begun = absurd (false≢true begun)
   decided (e ∷ past) n run begun = split (e.node == n)
       (λ own. elim (decided_act past n e.act (may_own e past n run own) (decided past n run.0)) [
-        inl new ↦ record { earlier = past; run = run.0; ready = new.0; chosen = rw own new.1; final = λ p passed. passed_acts e past p run passed }
-        | inr old ↦ decided_on e past n run old.0 (rw own old.1) ])
+        | inl new ↦ record { earlier = past; run = run.0; ready = new.0; chosen = rw own new.1; final = λ p passed. passed_acts e past p run passed }
+        | inr old ↦ decided_on e past n run old.0 (rw own old.1)
+      ])
       (λ other. decided_on e past n run (decided past n run.0 (rw other at begun)) (rw other refl))
 
   -- the moment at which n did this act, after these older ones
@@ -231,7 +234,7 @@ module _ (jobs : Jobs) (tie : Bool) (limit : ℕ) (opening : Store) where
   moment_on e past n a older run old = record { earlier = old.earlier; run = old.run; may = old.may; acts = old.acts; final = final_on e past old.earlier run old.final }
 
   moment_own : (e : Event) (past : List Event) (n : ℕ) (newer : List Act) (a : Act) (older : List Act) → IsRun jobs tie limit opening (e ∷ past) → May jobs tie limit opening past n e.act
-    → ((rest : List Act) → acts_of n past ≡ rest ++ a ∷ older → Moment past n a older) → e.act ∷ acts_of n past ≡ newer ++ a ∷ older → Moment (e ∷ past) n a older
+      → ((rest : List Act) → acts_of n past ≡ rest ++ a ∷ older → Moment past n a older) → e.act ∷ acts_of n past ≡ newer ++ a ∷ older → Moment (e ∷ past) n a older
   moment_own e past n [] a older run may old is =
       let first : e.act ≡ a = cc in
       let rest : acts_of n past ≡ older = cc in

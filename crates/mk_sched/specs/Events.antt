@@ -1,5 +1,5 @@
 -- Events, and what a list of events leaves. A past is the list of the events so far, the newest first.
-use Rattle.std.specs.Prelude.{ℕ, suc, ◌==◌, Bool, true, false, List, [], ◌∷◌, Option, Some, None, if◌then◌else◌}
+use Rattle.std.specs.Prelude.{ℕ, ◌==◌, Bool, true, false, List, [], ◌∷◌, Option, Some, None, if◌then◌else◌}
 use Rattle.mk_text.specs.Names.{Name, same_name}
 use Rattle.mk_sched.specs.Stores.{Bytes, File, Store}
 

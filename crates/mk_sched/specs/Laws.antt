@@ -25,8 +25,8 @@ StaleAlike =
 -- what a running node may read is the same at the ends of two runs, if it and all nodes before it did the same in both
 abbrev pub LookAlike : Type 0
 LookAlike =
-    (jobs : Jobs) (tie : Bool) (limit other : ℕ) (opening : Store) (a b : List Event) (n : ℕ) (x : Name)
-    → IsValid jobs → IsRaceFree jobs → IsRun jobs tie limit opening a → IsRun jobs tie other opening b
+    (jobs : Jobs) (tie other_tie : Bool) (limit other : ℕ) (opening : Store) (a b : List Event) (n : ℕ) (x : Name)
+    → IsValid jobs → IsRaceFree jobs → IsRun jobs tie limit opening a → IsRun jobs other_tie other opening b
     → phase a n ≡ Running → phase b n ≡ Running
     → history a n ≡ history b n → ((m : ℕ) → Before jobs m n → history a m ≡ history b m)
     → may_read jobs n x ≡ true → bytes_of (store_after opening a x) ≡ bytes_of (store_after opening b x)

@@ -7,6 +7,7 @@ pub mod fault;
 pub mod feed;
 mod limits;
 pub mod line;
+pub mod lines;
 pub mod listing;
 pub mod name;
 pub mod report;

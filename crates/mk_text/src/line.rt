@@ -73,9 +73,11 @@ impl<'a> Model for Line<'a> {
 impl<'a> Line<'a> {
     /// The line of one piece.
     pub(crate) fn of_piece(kind: LineKind, first_line: u64, piece: &'a [u8]) -> Line<'a>
-        ensures kind { result.kind ≡ kind }
-        ensures first_line { result.first_line ≡ first_line }
-        ensures pieces { result.pieces ≡ piece.now ∷ [] }
+        ensures { result ≡ record {
+          kind = kind;
+          first_line = first_line;
+          pieces = piece.now ∷ [];
+        } }
     {
         Line {
             kind,
@@ -86,9 +88,11 @@ impl<'a> Line<'a> {
 
     /// The line of these pieces.
     pub(crate) fn of_pieces(kind: LineKind, first_line: u64, pieces: Vec<&'a [u8]>) -> Line<'a>
-        ensures kind { result.kind ≡ kind }
-        ensures first_line { result.first_line ≡ first_line }
-        ensures pieces { result.pieces ≡ map (λ piece. piece.now) pieces.entry.items }
+        ensures { result ≡ record {
+          kind = kind;
+          first_line = first_line;
+          pieces = map (λ piece. piece.now) pieces.entry.items;
+        } }
     {
         Line {
             kind,

@@ -91,3 +91,40 @@ fn add_line(
 pub fn listed_in_any_order()
     ensures { (names : List (List ℕ)) (name : List ℕ) → has same_name (in_order names) name ≡ has same_name names name }
 {}
+
+#[cfg(test)]
+mod tests {
+    use super::*;
+    use crate::report::refused_report;
+    use std::alloc::AllocError;
+    use std::test::Fail;
+
+    #[test]
+    fn listings(rt: HostRuntime) -> Result<(), Fail> {
+        let alloc = rt.alloc();
+        let root = Root::read(alloc, b"/w").ok().ok_or("root")?;
+        let text = b"b\n./a\n\n \n/w/b\nx*y".as_slice();
+        let listing = Listing::read(alloc, text, &root).ok().ok_or("listing")?;
+        for (name, want) in [
+            ("a", true),
+            ("b", true),
+            (" ", true),
+            ("x*y", true),
+            ("", false),
+        ] {
+            let name = Name::from_bytes(Vec::from_slice(alloc, name.as_bytes())?);
+            assert_eq!(rt; listing.contains(&name), want, "{name:?}");
+        }
+        let report = report_of(alloc, Listing::read(alloc, b"x\n\n\0y\n\0", &root))?;
+        let want = b"refused\nF1 BadName\nat listing 3\n".as_slice();
+        assert_eq!(rt; report.as_slice(), want);
+        Ok(())
+    }
+
+    fn report_of(alloc: Global, answer: Result<Listing, Halt>) -> Result<Vec<u8>, AllocError> {
+        match answer {
+            Err(Halt::Fault(fault)) => refused_report(alloc, &fault),
+            _ => Ok(Vec::new(alloc)),
+        }
+    }
+}
