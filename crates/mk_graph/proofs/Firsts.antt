@@ -1,12 +1,12 @@
 -- Lists in which each name stands once, and which names stand in them.
-use Rattle.std.proofs.Common.{◌≡◌, ℕ, Bool, true, false, ◌||◌, List, [], ◌∷◌, ◌++◌, if◌then◌else◌, refl, sym, ◌∙◌, ap, length, take, get_or, ◌+◌, ◌<◌}
+use Rattle.std.proofs.Common.{◌≡◌, ℕ, Bool, true, false, ◌||◌, List, [], ◌∷◌, ◌++◌, if◌then◌else◌, refl, sym, ◌∙◌, ap, length, take, get_or, ◌+◌, ◌<◌, arith}
 use lib.Pointwise.{bytes_decides}
 use Rattle.std.proofs.lemmas.Bool.{true≢false}
 use Rattle.std.proofs.lemmas.List.{take_more}
 use Rattle.std.proofs.lemmas.List.Folds.{list_any-append}
 use Rattle.std.specs.Cmp.{IsEquivalence}
-use Rattle.std.specs.Cmp.Lexicographic.{nat_list_eq_equiv}
-use Rattle.std.specs.List.{list_any}
+use Rattle.std.proofs.lemmas.Map.Keys.{IsDistinct-push}
+use Rattle.std.specs.List.{IsDistinct, list_any}
 use Rattle.indexmap.specs.IndexSet.{insert_key}
 use Rattle.mk_text.specs.Names.{Name, same_name, has, kept, firsts}
 
@@ -24,7 +24,7 @@ or_regroup true b c = refl
 or_regroup false true c = refl
 or_regroup false false c = refl
 
-or_none : (a : Bool) → a ≡ (a || false)
+pub or_none : (a : Bool) → a ≡ (a || false)
 or_none true = refl
 or_none false = refl
 
@@ -69,6 +69,20 @@ module _ {X : Type 0} (same : X → X → Bool) (laws : IsEquivalence same) wher
       ∙ ap (λ l. insert_key same l (get_or xs i d)) before
       ∙ sym (ap (kept same front) (take_more xs i d within) ∙ kept-append front (take i xs) (get_or xs i d ∷ []) ∙ kept-insert (kept same front (take i xs)) (get_or xs i d))
 
+  -- no two that are kept are the same
+  kept-distinct : (front xs : List X) → IsDistinct same front → IsDistinct same (kept same front xs)
+  kept-distinct front [] d = d
+  kept-distinct front (x ∷ xs) d = by (has same front x) refl (λ f. kept-distinct f xs)
+    where
+      by : (b : Bool) → has same front x ≡ b → ((f : List X) → IsDistinct same f → IsDistinct same (kept same f xs))
+          → IsDistinct same (kept same (if b then front else front ++ x ∷ []) xs)
+      by true e rest = rest front d
+      by false e rest = rest (front ++ x ∷ []) (IsDistinct-push laws front x d (sym (has-flip front x) ∙ e))
+
+  pub firsts-distinct : (xs : List X) → IsDistinct same (firsts same xs)
+  unfolding IsDistinct
+  firsts-distinct xs = kept-distinct [] xs tt
+
   -- what stands in the front or in the rest stands in what is kept
   pub has-kept : (front xs : List X) (x : X) → has same (kept same front xs) x ≡ (has same front x || has same xs x)
   has-kept front [] x = or_none (has same front x)
@@ -84,3 +98,9 @@ module _ {X : Type 0} (same : X → X → Bool) (laws : IsEquivalence same) wher
 
   pub has-firsts : (xs : List X) (x : X) → has same (firsts same xs) x ≡ has same xs x
   has-firsts xs x = has-kept [] xs x
+
+-- fewer than two names are each the first
+pub firsts_short : (xs : List Name) → length xs < 2 → xs ≡ firsts same_name xs
+firsts_short [] h = refl
+firsts_short (x ∷ []) h = refl
+firsts_short (x ∷ y ∷ xs) h = absurd (omega (arith, h))

@@ -1,2 +1,6 @@
 pub mod Firsts
 pub mod Indexes
+pub mod Lines
+pub mod Notes
+pub mod Recipes
+pub mod Words

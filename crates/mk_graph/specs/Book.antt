@@ -1,6 +1,7 @@
 -- The book of rules: the entries of a makefile, in their order. All else is read off this list.
-use Rattle.std.specs.Prelude.{ℕ, ◌&&◌, ◌||◌, Bool, not, List, [], ◌∷◌, Option, map, filter, find, position, ◌==◌, nat_eq}
-use Rattle.std.specs.List.{enumerate_from, flat_map, list_any, starts_with}
+use Rattle.std.specs.Prelude.{ℕ, ◌&&◌, ◌||◌, Bool, not, List, [], ◌∷◌, Option, map, filter, find, position, take, slice_get, None, ◌==◌, nat_eq, if◌then◌else◌}
+use Rattle.std.specs.List.{enumerate_from, filter_map, flat_map, list_any, starts_with}
+use Rattle.std.specs.Option.{option_map}
 use Rattle.mk_text.specs.Names.{Name, same_name, has, firsts}
 
 -- an entry: its targets, each once, its prerequisites, and whether it has commands
@@ -48,3 +49,11 @@ may_be_goal t = not (starts_with nat_eq t (46 ∷ [])) || list_any (λ b. b == 4
 -- the first target that may be it
 abbrev pub default_goal : List Entry → Option Name
 default_goal entries = find may_be_goal (targets_of entries)
+
+-- the first target of an entry at a place to which it gives commands, and an entry before it too
+abbrev pub second_target : List Entry → ℕ × Entry → Option Name
+second_target entries e = if e.1.has_commands then find (has_recipe (take e.0 entries)) e.1.targets else None
+
+-- the place of the first entry with such a target, and the target
+abbrev pub second_recipe : List Entry → Option (ℕ × Name)
+second_recipe entries = slice_get (filter_map (λ e. option_map (λ t. (e.0, t)) (second_target entries e)) (enumerate_from 0 entries)) 0

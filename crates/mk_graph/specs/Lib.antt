@@ -1,3 +1,4 @@
 pub mod Book
 pub mod Index
+pub mod PlainRules
 pub mod Plan

@@ -2,4 +2,5 @@
 #![tactic(auto)]
 
 pub mod maker;
+pub mod plain_rules;
 pub mod rulebook;

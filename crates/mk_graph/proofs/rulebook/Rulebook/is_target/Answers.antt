@@ -1,4 +1,4 @@
-use Rattle.std.proofs.Common.{sym, ◌∙◌, ap}
+use Rattle.std.proofs.Common.{◌∙◌, ap}
 use Rattle.mk_graph.specs.Book.{is_target}
 use Rattle.mk_graph.proofs.Indexes.{found-is_target}
 use Rattle.mk_graph.proofs.rulebook.Rulebook.is_target.Goals as goal

@@ -1,4 +1,4 @@
-use Rattle.std.proofs.Common.{◌≡◌, sym, ◌∙◌, ap, find}
+use Rattle.std.proofs.Common.{sym, ◌∙◌, ap, find}
 use Rattle.mk_graph.proofs.Indexes.{commands_at, find_here, find_none, find-places_of}
 use Rattle.mk_graph.proofs.rulebook.Rulebook.recipe_place.Goals as goal
 
