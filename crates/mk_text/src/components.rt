@@ -9,7 +9,8 @@ use std::alloc::{AllocError, Global};
 
 /// Puts one more component at the end of a reduced list.
 fn add<'a>(parts: &mut Vec<&'a [u8]>, part: &'a [u8]) -> Result<(), AllocError>
-    ensures { OnOk result (map (λ x. x.now) parts.new.items ≡ one_more (map (λ x. x.now) parts.old.items) part.now) }
+    ensures { let before = map (λ x. x.now) parts.old.items in
+        OnOk result (map (λ x. x.now) parts.new.items ≡ one_more before part.now) }
 {
     if part.is_empty() || part == b".".as_slice() {
         return Ok(());
@@ -24,7 +25,8 @@ fn add<'a>(parts: &mut Vec<&'a [u8]>, part: &'a [u8]) -> Result<(), AllocError>
 
 /// Puts the components of the path, from the left, at the end of a reduced list.
 pub fn add_path<'a>(parts: &mut Vec<&'a [u8]>, path: &'a [u8]) -> Result<(), AllocError>
-    ensures { OnOk result (map (λ x. x.now) parts.new.items ≡ fold one_more (map (λ x. x.now) parts.old.items) (components path.now)) }
+    ensures { let before = map (λ x. x.now) parts.old.items in
+        OnOk result (map (λ x. x.now) parts.new.items ≡ fold one_more before (components path.now)) }
 {
     for part in path.split(|byte| *byte == b'/') {
         add(parts, part)?;
@@ -34,7 +36,8 @@ pub fn add_path<'a>(parts: &mut Vec<&'a [u8]>, path: &'a [u8]) -> Result<(), All
 
 /// What follows the root's components, where the others begin with them.
 fn rest_below<'a, 'b>(root: &[Vec<u8>], parts: &'b [&'a [u8]]) -> Option<&'b [&'a [u8]]>
-    ensures { option_map (λ rest. map (λ x. x.now) rest.now) result ≡ below (map (λ part. part.items) root.now) (map (λ x. x.now) parts.now) }
+    ensures { option_map (λ rest. map (λ x. x.now) rest.now) result
+        ≡ below (map (λ part. part.items) root.now) (map (λ x. x.now) parts.now) }
 {
     for (i, part) in root.iter().enumerate() {
         let Some(other) = parts.get(i) else {
@@ -49,7 +52,8 @@ fn rest_below<'a, 'b>(root: &[Vec<u8>], parts: &'b [&'a [u8]]) -> Option<&'b [&'
 
 /// Puts the components, with one slash between each two, at the end of the bytes.
 fn join(bytes: &mut Vec<u8>, parts: &[&[u8]]) -> Result<(), AllocError>
-    ensures { OnOk result (bytes.new.items ≡ bytes.old.items ++ join_with_byte 47 (map (λ x. x.now) parts.now)) }
+    ensures { let joined = join_with_byte 47 (map (λ x. x.now) parts.now) in
+        OnOk result (bytes.new.items ≡ bytes.old.items ++ joined) }
 {
     let Some((first, others)) = parts.split_first() else {
         return Ok(());
@@ -70,7 +74,8 @@ pub fn name_below(
     parts: &[&[u8]],
     size: usize,
 ) -> Result<Name, AllocError>
-    ensures { IfOk result (λ name. name ≡ name_of (map (λ part. part.items) root.now) (map (λ x. x.now) parts.now)) }
+    ensures { let below = map (λ part. part.items) root.now in
+        IfOk result (λ name. name ≡ name_of below (map (λ x. x.now) parts.now)) }
 {
     let mut bytes = Vec::with_capacity(alloc, size)?;
     match rest_below(root, parts) {

@@ -137,7 +137,8 @@ impl Kind {
     }
 }
 
-/// What is wrong with an input, and where: a kind, a source, a place in it and the names that it tells.
+/// What is wrong with an input, and where: a kind, a source, a place in it and the names that it
+/// tells.
 /// The place is a line from 1, an operand from 1 or a node's number, and 0 where there is none.
 #[derive(Debug, Drop)]
 pub struct Fault {
@@ -171,7 +172,10 @@ impl Fault {
     /// The fault of a text that spells no name: `BadName` at place 0, which tells the text.
     /// The only error is want of memory.
     pub fn bad_name(alloc: Global, source: Source, text: &[u8]) -> Result<Fault, AllocError>
-        ensures { IfOk result (λ fault. fault ≡ record { kind = Kind.BadName; source = source; place = 0; names = text.now ∷ [] }) }
+        ensures kind { IfOk result (λ fault. fault.kind ≡ Kind.BadName) }
+        ensures source { IfOk result (λ fault. fault.source ≡ source) }
+        ensures place { IfOk result (λ fault. fault.place ≡ 0) }
+        ensures names { IfOk result (λ fault. fault.names ≡ text.now ∷ []) }
     {
         let name = Name::from_bytes(Vec::from_slice(alloc, text)?);
         Ok(Fault {

@@ -39,7 +39,8 @@ fn has_path_length(text: &[u8]) -> bool
     !text.is_empty() && text.len() <= MAX_PATH_LEN
 }
 
-/// Whether no name in a makefile holds the byte: a control byte, a blank, or one with another meaning.
+/// Whether no name in a makefile holds the byte: a control byte, a blank, or one with another
+/// meaning.
 fn is_left_out(byte: u8) -> bool
     ensures { result ≡ spec.is_left_out byte }
 {

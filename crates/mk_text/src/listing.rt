@@ -1,5 +1,6 @@
 //! The listing: the files that exist, one path a line.
-ghost use Rattle.std.specs.Prelude.{◌≡◌, ◌<◌, ◌∷◌, [], List, ℕ, Ok, OnOk, IfErr, MatchOption, IfSome, length};
+ghost use Rattle.std.specs.Prelude.{◌≡◌, ◌<◌, ◌∷◌, [], List, ℕ, length};
+ghost use Rattle.std.specs.Prelude.{Ok, OnOk, IfErr, IfNone, IfSome};
 ghost use Rattle.mk_text.specs.Gives.{Gives, Halts};
 ghost use Rattle.mk_text.specs.Listing.{in_order, listing_of, line_names, lines, with_names};
 ghost use Rattle.mk_text.specs.Names.{has, same_name};
@@ -26,11 +27,11 @@ impl Model for Listing {
 }
 
 impl Listing {
-    /// Reads a listing, one path a line (profile). Only a line of no bytes is skipped, and the last line
-    /// needs no newline. Names that stand there more than once count once.
+    /// Reads a listing, one path a line (profile). Only a line of no bytes is skipped, and the last
+    /// line needs no newline. Names that stand there more than once count once.
     ///
-    /// The first line that `plain_path` refuses is `BadName` in the listing, at that line from 1, without
-    /// names. A line past the greatest `u64` has that place.
+    /// The first line that `plain_path` refuses is `BadName` in the listing, at that line from 1,
+    /// without names. A line past the greatest `u64` has that place.
     pub fn read(alloc: Global, text: &[u8], root: &Root) -> Result<Listing, Halt>
         ensures { Gives result (listing_of root.now text.now) }
     {
@@ -56,7 +57,8 @@ impl Listing {
 
 /// The first line, without its newline, and what follows it, where a newline ends it.
 fn first_line(text: &[u8]) -> Option<(&[u8], &[u8])>
-    ensures cases { MatchOption result (lines text.now ≡ text.now ∷ []) (λ cut. lines text.now ≡ cut.0.now ∷ lines cut.1.now) }
+    ensures last { IfNone result (lines text.now ≡ text.now ∷ []) }
+    ensures more { IfSome result (λ cut. lines text.now ≡ cut.0.now ∷ lines cut.1.now) }
     ensures shorter { IfSome result (λ cut. length cut.1.now < length text.now) }
 {
     let end = memchr(b'\n', text)?;
@@ -71,7 +73,8 @@ fn add_line(
     place: u64,
     root: &Root,
 ) -> Result<(), Halt>
-    ensures ok { OnOk result (with_names names.old.keys (line_names root.now place line.now) ≡ Ok names.new.keys) }
+    ensures ok { let names_of_line = line_names root.now place line.now in
+        OnOk result (with_names names.old.keys names_of_line ≡ Ok names.new.keys) }
     ensures err { IfErr result (λ halt. Halts halt (line_names root.now place line.now)) }
 {
     if line.is_empty() {
@@ -89,7 +92,8 @@ fn add_line(
 
 /// The order of names and the repeats among them change nothing: the same names are listed.
 pub fn listed_in_any_order()
-    ensures { (names : List (List ℕ)) (name : List ℕ) → has same_name (in_order names) name ≡ has same_name names name }
+    ensures { (names : List (List ℕ)) (name : List ℕ)
+        → has same_name (in_order names) name ≡ has same_name names name }
 {}
 
 #[cfg(test)]

@@ -9,9 +9,9 @@ use std::alloc::{AllocError, Global};
 
 const HEX_DIGITS: &[u8; 16] = b"0123456789abcdef";
 
-/// Puts the shown form of a name at the end (profile): a visible ASCII byte that is no backslash and a byte
-/// past ASCII stand for themselves, and any other is `\x` and two lower case hexadecimal digits.
-/// The only error is want of memory.
+/// Puts the shown form of a name at the end (profile): a visible ASCII byte that is no backslash and
+/// a byte past ASCII stand for themselves, and any other is `\x` and two lower case hexadecimal
+/// digits. The only error is want of memory.
 pub fn push_shown(out: &mut Vec<u8>, name: &[u8]) -> Result<(), AllocError>
     ensures { OnOk result (out.new.items ≡ out.old.items ++ spec.shown name.now) }
 {
@@ -50,8 +50,8 @@ fn is_all_visible(name: &[u8]) -> bool
     name.iter().all(|byte| is_visible(*byte))
 }
 
-/// The report of a fault (profile): the lines `refused`, its number and word, its source and place, and
-/// one for each of its names. The only error is want of memory.
+/// The report of a fault (profile): the lines `refused`, its number and word, its source and place,
+/// and one for each of its names. The only error is want of memory.
 pub fn refused_report(alloc: Global, fault: &Fault) -> Result<Vec<u8>, AllocError>
     ensures { IfOk result (λ text. text.items ≡ spec.refused_text fault.now) }
 {
@@ -87,7 +87,9 @@ fn push_place(
     out.extend_from_slice(text.as_bytes())
 }
 
-fn push_source(out: &mut Vec<u8>, source: &Source) -> Result<(), AllocError>
+/// Puts the shown form of a source at the end: its word, and for the text that an include line names
+/// `include:` and the shown name (profile). The only error is want of memory.
+pub fn push_source(out: &mut Vec<u8>, source: &Source) -> Result<(), AllocError>
     ensures { OnOk result (out.new.items ≡ out.old.items ++ spec.source_text source.now) }
 {
     let word = match source {

@@ -26,8 +26,8 @@ impl Model for Root {
 }
 
 impl Root {
-    /// The root with this text (profile): one that begins with `/`, has at most 4,096 bytes and holds
-    /// neither NUL nor newline.
+    /// The root with this text (profile): one that begins with `/`, has at most 4,096 bytes and
+    /// holds neither NUL nor newline.
     ///
     /// Any other text is `BadName` in the settings, at place 0, which tells the text.
     pub fn read(alloc: Global, text: &[u8]) -> Result<Root, Halt>
@@ -59,7 +59,7 @@ impl Root {
     }
 
     /// The reduced components of the root's text.
-    pub fn parts(&self) -> &[Vec<u8>]
+    pub(crate) fn parts(&self) -> &[Vec<u8>]
         ensures { map (λ part. part.items) result.now ≡ reduced (components self.now) }
     {
         self.parts.as_slice()

@@ -12,9 +12,9 @@ use std::alloc::{AllocError, Global};
 
 /// The plain name of a word of a makefile, or of a goal (profile).
 ///
-/// `BadName` with the word as it is written, where it is empty, has over 4,096 bytes, or holds a control
-/// byte, a blank or one of `# $ : ; = \ % ( ) * ? [ " ' & |`. Its source is the makefile and its place 0:
-/// the caller moves it by `Fault::at`.
+/// `BadName` with the word as it is written, where it is empty, has over 4,096 bytes, or holds a
+/// control byte, a blank or one of `# $ : ; = \ % ( ) * ? [ " ' & |`. Its source is the makefile and
+/// its place 0: the caller moves it by `Fault::at`.
 pub fn plain_word(alloc: Global, word: &[u8], root: &Root) -> Result<Name, Halt>
     ensures { Gives result (spec.word_name root.now word.now) }
 {
@@ -27,8 +27,8 @@ pub fn plain_word(alloc: Global, word: &[u8], root: &Root) -> Result<Name, Halt>
 
 /// The plain name of a path of a listing or of footprints (profile).
 ///
-/// `BadName` without names, where the path is empty, has over 4,096 bytes, or holds NUL or a newline. Its
-/// source is the makefile and its place 0: the caller moves it by `Fault::at`.
+/// `BadName` without names, where the path is empty, has over 4,096 bytes, or holds NUL or a newline.
+/// Its source is the makefile and its place 0: the caller moves it by `Fault::at`.
 pub fn plain_path(alloc: Global, path: &[u8], root: &Root) -> Result<Name, Halt>
     ensures { Gives result (spec.path_name root.now path.now) }
 {
@@ -52,14 +52,17 @@ fn plain_name(alloc: Global, path: &[u8], root: &Root) -> Result<Name, AllocErro
     name_below(alloc, root.parts(), parts.as_slice(), path.len())
 }
 
-/// The law of reduced components, by what stands at the end of a list: nothing gives nothing; an empty
-/// component and `.` leave what is before them, `..` drops the last of it, and any other follows it.
+/// The law of reduced components, by what stands at the end of a list: nothing gives nothing; an
+/// empty component and `.` leave what is before them, `..` drops the last of it, and any other
+/// follows it.
 pub fn reduced_by_its_end()
     ensures nothing { spec.reduced [] ≡ [] }
     ensures empty { (parts : List (List ℕ)) → spec.reduced (parts ++ [] ∷ []) ≡ spec.reduced parts }
     ensures dot { (parts : List (List ℕ)) → spec.reduced (parts ++ codes "." ∷ []) ≡ spec.reduced parts }
-    ensures dots { (parts : List (List ℕ)) → spec.reduced (parts ++ codes ".." ∷ []) ≡ spec.without_last (spec.reduced parts) }
-    ensures other { (parts : List (List ℕ)) (part : List ℕ) → spec.IsPlain part → spec.reduced (parts ++ part ∷ []) ≡ spec.reduced parts ++ part ∷ [] }
+    ensures dots { (parts : List (List ℕ))
+        → spec.reduced (parts ++ codes ".." ∷ []) ≡ spec.without_last (spec.reduced parts) }
+    ensures other { (parts : List (List ℕ)) (part : List ℕ) → spec.IsPlain part
+        → spec.reduced (parts ++ part ∷ []) ≡ spec.reduced parts ++ part ∷ [] }
 {}
 
 /// No reduced list has an empty component, a `.` or a `..`.
