@@ -3,6 +3,7 @@ pub mod ListingLines
 pub mod Ordered
 mod Places
 mod PlainText
+pub mod Plain
 pub mod Reduced
 mod Searches
 mod Stand

@@ -8,11 +8,11 @@ use Rattle.std.proofs.lemmas.List.Sums.{fold-append}
 use Rattle.mk_text.specs.Spelling.{IsPlain, one_more, reduced, without_last}
 
 -- nothing, or `.`
-abbrev is_dropped : List ℕ → Bool
+abbrev pub is_dropped : List ℕ → Bool
 is_dropped part = eqb (length part) 0 || pointwise eqb part (codes ".")
 
 -- `..`
-abbrev is_parent : List ℕ → Bool
+abbrev pub is_parent : List ℕ → Bool
 is_parent part = pointwise eqb part (codes "..")
 
 not_dropped : (part : List ℕ) → IsPlain part → is_dropped part ≡ false
@@ -23,7 +23,7 @@ not_parent : (part : List ℕ) → IsPlain part → is_parent part ≡ false
 not_parent part plain = false_from_ne_true (is_parent part) (λ is. plain.2 ((bytes_decides part (codes "..")).0 is))
 
 -- a plain component follows
-one_more-plain : (kept : List (List ℕ)) (part : List ℕ) → IsPlain part → one_more kept part ≡ kept ++ part ∷ []
+pub one_more-plain : (kept : List (List ℕ)) (part : List ℕ) → IsPlain part → one_more kept part ≡ kept ++ part ∷ []
 one_more-plain kept part plain =
     cond-false (is_dropped part) kept (cond (is_parent part) (without_last kept) (kept ++ part ∷ [])) (not_dropped part plain) ∙ cond-false (is_parent part) (without_last kept) (kept ++ part ∷ []) (not_parent part plain)
 
@@ -31,7 +31,7 @@ one_more-plain kept part plain =
 pub reduced-plain : (parts : List (List ℕ)) (part : List ℕ) → IsPlain part → reduced (parts ++ part ∷ []) ≡ reduced parts ++ part ∷ []
 reduced-plain parts part plain = fold-append one_more [] parts (part ∷ []) ∙ one_more-plain (reduced parts) part plain
 
-plain_from_tests : (part : List ℕ) → is_dropped part ≡ false → is_parent part ≡ false → IsPlain part
+pub plain_from_tests : (part : List ℕ) → is_dropped part ≡ false → is_parent part ≡ false → IsPlain part
 plain_from_tests part kept below = (λ is. true≢false (subst (λ (p : List ℕ). is_dropped p ≡ false) is kept), λ is. true≢false (subst (λ (p : List ℕ). is_dropped p ≡ false) is kept), λ is. true≢false (subst (λ (p : List ℕ). is_parent p ≡ false) is below))
 
 All-one_more : (kept : List (List ℕ)) (part : List ℕ) → All IsPlain kept → All IsPlain (one_more kept part)

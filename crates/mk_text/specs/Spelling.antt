@@ -15,6 +15,10 @@ components path = slice_split (λ b. b == 47) path
 abbrev pub IsPlain : List ℕ → Type 0
 IsPlain part = (part ≢ []) × (part ≢ codes ".") × (part ≢ codes "..")
 
+-- whether it stands for itself
+abbrev pub is_plain : List ℕ → Bool
+is_plain part = not (length part == 0 || pointwise nat_eq part (codes ".")) && not (pointwise nat_eq part (codes ".."))
+
 -- the list without its last item, if it has any
 abbrev pub without_last : List (List ℕ) → List (List ℕ)
 without_last parts = take (length parts - 1) parts

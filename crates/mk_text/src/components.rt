@@ -1,8 +1,8 @@
 //! The components of paths, reduced on a stack of slices.
 ghost use Rattle.std.specs.Prelude.{◌≡◌, ◌++◌, ◌∷◌, List, ℕ, map, fold, length, IfOk, OnOk, Option};
 ghost use Rattle.std.specs.Option.{option_map};
-ghost use Rattle.std.specs.List.{join_with_byte};
-ghost use Rattle.mk_text.specs.Spelling.{components, one_more, reduced, below, name_of};
+ghost use Rattle.std.specs.List.{join_with_byte, list_all};
+ghost use Rattle.mk_text.specs.Spelling.{components, is_plain, one_more, reduced, below, name_of};
 
 use crate::name::Name;
 use std::alloc::{AllocError, Global};
@@ -21,6 +21,19 @@ fn add<'a>(parts: &mut Vec<&'a [u8]>, part: &'a [u8]) -> Result<(), AllocError>
         parts.push(part)?;
     }
     Ok(())
+}
+
+/// Whether each component of the path stands for itself: none is empty, `.` or `..`.
+pub fn is_plain_path(path: &[u8]) -> bool
+    ensures { result ≡ list_all is_plain (components path.now) }
+{
+    path.split(|byte| *byte == b'/').all(is_plain_part)
+}
+
+fn is_plain_part(part: &[u8]) -> bool
+    ensures { result ≡ is_plain part.now }
+{
+    !part.is_empty() && part != b".".as_slice() && part != b"..".as_slice()
 }
 
 /// Puts the components of the path, from the left, at the end of a reduced list.

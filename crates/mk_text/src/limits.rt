@@ -44,7 +44,26 @@ fn has_path_length(text: &[u8]) -> bool
 fn is_left_out(byte: u8) -> bool
     ensures { result ≡ spec.is_left_out byte }
 {
-    byte <= b' ' || byte == 0x7f || b"#$:;=\\%()*?[\"'&|".contains(&byte)
+    byte <= b' '
+        || byte == 0x7f
+        || matches!(
+            byte,
+            b'#' | b'$'
+                | b':'
+                | b';'
+                | b'='
+                | b'\\'
+                | b'%'
+                | b'('
+                | b')'
+                | b'*'
+                | b'?'
+                | b'['
+                | b'"'
+                | b'\''
+                | b'&'
+                | b'|'
+        )
 }
 
 /// Whether no byte is NUL or a newline.

@@ -3,7 +3,7 @@ ghost use Rattle.std.specs.Prelude.{◌≡◌, List, ℕ, [], ◌∷◌, ◌++�
 ghost use Rattle.mk_text.specs.Gives.{Gives, Halts};
 ghost use Rattle.mk_text.specs.Spelling as spec;
 
-use crate::components::{add_path, name_below};
+use crate::components::{add_path, is_plain_path, name_below};
 use crate::fault::{Fault, Halt, Kind, Source};
 use crate::limits::{is_absolute, is_path, is_word};
 use crate::name::Name;
@@ -44,6 +44,9 @@ pub fn plain_path(alloc: Global, path: &[u8], root: &Root) -> Result<Name, Halt>
 fn plain_name(alloc: Global, path: &[u8], root: &Root) -> Result<Name, AllocError>
     ensures { IfOk result (λ name. name ≡ spec.plain_name root.now path.now) }
 {
+    if is_plain_path(path) {
+        return Ok(Name::from_bytes(Vec::from_slice(alloc, path)?));
+    }
     let mut parts = Vec::new(alloc);
     if !is_absolute(path) {
         add_path(&mut parts, root.text())?;
