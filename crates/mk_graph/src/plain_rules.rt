@@ -1,4 +1,5 @@
-//! The rulebook of a makefile's lines, while macros, inference rules and special targets are not read.
+//! The rulebook of a makefile's lines, while macros, inference rules and special targets are not
+//! read.
 ghost use Rattle.std.specs.Prelude.{◌≡◌, ◌||◌, ◌++◌, [], ◌∷◌, None, Some, Ok, Err, map, take, drop, slice_index, is_some, IfOk, IfErr, OnOk, if◌then◌else◌};
 ghost use Rattle.std.specs.List.{list_any};
 ghost use Rattle.std.specs.Option.{option_map, option_map_or, option_to_list};
@@ -80,7 +81,8 @@ fn is_special(name: &Name) -> bool
         || b".WAIT".as_slice() == bytes
 }
 
-/// What words mean: each its plain name, or itself where it spells none, and the fault of the first that spells none.
+/// What words mean: each its plain name, or itself where it spells none, and the fault of the first
+/// that spells none.
 #[derive(Drop)]
 struct Meanings {
     names: Vec<Name>,
@@ -90,7 +92,8 @@ struct Meanings {
 /// What a word means, and its fault where it spells no name.
 fn meaning_of(alloc: Global, word: &[u8], root: &Root) -> Result<(Name, Option<Fault>), Halt>
     ensures name { IfOk result (λ read. read.0 ≡ meaning root.now word.now) }
-    ensures fault { IfOk result (λ read. read.1 ≡ (if is_word word.now then None else Some (bad_name Makefile (word.now ∷ [])))) }
+    ensures fault { IfOk result (λ read.
+        read.1 ≡ (if is_word word.now then None else Some (bad_name Makefile (word.now ∷ [])))) }
     ensures only_memory { IfErr result (λ halt. halt ≡ Memory) }
 {
     match plain_word(alloc, word, root) {
@@ -105,8 +108,11 @@ fn meaning_of(alloc: Global, word: &[u8], root: &Root) -> Result<(Name, Option<F
 
 /// What the words mean.
 fn meanings_of(alloc: Global, words: &[&[u8]], root: &Root) -> Result<Meanings, Halt>
-    ensures names { IfOk result (λ read. read.names.items ≡ map (meaning root.now) (map (λ word. word.now) words.now)) }
-    ensures fault { IfOk result (λ read. read.fault ≡ option_map (λ word. bad_name Makefile (word ∷ [])) (refused_word (map (λ word. word.now) words.now))) }
+    ensures names { IfOk result (λ read.
+        read.names.items ≡ map (meaning root.now) (map (λ word. word.now) words.now)) }
+    ensures fault { IfOk result (λ read.
+        read.fault ≡ option_map (λ word. bad_name Makefile (word ∷ []))
+        (refused_word (map (λ word. word.now) words.now))) }
     ensures only_memory { IfErr result (λ halt. halt ≡ Memory) }
 {
     let mut names = Vec::new(alloc);
@@ -152,7 +158,8 @@ fn has_special(names: &[Name]) -> bool
 
 /// Whether an entry waits for what is not read yet.
 fn is_not_yet(targets: &[Name], prerequisites: &[Name]) -> bool
-    ensures { result ≡ (list_any is_reserved_target targets.now || list_any is_special prerequisites.now) }
+    ensures { result ≡ (list_any is_reserved_target targets.now
+        || list_any is_special prerequisites.now) }
 {
     has_reserved_target(targets) || has_special(prerequisites)
 }
@@ -171,7 +178,8 @@ fn entry_of_names(
     prerequisites: Vec<Name>,
     has_commands: bool,
 ) -> Result<Option<Rule>, AllocError>
-    ensures { IfOk result (λ rule. rule ≡ entry_of targets.items prerequisites.items has_commands) }
+    ensures { IfOk result (λ rule.
+        rule ≡ entry_of targets.items prerequisites.items has_commands) }
 {
     if targets.is_empty() {
         return Ok(None);
@@ -188,7 +196,8 @@ fn entry_of_words(
     has_commands: bool,
     root: &Root,
 ) -> Result<Option<Rule>, Halt>
-    ensures { Gives result (words_answer root.now line (map (λ word. word.now) targets.now) (map (λ word. word.now) prerequisites.now) has_commands) }
+    ensures { Gives result (words_answer root.now line (map (λ word. word.now) targets.now)
+        (map (λ word. word.now) prerequisites.now) has_commands) }
 {
     let left = meanings_of(alloc, targets, root)?;
     let right = meanings_of(alloc, prerequisites, root)?;
@@ -217,14 +226,16 @@ fn entry_of_parts(
     has_commands: bool,
     root: &Root,
 ) -> Result<Option<Rule>, Halt>
-    ensures { Gives result (words_answer root.now line (words_of targets.now) (words_of prerequisites.now) has_commands) }
+    ensures { Gives result (words_answer root.now line (words_of targets.now)
+        (words_of prerequisites.now) has_commands) }
 {
     let targets = words(alloc, targets)?;
     let prerequisites = words(alloc, prerequisites)?;
     entry_of_words(alloc, &targets, &prerequisites, line, has_commands, root)
 }
 
-/// What a line gives: its entry, if it is one with targets. Whether a command line stands right below it is told.
+/// What a line gives: its entry, if it is one with targets. Whether a command line stands right below
+/// it is told.
 fn read_line(
     alloc: Global,
     line: &Line,
@@ -269,8 +280,10 @@ struct Numbered {
 
 /// Adds the entry of a line, where there is one.
 fn add_rule(read: &mut Numbered, rule: Option<Rule>, line: u64) -> Result<(), AllocError>
-    ensures rules { OnOk result (read.new.rules.items ≡ read.old.rules.items ++ option_to_list rule) }
-    ensures lines { OnOk result (read.new.lines.items ≡ read.old.lines.items ++ map (λ _. line) (option_to_list rule)) }
+    ensures rules { OnOk result
+        (read.new.rules.items ≡ read.old.rules.items ++ option_to_list rule) }
+    ensures lines { OnOk result
+        (read.new.lines.items ≡ read.old.lines.items ++ map (λ _. line) (option_to_list rule)) }
 {
     if let Some(rule) = rule {
         read.rules.push(rule)?;
@@ -281,10 +294,13 @@ fn add_rule(read: &mut Numbered, rule: Option<Rule>, line: u64) -> Result<(), Al
 
 /// The entries of the lines.
 fn read_rules(alloc: Global, lines: &[Line], root: &Root) -> Result<Numbered, Halt>
-    ensures rules { IfOk result (λ read. read.rules.items ≡ map (λ e. e.1) (numbered_entries root.now lines.now)) }
-    ensures lines { IfOk result (λ read. read.lines.items ≡ map (λ e. e.0) (numbered_entries root.now lines.now)) }
+    ensures rules { IfOk result (λ read.
+        read.rules.items ≡ map (λ e. e.1) (numbered_entries root.now lines.now)) }
+    ensures lines { IfOk result (λ read.
+        read.lines.items ≡ map (λ e. e.0) (numbered_entries root.now lines.now)) }
     ensures sound { OnOk result (first_fault root.now lines.now ≡ None) }
-    ensures fault { IfErr result (λ halt. Halts halt (option_map_or (λ fault. Err fault) (first_fault root.now lines.now) (Ok (numbered_entries root.now lines.now)))) }
+    ensures fault { IfErr result (λ halt. Halts halt (option_map_or (λ fault. Err fault)
+        (first_fault root.now lines.now) (Ok (numbered_entries root.now lines.now)))) }
 {
     let mut read = Numbered {
         rules: Vec::new(alloc),
@@ -311,12 +327,14 @@ fn checked(alloc: Global, book: Rulebook, lines: &[u64]) -> Result<Rulebook, Hal
     Ok(book)
 }
 
-/// The rulebook of a makefile's lines ("Target Rules"), while macros, inference rules and special targets are not read.
+/// The rulebook of a makefile's lines ("Target Rules"), while macros, inference rules and special
+/// targets are not read.
 ///
-/// `NotYet` at a line, without names, comes for an entry that names a special target, or that has a target which
-/// begins with a period and holds no slash: plain names are meant, and a word that spells none stands for itself. Else
-/// `BadName` at a line tells the first word of an entry that spells no name. After these the first entry that gives
-/// commands to a target that an earlier one gave some is `TwoRecipes` at its line, which tells its first such target.
+/// `NotYet` at a line, without names, comes for an entry that names a special target, or that has a
+/// target whose first byte is a period and in which no slash stands: plain names are meant, and a word
+/// that spells none stands for itself. Else `BadName` at a line tells the first word of an entry that
+/// spells no name. After these the first entry that gives commands to a target that an earlier one gave
+/// some is `TwoRecipes` at its line, which tells its first such target.
 pub fn plain_rules(alloc: Global, lines: &[Line], root: &Root) -> Result<Rulebook, Halt>
     ensures { Gives result (book_of root.now lines.now) }
 {

@@ -13,8 +13,14 @@ use mk_text::name::Name;
 use std::alloc::{AllocError, Global};
 use std::marker::Model;
 
-/// An entry of a makefile ("Makefile Syntax", "Target Rules"): its targets, its prerequisites in their order, and whether
-/// it has commands.
+/// While the special targets are not read, no name is phony.
+const IS_PHONY: bool = false;
+
+/// While the special targets are not read, `.WAIT` is never used.
+const WAIT_USES: u64 = 0;
+
+/// An entry of a makefile ("Makefile Syntax", "Target Rules"): its targets, its prerequisites in their
+/// order, and whether it has commands.
 #[derive(Debug, Drop)]
 pub struct Rule {
     targets: Vec<Name>,
@@ -28,18 +34,27 @@ impl Model for Rule {
 
     ghost Value = { Entry };
 
-    ghost view = { λ a. record { targets = a.targets.items; prerequisites = a.prerequisites.items; has_commands = a.has_commands } };
+    ghost view = { λ a. record {
+      targets = a.targets.items;
+      prerequisites = a.prerequisites.items;
+      has_commands = a.has_commands;
+    } };
 }
 
 impl Rule {
-    /// The entry of these parts. A target that stands twice counts once. The only error is want of memory.
+    /// The entry of these parts. A target that stands twice counts once. The only error is want of
+    /// memory.
     pub fn new(
         alloc: Global,
         targets: Vec<Name>,
         prerequisites: Vec<Name>,
         has_commands: bool,
     ) -> Result<Rule, AllocError>
-        ensures { IfOk result (λ rule. rule ≡ record { targets = firsts same_name targets.items; prerequisites = prerequisites.items; has_commands = has_commands }) }
+        ensures { IfOk result (λ rule. rule ≡ record {
+          targets = firsts same_name targets.items;
+          prerequisites = prerequisites.items;
+          has_commands = has_commands;
+        }) }
     {
         Ok(Rule {
             targets: distinct(alloc, targets)?,
@@ -67,7 +82,8 @@ impl Model for Rulebook {
 
     ghost view = { λ a. a.rules.items };
 
-    ghost invariant = { λ a. IsIndexed a.rules.items a.targets.keys (map (λ row. row.items) a.places.items) };
+    ghost invariant = { λ a.
+        IsIndexed a.rules.items a.targets.keys (map (λ row. row.items) a.places.items) };
 }
 
 impl Rulebook {
@@ -87,7 +103,8 @@ impl Rulebook {
         })
     }
 
-    /// The places of the entries that name it as a target, rising; none for a name that is no target.
+    /// The places of the entries that name it as a target, rising; none for a name that is no
+    /// target.
     pub fn rules_of(&self, name: &Name) -> &[usize]
         ensures places { result.now ≡ places_of self.now name.now }
         ensures within { All (λ place. place < length self.now) result.now }
@@ -152,8 +169,8 @@ impl Rulebook {
         Ok(into_names(alloc, joined)?)
     }
 
-    /// The place of the first entry that gives commands to a target that an earlier one gave some, with the first such
-    /// target of it ("Target Rules": at most one has commands).
+    /// The place of the first entry that gives commands to a target that an earlier one gave some,
+    /// with the first such target of it ("Target Rules": at most one has commands).
     pub fn second_recipe(&self) -> Option<(usize, &Name)>
         ensures { option_map (λ found. (found.0, found.1.now)) result ≡ second_recipe self.now }
     {
@@ -194,8 +211,8 @@ impl Rulebook {
         }
     }
 
-    /// The goal where none is named: the first target whose first byte is no period, or in which a slash stands
-    /// ("Target Rules").
+    /// The goal where none is named: the first target whose first byte is no period, or in which a
+    /// slash stands ("Target Rules").
     pub fn default_goal(&self) -> Option<&Name>
         ensures { option_copied result ≡ default_goal self.now }
     {
@@ -209,14 +226,14 @@ impl Rulebook {
     pub fn is_phony(&self, _name: &Name) -> bool
         ensures { result ≡ false }
     {
-        false
+        IS_PHONY
     }
 
     /// How often `.WAIT` was used: never, while the special targets are not read.
     pub fn wait_uses(&self) -> u64
         ensures { result ≡ 0 }
     {
-        0
+        WAIT_USES
     }
 }
 
@@ -260,8 +277,10 @@ fn into_names(alloc: Global, names: IndexSet<Name>) -> Result<Vec<Name>, AllocEr
 
 /// Puts a place at the end of a row, unless it stands there.
 fn add_place(row: &mut Vec<usize>, place: usize) -> Result<(), AllocError>
-    ensures there { OnOk result (slice_get row.old.items (length row.old.items - 1) ≡ Some place → row.new.items ≡ row.old.items) }
-    ensures added { OnOk result (slice_get row.old.items (length row.old.items - 1) ≢ Some place → row.new.items ≡ row.old.items ++ place ∷ []) }
+    ensures there { OnOk result (slice_get row.old.items (length row.old.items - 1) ≡ Some place
+        → row.new.items ≡ row.old.items) }
+    ensures added { OnOk result (slice_get row.old.items (length row.old.items - 1) ≢ Some place
+        → row.new.items ≡ row.old.items ++ place ∷ []) }
 {
     if row.last() != Some(&place) {
         row.push(place)?;
@@ -279,7 +298,9 @@ fn note_target(
 ) -> Result<(), AllocError>
     requires { length places.old.items ≡ length targets.old.keys }
     ensures long { OnOk result (length places.new.items ≡ length targets.new.keys) }
-    ensures noted { OnOk result (NotesTarget name.now place targets.old.keys (map (λ row. row.items) places.old.items) targets.new.keys (map (λ row. row.items) places.new.items)) }
+    ensures noted { OnOk result (NotesTarget name.now place
+        targets.old.keys (map (λ row. row.items) places.old.items)
+        targets.new.keys (map (λ row. row.items) places.new.items)) }
 {
     match targets.get_index_of(name) {
         Some(number) => add_place(&mut places[number], place)?,
@@ -301,7 +322,9 @@ fn note_entry(
 ) -> Result<(), AllocError>
     requires { length places.old.items ≡ length targets.old.keys }
     ensures long { OnOk result (length places.new.items ≡ length targets.new.keys) }
-    ensures noted { OnOk result (NotesEntry names.now place targets.old.keys (map (λ row. row.items) places.old.items) targets.new.keys (map (λ row. row.items) places.new.items)) }
+    ensures noted { OnOk result (NotesEntry names.now place
+        targets.old.keys (map (λ row. row.items) places.old.items)
+        targets.new.keys (map (λ row. row.items) places.new.items)) }
 {
     for name in names {
         note_target(alloc, targets, places, name, place)?;
