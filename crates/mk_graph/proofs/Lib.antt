@@ -1,2 +1,5 @@
 mod Steps
 mod Measure
+mod Bridge
+pub mod Firsts
+pub mod Indexes

@@ -1,6 +1,6 @@
 -- The book of rules: the entries of a makefile, in their order. All else is read off this list.
-use Rattle.std.specs.Prelude.{◌&&◌, ◌||◌, Bool, not, List, [], ◌∷◌, Option, filter, find, ◌==◌, nat_eq}
-use Rattle.std.specs.List.{flat_map, list_any, starts_with}
+use Rattle.std.specs.Prelude.{ℕ, ◌&&◌, ◌||◌, Bool, not, List, [], ◌∷◌, Option, map, filter, find, position, ◌==◌, nat_eq}
+use Rattle.std.specs.List.{enumerate_from, flat_map, list_any, starts_with}
 use Rattle.mk_text.specs.Names.{Name, same_name, has, firsts}
 
 -- an entry: its targets, each once, its prerequisites, and whether it has commands
@@ -21,15 +21,27 @@ targets_of entries = firsts same_name (flat_map (λ e. e.targets) entries)
 abbrev pub prerequisites_of : List Entry → Name → List Name
 prerequisites_of entries t = firsts same_name (flat_map (λ e. e.prerequisites) (filter (names_target t) entries))
 
+-- the places of the entries that name it as a target, rising
+abbrev pub places_of : List Entry → Name → List ℕ
+places_of entries t = map (λ e. e.0) (filter (λ e. names_target t e.1) (enumerate_from 0 entries))
+
 -- a target rule names it
 abbrev pub is_target : List Entry → Name → Bool
 is_target entries t = list_any (names_target t) entries
 
+-- the entry gives the name commands
+abbrev pub gives_commands : Name → Entry → Bool
+gives_commands t e = names_target t e && e.has_commands
+
 -- a target rule of it has commands
 abbrev pub has_recipe : List Entry → Name → Bool
-has_recipe entries t = list_any (λ e. names_target t e && e.has_commands) entries
+has_recipe entries t = list_any (gives_commands t) entries
 
--- the name may be the default goal: it does not begin with a period, or holds a slash
+-- the place of the first entry that gives it commands
+abbrev pub recipe_place : List Entry → Name → Option ℕ
+recipe_place entries t = position (gives_commands t) entries
+
+-- the name may be the default goal: its first byte is no period, or a slash stands in it
 abbrev pub may_be_goal : Name → Bool
 may_be_goal t = not (starts_with nat_eq t (46 ∷ [])) || list_any (λ b. b == 47) t
 

@@ -1,4 +1,5 @@
 pub mod Book
+pub mod Index
 pub mod Plan
 pub mod Graph
 pub mod Rows

@@ -2,4 +2,5 @@
 #![tactic(auto)]
 
 pub mod maker;
+pub mod rulebook;
 mod serial;

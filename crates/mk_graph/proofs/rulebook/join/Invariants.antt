@@ -1,0 +1,7 @@
+use Rattle.std.proofs.Common.{◌≡◌, take}
+use Rattle.mk_text.specs.Names.{kept, same_name}
+use Rattle.mk_graph.proofs.rulebook.join.Given as goal
+
+-- the names so far are taken in
+abbrev pub invariant-loop-name : goal.invariant-loop-name
+invariant-loop-name l = l.joined.keys ≡ kept same_name l.initial.joined.keys (take l.name-index l.names)
