@@ -1,5 +1,7 @@
 mod Steps
 mod Measure
 mod Bridge
+mod Numberings
+mod Collecting
 pub mod Firsts
 pub mod Indexes

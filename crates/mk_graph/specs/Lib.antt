@@ -5,3 +5,7 @@ pub mod Graph
 pub mod Rows
 pub mod Walk
 pub mod Steps
+pub mod Numbered
+pub mod Numbers
+pub mod Collected
+pub mod Seen

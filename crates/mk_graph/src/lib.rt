@@ -2,5 +2,8 @@
 #![tactic(auto)]
 
 pub mod maker;
+mod collect;
+mod numbering;
+mod rows;
 pub mod rulebook;
 mod serial;
