@@ -9,3 +9,5 @@ pub mod Numbered
 pub mod Numbers
 pub mod Collected
 pub mod Seen
+pub mod Makers
+pub mod Answer
