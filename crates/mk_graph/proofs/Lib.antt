@@ -4,5 +4,6 @@ mod Bridge
 mod Numberings
 mod Collecting
 mod Rowing
+mod Graphs
 pub mod Firsts
 pub mod Indexes

@@ -4,6 +4,7 @@ use Rattle.std.specs.Global.{Global}
 use Rattle.mk_text.specs.Names.{Name, same_name, has, IsDistinct}
 use Rattle.mk_graph.specs.Book.{Entry, places_of, prerequisites_of}
 use Rattle.mk_graph.specs.Graph.{IsNode}
+use Rattle.mk_graph.specs.Rows.{row}
 use Rattle.mk_graph.specs.Numbered.{name_at, Stand}
 
 -- the prerequisites that the entry at a place gives
@@ -38,3 +39,11 @@ pub record Collected (book : List Entry) (goals names : List Name) (entries : Li
   pub stand : AllStand book names entries
   pub done : (i place : ℕ) → i < read → IsTrue (has nat_eq (places_of book (name_at names i)) place) → IsSome (get_or entries place None)
   pub within : read ≤ length names
+
+-- all that the goals need, by numbers
+pub record IsGraph (book : List Entry) (goals names : List Name) (rows : List (Vec ℕ Global)) (starts : List ℕ) : Type 0 where
+  pub distinct : IsDistinct same_name names
+  pub nodes : (x : Name) → IsTrue (has same_name names x) → IsNode same_name (prerequisites_of book) goals x
+  pub starts_stand : Stand names starts goals
+  pub long : length rows ≡ length names
+  pub rows_stand : (i : ℕ) → i < length names → Stand names (row rows i) (prerequisites_of book (name_at names i))

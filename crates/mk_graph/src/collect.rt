@@ -1,5 +1,5 @@
 //! All that some goals need: their names, and the prerequisites of the entries that name them as targets.
-ghost use Rattle.std.specs.Prelude.{◌≡◌, ◌<◌, List, ℕ, length, replicate, None, nat_eq, IfOk, OnOk, IfSome, IfNone};
+ghost use Rattle.std.specs.Prelude.{◌≡◌, ◌<◌, ◌≤◌, List, ℕ, length, replicate, None, nat_eq, IfOk, OnOk, IfSome, IfNone};
 ghost use Rattle.std.specs.List.{All};
 ghost use Rattle.mk_text.specs.Names.{Name};
 ghost use Rattle.mk_graph.specs.Book.{prerequisites_of};
@@ -64,6 +64,7 @@ pub fn collect(
     limit: usize,
 ) -> Result<Option<Found>, AllocError>
     ensures found { IfOk result (λ found. IfSome found (λ f. Collected book.now goals.now f.names f.entries.items f.goals.items (length f.names))) }
+    ensures few { IfOk result (λ found. IfSome found (λ f. length f.names ≤ limit)) }
     ensures too_large { IfOk result (λ found. IfNone found ((names : List Name) × AreNodes same_name (prerequisites_of book.now) goals.now names × (limit < length names))) }
 {
     let mut names = Numbering::new(alloc);

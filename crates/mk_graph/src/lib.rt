@@ -3,6 +3,7 @@
 
 pub mod maker;
 mod collect;
+mod graph;
 mod numbering;
 mod rows;
 pub mod rulebook;
