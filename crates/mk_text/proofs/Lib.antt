@@ -1,1 +1,13 @@
+pub mod Joins
+pub mod ListingLines
 pub mod Names
+pub mod Ordered
+mod Places
+mod PlainText
+pub mod Reduced
+mod Searches
+mod Stand
+mod Steps
+pub mod Visible
+mod Words
+mod Written

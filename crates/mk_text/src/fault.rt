@@ -1,9 +1,9 @@
 //! Faults: what is wrong with an input, and where.
-ghost use Rattle.std.specs.Prelude.{◌≡◌};
+ghost use Rattle.std.specs.Prelude.{◌≡◌, [], ◌∷◌, IfOk};
 ghost use Rattle.mk_text.specs.declared.fault.Halt.TheVariants.{Memory};
 
 use crate::name::Name;
-use std::alloc::{AllocError, AllocFailed};
+use std::alloc::{AllocError, AllocFailed, Global};
 use std::marker::Model;
 
 /// The text, or the stage, that a fault is in.
@@ -59,6 +59,84 @@ pub enum Kind {
     NotYet,
 }
 
+impl Kind {
+    ghost use Rattle.mk_text.specs.Shown.{number_of, word_of};
+
+    /// The number by which reports tell it.
+    pub fn number(self) -> u8
+        ensures { result ≡ number_of self }
+    {
+        match self {
+            Kind::BadName => 1,
+            Kind::NoColon => 2,
+            Kind::StrayRecipe => 3,
+            Kind::DoubleColon => 4,
+            Kind::BadAssignment => 5,
+            Kind::Include => 6,
+            Kind::TextTooLarge => 7,
+            Kind::MacroLoop => 8,
+            Kind::BadReference => 9,
+            Kind::InternalMacro => 10,
+            Kind::ExpansionTooLarge => 11,
+            Kind::TwoRecipes => 12,
+            Kind::MixedSpecial => 13,
+            Kind::DefaultPrerequisites => 14,
+            Kind::NoGoal => 15,
+            Kind::NoRule => 16,
+            Kind::Cycle => 17,
+            Kind::GraphTooLarge => 18,
+            Kind::BadFootprint => 19,
+            Kind::FootprintsTooLarge => 20,
+            Kind::MissingFootprint => 21,
+            Kind::WritesTarget => 22,
+            Kind::TooManyPairs => 23,
+            Kind::BadLog => 24,
+            Kind::BadProof => 25,
+            Kind::UnknownInclude => 26,
+            Kind::IncludeTooDeep => 27,
+            Kind::TooManyIncludes => 28,
+            Kind::NotYet => 90,
+        }
+    }
+
+    /// The word by which reports tell it.
+    pub fn word(self) -> &'static str
+        ensures { result.now ≡ word_of self }
+    {
+        match self {
+            Kind::BadName => "BadName",
+            Kind::NoColon => "NoColon",
+            Kind::StrayRecipe => "StrayRecipe",
+            Kind::DoubleColon => "DoubleColon",
+            Kind::BadAssignment => "BadAssignment",
+            Kind::Include => "Include",
+            Kind::TextTooLarge => "TextTooLarge",
+            Kind::MacroLoop => "MacroLoop",
+            Kind::BadReference => "BadReference",
+            Kind::InternalMacro => "InternalMacro",
+            Kind::ExpansionTooLarge => "ExpansionTooLarge",
+            Kind::TwoRecipes => "TwoRecipes",
+            Kind::MixedSpecial => "MixedSpecial",
+            Kind::DefaultPrerequisites => "DefaultPrerequisites",
+            Kind::NoGoal => "NoGoal",
+            Kind::NoRule => "NoRule",
+            Kind::Cycle => "Cycle",
+            Kind::GraphTooLarge => "GraphTooLarge",
+            Kind::BadFootprint => "BadFootprint",
+            Kind::FootprintsTooLarge => "FootprintsTooLarge",
+            Kind::MissingFootprint => "MissingFootprint",
+            Kind::WritesTarget => "WritesTarget",
+            Kind::TooManyPairs => "TooManyPairs",
+            Kind::BadLog => "BadLog",
+            Kind::BadProof => "BadProof",
+            Kind::UnknownInclude => "UnknownInclude",
+            Kind::IncludeTooDeep => "IncludeTooDeep",
+            Kind::TooManyIncludes => "TooManyIncludes",
+            Kind::NotYet => "NotYet",
+        }
+    }
+}
+
 /// What is wrong with an input, and where: a kind, a source, a place in it and the names that it tells.
 /// The place is a line from 1, an operand from 1 or a node's number, and 0 where there is none.
 #[derive(Debug, Drop)]
@@ -88,6 +166,48 @@ impl Fault {
             place,
             names,
         }
+    }
+
+    /// The fault of a text that spells no name: `BadName` at place 0, which tells the text.
+    /// The only error is want of memory.
+    pub fn bad_name(alloc: Global, source: Source, text: &[u8]) -> Result<Fault, AllocError>
+        ensures { IfOk result (λ fault. fault ≡ record { kind = Kind.BadName; source = source; place = 0; names = text.now ∷ [] }) }
+    {
+        let name = Name::from_bytes(Vec::from_slice(alloc, text)?);
+        Ok(Fault {
+            kind: Kind::BadName,
+            source,
+            place: 0,
+            names: vec![in alloc; name]?,
+        })
+    }
+
+    /// What is wrong.
+    pub fn kind(&self) -> Kind
+        ensures { result ≡ self.now.kind }
+    {
+        self.kind
+    }
+
+    /// The text, or the stage, that it is in.
+    pub fn source(&self) -> &Source
+        ensures { result.now ≡ self.now.source }
+    {
+        &self.source
+    }
+
+    /// The line, operand or node that it is at, and 0 where there is none.
+    pub fn place(&self) -> u64
+        ensures { result ≡ self.now.place }
+    {
+        self.place
+    }
+
+    /// The names that it tells.
+    pub fn names(&self) -> &[Name]
+        ensures { result.now ≡ self.now.names }
+    {
+        self.names.as_slice()
     }
 
     /// The same fault in another source, at another place.

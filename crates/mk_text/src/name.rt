@@ -37,7 +37,19 @@ impl Name {
     pub fn as_bytes(&self) -> &[u8]
         ensures { result.now ≡ self.now }
     {
-        self.bytes.as_slice()
+        &self.bytes
+    }
+
+    /// The name with its first `cut` bytes, or all where it has fewer, and then the tail.
+    /// The only error is want of memory.
+    pub fn with_tail(&self, alloc: Global, cut: usize, tail: &[u8]) -> Result<Name, AllocError>
+        ensures { IfOk result (λ name. name ≡ take cut self.now ++ tail.now) }
+    {
+        let kept = cut.min(self.bytes.len());
+        let mut bytes = Vec::with_capacity(alloc, kept.saturating_add(tail.len()))?;
+        bytes.extend_from_slice(&self.bytes[..kept])?;
+        bytes.extend_from_slice(tail)?;
+        Ok(Name { bytes })
     }
 
     /// An equal name. The only error is want of memory.
@@ -95,5 +107,28 @@ impl Hash for Name {
 
     fn hash<H: Hasher>(&self, state: &mut H) {
         self.bytes.as_slice().hash(state);
+    }
+}
+
+#[cfg(test)]
+mod tests {
+    use super::*;
+    use std::test::Fail;
+
+    #[test]
+    fn tails(rt: HostRuntime) -> Result<(), Fail> {
+        let alloc = rt.alloc();
+        let name = Name::from_bytes(Vec::from_slice(alloc, b"parse.o")?);
+        for (cut, tail, want) in [
+            (5, ".y", "parse.y"),
+            (7, ".y", "parse.o.y"),
+            (100, "x", "parse.ox"),
+            (0, "a", "a"),
+        ] {
+            let changed = name.with_tail(alloc, cut, tail.as_bytes())?;
+            assert_eq!(rt; changed.as_bytes(), want.as_bytes(), "after {cut} bytes");
+        }
+        assert!(rt; name.copy(alloc)? == name);
+        Ok(())
     }
 }

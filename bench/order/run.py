@@ -1,0 +1,128 @@
+#!/usr/bin/env python3
+"""Times `race order` beside `make -n -r` and `bmake -n -r` on the same large makefiles.
+
+    bench/order/run.py [--runs N] [--only NAME] [PROGRAM]
+
+PROGRAM is the built program (crates/race/out/race). Each input is made in a folder of its own, with every listed file
+present, so that all three tools look at the same build. Printed are the best wall time of N runs (five) and the
+greatest peak memory of a run, as GNU time tells it (Debian's package `time`). A tool that is not on this machine is
+left out. Nothing here is a test.
+"""
+import argparse
+import os
+import pathlib
+import shutil
+import subprocess
+import sys
+import tempfile
+import time
+
+TOP = pathlib.Path(__file__).resolve().parents[2]
+
+
+def chain(part):
+    """20,000 names, each of which needs the next; the last is a file."""
+    names = [f"n{i:05}" for i in range(int(20_000 * part))]
+    rules = [f"{a}: {b}\n\ttouch {a}\n" for a, b in zip(names, names[1:])]
+    return "".join(rules), names[-1:], []
+
+
+def dense(part):
+    """One entry of 400 targets with 499 prerequisites, and a goal that needs the targets: 200,000 edges."""
+    targets = [f"t{i:03}" for i in range(int(400 * part))]
+    leaves = [f"l{i:03}" for i in range(499)]
+    text = f"all: {' '.join(targets)}\n{' '.join(targets)}: {' '.join(leaves)}\n\ttouch x\n"
+    return text, leaves, []
+
+
+def wide(part):
+    """9,500 targets of one listed source each, and a goal that needs them."""
+    objects = [f"o{i:04}.o" for i in range(int(9_500 * part))]
+    rules = [f"{o}: {o[:-1]}c\n\tcc -c {o[:-1]}c\n" for o in objects]
+    return f"all: {' '.join(objects)}\n" + "".join(rules), [o[:-1] + "c" for o in objects], []
+
+
+def short(part):
+    """A makefile of 1 MiB of short rules, of which the goal needs one."""
+    rules, size, i = [], 0, 0
+    while True:
+        rule = f"x{i}: y\n"
+        if size + len(rule) > 1_048_576 * part:
+            return "".join(rules), ["y"], ["x0"]
+        rules.append(rule)
+        size += len(rule)
+        i += 1
+
+
+INPUTS = {"chain": chain, "dense": dense, "wide": wide, "short": short}
+
+
+def run(words, folder):
+    """The wall time in seconds, the peak memory in KiB and the status of one run."""
+    command = ["sh", "-c", 'ulimit -s unlimited; exec time -q -f %M -o "$0" "$@"', "memory", *words]
+    begin = time.perf_counter()
+    status = subprocess.run(command, cwd=folder, stdin=subprocess.DEVNULL, stdout=subprocess.DEVNULL, stderr=subprocess.DEVNULL).returncode
+    return time.perf_counter() - begin, int(pathlib.Path(folder, "memory").read_text().split()[-1]), status
+
+
+def lay_out(folder, make_input, part):
+    """Writes an input of that part of its full size, and returns the goals."""
+    text, listed, goals = make_input(part)
+    pathlib.Path(folder, "makefile").write_text(text)
+    pathlib.Path(folder, "listing").write_text("".join(path + "\n" for path in listed))
+    for path in listed:
+        pathlib.Path(folder, path).touch()
+    return goals
+
+
+def commands(program, folder, goals):
+    return {
+        "race": [program, "order", "--makefile", "makefile", "--listing", "listing", "--root", folder, *goals],
+        "make": ["make", "-n", "-r", "-f", "makefile", *goals],
+        "bmake": ["bmake", "-n", "-r", "-f", "makefile", *goals],
+    }
+
+
+def compare(args, name, make_input):
+    """One line a tool for the full input."""
+    with tempfile.TemporaryDirectory(prefix="race-bench-") as folder:
+        goals = lay_out(folder, make_input, 1)
+        for tool, words in commands(args.program, folder, goals).items():
+            if shutil.which(words[0]) is None:
+                print(f"{name:8}{tool:8}   not here")
+                continue
+            runs = []
+            while len(runs) < args.runs and not (runs and runs[-1][0] > 10):
+                runs.append(run(words, folder))
+            seconds, memory, status = min(r[0] for r in runs), max(r[1] for r in runs), runs[-1][2]
+            print(f"{name:8}{tool:8}{seconds:10.3f}{memory / 1024:8.1f}  {status}", flush=True)
+
+
+def growth(args, name, make_input):
+    """The program's times at an eighth, a quarter, a half and the whole of the input."""
+    times = []
+    for part in (1 / 8, 1 / 4, 1 / 2, 1):
+        with tempfile.TemporaryDirectory(prefix="race-bench-") as folder:
+            words = commands(args.program, folder, lay_out(folder, make_input, part))["race"]
+            times.append(min(run(words, folder)[0] for _ in range(args.runs)))
+    print(f"{name:8}growth  " + "".join(f"{seconds:10.4f}" for seconds in times), flush=True)
+
+
+def main():
+    parser = argparse.ArgumentParser(description=__doc__, formatter_class=argparse.RawDescriptionHelpFormatter)
+    parser.add_argument("program", nargs="?", default=str(TOP / "crates/race/out/race"))
+    parser.add_argument("--runs", type=int, default=5)
+    parser.add_argument("--only", choices=INPUTS)
+    args = parser.parse_args()
+    args.program = os.path.abspath(args.program)
+    print(f"{'input':8}{'tool':8}{'seconds':>10}{'MiB':>8}  status")
+    chosen = [(name, make_input) for name, make_input in INPUTS.items() if args.only in (None, name)]
+    for name, make_input in chosen:
+        compare(args, name, make_input)
+    print("input   seconds of race at   1/8       1/4       1/2       all")
+    for name, make_input in chosen:
+        growth(args, name, make_input)
+
+
+if __name__ == "__main__":
+    sys.exit(main())

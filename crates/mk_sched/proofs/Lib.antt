@@ -1,0 +1,10 @@
+pub mod Basics
+pub mod ByTable
+pub mod Computed
+pub mod Determinate
+pub mod InOrder
+pub mod Moving
+pub mod OneRun
+pub mod Plainly
+pub mod Surely
+pub mod TwoRuns

@@ -1,0 +1,62 @@
+-- Agreeing recipes and idle recipes in plain words.
+use Rattle.std.proofs.Common.{ℕ, zero, suc, ◌≡◌, ◌&&◌, not, Bool, true, false, List, [], ◌∷◌, Option, Some, None, refl, sym, ap, ◌∙◌, take, is_some, is_none}
+use Rattle.std.proofs.lemmas.Bool.{false≢true, and_parts, not-true, false_from_ne_true}
+use Rattle.mk_foot.specs.Jobs.{name_of, prerequisites_of, has_recipe, is_phony, is_listed, is_empty}
+use Rattle.mk_sched.specs.Stores.{File}
+use Rattle.mk_sched.specs.Events.{Entry, phase, is_started, store_after}
+use Rattle.mk_sched.specs.Runs.{Agree}
+use Rattle.mk_sched.specs.Plain.{GoOnAlike, AgreeMeans, IdleIsFresh, IdleNeverStarts, ListingAgrees}
+use Rattle.mk_sched.proofs.Basics.{started_begun}
+use Rattle.mk_sched.proofs.OneRun.{own_file, decided}
+
+agree_on : (xs ys : List Entry) → Agree xs ys → GoOnAlike xs ys
+agree_on [] [] agree zero shared = tt
+agree_on [] [] agree (suc k) shared = tt
+agree_on (e ∷ xs) (f ∷ ys) agree zero shared = agree.0
+agree_on (e ∷ xs) (f ∷ ys) agree (suc k) shared =
+    let same : e ≡ f = cc in
+    let rest : take k xs ≡ take k ys = cc in
+    agree_on xs ys (agree.1 same) k rest
+agree_on [] (f ∷ ys) agree k shared = absurd agree
+agree_on (e ∷ xs) [] agree k shared = absurd agree
+
+on_agree : (xs ys : List Entry) → GoOnAlike xs ys → Agree xs ys
+on_agree [] [] on = tt
+on_agree (e ∷ xs) (f ∷ ys) on = (on 0 refl, λ same. on_agree xs ys (λ k shared. on (suc k) (cc)))
+on_agree [] (f ∷ ys) on = on 0 refl
+on_agree (e ∷ xs) [] on = on 0 refl
+
+pub agree_means : AgreeMeans
+agree_means xs ys = (agree_on xs ys, on_agree xs ys)
+
+empty_is : (xs : List ℕ) → is_empty xs ≡ true → xs ≡ []
+empty_is [] empty = refl
+empty_is (x ∷ xs) empty = cc
+
+some_is : (o : Option File) → is_some o ≡ true → is_none o ≡ false
+some_is None some = sym some
+some_is (Some file) some = refl
+
+pub idle_is_fresh : IdleIsFresh
+idle_is_fresh jobs tie limit opening past n valid agrees run inside idle unstarted =
+    let most = and_parts (has_recipe jobs n && is_listed jobs n && not (is_phony jobs n)) (is_empty (prerequisites_of jobs n)) idle in
+    let more = and_parts (has_recipe jobs n && is_listed jobs n) (not (is_phony jobs n)) most.0 in
+    let listed = (and_parts (has_recipe jobs n) (is_listed jobs n) more.0).1 in
+    let unphony : is_phony jobs n ≡ false = not-true _ more.1 in
+    let own : store_after opening past (name_of jobs n) ≡ opening (name_of jobs n) = own_file jobs tie limit opening past n valid run inside unstarted in
+    let there : is_none (opening (name_of jobs n)) ≡ false = some_is _ (agrees n inside ∙ listed) in
+    let none : prerequisites_of jobs n ≡ [] = empty_is _ most.1 in
+    rw (unphony, own, there, none) refl
+
+pub idle_never_starts : IdleNeverStarts
+idle_never_starts jobs tie limit opening past n valid agrees run inside idle = false_from_ne_true _ (λ started.
+    let d = decided jobs tie limit opening past n run (started_begun (phase past n) started) in
+    let fresh = idle_is_fresh jobs tie limit opening d.earlier n valid agrees d.run inside idle (ap is_started d.ready.waits) in
+    false≢true (sym (ap (λ stale. has_recipe jobs n && stale) fresh ∙ and_false (has_recipe jobs n)) ∙ (sym d.chosen ∙ started)))
+  where
+    and_false : (x : Bool) → x && false ≡ false
+    and_false true = refl
+    and_false false = refl
+
+pub listing_agrees : ListingAgrees
+listing_agrees jobs listed opening same agrees n inside = agrees (name_of jobs n) ∙ sym (same n inside)

@@ -1,0 +1,12 @@
+pub mod Counter
+pub mod Events
+pub mod InTime
+pub mod Laws
+pub mod MissingHeader
+pub mod Plain
+pub mod Runs
+pub mod Serial
+pub mod SmallCases
+pub mod Stores
+pub mod Sure
+pub mod Table

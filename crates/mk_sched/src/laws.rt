@@ -1,0 +1,88 @@
+//! Laws of runs. Each function's contract is a law, and its body is empty.
+ghost use Rattle.mk_sched.specs.Laws.{OwnFile, StaleAlike, LookAlike, Headline};
+ghost use Rattle.mk_sched.specs.Serial.{Serialised};
+ghost use Rattle.mk_sched.specs.Sure.{SurelyStale};
+ghost use Rattle.mk_sched.specs.Plain.{AgreeMeans, IdleIsFresh, IdleNeverStarts, ListingAgrees};
+ghost use Rattle.mk_sched.specs.Table.{StateIsTold, MayIsTable, RunsByTable};
+ghost use Rattle.mk_sched.specs.InTime.{InTime, BeginningIsRun};
+ghost use Rattle.mk_sched.specs.Counter.{CounterMoves};
+
+/// Until a node starts, its own file is as at the opening.
+pub fn own_file()
+    ensures { OwnFile }
+{}
+
+/// A node is stale at the ends of two runs, or at neither, if its prerequisites did the same.
+pub fn stale_alike()
+    ensures { StaleAlike }
+{}
+
+/// A running node reads the same in two runs, if it and the nodes before it did the same.
+pub fn look_alike()
+    ensures { LookAlike }
+{}
+
+/// Valid jobs that are race-free are determinate.
+pub fn headline()
+    ensures { Headline }
+{}
+
+/// The serial list of a complete run is a complete serial run with the same outcome.
+pub fn serialised()
+    ensures { Serialised }
+{}
+
+/// A node that is surely stale by the times of the opening is stale in every run, until it starts.
+pub fn surely_stale()
+    ensures { SurelyStale }
+{}
+
+/// An idle node is not stale before it starts.
+pub fn idle_is_fresh()
+    ensures { IdleIsFresh }
+{}
+
+/// An idle recipe never starts.
+pub fn idle_never_starts()
+    ensures { IdleNeverStarts }
+{}
+
+/// A store that agrees with the plan's listing agrees with its jobs.
+pub fn listing_agrees()
+    ensures { ListingAgrees }
+{}
+
+/// Recipes that agree, in the plainest words.
+pub fn agree_means()
+    ensures { AgreeMeans }
+{}
+
+/// A beginning of a run is a run.
+pub fn beginning_is_run()
+    ensures { BeginningIsRun }
+{}
+
+/// A run, told in the order of time.
+pub fn in_time()
+    ensures { InTime }
+{}
+
+/// The sets of passed and of running nodes are what the events of a run say.
+pub fn state_is_told()
+    ensures { StateIsTold }
+{}
+
+/// What is allowed after a run is what the table of events allows in its state.
+pub fn may_is_table()
+    ensures { MayIsTable }
+{}
+
+/// A list of events is a run exactly where the table allows each in its turn.
+pub fn runs_by_table()
+    ensures { RunsByTable }
+{}
+
+/// The number of running nodes moves by one at a start and at a finish.
+pub fn counter_moves()
+    ensures { CounterMoves }
+{}

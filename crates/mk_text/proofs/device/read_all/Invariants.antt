@@ -1,0 +1,13 @@
+use Rattle.std.proofs.Common.{◌≡◌, false}
+use Rattle.std.specs.Io.KnownBytes.{Consumes}
+use Rattle.mk_text.proofs.device.read_all.Given as goal
+
+-- what was read is what the device had and has no more
+abbrev pub invariant-reads : goal.invariant-reads
+invariant-reads g l = record {
+  works : g.I.Intake.has_failed l.device ≡ false;
+  bytes : Consumes (g.I.Intake.left l.fn.device) (g.I.Intake.left l.device) l.all.items;
+}
+
+abbrev pub decreases-reads : goal.decreases-reads
+decreases-reads g l = g.I.Intake.reads_left l.device

@@ -1,0 +1,7 @@
+use Rattle.std.proofs.Common.{◌≡◌, ◌++◌, take}
+use Rattle.mk_text.specs.Shown as spec
+use Rattle.mk_text.proofs.report.push_shown.Given as goal
+
+-- the bytes so far are shown
+abbrev pub invariant-loop-byte : goal.invariant-loop-byte
+invariant-loop-byte l = l.out.items ≡ l.fn.out.items ++ spec.shown (take l.byte-index l.name)

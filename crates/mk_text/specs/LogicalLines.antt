@@ -1,0 +1,188 @@
+-- The logical lines of a makefile (POSIX.1-2024 XCU make, "Makefile Syntax", and the profile).
+-- A text is cut into blocks of physical lines, and each block is nothing, one logical line, or a fault.
+use Rattle.std.specs.Prelude.{ℕ, ◌+◌, ◌-◌, Bool, true, false, List, [], ◌∷◌, ◌++◌, length, take, drop, map, codes, slice_index, Option, None, Some, Result, Ok, Err, ◌==◌, ◌&&◌, ◌||◌, nat_lt, not, if◌then◌else◌}
+use Rattle.std.specs.List.{join_with_byte, list_any, list_all, before_first, prefix_len}
+use Rattle.std.specs.Option.{option_map}
+use Rattle.std.specs.Result.{result_map_both}
+use Rattle.std.specs.Str.{bytes_eq}
+use Rattle.mk_text.specs.Told.{Told}
+use Rattle.mk_text.specs.declared.fault.Kind.{Kind}
+use Rattle.mk_text.specs.declared.fault.Kind.TheVariants.{NoColon, StrayRecipe, DoubleColon, BadAssignment, Include, TextTooLarge}
+use Rattle.mk_text.specs.declared.fault.Source.TheVariants.{Makefile}
+use Rattle.mk_text.specs.declared.line.Operator.{Operator}
+use Rattle.mk_text.specs.declared.line.Operator.TheVariants.{Delayed, Immediate, Append, Conditional}
+use Rattle.mk_text.specs.declared.line.LineKind.{LineKind}
+use Rattle.mk_text.specs.declared.line.LineKind.TheVariants.{Assign, Entry, Recipe}
+use Rattle.mk_text.specs.LogicalLine.{LogicalLine}
+use Rattle.mk_text.specs.Blocks.{tab, newline, space, is_blank, are_blanks, past_blanks, physical_lines, blocks_of}
+use Rattle.mk_text.specs.Outside.{place_outside}
+
+abbrev pub number_sign : ℕ
+number_sign = 35
+
+abbrev pub colon : ℕ
+colon = 58
+
+abbrev pub semicolon : ℕ
+semicolon = 59
+
+abbrev pub equals : ℕ
+equals = 61
+
+-- a byte that may stand in a macro's name: no blank, and none of `$ ( ) { } : = #`
+abbrev pub is_macro_byte : ℕ → Bool
+is_macro_byte b =
+    not (is_blank b || b == 36 || b == 40 || b == 41 || b == 123 || b == 125 || b == colon || b == equals || b == number_sign)
+
+-- the first word of a text, and what stands from its second word on
+abbrev pub first_word : List ℕ → List ℕ
+first_word text = before_first is_blank (past_blanks text)
+
+abbrev pub later_words : List ℕ → List ℕ
+later_words text = past_blanks (drop (length (first_word text)) (past_blanks text))
+
+-- a text that begins with `:`, `=`, `?=`, `+=` or `!=`
+abbrev pub begins_with_operator : List ℕ → Bool
+begins_with_operator text =
+    let first = slice_index text 0 in
+    first == colon || first == equals || ((first == 63 || first == 43 || first == 33) && slice_index text 1 == equals)
+
+-- an include line: the first word is `include` or `-include`, and no operator follows it
+abbrev pub is_include : List ℕ → Bool
+is_include text =
+    (bytes_eq (first_word text) (codes "include") || bytes_eq (first_word text) (codes "-include"))
+    && not (begins_with_operator (later_words text))
+
+-- an assignment whose operator begins and ends at these places: the name is the one word before it
+abbrev pub assignment : List ℕ → Operator → ℕ → ℕ → Result (Option LineKind) Kind
+assignment text operator start end =
+    let before = take start text in
+    let name_start = prefix_len is_blank before in
+    let name = first_word before in
+    if nat_lt 0 (length name) && list_all is_macro_byte name && length (later_words before) == 0
+    then Ok (Some (Assign name_start (name_start + length name) operator start (end + prefix_len is_blank (drop end text))))
+    else Err BadAssignment
+
+-- the first sign is the `=` at this place: what is right before it tells the operator
+abbrev pub at_equals : List ℕ → ℕ → Result (Option LineKind) Kind
+at_equals text at =
+    let before = if at == 0 then 0 else slice_index text (at - 1) in
+    if before == 63 then assignment text Conditional (at - 1) (at + 1)
+    else (if before == 43 then assignment text Append (at - 1) (at + 1)
+    else (if before == 33 then Err BadAssignment
+    else assignment text Delayed at (at + 1)))
+
+-- an entry with its colon at this place, and its semicolon at the first one behind it outside of references
+abbrev pub entry : List ℕ → ℕ → Result (Option LineKind) Kind
+entry text at =
+    Ok (Some (Entry at (option_map (λ n. at + 1 + n) (place_outside (λ b. b == semicolon) (drop (at + 1) text)))))
+
+-- the first sign is the `:` at this place: what follows it tells an immediate assignment from an entry
+abbrev pub at_colon : List ℕ → ℕ → Result (Option LineKind) Kind
+at_colon text at =
+    let one = slice_index text (at + 1) in
+    let two = slice_index text (at + 2) in
+    let three = slice_index text (at + 3) in
+    if one == equals then assignment text Immediate at (at + 2)
+    else (if not (one == colon) then entry text at
+    else (if two == equals then assignment text Immediate at (at + 3)
+    else (if two == colon && three == equals then Err BadAssignment
+    else Err DoubleColon)))
+
+-- the first `:` or `=` outside of references decides
+abbrev pub by_sign : List ℕ → Option ℕ → Result (Option LineKind) Kind
+by_sign text None = Err NoColon
+by_sign text (Some at) = if slice_index text at == equals then at_equals text at else at_colon text at
+
+-- what the text of a block is that does not begin with a tab
+abbrev pub sort_of_text : List ℕ → Result (Option LineKind) Kind
+sort_of_text text =
+    if are_blanks text then Ok None
+    else (if is_include text then Err Include
+    else by_sign text (place_outside (λ b. b == colon || b == equals) text))
+
+-- the lines of a block without the backslashes of its escaped newlines
+abbrev pub without_backslashes : List (List ℕ) → List (List ℕ)
+without_backslashes [] = []
+without_backslashes (line ∷ []) = line ∷ []
+without_backslashes (line ∷ next ∷ lines) = take (length line - 1) line ∷ without_backslashes (next ∷ lines)
+
+-- each after the first without the blanks at its front
+abbrev pub without_indents : List (List ℕ) → List (List ℕ)
+without_indents [] = []
+without_indents (line ∷ lines) = line ∷ map past_blanks lines
+
+-- up to the first `#`
+abbrev pub without_comment : List (List ℕ) → List (List ℕ)
+without_comment [] = []
+without_comment (piece ∷ pieces) =
+    if list_any (λ b. b == number_sign) piece then before_first (λ b. b == number_sign) piece ∷ []
+    else piece ∷ without_comment pieces
+
+-- the pieces of a block that does not begin with a tab
+abbrev pub pieces_of : List (List ℕ) → List (List ℕ)
+pieces_of block = without_comment (without_indents (without_backslashes block))
+
+-- the bytes of a block, with its escaped newlines
+abbrev pub bytes_of : List (List ℕ) → List ℕ
+bytes_of block = join_with_byte newline block
+
+-- a block of one physical line of blanks
+abbrev pub is_empty : List (List ℕ) → Bool
+is_empty [] = true
+is_empty (line ∷ []) = are_blanks line
+is_empty (line ∷ next ∷ lines) = false
+
+-- what a block is that begins with a tab and is not empty: a command line where an entry is open, else a comment or a fault
+abbrev pub sort_of_command : Bool → List ℕ → Result (Option LineKind) Kind
+sort_of_command below bytes =
+    if below then Ok (Some Recipe)
+    else (if slice_index (past_blanks bytes) 0 == number_sign then Ok None else Err StrayRecipe)
+
+-- what a block is: nothing, a line of this kind, or a fault; it may stand below an entry that is open
+abbrev pub sort_of : Bool → List (List ℕ) → Result (Option LineKind) Kind
+sort_of below block =
+    if is_empty block then Ok None
+    else (if slice_index (bytes_of block) 0 == tab then sort_of_command below (bytes_of block)
+    else sort_of_text (join_with_byte space (pieces_of block)))
+
+-- the pieces of the line that a block is: a command line has one, without the tab
+abbrev pub line_pieces : LineKind → List (List ℕ) → List (List ℕ)
+line_pieces Recipe block = drop 1 (bytes_of block) ∷ []
+line_pieces (Entry at behind) block = pieces_of block
+line_pieces (Assign from to operator start value) block = pieces_of block
+
+-- whether an entry is open behind a block: an entry opens, an assignment closes, and all else leaves it
+abbrev pub opens : Bool → Result (Option LineKind) Kind → Bool
+opens below (Err fault) = below
+opens below (Ok None) = below
+opens below (Ok (Some Recipe)) = below
+opens below (Ok (Some (Entry at behind))) = true
+opens below (Ok (Some (Assign from to operator start value))) = false
+
+-- a fault of a makefile's line
+abbrev pub fault_at : Kind → ℕ → Told
+fault_at kind place = record { kind = kind; source = Makefile; place = place; names = [] }
+
+-- the lines of a block of this sort, from physical line n on, and of all that follow it
+abbrev pub with_block : ℕ → List (List ℕ) → Result (Option LineKind) Kind → Result (List LogicalLine) Told → Result (List LogicalLine) Told
+with_block n block (Err kind) later = Err (fault_at kind n)
+with_block n block (Ok None) later = later
+with_block n block (Ok (Some kind)) later =
+    result_map_both (λ lines. record { kind = kind; first_line = n; pieces = line_pieces kind block } ∷ lines) (λ fault. fault) later
+
+-- the lines of some blocks, from physical line n on, below an entry that may be open; or the fault of the first that has one
+abbrev pub lines_of : Bool → ℕ → List (List (List ℕ)) → Result (List LogicalLine) Told
+lines_of below n [] = Ok []
+lines_of below n (block ∷ blocks) =
+    with_block n block (sort_of below block) (lines_of (opens below (sort_of below block)) (n + length block) blocks)
+
+-- a text may have so many bytes
+abbrev pub text_limit : ℕ
+text_limit = 1048576
+
+-- the logical lines of a text, or its fault
+abbrev pub logical_lines : List ℕ → Result (List LogicalLine) Told
+logical_lines text =
+    if nat_lt text_limit (length text) then Err (fault_at TextTooLarge 0)
+    else lines_of false 1 (blocks_of (physical_lines text))

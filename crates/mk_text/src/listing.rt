@@ -1,0 +1,130 @@
+//! The listing: the files that exist, one path a line.
+ghost use Rattle.std.specs.Prelude.{◌≡◌, ◌<◌, ◌∷◌, [], List, ℕ, Ok, OnOk, IfErr, MatchOption, IfSome, length};
+ghost use Rattle.mk_text.specs.Gives.{Gives, Halts};
+ghost use Rattle.mk_text.specs.Listing.{in_order, listing_of, line_names, lines, with_names};
+ghost use Rattle.mk_text.specs.Names.{has, same_name};
+
+use crate::fault::{Halt, Source};
+use crate::name::Name;
+use crate::root::Root;
+use crate::spelling::plain_path;
+use memchr::memchr;
+use std::alloc::Global;
+use std::collections::BTreeSet;
+use std::marker::Model;
+
+/// The names of the files that exist, each once.
+#[derive(Debug, Drop)]
+pub struct Listing {
+    names: BTreeSet<Name>,
+}
+
+impl Model for Listing {
+    ghost Value = { List (List ℕ) };
+
+    ghost view = { λ a. a.names.keys };
+}
+
+impl Listing {
+    /// Reads a listing, one path a line (profile). Only a line of no bytes is skipped, and the last line
+    /// needs no newline. Names that stand there more than once count once.
+    ///
+    /// The first line that `plain_path` refuses is `BadName` in the listing, at that line from 1, without
+    /// names. A line past the greatest `u64` has that place.
+    pub fn read(alloc: Global, text: &[u8], root: &Root) -> Result<Listing, Halt>
+        ensures { Gives result (listing_of root.now text.now) }
+    {
+        let mut names = BTreeSet::new(alloc);
+        let mut place = 1;
+        let mut rest = text;
+        'lines: while let Some((line, others)) = first_line(rest) {
+            add_line(&mut names, alloc, line, place, root)?;
+            place = place.saturating_add(1);
+            rest = others;
+        }
+        add_line(&mut names, alloc, rest, place, root)?;
+        Ok(Listing { names })
+    }
+
+    /// Whether the file exists.
+    pub fn contains(&self, name: &Name) -> bool
+        ensures { result ≡ has same_name self.now name.now }
+    {
+        self.names.contains(name)
+    }
+}
+
+/// The first line, without its newline, and what follows it, where a newline ends it.
+fn first_line(text: &[u8]) -> Option<(&[u8], &[u8])>
+    ensures cases { MatchOption result (lines text.now ≡ text.now ∷ []) (λ cut. lines text.now ≡ cut.0.now ∷ lines cut.1.now) }
+    ensures shorter { IfSome result (λ cut. length cut.1.now < length text.now) }
+{
+    let end = memchr(b'\n', text)?;
+    Some((&text[..end], &text[end + 1..]))
+}
+
+/// Puts the name of a line among the others.
+fn add_line(
+    names: &mut BTreeSet<Name>,
+    alloc: Global,
+    line: &[u8],
+    place: u64,
+    root: &Root,
+) -> Result<(), Halt>
+    ensures ok { OnOk result (with_names names.old.keys (line_names root.now place line.now) ≡ Ok names.new.keys) }
+    ensures err { IfErr result (λ halt. Halts halt (line_names root.now place line.now)) }
+{
+    if line.is_empty() {
+        return Ok(());
+    }
+    match plain_path(alloc, line, root) {
+        Ok(name) => {
+            names.insert(name)?;
+            Ok(())
+        }
+        Err(Halt::Fault(fault)) => Err(Halt::Fault(fault.at(Source::Listing, place))),
+        Err(Halt::Memory) => Err(Halt::Memory),
+    }
+}
+
+/// The order of names and the repeats among them change nothing: the same names are listed.
+pub fn listed_in_any_order()
+    ensures { (names : List (List ℕ)) (name : List ℕ) → has same_name (in_order names) name ≡ has same_name names name }
+{}
+
+#[cfg(test)]
+mod tests {
+    use super::*;
+    use crate::report::refused_report;
+    use std::alloc::AllocError;
+    use std::test::Fail;
+
+    #[test]
+    fn listings(rt: HostRuntime) -> Result<(), Fail> {
+        let alloc = rt.alloc();
+        let root = Root::read(alloc, b"/w").ok().ok_or("root")?;
+        let text = b"b\n./a\n\n \n/w/b\nx*y".as_slice();
+        let listing = Listing::read(alloc, text, &root).ok().ok_or("listing")?;
+        for (name, want) in [
+            ("a", true),
+            ("b", true),
+            (" ", true),
+            ("x*y", true),
+            ("", false),
+        ] {
+            let name = Name::from_bytes(Vec::from_slice(alloc, name.as_bytes())?);
+            assert_eq!(rt; listing.contains(&name), want, "{name:?}");
+        }
+        let report = report_of(alloc, Listing::read(alloc, b"x\n\n\0y\n\0", &root))?;
+        let want = b"refused\nF1 BadName\nat listing 3\n".as_slice();
+        assert_eq!(rt; report.as_slice(), want);
+        Ok(())
+    }
+
+    fn report_of(alloc: Global, answer: Result<Listing, Halt>) -> Result<Vec<u8>, AllocError> {
+        match answer {
+            Err(Halt::Fault(fault)) => refused_report(alloc, &fault),
+            _ => Ok(Vec::new(alloc)),
+        }
+    }
+}

@@ -1,0 +1,102 @@
+//! The root: the directory that relative paths start from.
+ghost use Rattle.std.specs.Prelude.{◌≡◌, List, ℕ, map, IfOk};
+ghost use Rattle.mk_text.specs.Gives.{Gives};
+ghost use Rattle.mk_text.specs.Spelling.{components, reduced, root_of};
+
+use crate::components::{add_path, copies};
+use crate::fault::{Fault, Halt, Source};
+use crate::limits::is_root;
+use std::alloc::{AllocError, Global};
+use std::marker::Model;
+
+/// The directory that relative paths start from. Names below it are spelled without it (profile).
+#[derive(Debug, Drop)]
+pub struct Root {
+    text: Vec<u8>,
+    /// The reduced components of the text.
+    parts: Vec<Vec<u8>>,
+}
+
+impl Model for Root {
+    ghost Value = { List ℕ };
+
+    ghost view = { λ a. a.text.items };
+
+    ghost invariant = { λ a. map (λ part. part.items) a.parts.items ≡ reduced (components a.text.items) };
+}
+
+impl Root {
+    /// The root with this text (profile): one that begins with `/`, has at most 4,096 bytes and holds
+    /// neither NUL nor newline.
+    ///
+    /// Any other text is `BadName` in the settings, at place 0, which tells the text.
+    pub fn read(alloc: Global, text: &[u8]) -> Result<Root, Halt>
+        ensures { Gives result (root_of text.now) }
+    {
+        if !is_root(text) {
+            let fault = Fault::bad_name(alloc, Source::Settings, text)?;
+            return Err(Halt::Fault(fault));
+        }
+        Ok(Root::from_text(alloc, text)?)
+    }
+
+    /// An equal root. The only error is want of memory.
+    pub fn copy(&self, alloc: Global) -> Result<Root, AllocError>
+        ensures { IfOk result (λ root. root ≡ self.now) }
+    {
+        Root::from_text(alloc, self.text.as_slice())
+    }
+
+    fn from_text(alloc: Global, text: &[u8]) -> Result<Root, AllocError>
+        ensures { IfOk result (λ root. root ≡ text.now) }
+    {
+        let mut parts = Vec::new(alloc);
+        add_path(&mut parts, text)?;
+        Ok(Root {
+            text: Vec::from_slice(alloc, text)?,
+            parts: copies(alloc, parts.as_slice())?,
+        })
+    }
+
+    /// The reduced components of the root's text.
+    pub fn parts(&self) -> &[Vec<u8>]
+        ensures { map (λ part. part.items) result.now ≡ reduced (components self.now) }
+    {
+        self.parts.as_slice()
+    }
+
+    /// The root's text.
+    pub fn text(&self) -> &[u8]
+        ensures { result.now ≡ self.now }
+    {
+        self.text.as_slice()
+    }
+}
+
+#[cfg(test)]
+mod tests {
+    use super::*;
+    use std::test::Fail;
+
+    #[test]
+    fn roots(rt: HostRuntime) -> Result<(), Fail> {
+        let alloc = rt.alloc();
+        let mut long = vec![in alloc; b'/'; 4096]?;
+        assert!(rt; Root::read(alloc, long.as_slice()).is_ok());
+        long.push(b'a')?;
+        for text in [long.as_slice(), b"w", b"", b"/w\0", b"/w\n"] {
+            assert_eq!(rt; told(Root::read(alloc, text)), Some(text.len()), "{text:?}");
+        }
+        let root = Root::read(alloc, b"/w").ok().ok_or("no root")?;
+        assert_eq!(rt; root.copy(alloc)?.text(), b"/w".as_slice());
+        Ok(())
+    }
+
+    /// How many bytes the name of a refused root has.
+    fn told(answer: Result<Root, Halt>) -> Option<usize> {
+        match answer {
+            Err(Halt::Fault(fault)) => fault.names().first().map(|name| name.as_bytes().len()),
+            _ => None,
+        }
+    }
+}

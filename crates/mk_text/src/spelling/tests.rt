@@ -1,0 +1,76 @@
+use super::*;
+use std::test::Fail;
+
+#[test]
+fn paths(rt: HostRuntime) -> Result<(), Fail> {
+    let alloc = rt.alloc();
+    for (root, path, want) in [
+        ("/root/p", "./sub/../gen.h", "gen.h"),
+        ("/root/p", "/root/p/gen.h", "gen.h"),
+        ("/w", "a//b/./c/../d/", "a/b/d"),
+        ("/w", "../x", "/x"),
+        ("/w", "../../../x", "/x"),
+        ("/w", "/wx", "/wx"),
+        ("/w", "/w", "."),
+        ("/w", "..", "/"),
+        ("/w", "x*y z", "x*y z"),
+        ("/q/..//./w/", "/w/x", "x"),
+        ("/", "/x", "x"),
+        ("/", "..", "."),
+    ] {
+        let root = Root::read(alloc, root.as_bytes()).ok().ok_or("root")?;
+        let name = plain_path(alloc, path.as_bytes(), &root)
+            .ok()
+            .ok_or("path")?;
+        assert_eq!(rt; name.as_bytes(), want.as_bytes(), "{path}");
+    }
+    Ok(())
+}
+
+#[test]
+fn refused(rt: HostRuntime) -> Result<(), Fail> {
+    let alloc = rt.alloc();
+    let root = Root::read(alloc, b"/w").ok().ok_or("root")?;
+    let mut long = vec![in alloc; b'a'; 4096]?;
+    assert!(rt; plain_path(alloc, long.as_slice(), &root).is_ok());
+    assert!(rt; plain_word(alloc, long.as_slice(), &root).is_ok());
+    long.push(b'a')?;
+    for text in [b"".as_slice(), long.as_slice(), b"a\0", b"\na"] {
+        assert_eq!(rt;
+            told(plain_path(alloc, text, &root)),
+            Some(0),
+            "path {text:?}"
+        );
+        assert_eq!(rt;
+            told(plain_word(alloc, text, &root)),
+            Some(text.len()),
+            "word {text:?}"
+        );
+    }
+    for byte in *b"\x01\t\x1f #$:;=\\%()*?[\"'&|\x7f" {
+        assert_eq!(rt;
+            told(plain_word(alloc, &[b'x', byte], &root)),
+            Some(2),
+            "{byte}"
+        );
+    }
+    for byte in *b"!+,-./09@AZ]^_`az{}~\x80\xff" {
+        assert_eq!(rt;
+            told(plain_word(alloc, &[b'x', byte], &root)),
+            None,
+            "{byte}"
+        );
+    }
+    Ok(())
+}
+
+/// How many bytes of names a refused path or word tells.
+fn told(answer: Result<Name, Halt>) -> Option<usize> {
+    match answer {
+        Err(Halt::Fault(fault)) => Some(match fault.names() {
+            [name] => name.as_bytes().len(),
+            _ => 0,
+        }),
+        _ => None,
+    }
+}
