@@ -5,5 +5,6 @@ mod Numberings
 mod Collecting
 mod Rowing
 mod Graphs
+mod Leasts
 pub mod Firsts
 pub mod Indexes

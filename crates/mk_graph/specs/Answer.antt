@@ -1,7 +1,5 @@
 -- What `plan` answers.
 use Rattle.std.specs.Prelude.{◌≡◌, ◌<◌, ◌≤◌, ℕ, Bool, false, List, [], ◌∷◌, map, length, nat_eq, get_or, IsTrue, Option, Some, None, Result, Ok, Err}
-use Rattle.std.specs.Ordering.{is_le, nat_cmp}
-use Rattle.std.specs.Cmp.Lexicographic.{slice_cmp}
 use Rattle.mk_text.specs.Names.{Name, same_name, has}
 use Rattle.mk_text.specs.Told.{Told}
 use Rattle.mk_text.specs.declared.fault.Halt.{Halt}
@@ -11,16 +9,13 @@ use Rattle.mk_text.specs.declared.fault.Kind.TheVariants as kinds
 use Rattle.mk_text.specs.declared.fault.Source.TheVariants as sources
 use Rattle.mk_graph.specs.Book.{Entry, default_goal}
 use Rattle.mk_graph.specs.Graph.{IsNode, HasNoCycle, IsSerialOrder, IsCycle, HasMoreThan}
+use Rattle.mk_graph.specs.Least.{upto}
 use Rattle.mk_graph.specs.Makers.{maker_of, needs, is_phony, is_unmade}
 use Rattle.mk_graph.specs.Plan.{Node, Plan}
 
 -- a fault of the graph
 abbrev pub graph_fault : Kind → List Name → Told
 graph_fault kind names = record { kind = kind; source = sources.Graph; place = 0; names = names }
-
--- one name comes before another byte by byte, or is the same
-abbrev pub upto : Name → Name → Bool
-upto a b = is_le (slice_cmp nat_cmp a b)
 
 abbrev goal_list : Option Name → List Name
 goal_list None = []

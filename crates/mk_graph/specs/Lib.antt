@@ -9,5 +9,6 @@ pub mod Numbered
 pub mod Numbers
 pub mod Collected
 pub mod Seen
+pub mod Least
 pub mod Makers
 pub mod Answer

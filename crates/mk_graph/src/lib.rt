@@ -3,6 +3,7 @@
 
 pub mod maker;
 mod collect;
+mod faults;
 mod graph;
 mod numbering;
 mod rows;
