@@ -6,5 +6,6 @@ mod Collecting
 mod Rowing
 mod Graphs
 mod Leasts
+mod Cycles
 pub mod Firsts
 pub mod Indexes

@@ -90,7 +90,7 @@ rows_more rows v i f long is old k h =
     | inr n ↦ let l : k < i = omega arith in row_old rows v k (omega arith) ∙ old k l
     ]
 
-place_of : (xs : List ℕ) (n : ℕ) → In xs n → (k : ℕ) × (k < length xs) × (get_or xs k 0 ≡ n)
+pub place_of : (xs : List ℕ) (n : ℕ) → In xs n → (k : ℕ) × (k < length xs) × (get_or xs k 0 ≡ n)
 place_of [] n h = absurd (both_ways _ refl h)
 place_of (x ∷ xs) n h =
     elim (in_cons_cases nat_eq nat_is_exact x n xs h) [

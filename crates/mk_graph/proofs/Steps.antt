@@ -86,6 +86,7 @@ pub record Walks (needs : ℕ → List ℕ) (size : ℕ) (goals : List ℕ) (mar
   pub small : (n : ℕ) → In (nodes steps) n → n < size
   pub reached : (n : ℕ) → In (nodes steps) n → IsNode nat_eq needs goals n
   pub rising : IsRising needs order
+  pub done_nodes : (n : ℕ) → In order n → IsNode nat_eq needs goals n
   pub owes : (set : ℕ → Bool) (tree : ℕ → List ℕ) → Trees needs set tree → ((g : ℕ) → In goals g → set g ≡ true) → Owes goals order steps set tree
 
 -- marks
@@ -181,6 +182,7 @@ begin needs size goals marks order steps long fresh none on small =
       small = λ n h. small n (all_in n h);
       reached = λ n h. goal_node needs goals n (all_in n h);
       rising = λ i p h. absurd (omega arith);
+      done_nodes = λ n h. absurd (both_ways _ refl h);
       owes = λ set tree trees inside. record {
         whole = λ n h. absurd (both_ways _ refl h);
         inside = λ n h. inside n (all_in n h);
@@ -207,6 +209,7 @@ skip needs size goals marks order n steps w h =
       small = λ m i. w.small m (in_tail nat_eq nat_is_exact n m (nodes steps) i);
       reached = λ m i. w.reached m (in_tail nat_eq nat_is_exact n m (nodes steps) i);
       rising = w.rising;
+      done_nodes = w.done_nodes;
       owes = λ set tree trees inside. let o = w.owes set tree trees inside in record {
         whole = o.whole;
         inside = λ m i. o.inside m (in_tail nat_eq nat_is_exact n m (nodes steps) i);
@@ -258,6 +261,7 @@ enter needs size goals marks order n steps after w h range e =
       small = λ m i. elim (node_cases m i) [ inl l ↦ range m l | inr r ↦ w.small m r ];
       reached = λ m i. elim (node_cases m i) [ inl l ↦ node_next needs goals n m (w.reached n top) l | inr r ↦ w.reached m r ];
       rising = w.rising;
+      done_nodes = w.done_nodes;
       owes = λ set tree trees inside. let o = w.owes set tree trees inside in record {
         whole = o.whole;
         inside = λ m i. elim (node_cases m i) [ inl l ↦ trees.closed n m (o.inside n top) l | inr r ↦ o.inside m r ];
@@ -334,6 +338,7 @@ leave needs size goals marks order n steps w =
       small = λ m i. w.small m (in_tail nat_eq nat_is_exact n m (nodes steps) i);
       reached = λ m i. w.reached m (in_tail nat_eq nat_is_exact n m (nodes steps) i);
       rising = rising_push needs order n w.rising w.promises.0;
+      done_nodes = λ m h. elim (in_push_cases nat_eq nat_is_exact order n m h) [ inl j ↦ w.done_nodes m j | inr e ↦ subst (λ (k : ℕ). IsNode nat_eq needs goals k) e (w.reached n top) ];
       owes = λ set tree trees inside. let o = w.owes set tree trees inside in record {
         whole = λ m h x i. elim (in_push_cases nat_eq nat_is_exact order n m h) [
             inl j ↦ in_left nat_eq nat_is_exact order (n ∷ []) x (o.whole m j x i)

@@ -11,4 +11,5 @@ pub mod Collected
 pub mod Seen
 pub mod Least
 pub mod Makers
+pub mod Assembled
 pub mod Answer

@@ -7,5 +7,6 @@ mod faults;
 mod graph;
 mod numbering;
 mod rows;
+pub mod plan;
 pub mod rulebook;
 mod serial;

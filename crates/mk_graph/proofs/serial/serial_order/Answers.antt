@@ -82,4 +82,4 @@ pub returns : goal.returns
 returns c =
     let w = subst (λ (fs : List Step). Walks (row c.args.graph.now) (length c.args.graph.now) c.args.goals.now c.walk.marks.items c.walk.order.items fs) (empty_from_none c.walk.stack.items (sym c.walk.stack.ok.0 ∙ c.in_default.ensures.cases.0)) c.walk.invariant in
     let s = finish _ _ _ _ _ w in
-    (s, order_has_no_cycle _ _ _ s, w.rising)
+    record { serial = s; no_cycle = order_has_no_cycle _ _ _ s; rising = w.rising; nodes = w.done_nodes }
