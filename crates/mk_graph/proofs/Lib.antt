@@ -7,5 +7,6 @@ mod Rowing
 mod Graphs
 mod Leasts
 mod Cycles
+mod Planning
 pub mod Firsts
 pub mod Indexes
