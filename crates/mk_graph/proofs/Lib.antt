@@ -7,6 +7,7 @@ mod Rowing
 mod Graphs
 mod Leasts
 mod Cycles
-mod Planning
+mod NodesOf
+mod Answering
 pub mod Firsts
 pub mod Indexes

@@ -17,7 +17,7 @@ use Rattle.mk_graph.specs.Plan.{Node, Plan}
 abbrev pub graph_fault : Kind → List Name → Told
 graph_fault kind names = record { kind = kind; source = sources.Graph; place = 0; names = names }
 
-abbrev goal_list : Option Name → List Name
+abbrev pub goal_list : Option Name → List Name
 goal_list None = []
 goal_list (Some goal) = goal ∷ []
 

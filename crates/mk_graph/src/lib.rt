@@ -8,5 +8,6 @@ mod graph;
 mod numbering;
 mod rows;
 pub mod plan;
+pub mod planning;
 pub mod rulebook;
 mod serial;

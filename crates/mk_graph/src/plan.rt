@@ -1,7 +1,7 @@
 //! The plan: all that some goals need, in serial order.
 ghost use Rattle.std.specs.Prelude.{◌≡◌, ◌<◌, ◌≤◌, ◌++◌, List, [], ◌∷◌, ℕ, length, map, get_or, nat_eq, IsTrue, IfOk, Ok, Err};
 ghost use Rattle.mk_text.specs.Names.{has, same_name, IsDistinct};
-ghost use Rattle.mk_graph.specs.Assembled.{node_of, IsNumbering};
+ghost use Rattle.mk_graph.specs.Assembled.{node_of, IsAssembled, IsNumbering};
 ghost use Rattle.mk_graph.specs.Numbered.{name_at};
 ghost use Rattle.mk_graph.specs.Rows.{row};
 
@@ -32,12 +32,28 @@ impl Model for PlanNode {
     ghost view = { λ a. record { name = a.name; prerequisites = a.prerequisites.items; maker = a.maker; phony = a.phony; listed = a.listed } };
 }
 
+/// All that some goals need, in serial order. A node's number is its place.
+#[derive(Debug, Drop)]
+pub struct Plan {
+    nodes: Vec<PlanNode>,
+    wait_uses: u64,
+}
+
+impl Model for Plan {
+    ghost use Rattle.mk_graph.specs.Plan as plans;
+
+    ghost Value = { plans.Plan };
+
+    ghost view = { λ a. record { nodes = a.nodes.items; wait_uses = a.wait_uses } };
+}
+
 /// The place of each number in the order.
 fn places_in(alloc: Global, order: &[usize], count: usize) -> Result<Vec<u32>, AllocError>
     requires few { length order.now ≤ 4294967295 }
     requires within { (n : ℕ) → IsTrue (has nat_eq order.now n) → n < count }
     requires distinct { IsDistinct nat_eq order.now }
-    ensures { IfOk result (λ places. IsNumbering order.now places.items) }
+    ensures placed { IfOk result (λ places. IsNumbering order.now places.items) }
+    ensures long { IfOk result (λ places. length places.items ≡ count) }
 {
     let mut places = vec![in alloc; 0u32; count]?;
     for place in 0..order.len() {
@@ -98,4 +114,28 @@ fn nodes_of(
         nodes.push(node(alloc, book, listing, names.name(*number), prerequisites)?)?;
     }
     Ok(nodes)
+}
+
+/// The plan of a graph whose nodes stand in this order.
+pub fn assemble(
+    alloc: Global,
+    book: &Rulebook,
+    listing: &Listing,
+    names: &Numbering,
+    rows: &[Vec<usize>],
+    order: &[usize],
+) -> Result<Plan, AllocError>
+    requires few { length order.now ≤ 4294967295 }
+    requires within { (n : ℕ) → IsTrue (has nat_eq order.now n) → n < length names.now }
+    requires distinct { IsDistinct nat_eq order.now }
+    requires rows { length rows.now ≡ length names.now }
+    requires inside { (i n : ℕ) → IsTrue (has nat_eq (row rows.now i) n) → n < length names.now }
+    ensures { IfOk result (λ plan. IsAssembled book.now listing.now names.now rows.now order.now plan) }
+{
+    let places = places_in(alloc, order, names.count())?;
+    let nodes = nodes_of(alloc, book, listing, names, rows, places.as_slice(), order)?;
+    Ok(Plan {
+        nodes,
+        wait_uses: book.wait_uses(),
+    })
 }

@@ -6,7 +6,7 @@ use Rattle.mk_graph.specs.Plan.{Node}
 use Rattle.mk_graph.specs.Rows.{row}
 use Rattle.mk_graph.proofs.Measure.{row_read}
 use Rattle.mk_graph.proofs.Rowing.{in_at}
-use Rattle.mk_graph.proofs.Planning.{nodes_more}
+use Rattle.mk_graph.proofs.NodesOf.{nodes_more}
 use Rattle.mk_graph.proofs.Steps.{In}
 use Rattle.mk_graph.proofs.plan.nodes_of.Goals as goal
 

@@ -1,7 +1,7 @@
 use Rattle.std.proofs.Common.{◌≡◌, ◌∙◌, arith, get_or, ◌<◌, length}
 use Rattle.std.proofs.lemmas.List.{length-set}
 use Rattle.mk_graph.proofs.Rowing.{in_at}
-use Rattle.mk_graph.proofs.Planning.{placed_more}
+use Rattle.mk_graph.proofs.NodesOf.{placed_more}
 use Rattle.mk_graph.proofs.plan.places_in.Goals as goal
 
 pub index_mut-requires : goal.index_mut-requires

@@ -40,14 +40,13 @@ nodes_more f order i old new n h e is at =
 
 module _ (book : List Entry) (listing goals names : List Name) (rows : List (Vec ℕ Global)) (starts order places : List ℕ) (g : IsGraph book goals names rows starts) (o : IsOrder (row rows) starts order) (at : IsNumbering order places) where
   -- the node of a number
-  pub node_at : ℕ → Node
+  abbrev pub node_at : ℕ → Node
   node_at n = node_of book listing (name_at names n) (map (λ p. get_or places p 0) (row rows n))
 
   order_below : (n : ℕ) → In order n → n < length names
   order_below n h = node_inside same_name (prerequisites_of book) goals (name_at names) (length names) (row rows) starts (numbers_of book goals names rows starts g) n (o.nodes n h)
 
   names_are : (ns : List ℕ) → map (λ (m : Node). m.name) (map node_at ns) ≡ map (name_at names) ns
-  unfolding node_at
   names_are [] = refl
   names_are (n ∷ ns) = ap (λ xs. name_at names n ∷ xs) (names_are ns)
 
@@ -84,7 +83,6 @@ module _ (book : List Entry) (listing goals names : List Name) (rows : List (Vec
   node_is i d h = get_or-map node_at order i 0 d h
 
   pub plan_is : (plan : Plan) → plan.nodes ≡ map node_at order → plan.wait_uses ≡ 0 → IsPlan book listing goals plan
-  unfolding node_at
   plan_is plan is waits =
       record {
         order = subst (λ (xs : List Name). IsSerialOrder same_name (prerequisites_of book) goals xs) (sym named) (serial_order_map same_name (prerequisites_of book) goals (name_at names) (length names) (row rows) starts w order o.serial order_below);
