@@ -3,6 +3,7 @@ ghost use Rattle.std.specs.Prelude.{◌≡◌, ◌<◌, ◌≤◌, ◌++◌, Lis
 ghost use Rattle.mk_text.specs.Names.{has, same_name, IsDistinct};
 ghost use Rattle.mk_graph.specs.Assembled.{node_of, IsAssembled, IsNumbering};
 ghost use Rattle.mk_graph.specs.Numbered.{name_at};
+ghost use Rattle.mk_graph.specs.Plan.{Node};
 ghost use Rattle.mk_graph.specs.Rows.{row};
 
 use crate::faults::maker_of;
@@ -138,4 +139,49 @@ pub fn assemble(
         nodes,
         wait_uses: book.wait_uses(),
     })
+}
+
+impl Plan {
+    /// The name of a node. Its number must be below the count of nodes.
+    pub fn name(&self, n: u32) -> &Name
+        requires { n < length self.now.nodes }
+        ensures { (d : Node) → result.now ≡ (get_or self.now.nodes n d).name }
+    {
+        let node = &self.nodes[n as usize];
+        &node.name
+    }
+
+    /// What makes a node's name. Its number must be below the count of nodes.
+    pub fn maker(&self, n: u32) -> Maker
+        requires { n < length self.now.nodes }
+        ensures { (d : Node) → result ≡ (get_or self.now.nodes n d).maker }
+    {
+        let node = &self.nodes[n as usize];
+        node.maker
+    }
+
+    /// Whether a node is phony. Its number must be below the count of nodes.
+    pub fn is_phony(&self, n: u32) -> bool
+        requires { n < length self.now.nodes }
+        ensures { (d : Node) → result ≡ (get_or self.now.nodes n d).phony }
+    {
+        let node = &self.nodes[n as usize];
+        node.phony
+    }
+
+    /// Whether the listing has a node's name. Its number must be below the count of nodes.
+    pub fn is_listed(&self, n: u32) -> bool
+        requires { n < length self.now.nodes }
+        ensures { (d : Node) → result ≡ (get_or self.now.nodes n d).listed }
+    {
+        let node = &self.nodes[n as usize];
+        node.listed
+    }
+
+    /// How often `.WAIT` was used.
+    pub fn wait_uses(&self) -> u64
+        ensures { result ≡ self.now.wait_uses }
+    {
+        self.wait_uses
+    }
 }
