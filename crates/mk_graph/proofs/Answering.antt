@@ -30,8 +30,8 @@ module _ (book : List Entry) (listing goals names : List Name) (rows : List (Vec
   pub row_within : (i n : ℕ) → In (row rows i) n → n < length names
   row_within i n h =
       elim (cases_lt i (length names)) [
-        inl l ↦ (g.rows_stand i l).within n h
-      | inr m ↦ absurd (both_ways _ refl (subst (λ (xs : List ℕ). In xs n) (row_past rows i (let e = g.long in omega arith)) h))
+        | inl l ↦ (g.rows_stand i l).within n h
+        | inr m ↦ absurd (both_ways _ refl (subst (λ (xs : List ℕ). In xs n) (row_past rows i (let e = g.long in omega arith)) h))
       ]
 
   pub in_range : InRange rows
@@ -55,14 +55,16 @@ module _ (book : List Entry) (listing goals names : List Name) (rows : List (Vec
   pub order_few : (order : List ℕ) → IsOrder (row rows) starts order → (IsTooLarge book listing goals → ⊥) → length order ≤ 4294967295
   order_few order o small =
       elim (cases_lt 20000 (length order)) [
-        inl many ↦ absurd (small (map (name_at names) order,
+        | inl many ↦ absurd (small (
+          map (name_at names) order,
           record {
             distinct = distinct_map same_name (prerequisites_of book) goals (name_at names) (length names) (row rows) starts (numbers_of book goals names rows starts g) order (order_within order o) (order_distinct order o);
             each = λ x h. let k = has_back same_name name_is_exact (name_at names) order x h in
-              subst (λ (z : Name). IsNode same_name (prerequisites_of book) goals z) k.2 (node_map same_name (prerequisites_of book) goals (name_at names) (length names) (row rows) starts (numbers_of book goals names rows starts g) k.0 (o.nodes k.0 k.1))
+                subst (λ (z : Name). IsNode same_name (prerequisites_of book) goals z) k.2 (node_map same_name (prerequisites_of book) goals (name_at names) (length names) (row rows) starts (numbers_of book goals names rows starts g) k.0 (o.nodes k.0 k.1));
           },
-          inl (let l = length-map order (name_at names) in omega arith)))
-      | inr few ↦ omega arith
+          inl (let l = length-map order (name_at names) in omega arith),
+        ))
+        | inr few ↦ omega arith
       ]
 
   pub all_made : IsLeastPassing (is_unmade book listing) names (length names) None → AllMade book listing goals
@@ -76,8 +78,8 @@ module _ (book : List Entry) (listing goals names : List Name) (rows : List (Vec
         node = g.nodes (name_at names k) (has_at names k p.0);
         unmade = p.1;
         least = λ x h u.
-          let n = node_back same_name (prerequisites_of book) goals (name_at names) (length names) (row rows) starts (numbers_of book goals names rows starts g) x h in
-          subst (λ (z : Name). IsTrue (upto (name_at names k) z)) n.3 (p.2 n.0 n.2 (subst (λ (z : Name). IsTrue (is_unmade book listing z)) (sym n.3) u))
+            let n = node_back same_name (prerequisites_of book) goals (name_at names) (length names) (row rows) starts (numbers_of book goals names rows starts g) x h in
+            subst (λ (z : Name). IsTrue (upto (name_at names k) z)) n.3 (p.2 n.0 n.2 (subst (λ (z : Name). IsTrue (is_unmade book listing z)) (sym n.3) u));
       }
 
 pub passing_none : (test : Name → Bool) (names : List Name) (n : ℕ) (o : Option ℕ) → ((x : ℕ) → o ≡ Some x → ⊥) → IsLeastPassing test names n o → IsLeastPassing test names n None

@@ -40,16 +40,16 @@ module _ {X : Type 0} (same : X → X → Bool) (exact : IsExact same) (name : �
   in_map [] n h = absurd (both_ways _ refl h)
   in_map (x ∷ xs) n h =
       elim (or_cases (nat_eq x n) _ h) [
-        inl e ↦ or_left _ _ (subst (λ (k : ℕ). same (name x) (name k) ≡ true) (nat_is_exact.equal x n e) (exact.itself (name x)))
-      | inr i ↦ or_right (same (name x) (name n)) _ (in_map xs n i)
+        | inl e ↦ or_left _ _ (subst (λ (k : ℕ). same (name x) (name k) ≡ true) (nat_is_exact.equal x n e) (exact.itself (name x)))
+        | inr i ↦ or_right (same (name x) (name n)) _ (in_map xs n i)
       ]
 
   pub has_back : (xs : List ℕ) (y : X) → IsTrue (has same (map name xs) y) → (n : ℕ) × In xs n × (name n ≡ y)
   has_back [] y h = absurd (both_ways _ refl h)
   has_back (x ∷ xs) y h =
       elim (or_cases (same (name x) y) _ h) [
-        inl e ↦ (x, in_head nat_eq nat_is_exact x xs, exact.equal (name x) y e)
-      | inr i ↦ let r = has_back xs y i in (r.0, in_tail nat_eq nat_is_exact x r.0 xs r.1, r.2)
+        | inl e ↦ (x, in_head nat_eq nat_is_exact x xs, exact.equal (name x) y e)
+        | inr i ↦ let r = has_back xs y i in (r.0, in_tail nat_eq nat_is_exact x r.0 xs r.1, r.2)
       ]
 
 module _ {X : Type 0} (same : X → X → Bool) (needs : X → List X) (goals : List X) (name : ℕ → X) (size : ℕ) (next : ℕ → List ℕ) (starts : List ℕ) (w : Numbers same needs goals name size next starts) where
@@ -59,8 +59,8 @@ module _ {X : Type 0} (same : X → X → Bool) (needs : X → List X) (goals : 
   same_is : (i j : ℕ) → i < size → j < size → same (name i) (name j) ≡ nat_eq i j
   same_is i j h g =
       elim (cases_eq i j) [
-        inl e ↦ subst (λ (k : ℕ). same (name i) (name k) ≡ true) e (w.exact.itself (name i)) ∙ sym (eq-eqb i j e)
-      | inr n ↦ false_from_ne_true _ (λ t. n (apart i j h g (w.exact.equal (name i) (name j) t))) ∙ sym (ne_eqb i j n)
+        | inl e ↦ subst (λ (k : ℕ). same (name i) (name k) ≡ true) e (w.exact.itself (name i)) ∙ sym (eq-eqb i j e)
+        | inr n ↦ false_from_ne_true _ (λ t. n (apart i j h g (w.exact.equal (name i) (name j) t))) ∙ sym (ne_eqb i j n)
       ]
 
   has_map : (xs : List ℕ) (n : ℕ) → Below size xs → n < size → has same (map name xs) (name n) ≡ has nat_eq xs n
@@ -112,18 +112,20 @@ module _ {X : Type 0} (same : X → X → Bool) (needs : X → List X) (goals : 
   kept_map front [] f b = refl
   kept_map front (x ∷ xs) f b =
       elim (cases_Bool (has nat_eq front x)) [
-        inl t ↦ ap (map name) (kept_old nat_eq nat_is_exact front x xs t) ∙ kept_map front xs f rest ∙ sym (kept_old same w.exact (map name front) (name x) (map name xs) (in_map same w.exact name front x t))
-      | inr n ↦ ap (map name) (kept_new nat_eq nat_is_exact front x xs n) ∙ kept_map (front ++ x ∷ []) xs more rest
-          ∙ ap (λ ys. kept same ys (map name xs)) (map_push name front x)
-          ∙ sym (kept_new same w.exact (map name front) (name x) (map name xs) (has_map front x f here ∙ n))
+        | inl t ↦ ap (map name) (kept_old nat_eq nat_is_exact front x xs t) ∙ kept_map front xs f rest ∙ sym (kept_old same w.exact (map name front) (name x) (map name xs) (in_map same w.exact name front x t))
+        | inr n ↦ ap (map name) (kept_new nat_eq nat_is_exact front x xs n) ∙ kept_map (front ++ x ∷ []) xs more rest
+            ∙ ap (λ ys. kept same ys (map name xs)) (map_push name front x)
+            ∙ sym (kept_new same w.exact (map name front) (name x) (map name xs) (has_map front x f here ∙ n))
       ]
-      where
-        here : x < size
-        here = b x (in_head nat_eq nat_is_exact x xs)
-        rest : Below size xs
-        rest k i = b k (in_tail nat_eq nat_is_exact x k xs i)
-        more : Below size (front ++ x ∷ [])
-        more k i = elim (in_push_cases nat_eq nat_is_exact front x k i) [ inl j ↦ f k j | inr e ↦ subst (λ (m : ℕ). m < size) e here ]
+    where
+      here : x < size
+      here = b x (in_head nat_eq nat_is_exact x xs)
+
+      rest : Below size xs
+      rest k i = b k (in_tail nat_eq nat_is_exact x k xs i)
+
+      more : Below size (front ++ x ∷ [])
+      more k i = elim (in_push_cases nat_eq nat_is_exact front x k i) [ inl j ↦ f k j | inr e ↦ subst (λ (m : ℕ). m < size) e here ]
 
   pub distinct_map : (xs : List ℕ) → Below size xs → IsDistinct nat_eq xs → IsDistinct same (map name xs)
   distinct_map [] b d = tt
@@ -152,12 +154,12 @@ module _ {X : Type 0} (same : X → X → Bool) (needs : X → List X) (goals : 
       record {
         tree = name_tree s.tree;
         trees = λ y h. let n = node_back y h in
-          ap (λ k. map name (s.tree k)) (ap w.number (sym n.3) ∙ w.number_is n.0 n.2)
-          ∙ ap (map name) (s.trees n.0 n.1)
-          ∙ map_push name (flat_map s.tree (next n.0)) n.0
-          ∙ ap (λ ys. ys ++ name n.0 ∷ []) (sym (name_trees s.tree (next n.0) (λ p i. w.inside n.0 p n.2 i)) ∙ ap (flat_map (name_tree s.tree)) (w.rows n.0 n.2))
-          ∙ ap (λ x. flat_map (name_tree s.tree) (needs x) ++ x ∷ []) n.3;
+            ap (λ k. map name (s.tree k)) (ap w.number (sym n.3) ∙ w.number_is n.0 n.2)
+            ∙ ap (map name) (s.trees n.0 n.1)
+            ∙ map_push name (flat_map s.tree (next n.0)) n.0
+            ∙ ap (λ ys. ys ++ name n.0 ∷ []) (sym (name_trees s.tree (next n.0) (λ p i. w.inside n.0 p n.2 i)) ∙ ap (flat_map (name_tree s.tree)) (w.rows n.0 n.2))
+            ∙ ap (λ x. flat_map (name_tree s.tree) (needs x) ++ x ∷ []) n.3;
         order_is = ap (map name) s.order_is
-          ∙ kept_map [] (flat_map s.tree starts) (λ k i. absurd (both_ways _ refl i)) (λ k i. b k (subst (λ (ks : List ℕ). In ks k) (sym s.order_is) (kept_has nat_eq nat_is_exact [] (flat_map s.tree starts) k i)))
-          ∙ ap (kept same []) (sym (name_trees s.tree starts w.starts_inside) ∙ ap (flat_map (name_tree s.tree)) w.starts_are)
+            ∙ kept_map [] (flat_map s.tree starts) (λ k i. absurd (both_ways _ refl i)) (λ k i. b k (subst (λ (ks : List ℕ). In ks k) (sym s.order_is) (kept_has nat_eq nat_is_exact [] (flat_map s.tree starts) k i)))
+            ∙ ap (kept same []) (sym (name_trees s.tree starts w.starts_inside) ∙ ap (flat_map (name_tree s.tree)) w.starts_are);
       }

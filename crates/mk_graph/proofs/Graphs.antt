@@ -55,8 +55,8 @@ below_each : (g : ℕ → List ℕ) (size : ℕ) (ps : List ℕ) → ((p : ℕ) 
 below_each g size [] h n i = absurd (both_ways _ refl i)
 below_each g size (p ∷ ps) h n i =
     elim (in_cases nat_eq nat_is_exact (g p) (flat_map g ps) n i) [
-      inl l ↦ h p (in_head nat_eq nat_is_exact p ps) n l
-    | inr r ↦ below_each g size ps (λ q j. h q (in_tail nat_eq nat_is_exact p q ps j)) n r
+      | inl l ↦ h p (in_head nat_eq nat_is_exact p ps) n l
+      | inr r ↦ below_each g size ps (λ q j. h q (in_tail nat_eq nat_is_exact p q ps j)) n r
     ]
 
 -- names by their numbers, with no edges
@@ -69,7 +69,7 @@ alone names d =
       rows = λ i h. refl;
       inside = λ i p h j. absurd (both_ways _ refl j);
       starts_are = refl;
-      starts_inside = λ g h. absurd (both_ways _ refl h)
+      starts_inside = λ g h. absurd (both_ways _ refl h);
     }
 
 -- the row of a name stands for what the name needs
@@ -78,39 +78,43 @@ joined_stands book goals names entries starts distinct i c is h =
     record {
       within = λ n j. elim (kept_cases nat_eq nat_is_exact [] (flat_map raw ps) n (subst (λ (xs : List ℕ). In xs n) same j)) [ inl l ↦ absurd (both_ways _ refl l) | inr r ↦ below n r ];
       names_are = ap (map (name_at names)) same
-        ∙ kept_map same_name (λ x. []) [] (name_at names) (length names) (λ n. []) [] (alone names c.distinct) [] (flat_map raw ps) (λ n j. absurd (both_ways _ refl j)) below
-        ∙ ap (firsts same_name) (map_each (name_at names) raw (given_at book) ps (λ p j. (stands p j).names_are) ∙ flat_map-places_of book (name_at names i))
+          ∙ kept_map same_name (λ x. []) [] (name_at names) (length names) (λ n. []) [] (alone names c.distinct) [] (flat_map raw ps) (λ n j. absurd (both_ways _ refl j)) below
+          ∙ ap (firsts same_name) (map_each (name_at names) raw (given_at book) ps (λ p j. (stands p j).names_are) ∙ flat_map-places_of book (name_at names i));
     }
-    where
-      ps : List ℕ
-      ps = places_of book (name_at names i)
-      raw : ℕ → List ℕ
-      raw p = raw_of (get_or entries p None)
-      same : joined_of book distinct (name_at names i) ≡ firsts nat_eq (flat_map raw ps)
-      same = firsts_each (row distinct) raw [] ps (λ p j. is p ∙ firsts_raw (get_or entries p None))
-      stands : (p : ℕ) → In ps p → Stand names (raw p) (given_at book p)
-      stands p j = raw_stands names (given_at book p) (get_or entries p None) (c.stand p (all_in ps (length book) p (places_of-within book (name_at names i)) j)) (c.done i p h j)
-      below : Below (length names) (flat_map raw ps)
-      below = below_each raw (length names) ps (λ p j. (stands p j).within)
+  where
+    ps : List ℕ
+    ps = places_of book (name_at names i)
+
+    raw : ℕ → List ℕ
+    raw p = raw_of (get_or entries p None)
+
+    same : joined_of book distinct (name_at names i) ≡ firsts nat_eq (flat_map raw ps)
+    same = firsts_each (row distinct) raw [] ps (λ p j. is p ∙ firsts_raw (get_or entries p None))
+
+    stands : (p : ℕ) → In ps p → Stand names (raw p) (given_at book p)
+    stands p j = raw_stands names (given_at book p) (get_or entries p None) (c.stand p (all_in ps (length book) p (places_of-within book (name_at names i)) j)) (c.done i p h j)
+
+    below : Below (length names) (flat_map raw ps)
+    below = below_each raw (length names) ps (λ p j. (stands p j).within)
 
 -- what was read is in range
 pub entries_below : (book : List Entry) (goals names : List Name) (entries : Entries) (starts : List ℕ) (read p : ℕ) → Collected book goals names entries starts read → AllBelow (length names) (get_or entries p None)
 entries_below book goals names entries starts read p c =
     elim (cases_lt p (length book)) [
-      inl l ↦ go (get_or entries p None) (c.stand p l)
-    | inr g ↦ subst (λ (o : Option (Vec ℕ Global)). AllBelow (length names) o) (sym (get_or_past entries p None (let l = c.long in omega arith))) tt
+      | inl l ↦ go (get_or entries p None) (c.stand p l)
+      | inr g ↦ subst (λ (o : Option (Vec ℕ Global)). AllBelow (length names) o) (sym (get_or_past entries p None (let l = c.long in omega arith))) tt
     ]
-    where
-      go : (o : Option (Vec ℕ Global)) → StandsFor names (given_at book p) o → AllBelow (length names) o
-      go None s = tt
-      go (Some v) s = s.within
+  where
+    go : (o : Option (Vec ℕ Global)) → StandsFor names (given_at book p) o → AllBelow (length names) o
+    go None s = tt
+    go (Some v) s = s.within
 
 pub distinct_below : (book : List Entry) (goals names : List Name) (entries : Entries) (starts : List ℕ) (read : ℕ) (distinct : List (Vec ℕ Global)) → Collected book goals names entries starts read → ((p : ℕ) → row distinct p ≡ firsts_of (get_or entries p None)) → (p n : ℕ) → In (row distinct p) n → n < length names
 distinct_below book goals names entries starts read distinct c is p n h = go (get_or entries p None) (entries_below book goals names entries starts read p c) (subst (λ (xs : List ℕ). In xs n) (is p) h)
-    where
-      go : (o : Option (Vec ℕ Global)) → AllBelow (length names) o → In (firsts_of o) n → n < length names
-      go None b i = absurd (both_ways _ refl i)
-      go (Some v) b i = firsts_within v.items (length names) b n i
+  where
+    go : (o : Option (Vec ℕ Global)) → AllBelow (length names) o → In (firsts_of o) n → n < length names
+    go None b i = absurd (both_ways _ refl i)
+    go (Some v) b i = firsts_within v.items (length names) b n i
 
 pub graph_is : (book : List Entry) (goals names : List Name) (entries : Entries) (starts : List ℕ) (distinct rows : List (Vec ℕ Global)) → Collected book goals names entries starts (length names) → ((p : ℕ) → row distinct p ≡ firsts_of (get_or entries p None)) → length rows ≡ length names → ((i : ℕ) → i < length names → row rows i ≡ joined_of book distinct (name_at names i)) → IsGraph book goals names rows starts
 graph_is book goals names entries starts distinct rows c is long at =
@@ -119,7 +123,7 @@ graph_is book goals names entries starts distinct rows c is long at =
       nodes = c.nodes;
       starts_stand = c.starts_stand;
       long = long;
-      rows_stand = λ i h. subst (λ (ns : List ℕ). Stand names ns (prerequisites_of book (name_at names i))) (sym (at i h)) (joined_stands book goals names entries starts distinct i c is h)
+      rows_stand = λ i h. subst (λ (ns : List ℕ). Stand names ns (prerequisites_of book (name_at names i))) (sym (at i h)) (joined_stands book goals names entries starts distinct i c is h);
     }
 
 pub numbers_of : (book : List Entry) (goals names : List Name) (rows : List (Vec ℕ Global)) (starts : List ℕ) → IsGraph book goals names rows starts → Numbers same_name (prerequisites_of book) goals (name_at names) (length names) (row rows) starts
@@ -131,15 +135,15 @@ numbers_of book goals names rows starts g =
       rows = λ i h. (g.rows_stand i h).names_are;
       inside = λ i p h j. (g.rows_stand i h).within p j;
       starts_are = g.starts_stand.names_are;
-      starts_inside = g.starts_stand.within
+      starts_inside = g.starts_stand.within;
     }
 
 pub place_in : (names : List Name) (x : Name) → IsTrue (has same_name names x) → (n : ℕ) × (n < length names) × (name_at names n ≡ x)
 place_in [] x h = absurd (both_ways _ refl h)
 place_in (y ∷ ys) x h =
     elim (in_cons_cases same_name name_is_exact y x ys h) [
-      inl e ↦ (0, omega arith, e)
-    | inr i ↦ let r = place_in ys x i in (suc r.0, omega (arith, r.1), r.2)
+      | inl e ↦ (0, omega arith, e)
+      | inr i ↦ let r = place_in ys x i in (suc r.0, omega (arith, r.1), r.2)
     ]
 
 -- edges counted by rows or by names
@@ -150,11 +154,12 @@ edges_are book goals names entries starts distinct (x ∷ xs) c is w =
     ∙ ap (λ n. n + edges_of book distinct xs) here
     ∙ ap (λ n. length (prerequisites_of book x) + n) (edges_are book goals names entries starts distinct xs c is (λ y i. w y (in_tail same_name name_is_exact x y xs i)))
     ∙ sym (sum_by-cons (λ y. length (prerequisites_of book y)) x xs)
-    where
-      at : (n : ℕ) × (n < length names) × (name_at names n ≡ x)
-      at = place_in names x (w x (in_head same_name name_is_exact x xs))
-      here : length (joined_of book distinct x) ≡ length (prerequisites_of book x)
-      here = subst (λ (z : Name). length (joined_of book distinct z) ≡ length (prerequisites_of book z)) at.2
+  where
+    at : (n : ℕ) × (n < length names) × (name_at names n ≡ x)
+    at = place_in names x (w x (in_head same_name name_is_exact x xs))
+
+    here : length (joined_of book distinct x) ≡ length (prerequisites_of book x)
+    here = subst (λ (z : Name). length (joined_of book distinct z) ≡ length (prerequisites_of book z)) at.2
         (sym (length-map (joined_of book distinct (name_at names at.0)) (name_at names)) ∙ ap length (joined_stands book goals names entries starts distinct at.0 c is at.1).names_are)
 
 in_take : (k : ℕ) (names : List Name) (x : Name) → IsTrue (has same_name (take k names) x) → IsTrue (has same_name names x)
@@ -166,10 +171,11 @@ distinct_take (suc k) [] d = tt
 distinct_take (suc k) (x ∷ xs) d = (not_in same_name name_is_exact (take k xs) x (λ h. both_ways _ d.0 (in_take k xs x h)), distinct_take k xs d.1)
 
 pub many_edges : (book : List Entry) (goals names : List Name) (entries : Entries) (starts : List ℕ) (distinct : List (Vec ℕ Global)) (k nodes edges : ℕ) → Collected book goals names entries starts (length names) → ((p : ℕ) → row distinct p ≡ firsts_of (get_or entries p None)) → edges < edges_of book distinct (take k names) → HasMoreThan same_name (prerequisites_of book) goals nodes edges
-many_edges book goals names entries starts distinct k nodes edges c is more =
-    (take k names,
-     record { distinct = distinct_take k names c.distinct; each = λ x h. c.nodes x (in_take k names x h) },
-     inr (subst (λ (n : ℕ). edges < n) (edges_are book goals names entries starts distinct (take k names) c is (λ x h. in_take k names x h)) more))
+many_edges book goals names entries starts distinct k nodes edges c is more = (
+  take k names,
+  record { distinct = distinct_take k names c.distinct; each = λ x h. c.nodes x (in_take k names x h) },
+  inr (subst (λ (n : ℕ). edges < n) (edges_are book goals names entries starts distinct (take k names) c is (λ x h. in_take k names x h)) more),
+)
 
 count_all : {X : Type 0} (xs : List X) → sum_by (λ x. 1) xs ≡ length xs
 count_all [] = refl
@@ -178,15 +184,15 @@ count_all (x ∷ xs) = sum_by-cons (λ y. 1) x xs ∙ ap (λ n. 1 + n) (count_al
 pub is_small : (book : List Entry) (goals names : List Name) (entries : Entries) (starts : List ℕ) (distinct rows : List (Vec ℕ Global)) (nodes edges : ℕ) → Collected book goals names entries starts (length names) → ((p : ℕ) → row distinct p ≡ firsts_of (get_or entries p None)) → IsGraph book goals names rows starts → length names ≤ nodes → edges_of book distinct names ≤ edges → HasMoreThan same_name (prerequisites_of book) goals nodes edges → ⊥
 is_small book goals names entries starts distinct rows nodes edges c is g few low h =
     elim h.2 [
-      inl more ↦ (let s = sum_within same_name name_is_exact (λ x. 1) h.0 names h.1.distinct within in absurd (omega (arith, s, more, few, count_all h.0, count_all names)))
-    | inr more ↦ (let s = sum_within same_name name_is_exact (λ x. length (prerequisites_of book x)) h.0 names h.1.distinct within in
-        absurd (omega (arith, s, more, low, edges_are book goals names entries starts distinct names c is (λ x i. i))))
+      | inl more ↦ (let s = sum_within same_name name_is_exact (λ x. 1) h.0 names h.1.distinct within in absurd (omega (arith, s, more, few, count_all h.0, count_all names)))
+      | inr more ↦ (let s = sum_within same_name name_is_exact (λ x. length (prerequisites_of book x)) h.0 names h.1.distinct within in
+          absurd (omega (arith, s, more, low, edges_are book goals names entries starts distinct names c is (λ x i. i))))
     ]
-    where
-      within : (x : Name) → IsTrue (has same_name h.0 x) → IsTrue (has same_name names x)
-      within x i =
-          let n = node_back same_name (prerequisites_of book) goals (name_at names) (length names) (row rows) starts (numbers_of book goals names rows starts g) x (h.1.each x i) in
-          subst (λ (z : Name). IsTrue (has same_name names z)) n.3 (has_at names n.0 n.2)
+  where
+    within : (x : Name) → IsTrue (has same_name h.0 x) → IsTrue (has same_name names x)
+    within x i =
+        let n = node_back same_name (prerequisites_of book) goals (name_at names) (length names) (row rows) starts (numbers_of book goals names rows starts g) x (h.1.each x i) in
+        subst (λ (z : Name). IsTrue (has same_name names z)) n.3 (has_at names n.0 n.2)
 
 pub if_none_at : {T : Type 0} (o : Option T) (P : Type 0) → ((x : T) → o ≡ Some x → ⊥) → IfNone o P → P
 if_none_at None P n h = h

@@ -48,9 +48,14 @@ module _ (test : Name → Bool) (names : List Name) (i : ℕ) where
   pass_keep b u p = (omega (arith, p.0), p.1, λ k h t. elim (cases_eq k i) [ inl e ↦ subst (λ (m : ℕ). IsTrue (upto (name_at names b) (name_at names m))) (sym e) u | inr n ↦ p.2 k (omega arith) t ])
 
   pub pass_take : (b : ℕ) → upto (name_at names b) (name_at names i) ≡ false → test (name_at names i) ≡ true → IsLeastPassing test names i (Some b) → IsLeastPassing test names (i + 1) (Some i)
-  pass_take b u t p = (omega arith, t, λ k h s. elim (cases_eq k i) [
-      inl e ↦ subst (λ (m : ℕ). IsTrue (upto (name_at names i) (name_at names m))) (sym e) (upto_self (name_at names i))
-    | inr n ↦ upto_trans (name_at names i) (name_at names b) (name_at names k) (upto_other (name_at names b) (name_at names i) u) (p.2 k (omega arith) s) ])
+  pass_take b u t p = (
+    omega arith,
+    t,
+    λ k h s. elim (cases_eq k i) [
+      | inl e ↦ subst (λ (m : ℕ). IsTrue (upto (name_at names i) (name_at names m))) (sym e) (upto_self (name_at names i))
+      | inr n ↦ upto_trans (name_at names i) (name_at names b) (name_at names k) (upto_other (name_at names b) (name_at names i) u) (p.2 k (omega arith) s)
+    ],
+  )
 
 module _ (names : List Name) (ring : List ℕ) where
   pub place_first : IsLeastPlace names ring 1 0
@@ -60,6 +65,10 @@ module _ (names : List Name) (ring : List ℕ) where
   place_keep i b u p = (omega (arith, p.0), λ k h. elim (cases_eq k i) [ inl e ↦ subst (λ (m : ℕ). IsTrue (upto (name_at names (get_or ring b 0)) (name_at names (get_or ring m 0)))) (sym e) u | inr n ↦ p.1 k (omega arith) ])
 
   pub place_take : (i b : ℕ) → upto (name_at names (get_or ring b 0)) (name_at names (get_or ring i 0)) ≡ false → IsLeastPlace names ring i b → IsLeastPlace names ring (i + 1) i
-  place_take i b u p = (omega arith, λ k h. elim (cases_eq k i) [
-      inl e ↦ subst (λ (m : ℕ). IsTrue (upto (name_at names (get_or ring i 0)) (name_at names (get_or ring m 0)))) (sym e) (upto_self (name_at names (get_or ring i 0)))
-    | inr n ↦ upto_trans (name_at names (get_or ring i 0)) (name_at names (get_or ring b 0)) (name_at names (get_or ring k 0)) (upto_other (name_at names (get_or ring b 0)) (name_at names (get_or ring i 0)) u) (p.1 k (omega arith)) ])
+  place_take i b u p = (
+    omega arith,
+    λ k h. elim (cases_eq k i) [
+      | inl e ↦ subst (λ (m : ℕ). IsTrue (upto (name_at names (get_or ring i 0)) (name_at names (get_or ring m 0)))) (sym e) (upto_self (name_at names (get_or ring i 0)))
+      | inr n ↦ upto_trans (name_at names (get_or ring i 0)) (name_at names (get_or ring b 0)) (name_at names (get_or ring k 0)) (upto_other (name_at names (get_or ring b 0)) (name_at names (get_or ring i 0)) u) (p.1 k (omega arith))
+    ],
+  )

@@ -30,8 +30,8 @@ distinct_at (x ∷ xs) (suc i) (suc k) d h l e = distinct_at xs i k d.1 (omega a
 pub placed_more : (order places : List ℕ) (count i : ℕ) → IsDistinct nat_eq order → i < length order → get_or order i 0 < length places → ((k : ℕ) → k < i → get_or places (get_or order k 0) 0 ≡ k) → (k : ℕ) → k < i + 1 → get_or (set places (get_or order i 0) i) (get_or order k 0) 0 ≡ k
 placed_more order places count i d h inside p k l =
     elim (cases_eq k i) [
-      inl e ↦ subst (λ (n : ℕ). get_or (set places (get_or order i 0) i) (get_or order n 0) 0 ≡ n) (sym e) (get_or-set_same places (get_or order i 0) i 0 inside)
-    | inr n ↦ let less : k < i = omega arith in get_or-set_other places (get_or order i 0) (get_or order k 0) i 0 (distinct_at order k i d less h) ∙ p k less
+      | inl e ↦ subst (λ (n : ℕ). get_or (set places (get_or order i 0) i) (get_or order n 0) 0 ≡ n) (sym e) (get_or-set_same places (get_or order i 0) i 0 inside)
+      | inr n ↦ let less : k < i = omega arith in get_or-set_other places (get_or order i 0) (get_or order k 0) i 0 (distinct_at order k i d less h) ∙ p k less
     ]
 
 pub nodes_more : (f : ℕ → Node) (order : List ℕ) (i : ℕ) (old new : List Node) (n : Node) → i < length order → old ≡ map f (take i order) → new ≡ old ++ n ∷ [] → n ≡ f (get_or order i 0) → new ≡ map f (take (i + 1) order)
@@ -70,13 +70,13 @@ module _ (book : List Entry) (listing goals names : List Name) (rows : List (Vec
   placed_before i [] h w p m = absurd (both_ways _ refl m)
   placed_before i (q ∷ qs) h w p m =
       elim (in_cons_cases nat_eq nat_is_exact (get_or places q 0) p (map (λ r. get_or places r 0) qs) m) [
-        inl e ↦
-          (let k = place_of (take i order) q (w q (in_head nat_eq nat_is_exact q qs)) in
-           let l = length-take-le i order (omega arith) in
-           let less : k.0 < i = omega (arith, k.1, l) in
-           let here : get_or places q 0 ≡ k.0 = ap (λ r. get_or places r 0) (sym k.2 ∙ get_or-take i order k.0 0 less) ∙ at k.0 (omega arith) in
-           subst (λ (r : ℕ). r < i) (sym here ∙ e) less)
-      | inr r ↦ placed_before i qs h (λ x j. w x (in_tail nat_eq nat_is_exact q x qs j)) p r
+        | inl e ↦
+            (let k = place_of (take i order) q (w q (in_head nat_eq nat_is_exact q qs)) in
+            let l = length-take-le i order (omega arith) in
+            let less : k.0 < i = omega (arith, k.1, l) in
+            let here : get_or places q 0 ≡ k.0 = ap (λ r. get_or places r 0) (sym k.2 ∙ get_or-take i order k.0 0 less) ∙ at k.0 (omega arith) in
+            subst (λ (r : ℕ). r < i) (sym here ∙ e) less)
+        | inr r ↦ placed_before i qs h (λ x j. w x (in_tail nat_eq nat_is_exact q x qs j)) p r
       ]
 
   node_is : (i : ℕ) (d : Node) → i < length order → get_or (map node_at order) i d ≡ node_at (get_or order i 0)
@@ -88,20 +88,22 @@ module _ (book : List Entry) (listing goals names : List Name) (rows : List (Vec
         order = subst (λ (xs : List Name). IsSerialOrder same_name (prerequisites_of book) goals xs) (sym named) (serial_order_map same_name (prerequisites_of book) goals (name_at names) (length names) (row rows) starts w order o.serial order_below);
         no_cycle = no_cycle_map same_name (prerequisites_of book) goals (name_at names) (length names) (row rows) starts w o.no_cycle;
         nodes = λ i d h. let k = inside i h in
-          subst (λ (m : Node). IsNodeOf book listing (map (λ (x : Node). x.name) plan.nodes) m) (sym (ap (λ ns. get_or ns i d) is ∙ node_is i d k)) (record {
-            prerequisites = ap (λ xs. map (λ j. get_or xs j []) (map (λ p. get_or places p 0) (row rows (get_or order i 0)))) named ∙ names_back (row rows (get_or order i 0)) (λ q m. in_order i q k m) ∙ (g.rows_stand (get_or order i 0) (order_below (get_or order i 0) (in_at order i k))).names_are;
-            maker = refl;
-            phony = refl;
-            listed = refl
-          });
+            subst (λ (m : Node). IsNodeOf book listing (map (λ (x : Node). x.name) plan.nodes) m) (sym (ap (λ ns. get_or ns i d) is ∙ node_is i d k)) (record {
+              prerequisites = ap (λ xs. map (λ j. get_or xs j []) (map (λ p. get_or places p 0) (row rows (get_or order i 0)))) named ∙ names_back (row rows (get_or order i 0)) (λ q m. in_order i q k m) ∙ (g.rows_stand (get_or order i 0) (order_below (get_or order i 0) (in_at order i k))).names_are;
+              maker = refl;
+              phony = refl;
+              listed = refl;
+            });
         rising = λ i p d h m. let k = inside i h in
-          placed_before i (row rows (get_or order i 0)) k (λ q j. o.rising i q k j) p (subst (λ (x : Node). In x.prerequisites p) (ap (λ ns. get_or ns i d) is ∙ node_is i d k) m);
-        waits = waits
+            placed_before i (row rows (get_or order i 0)) k (λ q j. o.rising i q k j) p (subst (λ (x : Node). In x.prerequisites p) (ap (λ ns. get_or ns i d) is ∙ node_is i d k) m);
+        waits = waits;
       }
-      where
-        w : Numbers same_name (prerequisites_of book) goals (name_at names) (length names) (row rows) starts
-        w = numbers_of book goals names rows starts g
-        named : map (λ (x : Node). x.name) plan.nodes ≡ map (name_at names) order
-        named = ap (map (λ (x : Node). x.name)) is ∙ names_are order
-        inside : (i : ℕ) → i < length plan.nodes → i < length order
-        inside i h = let l = ap length is in omega (arith, l, length-map order node_at)
+    where
+      w : Numbers same_name (prerequisites_of book) goals (name_at names) (length names) (row rows) starts
+      w = numbers_of book goals names rows starts g
+
+      named : map (λ (x : Node). x.name) plan.nodes ≡ map (name_at names) order
+      named = ap (map (λ (x : Node). x.name)) is ∙ names_are order
+
+      inside : (i : ℕ) → i < length plan.nodes → i < length order
+      inside i h = let l = ap length is in omega (arith, l, length-map order node_at)

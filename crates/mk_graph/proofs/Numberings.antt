@@ -30,8 +30,8 @@ from_none : (test : Name → Bool) (n : ℕ) (xs : List Name) → position_from 
 from_none test n [] h = refl
 from_none test n (y ∷ ys) h =
     elim (cases_Bool (test y)) [
-      inl t ↦ absurd (let e : Some n ≡ None = sym (cond-true (test y) (Some n) _ t) ∙ h in cc)
-    | inr f ↦ ap (λ b. b || list_any test ys) f ∙ from_none test (n + 1) ys (sym (cond-false (test y) (Some n) _ f) ∙ h)
+      | inl t ↦ absurd (let e : Some n ≡ None = sym (cond-true (test y) (Some n) _ t) ∙ h in cc)
+      | inr f ↦ ap (λ b. b || list_any test ys) f ∙ from_none test (n + 1) ys (sym (cond-false (test y) (Some n) _ f) ∙ h)
     ]
 
 number_from : (names : List Name) (x : Name) → number_of names x ≡ position_from (λ y. same_name y x) 0 names
@@ -48,8 +48,8 @@ number_some names x n h =
 pub number_push : (names : List Name) (x y : Name) → has same_name names x ≡ false → number_of (names ++ x ∷ []) y ≡ cond (same_name x y) (Some (length names)) (number_of names y)
 number_push names x y absent =
     elim (cases_Bool (same_name x y)) [
-      inl t ↦ number_from (names ++ x ∷ []) y ∙ from_new (λ z. same_name z y) 0 names x (subst (λ (z : Name). has same_name names z ≡ false) (name_is_exact.equal x y t) absent) t ∙ ap Some (omega arith) ∙ sym (cond-true (same_name x y) _ _ t)
-    | inr f ↦ number_from (names ++ x ∷ []) y ∙ from_other (λ z. same_name z y) 0 names x f ∙ sym (number_from names y) ∙ sym (cond-false (same_name x y) _ _ f)
+      | inl t ↦ number_from (names ++ x ∷ []) y ∙ from_new (λ z. same_name z y) 0 names x (subst (λ (z : Name). has same_name names z ≡ false) (name_is_exact.equal x y t) absent) t ∙ ap Some (omega arith) ∙ sym (cond-true (same_name x y) _ _ t)
+      | inr f ↦ number_from (names ++ x ∷ []) y ∙ from_other (λ z. same_name z y) 0 names x f ∙ sym (number_from names y) ∙ sym (cond-false (same_name x y) _ _ f)
     ]
 
 pub has_at : (names : List Name) (i : ℕ) → i < length names → IsTrue (has same_name names (name_at names i))
@@ -60,13 +60,13 @@ has_at (x ∷ xs) (suc i) h = or_right (same_name x (name_at xs i)) _ (has_at xs
 -- a name that is there has its number
 pub number_at : (names : List Name) (i : ℕ) → IsDistinct same_name names → i < length names → number_of names (name_at names i) ≡ Some i
 number_at names i d h = number_from names (name_at names i) ∙ go 0 names i d h ∙ ap Some (omega arith)
-    where
-      go : (n : ℕ) (xs : List Name) (k : ℕ) → IsDistinct same_name xs → k < length xs → position_from (λ y. same_name y (name_at xs k)) n xs ≡ Some (n + k)
-      go n [] k d h = absurd (omega arith)
-      go n (x ∷ xs) zero d h = cond-true (same_name x x) _ _ (name_is_exact.itself x) ∙ ap Some (omega arith)
-      go n (x ∷ xs) (suc k) d h =
-          cond-false (same_name x (name_at xs k)) _ _ (false_from_ne_true _ (λ t. both_ways _ d.0 (subst (λ (z : Name). IsTrue (has same_name xs z)) (sym (name_is_exact.equal x (name_at xs k) t)) (has_at xs k (omega arith)))))
-          ∙ go (n + 1) xs k d.1 (omega arith) ∙ ap Some (omega arith)
+  where
+    go : (n : ℕ) (xs : List Name) (k : ℕ) → IsDistinct same_name xs → k < length xs → position_from (λ y. same_name y (name_at xs k)) n xs ≡ Some (n + k)
+    go n [] k d h = absurd (omega arith)
+    go n (x ∷ xs) zero d h = cond-true (same_name x x) _ _ (name_is_exact.itself x) ∙ ap Some (omega arith)
+    go n (x ∷ xs) (suc k) d h =
+        cond-false (same_name x (name_at xs k)) _ _ (false_from_ne_true _ (λ t. both_ways _ d.0 (subst (λ (z : Name). IsTrue (has same_name xs z)) (sym (name_is_exact.equal x (name_at xs k) t)) (has_at xs k (omega arith)))))
+        ∙ go (n + 1) xs k d.1 (omega arith) ∙ ap Some (omega arith)
 
 pub name_at_push : (names more : List Name) (i : ℕ) → i < length names → name_at (names ++ more) i ≡ name_at names i
 name_at_push names more i h = get_or_append_left names more [] i h
@@ -76,20 +76,20 @@ pub stand_more : (names more : List Name) (numbers : List ℕ) (some : List Name
 stand_more names more numbers some s =
     record {
       within = λ n h. let a = s.within n h in omega (arith, length-append names more);
-      names_are = map_agree numbers (λ n h. name_at_push names more n (s.within n h)) ∙ s.names_are
+      names_are = map_agree numbers (λ n h. name_at_push names more n (s.within n h)) ∙ s.names_are;
     }
-    where
-      map_agree : (ns : List ℕ) → ((n : ℕ) → IsTrue (has nat_eq ns n) → name_at (names ++ more) n ≡ name_at names n) → map (name_at (names ++ more)) ns ≡ map (name_at names) ns
-      map_agree [] h = refl
-      map_agree (n ∷ ns) h = ap (λ z. z ∷ map (name_at (names ++ more)) ns) (h n (in_head nat_eq nat_is_exact n ns)) ∙ ap (λ zs. name_at names n ∷ zs) (map_agree ns (λ k i. h k (in_tail nat_eq nat_is_exact n k ns i)))
+  where
+    map_agree : (ns : List ℕ) → ((n : ℕ) → IsTrue (has nat_eq ns n) → name_at (names ++ more) n ≡ name_at names n) → map (name_at (names ++ more)) ns ≡ map (name_at names) ns
+    map_agree [] h = refl
+    map_agree (n ∷ ns) h = ap (λ z. z ∷ map (name_at (names ++ more)) ns) (h n (in_head nat_eq nat_is_exact n ns)) ∙ ap (λ zs. name_at names n ∷ zs) (map_agree ns (λ k i. h k (in_tail nat_eq nat_is_exact n k ns i)))
 
 -- what is kept begins with what was there
 pub kept_grows : (front xs : List Name) → (more : List Name) × (kept same_name front xs ≡ front ++ more)
 kept_grows front [] = ([], sym (append-nil front))
 kept_grows front (x ∷ xs) =
     elim (cases_Bool (has same_name front x)) [
-      inl t ↦ let r = kept_grows front xs in (r.0, kept_old same_name name_is_exact front x xs t ∙ r.1)
-    | inr f ↦ let r = kept_grows (front ++ x ∷ []) xs in (x ∷ r.0, kept_new same_name name_is_exact front x xs f ∙ r.1 ∙ append_assoc front (x ∷ []) r.0)
+      | inl t ↦ let r = kept_grows front xs in (r.0, kept_old same_name name_is_exact front x xs t ∙ r.1)
+      | inr f ↦ let r = kept_grows (front ++ x ∷ []) xs in (x ∷ r.0, kept_new same_name name_is_exact front x xs f ∙ r.1 ∙ append_assoc front (x ∷ []) r.0)
     ]
 
 pub stand_kept : (front xs : List Name) (numbers : List ℕ) (some : List Name) → Stand front numbers some → Stand (kept same_name front xs) numbers some
@@ -102,7 +102,7 @@ pub stand_push : (names : List Name) (numbers : List ℕ) (some : List Name) (n 
 stand_push names numbers some n x s h e =
     record {
       within = λ k i. elim (in_push_cases nat_eq nat_is_exact numbers n k i) [ inl j ↦ s.within k j | inr q ↦ subst (λ (m : ℕ). m < length names) q h ];
-      names_are = map_push (name_at names) numbers n ∙ ap (λ zs. zs ++ name_at names n ∷ []) s.names_are ∙ ap (λ z. some ++ z ∷ []) e
+      names_are = map_push (name_at names) numbers n ∙ ap (λ zs. zs ++ name_at names n ∷ []) s.names_are ∙ ap (λ z. some ++ z ∷ []) e;
     }
 
 -- a step of putting all names of a list
@@ -114,7 +114,7 @@ put_kept old some names new i x h e is step =
 pub put_stand : (some names new : List Name) (numbers : List ℕ) (i n : ℕ) (x : Name) → i < length some → x ≡ get_or some i x → new ≡ kept same_name names (x ∷ []) → n < length new → name_at new n ≡ x → Stand names numbers (take i some) → Stand new (numbers ++ n ∷ []) (take (i + 1) some)
 put_stand some names new numbers i n x h e step inside is s =
     subst (λ (zs : List Name). Stand new (numbers ++ n ∷ []) zs) (sym (take_more some i x h ∙ ap (λ z. take i some ++ z ∷ []) (sym e)))
-      (stand_push new numbers (take i some) n x (subst (λ (ns : List Name). Stand ns numbers (take i some)) (sym step) (stand_kept names (x ∷ []) numbers (take i some) s)) inside is)
+    (stand_push new numbers (take i some) n x (subst (λ (ns : List Name). Stand ns numbers (take i some)) (sym step) (stand_kept names (x ∷ []) numbers (take i some) s)) inside is)
 
 pub stand_none : (names : List Name) → Stand names [] []
 stand_none names = record { within = λ n h. absurd (both_ways _ refl h); names_are = refl }
@@ -135,5 +135,5 @@ pub numbered_push : (old new : BTreeMap Name ℕ Global) (names pushed : List Na
 numbered_push old new names pushed x own key n i absent e k l is updates =
     subst (λ (ns : List Name). IsNumbered ns new) (ap (λ z. names ++ z ∷ []) (sym e) ∙ sym is) (record {
       distinct = distinct_push same_name name_is_exact names x i.distinct absent;
-      index = index_push old new names x absent i.index (λ q. updates q ∙ ap (λ z. cond (is_eq (slice_cmp nat_cmp z q)) (Some n) (get (slice_cmp nat_cmp) old q)) k ∙ ap (λ m. cond (is_eq (slice_cmp nat_cmp x q)) (Some m) (get (slice_cmp nat_cmp) old q)) l)
+      index = index_push old new names x absent i.index (λ q. updates q ∙ ap (λ z. cond (is_eq (slice_cmp nat_cmp z q)) (Some n) (get (slice_cmp nat_cmp) old q)) k ∙ ap (λ m. cond (is_eq (slice_cmp nat_cmp x q)) (Some m) (get (slice_cmp nat_cmp) old q)) l);
     })

@@ -22,8 +22,8 @@ in_at xs i h = list_any_at (λ y. nat_eq y (get_or xs i 0)) xs i 0 h (nat_is_exa
 pub seen_push : (seen : List Bool) (row : List ℕ) (n : ℕ) → n < length seen → IsSeen seen row → IsSeen (set seen n true) (row ++ n ∷ [])
 seen_push seen row n h s k l =
     elim (cases_eq k n) [
-      inl e ↦ subst (λ (m : ℕ). get_or (set seen n true) m false ≡ has nat_eq (row ++ n ∷ []) m) (sym e) (get_or-set_same seen n true false h ∙ sym (in_push nat_eq nat_is_exact row n))
-    | inr d ↦ get_or-set_other seen n k true false d ∙ s k (let a = length-set seen n true in omega arith) ∙ has-push_other nat_eq nat_is_exact row n k (λ e. d (sym e))
+      | inl e ↦ subst (λ (m : ℕ). get_or (set seen n true) m false ≡ has nat_eq (row ++ n ∷ []) m) (sym e) (get_or-set_same seen n true false h ∙ sym (in_push nat_eq nat_is_exact row n))
+      | inr d ↦ get_or-set_other seen n k true false d ∙ s k (let a = length-set seen n true in omega arith) ∙ has-push_other nat_eq nat_is_exact row n k (λ e. d (sym e))
     ]
 
 kept_next : (front numbers : List ℕ) (i : ℕ) → i < length numbers → kept nat_eq front (take (i + 1) numbers) ≡ kept nat_eq (kept nat_eq front (take i numbers)) (get_or numbers i 0 ∷ [])
@@ -72,30 +72,30 @@ row_past (w ∷ ws) (suc p) h = row_past ws p (omega arith)
 pub rows_push : (rows : List (Vec ℕ Global)) (v : Vec ℕ Global) (entries : List (Option (Vec ℕ Global))) (i : ℕ) (o : Option (Vec ℕ Global)) → length rows ≡ i → i < length entries → o ≡ get_or entries i o → v.items ≡ firsts_of o → ((p : ℕ) → p < length rows → row rows p ≡ firsts_of (get_or entries p None)) → (p : ℕ) → p < length (rows ++ v ∷ []) → row (rows ++ v ∷ []) p ≡ firsts_of (get_or entries p None)
 rows_push rows v entries i o long inside is at old p h =
     elim (cases_eq p (length rows)) [
-      inl e ↦ row_new rows v p e ∙ at ∙ ap firsts_of (get_or_read entries i o inside is None) ∙ ap (λ k. firsts_of (get_or entries k None)) (sym long ∙ sym e)
-    | inr n ↦ let l = length_push rows v in let k : p < length rows = omega arith in row_old rows v p k ∙ old p k
+      | inl e ↦ row_new rows v p e ∙ at ∙ ap firsts_of (get_or_read entries i o inside is None) ∙ ap (λ k. firsts_of (get_or entries k None)) (sym long ∙ sym e)
+      | inr n ↦ let l = length_push rows v in let k : p < length rows = omega arith in row_old rows v p k ∙ old p k
     ]
 
 pub rows_end : (rows : List (Vec ℕ Global)) (entries : List (Option (Vec ℕ Global))) → length rows ≡ length entries → ((p : ℕ) → p < length rows → row rows p ≡ firsts_of (get_or entries p None)) → (p : ℕ) → row rows p ≡ firsts_of (get_or entries p None)
 rows_end rows entries long old p =
     elim (cases_lt p (length rows)) [
-      inl l ↦ old p l
-    | inr g ↦ row_past rows p g ∙ sym (ap firsts_of (get_or_past entries p None (omega arith)))
+      | inl l ↦ old p l
+      | inr g ↦ row_past rows p g ∙ sym (ap firsts_of (get_or_past entries p None (omega arith)))
     ]
 
 pub rows_more : (rows : List (Vec ℕ Global)) (v : Vec ℕ Global) (i : ℕ) (f : ℕ → List ℕ) → length rows ≡ i → v.items ≡ f i → ((k : ℕ) → k < i → row rows k ≡ f k) → (k : ℕ) → k < i + 1 → row (rows ++ v ∷ []) k ≡ f k
 rows_more rows v i f long is old k h =
     elim (cases_eq k i) [
-      inl e ↦ row_new rows v k (e ∙ sym long) ∙ is ∙ ap f (sym e)
-    | inr n ↦ let l : k < i = omega arith in row_old rows v k (omega arith) ∙ old k l
+      | inl e ↦ row_new rows v k (e ∙ sym long) ∙ is ∙ ap f (sym e)
+      | inr n ↦ let l : k < i = omega arith in row_old rows v k (omega arith) ∙ old k l
     ]
 
 pub place_of : (xs : List ℕ) (n : ℕ) → In xs n → (k : ℕ) × (k < length xs) × (get_or xs k 0 ≡ n)
 place_of [] n h = absurd (both_ways _ refl h)
 place_of (x ∷ xs) n h =
     elim (in_cons_cases nat_eq nat_is_exact x n xs h) [
-      inl e ↦ (0, omega arith, e)
-    | inr i ↦ let r = place_of xs n i in (suc r.0, omega (arith, r.1), r.2)
+      | inl e ↦ (0, omega arith, e)
+      | inr i ↦ let r = place_of xs n i in (suc r.0, omega (arith, r.1), r.2)
     ]
 
 pub all_in : (xs : List ℕ) (size n : ℕ) → All (λ k. k < size) xs → In xs n → n < size

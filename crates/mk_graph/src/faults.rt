@@ -110,11 +110,7 @@ fn names_from(
 }
 
 /// The cycle of a ring: its names from the least one on, each needing the next, round to the least one again.
-pub fn cycle_of(
-    alloc: Global,
-    names: &Numbering,
-    ring: &[usize],
-) -> Result<Vec<Name>, AllocError>
+pub fn cycle_of(alloc: Global, names: &Numbering, ring: &[usize]) -> Result<Vec<Name>, AllocError>
     requires some { 0 < length ring.now }
     requires within { (n : ℕ) → IsTrue (has nat_eq ring.now n) → n < length names.now }
     ensures { IfOk result (λ cycle. (first : ℕ) × IsLeastPlace names.now ring.now (length ring.now) first × (cycle.items ≡ map (name_at names.now) (drop first ring.now ++ take (first + 1) ring.now))) }

@@ -39,7 +39,14 @@ pub fn graph_of(
     let mut marks = vec![in alloc; false; found.names.count()]?;
     let seen = marks.as_mut_slice();
     let entries = distinct_entries(alloc, seen, found.entries.as_slice())?;
-    let Some(rows) = rows_of(alloc, book, &found.names, entries.as_slice(), seen, max_edges)?
+    let Some(rows) = rows_of(
+        alloc,
+        book,
+        &found.names,
+        entries.as_slice(),
+        seen,
+        max_edges,
+    )?
     else {
         return Ok(None);
     };

@@ -1,13 +1,13 @@
 //! The rules of a makefile, and the graph that they make: who makes each name, and the serial order.
 #![tactic(auto)]
 
-pub mod maker;
 mod collect;
 mod faults;
 mod graph;
+pub mod maker;
 mod numbering;
-mod rows;
 pub mod plan;
 pub mod planning;
+mod rows;
 pub mod rulebook;
 mod serial;

@@ -46,6 +46,10 @@ impl Model for Plan {
     ghost Value = { plans.Plan };
 
     ghost view = { λ a. record { nodes = a.nodes.items; wait_uses = a.wait_uses } };
+
+    ghost use Rattle.std.specs.Prelude.{◌≤◌, length};
+
+    ghost invariant = { λ a. length a.nodes.items ≤ 4294967295 };
 }
 
 /// The place of each number in the order.
@@ -142,6 +146,22 @@ pub fn assemble(
 }
 
 impl Plan {
+    /// How many nodes there are.
+    pub fn count(&self) -> u32
+        ensures { result ≡ length self.now.nodes }
+    {
+        self.nodes.len() as u32
+    }
+
+    /// The numbers of what a node needs, in the rule's order. Its number must be below the count of nodes.
+    pub fn prerequisites(&self, n: u32) -> &[u32]
+        requires { n < length self.now.nodes }
+        ensures { (d : Node) → result.now ≡ (get_or self.now.nodes n d).prerequisites }
+    {
+        let node = &self.nodes[n as usize];
+        node.prerequisites.as_slice()
+    }
+
     /// The name of a node. Its number must be below the count of nodes.
     pub fn name(&self, n: u32) -> &Name
         requires { n < length self.now.nodes }

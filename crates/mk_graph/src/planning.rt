@@ -21,12 +21,7 @@ fn graph_fault(kind: Kind, names: Vec<Name>) -> Halt
 }
 
 /// The plan for some goals, or what is wrong with their graph.
-fn plan_for(
-    alloc: Global,
-    book: &Rulebook,
-    listing: &Listing,
-    goals: &[Name],
-) -> Result<Plan, Halt>
+fn plan_for(alloc: Global, book: &Rulebook, listing: &Listing, goals: &[Name]) -> Result<Plan, Halt>
     ensures { Answers result (Comes book.now listing.now goals.now) }
 {
     let Some(graph) = graph_of(alloc, book, goals, 20_000, 200_000)? else {
@@ -55,12 +50,7 @@ fn plan_for(
 /// goal; `GraphTooLarge` over 20,000 names or 200,000 edges (profile); `NoRule` with the byte-wise least name that
 /// nothing makes and that is not phony, no target and not listed; `Cycle` with the names of a cycle, each needing the
 /// next, from its least name round to that name. The only other error is want of memory.
-pub fn plan(
-    alloc: Global,
-    book: &Rulebook,
-    listing: &Listing,
-    goals: &[Name],
-) -> Result<Plan, Halt>
+pub fn plan(alloc: Global, book: &Rulebook, listing: &Listing, goals: &[Name]) -> Result<Plan, Halt>
     ensures { Answers result (IsAnswer book.now listing.now (goals_of book.now goals.now)) }
 {
     if !goals.is_empty() {

@@ -17,6 +17,6 @@ is_upto-requires-clause-second c = c.requires.within _ (in_at c.args.ring.now c.
 pub loop-place-preserved : goal.loop-place-preserved
 loop-place-preserved c =
     elim c.if-not-is_upto.branch [
-      then-not-is_upto w ↦ subst (λ (b : ℕ). IsLeastPlace c.args.names.now c.args.ring.now (c.loop-place.place + 1) b) (sym w.least-is) (place_take c.args.names.now c.args.ring.now c.loop-place.place c.loop-place.least (sym c.is_upto.ensures ∙ w.if-not-is_upto.true) c.loop-place.invariant)
-    | else-not-is_upto w ↦ subst (λ (b : ℕ). IsLeastPlace c.args.names.now c.args.ring.now (c.loop-place.place + 1) b) (sym w.least-is) (place_keep c.args.names.now c.args.ring.now c.loop-place.place c.loop-place.least (sym c.is_upto.ensures ∙ w.if-not-is_upto.false) c.loop-place.invariant)
+      | then-not-is_upto w ↦ subst (λ (b : ℕ). IsLeastPlace c.args.names.now c.args.ring.now (c.loop-place.place + 1) b) (sym w.least-is) (place_take c.args.names.now c.args.ring.now c.loop-place.place c.loop-place.least (sym c.is_upto.ensures ∙ w.if-not-is_upto.true) c.loop-place.invariant)
+      | else-not-is_upto w ↦ subst (λ (b : ℕ). IsLeastPlace c.args.names.now c.args.ring.now (c.loop-place.place + 1) b) (sym w.least-is) (place_keep c.args.names.now c.args.ring.now c.loop-place.place c.loop-place.least (sym c.is_upto.ensures ∙ w.if-not-is_upto.false) c.loop-place.invariant)
     ]

@@ -26,13 +26,13 @@ returns-clause-found c =
     let found = rw c.in-Some.is at c.in_ok-found.ensures.found in
     let is = λ (q : ℕ). ap (λ es. row es q) c.as_slice-2.ensures.value ∙ c.in_ok-entries.ensures.rows q ∙ ap (λ es. firsts_of (get_or es q None)) c.as_slice.ensures.value in
     graph_is c.args.book.now c.args.goals.now c.in-Some.found.names c.in-Some.found.entries.items c.in-Some.found.goals.items c.as_slice-2.result.now c.in-Some-2.rows.items found is
-      (rw c.in-Some-2.is at c.in_ok-rows.ensures.length) (rw c.in-Some-2.is at c.in_ok-rows.ensures.rows)
+    (rw c.in-Some-2.is at c.in_ok-rows.ensures.length) (rw c.in-Some-2.is at c.in_ok-rows.ensures.rows)
 
 pub returns-clause-small : goal.returns-clause-small
 returns-clause-small c =
     let found = rw c.in-Some.is at c.in_ok-found.ensures.found in
     let is = λ (q : ℕ). ap (λ es. row es q) c.as_slice-2.ensures.value ∙ c.in_ok-entries.ensures.rows q ∙ ap (λ es. firsts_of (get_or es q None)) c.as_slice.ensures.value in
     is_small c.args.book.now c.args.goals.now c.in-Some.found.names c.in-Some.found.entries.items c.in-Some.found.goals.items c.as_slice-2.result.now c.in-Some-2.rows.items c.args.max_names c.args.max_edges found is
-      (graph_is c.args.book.now c.args.goals.now c.in-Some.found.names c.in-Some.found.entries.items c.in-Some.found.goals.items c.as_slice-2.result.now c.in-Some-2.rows.items found is
-        (rw c.in-Some-2.is at c.in_ok-rows.ensures.length) (rw c.in-Some-2.is at c.in_ok-rows.ensures.rows))
-      (rw c.in-Some.is at c.in_ok-found.ensures.few) (rw c.in-Some-2.is at c.in_ok-rows.ensures.few)
+    (graph_is c.args.book.now c.args.goals.now c.in-Some.found.names c.in-Some.found.entries.items c.in-Some.found.goals.items c.as_slice-2.result.now c.in-Some-2.rows.items found is
+    (rw c.in-Some-2.is at c.in_ok-rows.ensures.length) (rw c.in-Some-2.is at c.in_ok-rows.ensures.rows))
+    (rw c.in-Some.is at c.in_ok-found.ensures.few) (rw c.in-Some-2.is at c.in_ok-rows.ensures.few)

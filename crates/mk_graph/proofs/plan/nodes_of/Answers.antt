@@ -32,5 +32,5 @@ loop-number-preserved c =
     let w = c.requires.within _ (in_at c.args.order.now c.loop-number.number-index c.loop-number-test.true) in
     let is = c.as_slice.ensures.value ∙ row_read c.args.rows.now (get_or c.args.order.now c.loop-number.number-index 0) c.index-rows-number.result (omega (arith, w, c.requires.rows)) c.index-rows-number.is in
     nodes_more (λ n. node_of c.args.book.now c.args.listing.now (name_at c.args.names.now n) (map (λ p. get_or c.args.places.now p 0) (row c.args.rows.now n))) c.args.order.now c.loop-number.number-index c.loop-number.nodes.items c.push.new.self.items c.in_ok-node.field-0 c.loop-number-test.true c.loop-number.invariant c.in_ok-push.ensures.items
-      (c.in_ok-node.ensures ∙ ap (λ t. node_of c.args.book.now c.args.listing.now t c.in_ok-prerequisites.prerequisites.items) c.name.ensures
-        ∙ ap (λ ps. node_of c.args.book.now c.args.listing.now (name_at c.args.names.now (get_or c.args.order.now c.loop-number.number-index 0)) ps) (c.in_ok-prerequisites.ensures ∙ ap (map (λ p. get_or c.args.places.now p 0)) is))
+    (c.in_ok-node.ensures ∙ ap (λ t. node_of c.args.book.now c.args.listing.now t c.in_ok-prerequisites.prerequisites.items) c.name.ensures
+    ∙ ap (λ ps. node_of c.args.book.now c.args.listing.now (name_at c.args.names.now (get_or c.args.order.now c.loop-number.number-index 0)) ps) (c.in_ok-prerequisites.ensures ∙ ap (map (λ p. get_or c.args.places.now p 0)) is))

@@ -14,5 +14,5 @@ loop-place-preserved c =
     let w = c.requires.within _ (in_at c.args.order.now c.loop-place.place c.loop-place-test.true) in
     record {
       long = length-set c.loop-place.places.items (get_or c.args.order.now c.loop-place.place 0) c.loop-place.place ∙ c.loop-place.invariant.long;
-      placed = placed_more c.args.order.now c.loop-place.places.items c.args.count c.loop-place.place c.requires.distinct c.loop-place-test.true (omega (arith, w, c.loop-place.invariant.long)) c.loop-place.invariant.placed
+      placed = placed_more c.args.order.now c.loop-place.places.items c.args.count c.loop-place.place c.requires.distinct c.loop-place-test.true (omega (arith, w, c.loop-place.invariant.long)) c.loop-place.invariant.placed;
     }

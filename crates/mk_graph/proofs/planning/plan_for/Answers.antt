@@ -22,8 +22,8 @@ use Rattle.mk_graph.proofs.planning.plan_for.Goals as goal
 pub returns-in_default : goal.returns-in_default
 returns-in_default c =
     subst (λ (h : Halt). Halts h (Comes c.args.book.now c.args.listing.now c.args.goals.now)) (sym c.graph_fault.ensures)
-      (subst (λ (ns : List Name). Comes c.args.book.now c.args.listing.now c.args.goals.now (Err (graph_fault kinds.GraphTooLarge ns))) (sym c.new.ensures.items)
-        (too_large (if_none_at c.in_ok-graph.field-0 (IsTooLarge c.args.book.now c.args.listing.now c.args.goals.now) c.in_default.not-Some c.in_ok-graph.ensures.too_large)))
+    (subst (λ (ns : List Name). Comes c.args.book.now c.args.listing.now c.args.goals.now (Err (graph_fault kinds.GraphTooLarge ns))) (sym c.new.ensures.items)
+    (too_large (if_none_at c.in_ok-graph.field-0 (IsTooLarge c.args.book.now c.args.listing.now c.args.goals.now) c.in_default.not-Some c.in_ok-graph.ensures.too_large)))
 
 pub returns-in-Some-least_unmade : goal.returns-in-Some-least_unmade
 returns-in-Some-least_unmade c =
@@ -34,8 +34,8 @@ returns-in-Some-least_unmade c =
     let p = subst (λ (o : Option ℕ). IsLeastPassing (is_unmade c.args.book.now c.args.listing.now) c.in-Some.graph.names (length c.in-Some.graph.names) o) c.in-Some-least_unmade.is c.least_unmade.ensures in
     let told = c.in_ok-push.ensures.items ∙ ap (λ ns. ns ++ c.in_ok-copy.field-0 ∷ []) c.new-names.ensures.items ∙ ap (λ x. x ∷ []) (c.in_ok-copy.ensures ∙ c.name.ensures) in
     subst (λ (h : Halt). Halts h (Comes c.args.book.now c.args.listing.now c.args.goals.now)) (sym c.graph_fault-in-Some-least_unmade.ensures)
-      (subst (λ (ns : List Name). Comes c.args.book.now c.args.listing.now c.args.goals.now (Err (graph_fault kinds.NoRule ns))) (sym told)
-        (no_rule (name_at names n) small (least_is c.args.book.now c.args.listing.now c.args.goals.now names c.in-Some.graph.rows.items c.in-Some.graph.goals.items g n p)))
+    (subst (λ (ns : List Name). Comes c.args.book.now c.args.listing.now c.args.goals.now (Err (graph_fault kinds.NoRule ns))) (sym told)
+    (no_rule (name_at names n) small (least_is c.args.book.now c.args.listing.now c.args.goals.now names c.in-Some.graph.rows.items c.in-Some.graph.goals.items g n p)))
 
 pub serial_order-requires-clause-range : goal.serial_order-requires-clause-range
 serial_order-requires-clause-range c =
@@ -56,12 +56,12 @@ returns-in-Ring c =
     let r = subst (λ (w : Walked). IsWalked (row c.as_slice.result.now) c.as_slice-2.result.now w) c.in-Ring.is c.in_ok-ring.ensures in
     let q = subst (λ (ns : List ℕ). IsRing (row c.as_slice.result.now) c.as_slice-2.result.now ns) (sym c.as_slice-in-Ring.ensures.value) r in
     let made = all_made c.args.book.now c.args.listing.now c.args.goals.now c.in-Some.graph.names c.as_slice.result.now c.as_slice-2.result.now g
-      (passing_none (is_unmade c.args.book.now c.args.listing.now) c.in-Some.graph.names (length c.in-Some.graph.names) c.least_unmade.result c.in_default-least_unmade.not-Some c.least_unmade.ensures) in
+    (passing_none (is_unmade c.args.book.now c.args.listing.now) c.in-Some.graph.names (length c.in-Some.graph.names) c.least_unmade.result c.in_default-least_unmade.not-Some c.least_unmade.ensures) in
     let found = c.in_ok-names-in-Ring.ensures in
     subst (λ (h : Halt). Halts h (Comes c.args.book.now c.args.listing.now c.args.goals.now)) (sym c.graph_fault-in-Ring.ensures)
-      (cycle c.in_ok-names-in-Ring.names.items small made
-        (subst (λ (ns : List Name). IsCycle same_name upto (prerequisites_of c.args.book.now) c.args.goals.now ns) (sym found.2)
-          (cycle_is c.args.book.now c.args.goals.now c.in-Some.graph.names c.as_slice.result.now c.as_slice-2.result.now c.as_slice-in-Ring.result.now found.0 g q found.1)))
+    (cycle c.in_ok-names-in-Ring.names.items small made
+    (subst (λ (ns : List Name). IsCycle same_name upto (prerequisites_of c.args.book.now) c.args.goals.now ns) (sym found.2)
+    (cycle_is c.args.book.now c.args.goals.now c.in-Some.graph.names c.as_slice.result.now c.as_slice-2.result.now c.as_slice-in-Ring.result.now found.0 g q found.1)))
 
 pub assemble-requires-clause-few : goal.assemble-requires-clause-few
 assemble-requires-clause-few c =
@@ -97,7 +97,7 @@ returns c =
     let p = subst (λ (rs : List (Vec ℕ Global)). IsOrder (row rs) c.as_slice-2.result.now c.in-Order.order.items) (c.as_slice.ensures.value ∙ sym c.as_slice-rows.ensures.value) o in
     let q = subst (λ (ns : List ℕ). IsOrder (row c.as_slice-rows.result.now) c.as_slice-2.result.now ns) (sym c.as_slice-in-Order.ensures.value) p in
     let made = all_made c.args.book.now c.args.listing.now c.args.goals.now c.in-Some.graph.names c.as_slice-rows.result.now c.as_slice-2.result.now g
-      (passing_none (is_unmade c.args.book.now c.args.listing.now) c.in-Some.graph.names (length c.in-Some.graph.names) c.least_unmade.result c.in_default-least_unmade.not-Some c.least_unmade.ensures) in
+    (passing_none (is_unmade c.args.book.now c.args.listing.now) c.in-Some.graph.names (length c.in-Some.graph.names) c.least_unmade.result c.in_default-least_unmade.not-Some c.least_unmade.ensures) in
     let a = c.in_ok-assemble-in-Order.ensures in
     planned c.in_ok-assemble-in-Order.field-0 small made
-      (plan_is c.args.book.now c.args.listing.now c.args.goals.now c.in-Some.graph.names c.as_slice-rows.result.now c.as_slice-2.result.now c.as_slice-in-Order.result.now a.places g q a.placed c.in_ok-assemble-in-Order.field-0 a.nodes a.waits)
+    (plan_is c.args.book.now c.args.listing.now c.args.goals.now c.in-Some.graph.names c.as_slice-rows.result.now c.as_slice-2.result.now c.as_slice-in-Order.result.now a.places g q a.placed c.in_ok-assemble-in-Order.field-0 a.nodes a.waits)

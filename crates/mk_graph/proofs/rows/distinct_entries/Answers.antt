@@ -12,9 +12,9 @@ loop-entry-preserved c =
     let i = c.loop-entry.invariant in
     record {
       rows = subst (λ (rs : List (Vec ℕ Global)). (p : ℕ) → p < length rs → row rs p ≡ firsts_of (get_or c.args.entries.now p None)) (sym c.in_ok-push.ensures.items)
-        (rows_push c.loop-entry.rows.items c.in_ok-distinct.field-0 c.args.entries.now c.loop-entry.entry-index c.entry-item.result i.long c.loop-entry-test.true c.entry-item.is c.in_ok-distinct.ensures.row i.rows);
+          (rows_push c.loop-entry.rows.items c.in_ok-distinct.field-0 c.args.entries.now c.loop-entry.entry-index c.entry-item.result i.long c.loop-entry-test.true c.entry-item.is c.in_ok-distinct.ensures.row i.rows);
       long = ap length c.in_ok-push.ensures.items ∙ length_push c.loop-entry.rows.items c.in_ok-distinct.field-0 ∙ ap (λ n. n + 1) i.long;
-      marked = c.in_ok-distinct.ensures.marked
+      marked = c.in_ok-distinct.ensures.marked;
     }
 
 pub returns-clause-rows : goal.returns-clause-rows

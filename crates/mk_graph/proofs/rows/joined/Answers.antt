@@ -28,7 +28,7 @@ loop-place-preserved c =
     let is = c.as_slice.ensures.value ∙ row_read c.args.entries.now (get_or c.args.places.now c.loop-place.place-index 0) c.index-entries-place.result inside c.index-entries-place.is in
     record {
       row = joined_next (row c.args.entries.now) c.args.places.now c.loop-place.place-index c.loop-place.joined.items c.add_new.new.row.items c.as_slice.result.now c.loop-place-test.true c.loop-place.invariant.row is c.in_ok-add_new.ensures.row;
-      marked = c.in_ok-add_new.ensures.marked
+      marked = c.in_ok-add_new.ensures.marked;
     }
 
 pub unmark-requires-clause-within : goal.unmark-requires-clause-within

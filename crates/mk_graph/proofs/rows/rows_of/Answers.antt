@@ -30,8 +30,8 @@ loop-number-preserved c =
     record {
       long = ap length c.in_ok-push.ensures.items ∙ length_push c.loop-number.rows.items c.in_ok-row.row ∙ ap (λ n. n + 1) c.loop-number.invariant.long;
       rows = subst (λ (rs : List (Vec ℕ Global)). (k : ℕ) → k < c.loop-number.number + 1 → row rs k ≡ joined_of c.args.book.now c.args.entries.now (name_at c.args.names.now k)) (sym c.in_ok-push.ensures.items)
-        (rows_more c.loop-number.rows.items c.in_ok-row.row c.loop-number.number (λ k. joined_of c.args.book.now c.args.entries.now (name_at c.args.names.now k)) c.loop-number.invariant.long is c.loop-number.invariant.rows);
+          (rows_more c.loop-number.rows.items c.in_ok-row.row c.loop-number.number (λ k. joined_of c.args.book.now c.args.entries.now (name_at c.args.names.now k)) c.loop-number.invariant.long is c.loop-number.invariant.rows);
       edges = ap (λ n. c.loop-number.edges + n) (c.len-edges.ensures ∙ c.in_ok-row.row.ok.0) ∙ more;
       few = c.if-edges-limit.false;
-      marked = c.in_ok-row.ensures.marked
+      marked = c.in_ok-row.ensures.marked;
     }

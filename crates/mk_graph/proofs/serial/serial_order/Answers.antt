@@ -14,11 +14,11 @@ pub walk-init : goal.walk-init
 walk-init c =
     let fresh = c.in_ok-marks.ensures.items_if_clones_equal (λ y e. e) in
     begin (row c.args.graph.now) (length c.args.graph.now) c.args.goals.now c.in_ok-marks.marks.items c.new-order.result.items (reverse c.enter_all.new.stack.items)
-      (ap length fresh ∙ length-replicate (length c.args.graph.now) Fresh)
-      (λ n h. ap (λ xs. get_or xs n Fresh) fresh ∙ get_or-replicate (length c.args.graph.now) n Fresh Fresh (let l = ap length fresh ∙ length-replicate (length c.args.graph.now) Fresh in omega arith))
-      c.new-order.ensures.items
-      (c.in_ok-enter_all.ensures ∙ ap (λ xs. map Enter c.args.goals.now ++ reverse xs) c.new-stack.ensures.items)
-      c.requires.goals
+    (ap length fresh ∙ length-replicate (length c.args.graph.now) Fresh)
+    (λ n h. ap (λ xs. get_or xs n Fresh) fresh ∙ get_or-replicate (length c.args.graph.now) n Fresh Fresh (let l = ap length fresh ∙ length-replicate (length c.args.graph.now) Fresh in omega arith))
+    c.new-order.ensures.items
+    (c.in_ok-enter_all.ensures ∙ ap (λ xs. map Enter c.args.goals.now ++ reverse xs) c.new-stack.ensures.items)
+    c.requires.goals
 
 pub index_mut-requires : goal.index_mut-requires
 index_mut-requires c =
@@ -66,8 +66,8 @@ pub walk-preserved : goal.walk-preserved
 walk-preserved c =
     let w = popped _ _ _ _ _ _ _ _ _ c.in-Some.ensures.items c.in-Enter.is c.walk.invariant in
     enter _ _ _ _ _ _ _ (reverse c.enter_all-in-Fresh.new.stack.items) w (mark_read c.walk.marks.items c.in-Enter.node _ _ (enter_small _ _ _ _ _ _ _ w).0 c.index.ensures c.in-Fresh.is)
-      (λ p h. c.requires.range c.in-Enter.node p h)
-      (entered c.args.graph.now c.in-Enter.node c.index-graph-node.result c.as_slice.result.now c.pop.new.self.items c.push-in-Fresh.new.self.items (reverse c.enter_all-in-Fresh.new.stack.items) (enter_small _ _ _ _ _ _ _ w).1 c.index-graph-node.is c.as_slice.ensures.value c.in_ok-push-in-Fresh.ensures.items c.in_ok-enter_all-in-Fresh.ensures)
+    (λ p h. c.requires.range c.in-Enter.node p h)
+    (entered c.args.graph.now c.in-Enter.node c.index-graph-node.result c.as_slice.result.now c.pop.new.self.items c.push-in-Fresh.new.self.items (reverse c.enter_all-in-Fresh.new.stack.items) (enter_small _ _ _ _ _ _ _ w).1 c.index-graph-node.is c.as_slice.ensures.value c.in_ok-push-in-Fresh.ensures.items c.in_ok-enter_all-in-Fresh.ensures)
 
 pub walk-smaller : goal.walk-smaller
 walk-smaller c =

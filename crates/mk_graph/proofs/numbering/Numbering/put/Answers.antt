@@ -15,13 +15,13 @@ returns-in-Some-clause-name c = (number_some c.args.self.now c.args.name.now c.i
 pub invariant_of-self-2 : goal.invariant_of-self-2
 invariant_of-self-2 c =
     numbered_push c.self.inside.numbers c.insert.new.self c.self.inside.names.items c.push.new.self.items c.args.name.now c.in_ok-own.own c.in_ok-key.key c.len-number.result
-      c.self.invariant
-      (absent_from c.self.inside.names.items c.args.name.now c.number.result (c.number.ensures ∙ ap (λ ns. number_of ns c.args.name.now) (sym c.self.view_is)) c.in_default.not-Some)
-      c.in_ok-own.ensures
-      c.in_ok-key.ensures
-      (c.len-number.ensures ∙ c.self.inside.names.ok.0)
-      (c.in_ok-push.ensures.items ∙ ap (λ ns. ns ++ c.in_ok-own.own ∷ []) c.reserve.ensures.items)
-      c.in_ok-insert.ensures.updates.0
+    c.self.invariant
+    (absent_from c.self.inside.names.items c.args.name.now c.number.result (c.number.ensures ∙ ap (λ ns. number_of ns c.args.name.now) (sym c.self.view_is)) c.in_default.not-Some)
+    c.in_ok-own.ensures
+    c.in_ok-key.ensures
+    (c.len-number.ensures ∙ c.self.inside.names.ok.0)
+    (c.in_ok-push.ensures.items ∙ ap (λ ns. ns ++ c.in_ok-own.own ∷ []) c.reserve.ensures.items)
+    c.in_ok-insert.ensures.updates.0
 
 pub returns-clause-kept : goal.returns-clause-kept
 returns-clause-kept c =

@@ -10,5 +10,5 @@ loop-name-preserved c =
     let within : c.loop-name.name-index < length c.args.some.now = omega arith in
     record {
       kept = put_kept c.args.self.now c.args.some.now c.loop-name.self c.put.new.self c.loop-name.name-index c.name-item.result within c.name-item.is i.kept e.kept;
-      stand = rw c.in_ok-push.ensures.items (put_stand c.args.some.now c.loop-name.self c.put.new.self c.loop-name.numbers.items c.loop-name.name-index c.in_ok-put.field-0 c.name-item.result within c.name-item.is e.kept e.within e.name i.stand)
+      stand = rw c.in_ok-push.ensures.items (put_stand c.args.some.now c.loop-name.self c.put.new.self c.loop-name.numbers.items c.loop-name.name-index c.in_ok-put.field-0 c.name-item.result within c.name-item.is e.kept e.within e.name i.stand);
     }
