@@ -115,6 +115,13 @@ impl Rulebook {
         }
     }
 
+    /// How many entries there are.
+    pub fn rule_count(&self) -> usize
+        ensures { result ≡ length self.now }
+    {
+        self.rules.len()
+    }
+
     /// Whether it is a target of a target rule.
     pub fn is_target(&self, name: &Name) -> bool
         ensures { result ≡ is_target self.now name.now }

@@ -1,6 +1,7 @@
 mod Agree
 pub mod Joins
 pub mod ListingLines
+pub mod Names
 pub mod Ordered
 mod Places
 pub mod Plain

@@ -1,0 +1,104 @@
+-- What `plan` answers, from what its parts found.
+use Rattle.std.proofs.Common.{◌≡◌, ℕ, zero, suc, ◌+◌, ◌<◌, ◌≤◌, Bool, true, false, List, [], ◌∷◌, ◌++◌, length, get_or, sym, ◌∙◌, ap, subst, inl, inr, refl, arith, Some, None, Option}
+use Rattle.std.specs.Prelude.{◌⊎◌, IsTrue, nat_eq, map, Vec}
+use Rattle.std.specs.List.{flat_map}
+use Rattle.std.specs.Prelude.{Result, Ok, Err}
+use Rattle.std.specs.Global.{Global}
+use Rattle.mk_text.specs.Told.{Told}
+use Rattle.mk_text.specs.declared.fault.Halt.{Halt}
+use Rattle.std.proofs.lemmas.Bool.{both_ways, cases_lt, true_from_ne_false, false_from_ne_true}
+use Rattle.std.proofs.lemmas.List.{length-map}
+use Rattle.mk_text.specs.Names.{Name, same_name, has, IsDistinct}
+use Rattle.mk_text.proofs.Names.{name_is_exact, nat_is_exact, in_head, distinct_kept}
+use Rattle.mk_graph.specs.Answer.{IsLeastUnmade, AllMade, IsTooLarge, Answers, Comes, IsAnswer, goals_of, goal_list}
+use Rattle.mk_graph.specs.Plan.{Plan}
+use Rattle.mk_graph.specs.Book.{Entry, prerequisites_of, default_goal}
+use Rattle.mk_graph.specs.Collected.{IsGraph}
+use Rattle.mk_graph.specs.Graph.{IsNode, HasMoreThan, AreNodes}
+use Rattle.mk_graph.specs.Least.{upto, IsLeastPassing}
+use Rattle.mk_graph.specs.Makers.{is_unmade}
+use Rattle.mk_graph.specs.Numbered.{name_at}
+use Rattle.mk_graph.specs.Rows.{row, InRange, IsRing}
+use Rattle.mk_graph.specs.Walk.{IsOrder}
+use Rattle.mk_graph.proofs.Bridge.{node_back, node_inside, node_map, distinct_map, has_back}
+use Rattle.mk_graph.proofs.Graphs.{numbers_of}
+use Rattle.mk_graph.proofs.Numberings.{has_at}
+use Rattle.mk_graph.proofs.Rowing.{row_past}
+use Rattle.mk_graph.proofs.Steps.{In}
+
+module _ (book : List Entry) (listing goals names : List Name) (rows : List (Vec ℕ Global)) (starts : List ℕ) (g : IsGraph book goals names rows starts) where
+  pub row_within : (i n : ℕ) → In (row rows i) n → n < length names
+  row_within i n h =
+      elim (cases_lt i (length names)) [
+        | inl l ↦ (g.rows_stand i l).within n h
+        | inr m ↦ absurd (both_ways _ refl (subst (λ (xs : List ℕ). In xs n) (row_past rows i (let e = g.long in omega arith)) h))
+      ]
+
+  pub in_range : InRange rows
+  in_range i n h = let a = row_within i n h in let e = g.long in omega arith
+
+  pub starts_within : (n : ℕ) → In starts n → n < length rows
+  starts_within n h = let a = g.starts_stand.within n h in let e = g.long in omega arith
+
+  pub ring_some : (ring : List ℕ) → IsRing (row rows) starts ring → 0 < length ring
+  ring_some ring r = let l = ap length r.ring_is in omega arith
+
+  pub ring_within : (ring : List ℕ) → IsRing (row rows) starts ring → (n : ℕ) → In ring n → n < length names
+  ring_within ring r n h = node_inside same_name (prerequisites_of book) goals (name_at names) (length names) (row rows) starts (numbers_of book goals names rows starts g) n (r.nodes n h)
+
+  pub order_within : (order : List ℕ) → IsOrder (row rows) starts order → (n : ℕ) → In order n → n < length names
+  order_within order o n h = node_inside same_name (prerequisites_of book) goals (name_at names) (length names) (row rows) starts (numbers_of book goals names rows starts g) n (o.nodes n h)
+
+  pub order_distinct : (order : List ℕ) → IsOrder (row rows) starts order → IsDistinct nat_eq order
+  order_distinct order o = subst (λ (xs : List ℕ). IsDistinct nat_eq xs) (sym o.serial.order_is) (distinct_kept nat_eq nat_is_exact [] (flat_map o.serial.tree starts) tt)
+
+  pub order_few : (order : List ℕ) → IsOrder (row rows) starts order → (IsTooLarge book listing goals → ⊥) → length order ≤ 4294967295
+  order_few order o small =
+      elim (cases_lt 20000 (length order)) [
+        | inl many ↦ absurd (small (
+          map (name_at names) order,
+          record {
+            distinct = distinct_map same_name (prerequisites_of book) goals (name_at names) (length names) (row rows) starts (numbers_of book goals names rows starts g) order (order_within order o) (order_distinct order o);
+            each = λ x h. let k = has_back same_name name_is_exact (name_at names) order x h in
+                subst (λ (z : Name). IsNode same_name (prerequisites_of book) goals z) k.2 (node_map same_name (prerequisites_of book) goals (name_at names) (length names) (row rows) starts (numbers_of book goals names rows starts g) k.0 (o.nodes k.0 k.1));
+          },
+          inl (let l = length-map order (name_at names) in omega arith),
+        ))
+        | inr few ↦ omega arith
+      ]
+
+  pub all_made : IsLeastPassing (is_unmade book listing) names (length names) None → AllMade book listing goals
+  all_made p x h =
+      let n = node_back same_name (prerequisites_of book) goals (name_at names) (length names) (row rows) starts (numbers_of book goals names rows starts g) x h in
+      subst (λ (z : Name). is_unmade book listing z ≡ false) n.3 (p n.0 n.2)
+
+  pub least_is : (k : ℕ) → IsLeastPassing (is_unmade book listing) names (length names) (Some k) → IsLeastUnmade book listing goals (name_at names k)
+  least_is k p =
+      record {
+        node = g.nodes (name_at names k) (has_at names k p.0);
+        unmade = p.1;
+        least = λ x h u.
+            let n = node_back same_name (prerequisites_of book) goals (name_at names) (length names) (row rows) starts (numbers_of book goals names rows starts g) x h in
+            subst (λ (z : Name). IsTrue (upto (name_at names k) z)) n.3 (p.2 n.0 n.2 (subst (λ (z : Name). IsTrue (is_unmade book listing z)) (sym n.3) u));
+      }
+
+pub passing_none : (test : Name → Bool) (names : List Name) (n : ℕ) (o : Option ℕ) → ((x : ℕ) → o ≡ Some x → ⊥) → IsLeastPassing test names n o → IsLeastPassing test names n None
+passing_none test names n None h p = p
+passing_none test names n (Some k) h p = absurd (h k refl)
+
+pub graph_at : (book : List Entry) (goals names : List Name) (rows other : List (Vec ℕ Global)) (starts some : List ℕ) → other ≡ rows → some ≡ starts → IsGraph book goals names rows starts → IsGraph book goals names other some
+graph_at book goals names rows other starts some e f g = subst (λ (rs : List (Vec ℕ Global)). IsGraph book goals names rs some) (sym e) (subst (λ (ss : List ℕ). IsGraph book goals names rows ss) (sym f) g)
+
+-- goals that are given are the goals
+pub answer_given : (book : List Entry) (listing goals : List Name) (r : Result Plan Halt) → 0 < length goals → Answers r (Comes book listing goals) → Answers r (IsAnswer book listing (goals_of book goals))
+answer_given book listing [] r h a = absurd (omega arith)
+answer_given book listing (g ∷ gs) r h a = a
+
+-- without goals the default goal is the goal
+pub default_is : (book : List Entry) (goals : List Name) (goal : Name) → length goals ≡ 0 → default_goal book ≡ Some goal → goals_of book goals ≡ goal ∷ []
+default_is book [] goal h e = ap goal_list e
+default_is book (g ∷ gs) goal h e = absurd (omega arith)
+
+pub default_none : (book : List Entry) (goals : List Name) → length goals ≡ 0 → default_goal book ≡ None → goals_of book goals ≡ []
+default_none book [] h e = ap goal_list e
+default_none book (g ∷ gs) h e = absurd (omega arith)

@@ -1,0 +1,109 @@
+-- The nodes of a plan, from the graph by numbers.
+use Rattle.std.proofs.Common.{◌≡◌, ℕ, zero, suc, ◌+◌, ◌<◌, ◌≤◌, Bool, true, false, List, [], ◌∷◌, ◌++◌, length, get_or, set, take, drop, sym, ◌∙◌, ap, subst, inl, inr, refl, arith}
+use Rattle.std.specs.Prelude.{◌⊎◌, IsTrue, nat_eq, map, Vec}
+use Rattle.std.specs.Global.{Global}
+use Rattle.std.proofs.lemmas.Bool.{both_ways, cases_eq}
+use Rattle.std.proofs.lemmas.List.{get_or-set_same, get_or-set_other, length-set, length-map, get_or-map, get_or-take, length-take-le, map_more, take-append-drop}
+use Rattle.mk_text.specs.Names.{Name, same_name, has, IsDistinct}
+use Rattle.mk_text.proofs.Names.{nat_is_exact, in_head, in_tail, in_left, in_cons_cases}
+use Rattle.mk_graph.specs.Assembled.{node_of, IsNumbering}
+use Rattle.mk_graph.specs.Answer.{IsNodeOf, IsPlan}
+use Rattle.mk_graph.specs.Book.{Entry, prerequisites_of}
+use Rattle.mk_graph.specs.Collected.{IsGraph}
+use Rattle.mk_graph.specs.Graph.{IsSerialOrder}
+use Rattle.mk_graph.specs.Numbered.{name_at, Stand}
+use Rattle.mk_graph.specs.Plan.{Node, Plan}
+use Rattle.mk_graph.specs.Rows.{row, IsRising}
+use Rattle.mk_graph.specs.Walk.{IsOrder}
+use Rattle.mk_graph.proofs.Bridge.{Numbers, serial_order_map, no_cycle_map, node_inside}
+use Rattle.mk_graph.proofs.Graphs.{numbers_of}
+use Rattle.mk_graph.proofs.Rowing.{in_at, place_of}
+use Rattle.mk_graph.proofs.Steps.{In}
+
+pub distinct_at : (xs : List ℕ) (i k : ℕ) → IsDistinct nat_eq xs → i < k → k < length xs → get_or xs i 0 ≡ get_or xs k 0 → ⊥
+distinct_at [] i k d h l e = absurd (omega arith)
+distinct_at (x ∷ xs) zero zero d h l e = absurd (omega arith)
+distinct_at (x ∷ xs) zero (suc k) d h l e = both_ways _ d.0 (subst (λ (n : ℕ). In xs n) (sym e) (in_at xs k (omega arith)))
+distinct_at (x ∷ xs) (suc i) zero d h l e = absurd (omega arith)
+distinct_at (x ∷ xs) (suc i) (suc k) d h l e = distinct_at xs i k d.1 (omega arith) (omega arith) e
+
+pub placed_more : (order places : List ℕ) (count i : ℕ) → IsDistinct nat_eq order → i < length order → get_or order i 0 < length places → ((k : ℕ) → k < i → get_or places (get_or order k 0) 0 ≡ k) → (k : ℕ) → k < i + 1 → get_or (set places (get_or order i 0) i) (get_or order k 0) 0 ≡ k
+placed_more order places count i d h inside p k l =
+    elim (cases_eq k i) [
+      | inl e ↦ subst (λ (n : ℕ). get_or (set places (get_or order i 0) i) (get_or order n 0) 0 ≡ n) (sym e) (get_or-set_same places (get_or order i 0) i 0 inside)
+      | inr n ↦ let less : k < i = omega arith in get_or-set_other places (get_or order i 0) (get_or order k 0) i 0 (distinct_at order k i d less h) ∙ p k less
+    ]
+
+pub nodes_more : (f : ℕ → Node) (order : List ℕ) (i : ℕ) (old new : List Node) (n : Node) → i < length order → old ≡ map f (take i order) → new ≡ old ++ n ∷ [] → n ≡ f (get_or order i 0) → new ≡ map f (take (i + 1) order)
+nodes_more f order i old new n h e is at =
+    is ∙ ap (λ ns. ns ++ n ∷ []) e ∙ ap (λ m. map f (take i order) ++ m ∷ []) at ∙ sym (map_more f order i 0 h)
+
+module _ (book : List Entry) (listing goals names : List Name) (rows : List (Vec ℕ Global)) (starts order places : List ℕ) (g : IsGraph book goals names rows starts) (o : IsOrder (row rows) starts order) (at : IsNumbering order places) where
+  -- the node of a number
+  abbrev pub node_at : ℕ → Node
+  node_at n = node_of book listing (name_at names n) (map (λ p. get_or places p 0) (row rows n))
+
+  order_below : (n : ℕ) → In order n → n < length names
+  order_below n h = node_inside same_name (prerequisites_of book) goals (name_at names) (length names) (row rows) starts (numbers_of book goals names rows starts g) n (o.nodes n h)
+
+  names_are : (ns : List ℕ) → map (λ (m : Node). m.name) (map node_at ns) ≡ map (name_at names) ns
+  names_are [] = refl
+  names_are (n ∷ ns) = ap (λ xs. name_at names n ∷ xs) (names_are ns)
+
+  -- the name at the place of a number of the order
+  name_back : (q : ℕ) → In order q → get_or (map (name_at names) order) (get_or places q 0) [] ≡ name_at names q
+  name_back q h =
+      let k = place_of order q h in
+      ap (λ m. get_or (map (name_at names) order) (get_or places m 0) []) (sym k.2)
+      ∙ ap (λ j. get_or (map (name_at names) order) j []) (at k.0 k.1)
+      ∙ get_or-map (name_at names) order k.0 0 [] k.1 ∙ ap (name_at names) k.2
+
+  names_back : (qs : List ℕ) → ((q : ℕ) → In qs q → In order q) → map (λ k. get_or (map (name_at names) order) k []) (map (λ p. get_or places p 0) qs) ≡ map (name_at names) qs
+  names_back [] h = refl
+  names_back (q ∷ qs) h = ap (λ x. x ∷ map (λ k. get_or (map (name_at names) order) k []) (map (λ p. get_or places p 0) qs)) (name_back q (h q (in_head nat_eq nat_is_exact q qs))) ∙ ap (λ xs. name_at names q ∷ xs) (names_back qs (λ p i. h p (in_tail nat_eq nat_is_exact q p qs i)))
+
+  in_order : (i q : ℕ) → i < length order → In (row rows (get_or order i 0)) q → In order q
+  in_order i q h m = subst (λ (xs : List ℕ). In xs q) (take-append-drop i order) (in_left nat_eq nat_is_exact (take i order) (drop i order) q (o.rising i q h m))
+
+  -- a prerequisite's place comes before
+  placed_before : (i : ℕ) (qs : List ℕ) → i < length order → ((q : ℕ) → In qs q → In (take i order) q) → (p : ℕ) → In (map (λ q. get_or places q 0) qs) p → p < i
+  placed_before i [] h w p m = absurd (both_ways _ refl m)
+  placed_before i (q ∷ qs) h w p m =
+      elim (in_cons_cases nat_eq nat_is_exact (get_or places q 0) p (map (λ r. get_or places r 0) qs) m) [
+        | inl e ↦
+            (let k = place_of (take i order) q (w q (in_head nat_eq nat_is_exact q qs)) in
+            let l = length-take-le i order (omega arith) in
+            let less : k.0 < i = omega (arith, k.1, l) in
+            let here : get_or places q 0 ≡ k.0 = ap (λ r. get_or places r 0) (sym k.2 ∙ get_or-take i order k.0 0 less) ∙ at k.0 (omega arith) in
+            subst (λ (r : ℕ). r < i) (sym here ∙ e) less)
+        | inr r ↦ placed_before i qs h (λ x j. w x (in_tail nat_eq nat_is_exact q x qs j)) p r
+      ]
+
+  node_is : (i : ℕ) (d : Node) → i < length order → get_or (map node_at order) i d ≡ node_at (get_or order i 0)
+  node_is i d h = get_or-map node_at order i 0 d h
+
+  pub plan_is : (plan : Plan) → plan.nodes ≡ map node_at order → plan.wait_uses ≡ 0 → IsPlan book listing goals plan
+  plan_is plan is waits =
+      record {
+        order = subst (λ (xs : List Name). IsSerialOrder same_name (prerequisites_of book) goals xs) (sym named) (serial_order_map same_name (prerequisites_of book) goals (name_at names) (length names) (row rows) starts w order o.serial order_below);
+        no_cycle = no_cycle_map same_name (prerequisites_of book) goals (name_at names) (length names) (row rows) starts w o.no_cycle;
+        nodes = λ i d h. let k = inside i h in
+            subst (λ (m : Node). IsNodeOf book listing (map (λ (x : Node). x.name) plan.nodes) m) (sym (ap (λ ns. get_or ns i d) is ∙ node_is i d k)) (record {
+              prerequisites = ap (λ xs. map (λ j. get_or xs j []) (map (λ p. get_or places p 0) (row rows (get_or order i 0)))) named ∙ names_back (row rows (get_or order i 0)) (λ q m. in_order i q k m) ∙ (g.rows_stand (get_or order i 0) (order_below (get_or order i 0) (in_at order i k))).names_are;
+              maker = refl;
+              phony = refl;
+              listed = refl;
+            });
+        rising = λ i p d h m. let k = inside i h in
+            placed_before i (row rows (get_or order i 0)) k (λ q j. o.rising i q k j) p (subst (λ (x : Node). In x.prerequisites p) (ap (λ ns. get_or ns i d) is ∙ node_is i d k) m);
+        waits = waits;
+      }
+    where
+      w : Numbers same_name (prerequisites_of book) goals (name_at names) (length names) (row rows) starts
+      w = numbers_of book goals names rows starts g
+
+      named : map (λ (x : Node). x.name) plan.nodes ≡ map (name_at names) order
+      named = ap (map (λ (x : Node). x.name)) is ∙ names_are order
+
+      inside : (i : ℕ) → i < length plan.nodes → i < length order
+      inside i h = let l = ap length is in omega (arith, l, length-map order node_at)

@@ -1,0 +1,120 @@
+//! What is wrong with a graph: a name that nothing makes, or a cycle.
+ghost use Rattle.std.specs.Prelude.{◌≡◌, ◌<◌, ◌+◌, ◌++◌, ◌≤◌, ℕ, length, map, drop, take, nat_eq, IsTrue, IfOk, OnOk};
+ghost use Rattle.mk_text.specs.Names.{has};
+ghost use Rattle.mk_graph.specs.Least.{upto, IsLeastPassing, IsLeastPlace};
+ghost use Rattle.mk_graph.specs.Makers.{maker_of, is_unmade};
+ghost use Rattle.mk_graph.specs.Numbered.{name_at};
+
+use crate::maker::Maker;
+use crate::numbering::Numbering;
+use crate::rulebook::Rulebook;
+use mk_text::listing::Listing;
+use mk_text::name::Name;
+use std::alloc::{AllocError, Global};
+
+/// What makes a name.
+pub fn maker_of(book: &Rulebook, listing: &Listing, name: &Name) -> Maker
+    ensures { result ≡ maker_of book.now listing.now name.now }
+{
+    let _listed_files_make_nothing = listing;
+    if book.has_recipe(name) {
+        Maker::Rule
+    } else {
+        Maker::Nothing
+    }
+}
+
+/// Whether nothing makes a name, and it is no phony name, no target and not listed.
+fn is_unmade(book: &Rulebook, listing: &Listing, name: &Name) -> bool
+    ensures { result ≡ is_unmade book.now listing.now name.now }
+{
+    match maker_of(book, listing, name) {
+        Maker::Nothing => {
+            !book.is_phony(name) && !book.is_target(name) && !listing.contains(name)
+        }
+        Maker::Rule | Maker::Inferred | Maker::Default => false,
+    }
+}
+
+/// Whether one name comes before another byte by byte, or is the same.
+fn is_upto(names: &Numbering, a: usize, b: usize) -> bool
+    requires first { a < length names.now }
+    requires second { b < length names.now }
+    ensures { result ≡ upto (name_at names.now a) (name_at names.now b) }
+{
+    names.name(a) <= names.name(b)
+}
+
+/// The number of the least of the names that nothing makes.
+pub fn least_unmade(book: &Rulebook, listing: &Listing, names: &Numbering) -> Option<usize>
+    ensures { IsLeastPassing (is_unmade book.now listing.now) names.now (length names.now) result }
+{
+    let mut least = None;
+    for number in 0..names.count() {
+        if is_unmade(book, listing, names.name(number)) {
+            least = match least {
+                Some(best) if is_upto(names, best, number) => Some(best),
+                _ => Some(number),
+            };
+        }
+    }
+    least
+}
+
+/// The place in the ring that has the least name.
+fn least_place(names: &Numbering, ring: &[usize]) -> usize
+    requires some { 0 < length ring.now }
+    requires within { (n : ℕ) → IsTrue (has nat_eq ring.now n) → n < length names.now }
+    ensures { IsLeastPlace names.now ring.now (length ring.now) result }
+{
+    let mut least = 0;
+    for place in 1..ring.len() {
+        if !is_upto(names, ring[least], ring[place]) {
+            least = place;
+        }
+    }
+    least
+}
+
+/// Puts the names with these numbers at the end.
+fn add_names(
+    alloc: Global,
+    all: &mut Vec<Name>,
+    names: &Numbering,
+    numbers: &[usize],
+) -> Result<(), AllocError>
+    requires { (n : ℕ) → IsTrue (has nat_eq numbers.now n) → n < length names.now }
+    ensures { OnOk result (all.new.items ≡ all.old.items ++ map (name_at names.now) numbers.now) }
+{
+    for number in numbers {
+        all.push(names.name(*number).copy(alloc)?)?;
+    }
+    Ok(())
+}
+
+/// The names of a ring from one place on, round to that place again.
+fn names_from(
+    alloc: Global,
+    names: &Numbering,
+    ring: &[usize],
+    first: usize,
+) -> Result<Vec<Name>, AllocError>
+    requires within { (n : ℕ) → IsTrue (has nat_eq ring.now n) → n < length names.now }
+    requires first { first < length ring.now }
+    ensures { IfOk result (λ cycle. cycle.items ≡ map (name_at names.now) (drop first ring.now ++ take (first + 1) ring.now)) }
+{
+    let mut cycle = Vec::new(alloc);
+    add_names(alloc, &mut cycle, names, &ring[first..])?;
+    add_names(alloc, &mut cycle, names, &ring[..first + 1])?;
+    Ok(cycle)
+}
+
+/// The cycle of a ring: its names from the least one on, each needing the next, round to the least one again.
+pub fn cycle_of(alloc: Global, names: &Numbering, ring: &[usize]) -> Result<Vec<Name>, AllocError>
+    requires some { 0 < length ring.now }
+    requires within { (n : ℕ) → IsTrue (has nat_eq ring.now n) → n < length names.now }
+    ensures { IfOk result (λ cycle. (first : ℕ) × IsLeastPlace names.now ring.now (length ring.now) first × (cycle.items ≡ map (name_at names.now) (drop first ring.now ++ take (first + 1) ring.now))) }
+{
+    let first = least_place(names, ring);
+    names_from(alloc, names, ring, first)
+}

@@ -1,0 +1,67 @@
+//! From a book of rules, a listing and some goals to a plan, or to what is wrong with the graph.
+ghost use Rattle.std.specs.Prelude.{◌≡◌};
+ghost use Rattle.mk_text.specs.declared.fault.Halt.TheVariants as halts;
+ghost use Rattle.mk_graph.specs.Answer.{Answers, Comes, IsAnswer, goals_of, graph_fault};
+
+use crate::faults::{cycle_of, least_unmade};
+use crate::graph::graph_of;
+use crate::plan::{Plan, assemble};
+use crate::rulebook::Rulebook;
+use crate::serial::{Walked, serial_order};
+use mk_text::fault::{Fault, Halt, Kind, Source};
+use mk_text::listing::Listing;
+use mk_text::name::Name;
+use std::alloc::Global;
+
+/// A fault of the graph.
+fn graph_fault(kind: Kind, names: Vec<Name>) -> Halt
+    ensures { result ≡ halts.Fault (graph_fault kind names.items) }
+{
+    Halt::Fault(Fault::new(kind, Source::Graph, 0, names))
+}
+
+/// The plan for some goals, or what is wrong with their graph.
+fn plan_for(alloc: Global, book: &Rulebook, listing: &Listing, goals: &[Name]) -> Result<Plan, Halt>
+    ensures { Answers result (Comes book.now listing.now goals.now) }
+{
+    let Some(graph) = graph_of(alloc, book, goals, 20_000, 200_000)? else {
+        return Err(graph_fault(Kind::GraphTooLarge, Vec::new(alloc)));
+    };
+    if let Some(number) = least_unmade(book, listing, &graph.names) {
+        let mut names = Vec::new(alloc);
+        names.push(graph.names.name(number).copy(alloc)?)?;
+        return Err(graph_fault(Kind::NoRule, names));
+    }
+    match serial_order(alloc, graph.rows.as_slice(), graph.goals.as_slice())? {
+        Walked::Ring(ring) => {
+            let names = cycle_of(alloc, &graph.names, ring.as_slice())?;
+            Err(graph_fault(Kind::Cycle, names))
+        }
+        Walked::Order(order) => {
+            let rows = graph.rows.as_slice();
+            Ok(assemble(alloc, book, listing, &graph.names, rows, order.as_slice())?)
+        }
+    }
+}
+
+/// The plan of all that the goals need; without goals, of what the default goal needs ("Target Rules").
+///
+/// The first of these faults is answered, all of the graph at place 0: `NoGoal` without goals and without a default
+/// goal; `GraphTooLarge` over 20,000 names or 200,000 edges (profile); `NoRule` with the byte-wise least name that
+/// nothing makes and that is not phony, no target and not listed; `Cycle` with the names of a cycle, each needing the
+/// next, from its least name round to that name. The only other error is want of memory.
+pub fn plan(alloc: Global, book: &Rulebook, listing: &Listing, goals: &[Name]) -> Result<Plan, Halt>
+    ensures { Answers result (IsAnswer book.now listing.now (goals_of book.now goals.now)) }
+{
+    if !goals.is_empty() {
+        return plan_for(alloc, book, listing, goals);
+    }
+    match book.default_goal() {
+        None => Err(graph_fault(Kind::NoGoal, Vec::new(alloc))),
+        Some(goal) => {
+            let mut own = Vec::new(alloc);
+            own.push(goal.copy(alloc)?)?;
+            plan_for(alloc, book, listing, own.as_slice())
+        }
+    }
+}
