@@ -2,7 +2,7 @@
 use Rattle.std.proofs.Common.{ℕ, ◌≡◌, ◌<◌, true, length, inl, inr, lt_trans}
 use Rattle.std.proofs.lemmas.Bool.{cases_lt, cases_Bool, and_parts, false≢true}
 use Rattle.std.proofs.lemmas.Option.{slice_get_past}
-use Rattle.mk_text.specs.Names.{Name}
+use Rattle.mk_name.specs.Names.{Name}
 use Rattle.mk_foot.specs.Jobs.{Jobs, Before, edge, further, IsValid, ClashOn, node_count, has_recipe, is_live, may_read, may_write, may_touch}
 use Rattle.mk_foot.specs.Shape.{IsWellFormed}
 use Rattle.mk_foot.specs.Laws.{AreLive}

@@ -1,6 +1,6 @@
 -- Jobs: a plan, and what each recipe may read and write. Nodes go by their numbers, their places in serial order.
 use Rattle.std.specs.Prelude.{ℕ, ◌≡◌, ◌≢◌, ◌<◌, ◌⊎◌, ◌&&◌, ◌||◌, not, Bool, true, false, List, [], ◌∷◌, length, slice_get, unwrap_or, Contains}
-use Rattle.mk_text.specs.Names.{Name, same_name, has}
+use Rattle.mk_name.specs.Names.{Name, same_name, has}
 use Rattle.mk_graph.specs.Plan.{Plan, Node}
 use Rattle.mk_graph.specs.declared.maker.Maker.{Maker}
 use Rattle.mk_graph.specs.declared.maker.Maker.TheVariants.{Rule, Inferred, Default, Nothing}

@@ -4,12 +4,12 @@ use Rattle.std.specs.Prelude.{◌⊎◌, IsTrue, nat_eq, map, Vec}
 use Rattle.std.specs.List.{flat_map}
 use Rattle.std.specs.Prelude.{Result, Ok, Err}
 use Rattle.std.specs.Global.{Global}
-use Rattle.mk_text.specs.Told.{Told}
-use Rattle.mk_text.specs.declared.fault.Halt.{Halt}
+use Rattle.mk_name.specs.Told.{Told}
+use Rattle.mk_name.specs.declared.fault.Halt.{Halt}
 use Rattle.std.proofs.lemmas.Bool.{both_ways, cases_lt, true_from_ne_false, false_from_ne_true}
 use Rattle.std.proofs.lemmas.List.{length-map}
-use Rattle.mk_text.specs.Names.{Name, same_name, has, IsDistinct}
-use Rattle.mk_text.proofs.Names.{name_is_exact, nat_is_exact, in_head, distinct_kept}
+use Rattle.mk_name.specs.Names.{Name, same_name, has, IsDistinct}
+use Rattle.mk_name.proofs.Names.{name_is_exact, nat_is_exact, in_head, distinct_kept}
 use Rattle.mk_graph.specs.Answer.{IsLeastUnmade, AllMade, IsTooLarge, Answers, Comes, IsAnswer, goals_of, goal_list}
 use Rattle.mk_graph.specs.Plan.{Plan}
 use Rattle.mk_graph.specs.Book.{Entry, prerequisites_of, default_goal}

@@ -4,8 +4,8 @@ use Rattle.std.specs.Prelude.{◌⊎◌, ◌||◌, if◌then◌else◌, IsTrue, 
 use Rattle.std.specs.List.{flat_map}
 use Rattle.std.proofs.lemmas.Bool.{cases_Bool, both_ways, cases_eq, ne_eqb, eq-eqb, or_left, or_right, or_cases, false_from_ne_true}
 use Rattle.std.proofs.lemmas.List.{map-append, map_push}
-use Rattle.mk_text.specs.Names.{has, kept, firsts, IsDistinct}
-use Rattle.mk_text.proofs.Names.{IsExact, nat_is_exact, in_head, in_tail, in_push_cases, kept_new, kept_old, kept_has}
+use Rattle.mk_name.specs.Names.{has, kept, firsts, IsDistinct}
+use Rattle.mk_name.proofs.Names.{IsExact, nat_is_exact, in_head, in_tail, in_push_cases, kept_new, kept_old, kept_has}
 use Rattle.mk_graph.specs.Graph.{Leads, IsNode, IsTreeAt, IsSerialOrder, HasNoCycle, IsChain}
 use Rattle.mk_graph.proofs.Steps.{In, Within}
 

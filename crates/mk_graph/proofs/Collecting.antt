@@ -6,8 +6,8 @@ use Rattle.std.specs.Global.{Global}
 use Rattle.std.proofs.lemmas.Bool.{cases_Bool, both_ways, cases_eq}
 use Rattle.std.proofs.lemmas.List.{get_or-set_same, get_or-set_other, length-set, append-nil, take_more, get_or-replicate, length-replicate, take_at, get_or_default}
 use Rattle.std.proofs.lemmas.Option.{get_or_from_slice_get}
-use Rattle.mk_text.specs.Names.{Name, same_name, has, kept, firsts, IsDistinct}
-use Rattle.mk_text.proofs.Names.{IsExact, name_is_exact, nat_is_exact, in_head, in_tail, in_left, in_right, in_cases, in_push, in_push_cases, in_joined, kept_has, kept_cases, distinct_kept}
+use Rattle.mk_name.specs.Names.{Name, same_name, has, kept, firsts, IsDistinct}
+use Rattle.mk_name.proofs.Names.{IsExact, name_is_exact, nat_is_exact, in_head, in_tail, in_left, in_right, in_cases, in_push, in_push_cases, in_joined, kept_has, kept_cases, distinct_kept}
 use Rattle.mk_graph.specs.Book.{Entry, places_of, prerequisites_of, names_target}
 use Rattle.mk_graph.specs.Collected.{given_at, StandsFor, AllStand, Reads, Collected}
 use Rattle.mk_graph.specs.Graph.{IsNode, Leads, AreNodes}

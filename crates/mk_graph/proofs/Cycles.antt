@@ -4,8 +4,8 @@ use Rattle.std.specs.Prelude.{◌⊎◌, IsTrue, nat_eq, map, Vec}
 use Rattle.std.specs.Global.{Global}
 use Rattle.std.proofs.lemmas.Bool.{both_ways}
 use Rattle.std.proofs.lemmas.List.{append-nil, map-append, take-append-drop, drop_more, take_more}
-use Rattle.mk_text.specs.Names.{Name, same_name, has, IsDistinct}
-use Rattle.mk_text.proofs.Names.{name_is_exact, nat_is_exact, in_head, in_tail, in_cons_cases, in_left, in_right, in_cases, not_in}
+use Rattle.mk_name.specs.Names.{Name, same_name, has, IsDistinct}
+use Rattle.mk_name.proofs.Names.{name_is_exact, nat_is_exact, in_head, in_tail, in_cons_cases, in_left, in_right, in_cases, not_in}
 use Rattle.mk_graph.specs.Book.{Entry, prerequisites_of}
 use Rattle.mk_graph.specs.Collected.{IsGraph}
 use Rattle.mk_graph.specs.Graph.{IsNode, IsChain, IsCycle}

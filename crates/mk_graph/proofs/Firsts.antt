@@ -8,7 +8,7 @@ use Rattle.std.specs.Cmp.{IsEquivalence}
 use Rattle.std.proofs.lemmas.Map.Keys.{IsDistinct-push}
 use Rattle.std.specs.List.{IsDistinct, list_any}
 use Rattle.indexmap.specs.IndexSet.{insert_key}
-use Rattle.mk_text.specs.Names.{Name, same_name, has, kept, firsts}
+use Rattle.mk_name.specs.Names.{Name, same_name, has, kept, firsts}
 
 -- two names that are the same are equal
 pub same_name-true : (a b : Name) → same_name a b ≡ true → a ≡ b

@@ -6,8 +6,8 @@ use Rattle.std.specs.Global.{Global}
 use Rattle.std.proofs.lemmas.Bool.{both_ways, cases_lt}
 use Rattle.std.proofs.lemmas.List.{length-map, map-append, take-append-drop, get_or_past}
 use Rattle.std.proofs.lemmas.List.Sums.{sum_by-cons}
-use Rattle.mk_text.specs.Names.{Name, same_name, has, kept, firsts, IsDistinct}
-use Rattle.mk_text.proofs.Names.{IsExact, name_is_exact, nat_is_exact, in_head, in_cons_cases, in_tail, in_left, in_right, in_cases, not_in, kept-append, kept_again, kept_cases, sum_within}
+use Rattle.mk_name.specs.Names.{Name, same_name, has, kept, firsts, IsDistinct}
+use Rattle.mk_name.proofs.Names.{IsExact, name_is_exact, nat_is_exact, in_head, in_cons_cases, in_tail, in_left, in_right, in_cases, not_in, kept-append, kept_again, kept_cases, sum_within}
 use Rattle.mk_graph.specs.Book.{Entry, places_of, prerequisites_of}
 use Rattle.mk_graph.specs.Collected.{given_at, StandsFor, AllStand, Collected, IsGraph}
 use Rattle.mk_graph.specs.Graph.{IsNode, AreNodes, count_edges, HasMoreThan}

@@ -9,7 +9,7 @@ use Rattle.std.proofs.lemmas.List.{drop_all, drop_more, flat_map_more, take_more
 use Rattle.std.proofs.lemmas.Option.{get_or_from_slice_get}
 use Rattle.std.specs.Cmp.Lexicographic.{nat_list_eq_equiv}
 use Rattle.std.specs.List.{All, enumerate_from, flat_map, list_any, position_from}
-use Rattle.mk_text.specs.Names.{Name, same_name, has, firsts, kept}
+use Rattle.mk_name.specs.Names.{Name, same_name, has, firsts, kept}
 use Rattle.mk_graph.specs.Book.{Entry, names_target, targets_of, is_target, places_of, gives_commands, has_recipe, recipe_place}
 use Rattle.mk_graph.specs.Index.{IsIndexed}
 use Rattle.mk_graph.proofs.Firsts.{has-firsts, has-flip, kept-append, same_name-true}

@@ -7,7 +7,7 @@ use Rattle.std.specs.Ordering.{is_le, is_gt, nat_cmp, ordering_reverse}
 use Rattle.std.specs.Cmp.Lexicographic.{slice_cmp, nat_list_cmp_total}
 use Rattle.std.proofs.lemmas.Cmp.{upto as std_upto, tied_itself}
 use Rattle.std.proofs.lemmas.Bool.{both_ways, cases_eq}
-use Rattle.mk_text.specs.Names.{Name}
+use Rattle.mk_name.specs.Names.{Name}
 use Rattle.mk_graph.specs.Least.{upto, IsLeastPassing, IsLeastPlace}
 use Rattle.mk_graph.specs.Numbered.{name_at}
 

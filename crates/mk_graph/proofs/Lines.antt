@@ -3,11 +3,11 @@ use Rattle.std.proofs.Common.{◌≡◌, ℕ, ◌+◌, ◌<◌, Bool, true, fals
 use Rattle.std.proofs.lemmas.List.{drop_more, length-drop, take_all}
 use Rattle.std.specs.List.{cons_option, filter_map}
 use Rattle.std.specs.Option.{option_map, option_map_or, option_to_list}
-use Rattle.mk_text.specs.Gives.{Halts}
-use Rattle.mk_text.specs.Told.{Told}
+use Rattle.mk_name.specs.Gives.{Halts}
+use Rattle.mk_name.specs.Told.{Told}
 use Rattle.mk_text.specs.LogicalLine.{LogicalLine}
-use Rattle.mk_text.specs.declared.fault.Halt.{Halt}
-use Rattle.mk_text.specs.declared.fault.Halt.TheVariants as halts
+use Rattle.mk_name.specs.declared.fault.Halt.{Halt}
+use Rattle.mk_name.specs.declared.fault.Halt.TheVariants as halts
 use Rattle.mk_graph.specs.Book.{Entry}
 use Rattle.mk_graph.specs.PlainRules.{begins_with_command, first_fault, line_answer, line_entry, line_fault, numbered_entries}
 

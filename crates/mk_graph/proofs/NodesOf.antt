@@ -4,8 +4,8 @@ use Rattle.std.specs.Prelude.{◌⊎◌, IsTrue, nat_eq, map, Vec}
 use Rattle.std.specs.Global.{Global}
 use Rattle.std.proofs.lemmas.Bool.{both_ways, cases_eq}
 use Rattle.std.proofs.lemmas.List.{get_or-set_same, get_or-set_other, length-set, length-map, get_or-map, get_or-take, length-take-le, map_more, take-append-drop}
-use Rattle.mk_text.specs.Names.{Name, same_name, has, IsDistinct}
-use Rattle.mk_text.proofs.Names.{nat_is_exact, in_head, in_tail, in_left, in_cons_cases}
+use Rattle.mk_name.specs.Names.{Name, same_name, has, IsDistinct}
+use Rattle.mk_name.proofs.Names.{nat_is_exact, in_head, in_tail, in_left, in_cons_cases}
 use Rattle.mk_graph.specs.Assembled.{node_of, IsNumbering}
 use Rattle.mk_graph.specs.Answer.{IsNodeOf, IsPlan}
 use Rattle.mk_graph.specs.Book.{Entry, prerequisites_of}

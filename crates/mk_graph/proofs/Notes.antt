@@ -12,7 +12,7 @@ use Rattle.std.proofs.lemmas.Map.Keys.{apart_from_distinct}
 use Rattle.std.specs.Cmp.Lexicographic.{nat_list_eq_equiv}
 use Rattle.std.specs.List.{All, IsDistinct, enumerate_from, flat_map, list_any}
 use Rattle.indexmap.specs.IndexSet.{insert_key}
-use Rattle.mk_text.specs.Names.{Name, same_name, has, firsts}
+use Rattle.mk_name.specs.Names.{Name, same_name, has, firsts}
 use Rattle.mk_graph.specs.Book.{Entry, names_target, targets_of, is_target, places_of}
 use Rattle.mk_graph.specs.Index.{IsIndexed, with_target}
 use Rattle.mk_graph.proofs.Firsts.{firsts-distinct, firsts-push, insert_key-present, or_none, same_name-true}

@@ -8,8 +8,8 @@ use Rattle.std.proofs.lemmas.Bool.{cases_Bool, both_ways, or_parts, or_right, co
 use Rattle.std.proofs.lemmas.List.{append-nil, map_push, take_more, get_or_append_left, get_or_push, length_push, get_or_default}
 use Rattle.std.proofs.lemmas.List.Quantifiers.{position-Some}
 use Rattle.std.proofs.lemmas.Iterator.Adapters.{position_from-zero}
-use Rattle.mk_text.specs.Names.{Name, same_name, has, kept, IsDistinct}
-use Rattle.mk_text.proofs.Names.{IsExact, name_is_exact, nat_is_exact, in_head, in_tail, kept-append, kept_new, kept_old, in_push_cases, in_push, in_left, distinct_push}
+use Rattle.mk_name.specs.Names.{Name, same_name, has, kept, IsDistinct}
+use Rattle.mk_name.proofs.Names.{IsExact, name_is_exact, nat_is_exact, in_head, in_tail, kept-append, kept_new, kept_old, in_push_cases, in_push, in_left, distinct_push}
 use Rattle.std.specs.BTreeMap.{get}
 use Rattle.std.specs.declared.collections.BTreeMap.{BTreeMap}
 use Rattle.std.specs.Global.{Global}

@@ -6,7 +6,7 @@ use Rattle.std.proofs.lemmas.List.{drop_all, drop_more}
 use Rattle.std.proofs.lemmas.List.FromFn.{get_or-enumerate_from, length-enumerate_from}
 use Rattle.std.specs.List.{cons_option, enumerate_from, filter_map, list_any, position_from}
 use Rattle.std.specs.Option.{option_map, option_map_or}
-use Rattle.mk_text.specs.Names.{Name}
+use Rattle.mk_name.specs.Names.{Name}
 use Rattle.mk_graph.specs.Book.{Entry, gives_commands, has_recipe, recipe_place, second_target}
 
 module _ {X : Type 0} (p : X → Bool) where

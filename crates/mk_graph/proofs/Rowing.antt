@@ -3,15 +3,15 @@ use Rattle.std.proofs.Common.{◌≡◌, ℕ, zero, suc, ◌+◌, ◌<◌, ◌�
 use Rattle.std.specs.Prelude.{◌⊎◌, not, IsTrue, nat_eq, map, Vec}
 use Rattle.std.specs.List.{flat_map, sum_by, All}
 use Rattle.std.proofs.lemmas.List.Sums.{sum_by_more}
-use Rattle.mk_text.specs.Names.{Name}
+use Rattle.mk_name.specs.Names.{Name}
 use Rattle.mk_graph.specs.Book.{Entry, places_of}
 use Rattle.mk_graph.specs.Numbered.{name_at}
 use Rattle.std.specs.Global.{Global}
 use Rattle.std.proofs.lemmas.Bool.{cases_lt, cases_Bool, both_ways, cases_eq, not-true, not-false, false_from_ne_true}
 use Rattle.std.proofs.lemmas.List.{get_or-set_same, get_or-set_other, length-set, append-nil, take_more, take_all, flat_map_more, length_push, get_or_past, get_or_read}
 use Rattle.std.proofs.lemmas.List.Folds.{list_any_at}
-use Rattle.mk_text.specs.Names.{has, kept, firsts}
-use Rattle.mk_text.proofs.Names.{nat_is_exact, in_head, in_cons_cases, in_left, in_cases, in_push, has-push_other, kept_new, kept_old, kept-append, kept_cases, joined_within}
+use Rattle.mk_name.specs.Names.{has, kept, firsts}
+use Rattle.mk_name.proofs.Names.{nat_is_exact, in_head, in_cons_cases, in_left, in_cases, in_push, has-push_other, kept_new, kept_old, kept-append, kept_cases, joined_within}
 use Rattle.mk_graph.specs.Rows.{row}
 use Rattle.mk_graph.specs.Seen.{IsSeen, firsts_of, AllBelow, joined_of, edges_of}
 use Rattle.mk_graph.proofs.Steps.{In, Within}

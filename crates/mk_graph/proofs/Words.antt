@@ -4,13 +4,13 @@ use Rattle.std.proofs.lemmas.List.{length-map, length-take, map-append, take_mor
 use Rattle.std.proofs.lemmas.List.Folds.{find-append}
 use Rattle.std.specs.List.{join_with_byte}
 use Rattle.std.specs.Option.{option_map, option_map_or, option_or}
-use Rattle.mk_text.specs.Told.{Told}
+use Rattle.mk_name.specs.Told.{Told}
 use Rattle.mk_text.specs.Spelling.{bad_name, is_word, plain_name, word_name}
-use Rattle.mk_text.specs.declared.fault.Source.TheVariants.{Makefile}
+use Rattle.mk_name.specs.declared.fault.Source.TheVariants.{Makefile}
 use Rattle.mk_graph.specs.PlainRules.{entry_by, entry_of, fault_by, is_not_yet, line_answer, meaning, prerequisite_words, refused_word, target_words, told, words_answer, words_entry}
 use Rattle.mk_graph.specs.Book.{Entry}
 use Rattle.mk_text.specs.LogicalLine.{LogicalLine}
-use Rattle.mk_text.specs.declared.fault.Kind.TheVariants.{BadName, NotYet}
+use Rattle.mk_name.specs.declared.fault.Kind.TheVariants.{BadName, NotYet}
 use Rattle.mk_text.specs.declared.line.LineKind.TheVariants as kinds
 
 -- a word that spells no name

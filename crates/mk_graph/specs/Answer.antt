@@ -1,12 +1,12 @@
 -- What `plan` answers.
 use Rattle.std.specs.Prelude.{◌≡◌, ◌<◌, ◌≤◌, ℕ, Bool, false, List, [], ◌∷◌, map, length, nat_eq, get_or, IsTrue, Option, Some, None, Result, Ok, Err}
-use Rattle.mk_text.specs.Names.{Name, same_name, has}
-use Rattle.mk_text.specs.Told.{Told}
-use Rattle.mk_text.specs.declared.fault.Halt.{Halt}
-use Rattle.mk_text.specs.declared.fault.Halt.TheVariants as halts
-use Rattle.mk_text.specs.declared.fault.Kind.{Kind}
-use Rattle.mk_text.specs.declared.fault.Kind.TheVariants as kinds
-use Rattle.mk_text.specs.declared.fault.Source.TheVariants as sources
+use Rattle.mk_name.specs.Names.{Name, same_name, has}
+use Rattle.mk_name.specs.Told.{Told}
+use Rattle.mk_name.specs.declared.fault.Halt.{Halt}
+use Rattle.mk_name.specs.declared.fault.Halt.TheVariants as halts
+use Rattle.mk_name.specs.declared.fault.Kind.{Kind}
+use Rattle.mk_name.specs.declared.fault.Kind.TheVariants as kinds
+use Rattle.mk_name.specs.declared.fault.Source.TheVariants as sources
 use Rattle.mk_graph.specs.Book.{Entry, default_goal}
 use Rattle.mk_graph.specs.Graph.{IsNode, HasNoCycle, IsSerialOrder, IsCycle, HasMoreThan}
 use Rattle.mk_graph.specs.Least.{upto}

@@ -1,7 +1,7 @@
 -- The nodes of a plan, from the graph by numbers.
 use Rattle.std.specs.Prelude.{◌≡◌, ℕ, ◌<◌, List, map, length, get_or, Vec}
 use Rattle.std.specs.Global.{Global}
-use Rattle.mk_text.specs.Names.{Name, same_name, has}
+use Rattle.mk_name.specs.Names.{Name, same_name, has}
 use Rattle.mk_graph.specs.Book.{Entry}
 use Rattle.mk_graph.specs.Makers.{maker_of, is_phony}
 use Rattle.mk_graph.specs.Numbered.{name_at}

@@ -2,7 +2,7 @@
 use Rattle.std.specs.Prelude.{ℕ, ◌&&◌, ◌||◌, Bool, not, List, [], ◌∷◌, Option, map, filter, find, position, take, slice_get, None, ◌==◌, nat_eq, if◌then◌else◌}
 use Rattle.std.specs.List.{enumerate_from, filter_map, flat_map, list_any, starts_with}
 use Rattle.std.specs.Option.{option_map}
-use Rattle.mk_text.specs.Names.{Name, same_name, has, firsts}
+use Rattle.mk_name.specs.Names.{Name, same_name, has, firsts}
 
 -- an entry: its targets, each once, its prerequisites, and whether it has commands
 pub record Entry : Type 0 where

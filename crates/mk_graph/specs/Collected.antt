@@ -1,7 +1,7 @@
 -- What a search for all that the goals need has found.
 use Rattle.std.specs.Prelude.{◌≡◌, ◌⊎◌, ◌++◌, ◌<◌, ◌≤◌, ℕ, Bool, false, List, [], map, length, get_or, slice_index_or, IsTrue, IsSome, Option, Some, None, Vec, nat_eq}
 use Rattle.std.specs.Global.{Global}
-use Rattle.mk_text.specs.Names.{Name, same_name, has, IsDistinct}
+use Rattle.mk_name.specs.Names.{Name, same_name, has, IsDistinct}
 use Rattle.mk_graph.specs.Book.{Entry, places_of, prerequisites_of}
 use Rattle.mk_graph.specs.Graph.{IsNode}
 use Rattle.mk_graph.specs.Rows.{row}

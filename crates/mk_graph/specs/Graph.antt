@@ -1,7 +1,7 @@
 -- Graphs as functions from a node to what it needs: chains, cycles and the serial order. `same` is a test of equality.
 use Rattle.std.specs.Prelude.{◌≡◌, ℕ, zero, suc, ◌<◌, ◌⊎◌, Bool, List, [], ◌∷◌, ◌++◌, IsTrue, length}
 use Rattle.std.specs.List.{flat_map, sum_by}
-use Rattle.mk_text.specs.Names.{has, firsts, IsDistinct}
+use Rattle.mk_name.specs.Names.{has, firsts, IsDistinct}
 
 -- from a to b by so many edges, each from a node to one that it needs
 abbrev pub Leads : {X : Type 0} → (X → X → Bool) → (X → List X) → ℕ → X → X → Type 0

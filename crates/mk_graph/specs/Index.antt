@@ -1,6 +1,6 @@
 -- How a rulebook finds the entries of a name.
 use Rattle.std.specs.Prelude.{◌≡◌, ℕ, List, [], ◌∷◌, ◌++◌, length, map}
-use Rattle.mk_text.specs.Names.{Name}
+use Rattle.mk_name.specs.Names.{Name}
 use Rattle.mk_graph.specs.Book.{Entry, places_of, targets_of}
 
 -- the targets in first-seen order, and beside each the places of its entries

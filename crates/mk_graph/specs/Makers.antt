@@ -1,6 +1,6 @@
 -- Who makes a name, and what the name needs.
 use Rattle.std.specs.Prelude.{◌&&◌, not, Bool, true, false, List, if◌then◌else◌}
-use Rattle.mk_text.specs.Names.{Name, same_name, has}
+use Rattle.mk_name.specs.Names.{Name, same_name, has}
 use Rattle.mk_graph.specs.Book.{Entry, has_recipe, is_target, prerequisites_of}
 use Rattle.mk_graph.specs.declared.maker.Maker.{Maker}
 use Rattle.mk_graph.specs.declared.maker.Maker.TheVariants.{Rule, Inferred, Default, Nothing}

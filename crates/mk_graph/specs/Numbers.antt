@@ -5,7 +5,7 @@ use Rattle.std.specs.declared.collections.BTreeMap.{BTreeMap}
 use Rattle.std.specs.Global.{Global}
 use Rattle.std.specs.Cmp.Lexicographic.{slice_cmp}
 use Rattle.std.specs.Ordering.{nat_cmp}
-use Rattle.mk_text.specs.Names.{Name, same_name, IsDistinct}
+use Rattle.mk_name.specs.Names.{Name, same_name, IsDistinct}
 use Rattle.mk_graph.specs.Numbered.{number_of}
 
 -- no name stands twice, and the index has the number of each

@@ -2,13 +2,13 @@
 use Rattle.std.specs.Prelude.{ℕ, ◌+◌, Bool, true, false, not, ◌||◌, List, [], ◌∷◌, ◌++◌, Option, None, Some, Result, Ok, Err, length, take, drop, map, filter, find, slice_get, slice_index, is_some, codes, ◌==◌, if◌then◌else◌}
 use Rattle.std.specs.List.{cons_option, filter_map, list_any, slice_split}
 use Rattle.std.specs.Option.{option_map, option_map_or}
-use Rattle.mk_text.specs.Told.{Told}
-use Rattle.mk_text.specs.Names.{Name, firsts, has, same_name}
+use Rattle.mk_name.specs.Told.{Told}
+use Rattle.mk_name.specs.Names.{Name, firsts, has, same_name}
 use Rattle.mk_text.specs.Spelling.{is_word, plain_name}
 use Rattle.mk_text.specs.LogicalLine.{LogicalLine, text_of}
-use Rattle.mk_text.specs.declared.fault.Kind.{Kind}
-use Rattle.mk_text.specs.declared.fault.Kind.TheVariants.{BadName, NotYet, TwoRecipes}
-use Rattle.mk_text.specs.declared.fault.Source.TheVariants.{Makefile}
+use Rattle.mk_name.specs.declared.fault.Kind.{Kind}
+use Rattle.mk_name.specs.declared.fault.Kind.TheVariants.{BadName, NotYet, TwoRecipes}
+use Rattle.mk_name.specs.declared.fault.Source.TheVariants.{Makefile}
 use Rattle.mk_text.specs.declared.line.LineKind.{LineKind}
 use Rattle.mk_text.specs.declared.line.LineKind.TheVariants as kinds
 use Rattle.mk_graph.specs.Book.{Entry, may_be_goal, second_recipe}

@@ -1,6 +1,6 @@
 -- What a plan holds: the nodes of the graph in serial order, and how often `.WAIT` was used.
 use Rattle.std.specs.Prelude.{ℕ, Bool, List}
-use Rattle.mk_text.specs.Names.{Name}
+use Rattle.mk_name.specs.Names.{Name}
 use Rattle.mk_graph.specs.declared.maker.Maker.{Maker}
 
 -- a node: its name, the numbers of its prerequisites in the rule's order, what makes it, whether it is phony,

@@ -1,7 +1,7 @@
 -- A graph on numbers, as a list of rows.
 use Rattle.std.specs.Prelude.{◌≡◌, ℕ, zero, suc, ◌<◌, List, [], ◌∷◌, ◌++◌, length, get_or, take, IsTrue, nat_eq, Vec}
 use Rattle.std.specs.Global.{Global}
-use Rattle.mk_text.specs.Names.{has, IsDistinct}
+use Rattle.mk_name.specs.Names.{has, IsDistinct}
 use Rattle.mk_graph.specs.Graph.{IsChain, IsNode}
 
 -- the prerequisites of a node

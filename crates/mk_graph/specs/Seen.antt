@@ -2,7 +2,7 @@
 use Rattle.std.specs.Prelude.{◌≡◌, ℕ, ◌<◌, Bool, true, false, List, [], length, get_or, Option, Some, None, Vec, nat_eq}
 use Rattle.std.specs.Global.{Global}
 use Rattle.std.specs.List.{flat_map, sum_by}
-use Rattle.mk_text.specs.Names.{Name, has, firsts}
+use Rattle.mk_name.specs.Names.{Name, has, firsts}
 use Rattle.mk_graph.specs.Book.{Entry, places_of}
 use Rattle.mk_graph.specs.Rows.{row}
 

@@ -1,6 +1,6 @@
 -- What the walk of a graph answers.
 use Rattle.std.specs.Prelude.{ℕ, List, nat_eq, IsTrue}
-use Rattle.mk_text.specs.Names.{has}
+use Rattle.mk_name.specs.Names.{has}
 use Rattle.mk_graph.specs.Graph.{IsNode, IsSerialOrder, HasNoCycle}
 use Rattle.mk_graph.specs.Rows.{IsRing, IsRising}
 use Rattle.mk_graph.specs.declared.serial.Walked.{Walked}

@@ -1,15 +1,15 @@
 //! All that some goals need: their names, and the prerequisites of the entries that name them as targets.
 ghost use Rattle.std.specs.Prelude.{◌≡◌, ◌<◌, ◌≤◌, List, ℕ, length, replicate, None, nat_eq, IfOk, OnOk, IfSome, IfNone};
 ghost use Rattle.std.specs.List.{All};
-ghost use Rattle.mk_text.specs.Names.{Name};
+ghost use Rattle.mk_name.specs.Names.{Name};
 ghost use Rattle.mk_graph.specs.Book.{prerequisites_of};
 ghost use Rattle.mk_graph.specs.Collected.{Collected, Reads};
 ghost use Rattle.mk_graph.specs.Graph.{AreNodes};
-ghost use Rattle.mk_text.specs.Names.{same_name};
+ghost use Rattle.mk_name.specs.Names.{same_name};
 
 use crate::numbering::Numbering;
 use crate::rulebook::Rulebook;
-use mk_text::name::Name;
+use mk_name::name::Name;
 use std::alloc::{AllocError, Global};
 
 /// What the goals need.

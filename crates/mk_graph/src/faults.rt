@@ -1,6 +1,6 @@
 //! What is wrong with a graph: a name that nothing makes, or a cycle.
 ghost use Rattle.std.specs.Prelude.{◌≡◌, ◌<◌, ◌+◌, ◌++◌, ◌≤◌, ℕ, length, map, drop, take, nat_eq, IsTrue, IfOk, OnOk};
-ghost use Rattle.mk_text.specs.Names.{has};
+ghost use Rattle.mk_name.specs.Names.{has};
 ghost use Rattle.mk_graph.specs.Least.{upto, IsLeastPassing, IsLeastPlace};
 ghost use Rattle.mk_graph.specs.Makers.{maker_of, is_unmade};
 ghost use Rattle.mk_graph.specs.Numbered.{name_at};
@@ -8,8 +8,8 @@ ghost use Rattle.mk_graph.specs.Numbered.{name_at};
 use crate::maker::Maker;
 use crate::numbering::Numbering;
 use crate::rulebook::Rulebook;
+use mk_name::name::Name;
 use mk_text::listing::Listing;
-use mk_text::name::Name;
 use std::alloc::{AllocError, Global};
 
 /// What makes a name.

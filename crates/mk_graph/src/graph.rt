@@ -1,6 +1,6 @@
 //! The graph of all that some goals need, by numbers.
 ghost use Rattle.std.specs.Prelude.{◌≤◌, IfOk, IfSome, IfNone};
-ghost use Rattle.mk_text.specs.Names.{same_name};
+ghost use Rattle.mk_name.specs.Names.{same_name};
 ghost use Rattle.mk_graph.specs.Book.{prerequisites_of};
 ghost use Rattle.mk_graph.specs.Collected.{IsGraph};
 ghost use Rattle.mk_graph.specs.Graph.{HasMoreThan};
@@ -9,7 +9,7 @@ use crate::collect::collect;
 use crate::numbering::Numbering;
 use crate::rows::{distinct_entries, rows_of};
 use crate::rulebook::Rulebook;
-use mk_text::name::Name;
+use mk_name::name::Name;
 use std::alloc::{AllocError, Global};
 
 /// The names that some goals need, and for each the numbers of what it needs.

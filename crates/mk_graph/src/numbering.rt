@@ -1,9 +1,9 @@
 //! Names in the order in which they are found, each with its place as its number.
 ghost use Rattle.std.specs.Prelude.{◌≡◌, ◌<◌, List, [], ◌∷◌, ℕ, length, IfOk};
-ghost use Rattle.mk_text.specs.Names.{kept, same_name, IsDistinct};
+ghost use Rattle.mk_name.specs.Names.{kept, same_name, IsDistinct};
 ghost use Rattle.mk_graph.specs.Numbered.{name_at, number_of, Stand};
 
-use mk_text::name::Name;
+use mk_name::name::Name;
 use std::alloc::{AllocError, Global};
 use std::collections::BTreeMap;
 use std::marker::Model;
@@ -18,7 +18,7 @@ pub struct Numbering {
 
 impl Model for Numbering {
     ghost use Rattle.std.specs.Prelude.{List};
-    ghost use Rattle.mk_text.specs.Names.{Name};
+    ghost use Rattle.mk_name.specs.Names.{Name};
     ghost use Rattle.mk_graph.specs.Numbers.{IsNumbered};
 
     ghost Value = { List Name };

@@ -3,20 +3,20 @@
 ghost use Rattle.std.specs.Prelude.{◌≡◌, ◌||◌, ◌++◌, [], ◌∷◌, None, Some, Ok, Err, map, take, drop, slice_index, is_some, IfOk, IfErr, OnOk, if◌then◌else◌};
 ghost use Rattle.std.specs.List.{list_any};
 ghost use Rattle.std.specs.Option.{option_map, option_map_or, option_to_list};
-ghost use Rattle.mk_text.specs.Gives.{Gives, Halts};
+ghost use Rattle.mk_name.specs.Gives.{Gives, Halts};
 ghost use Rattle.mk_text.specs.LogicalLine.{text_of};
-ghost use Rattle.mk_text.specs.Names.{firsts, same_name};
+ghost use Rattle.mk_name.specs.Names.{firsts, same_name};
 ghost use Rattle.mk_text.specs.Spelling.{bad_name, is_word};
-ghost use Rattle.mk_text.specs.declared.fault.Source.TheVariants.{Makefile};
-ghost use Rattle.mk_text.specs.declared.fault.Halt.TheVariants.{Memory};
+ghost use Rattle.mk_name.specs.declared.fault.Source.TheVariants.{Makefile};
+ghost use Rattle.mk_name.specs.declared.fault.Halt.TheVariants.{Memory};
 ghost use Rattle.mk_graph.specs.PlainRules.{before_semicolon, begins_with_command, book_of, checked_book, entry_of, first_fault, is_blank, is_reserved_target, is_special, line_answer, meaning, numbered_entries, prerequisite_words, refused_word, target_words, told, words_answer, words_of};
 ghost use Rattle.mk_graph.specs.Book.{may_be_goal};
-ghost use Rattle.mk_text.specs.declared.fault.Kind.TheVariants.{NotYet};
+ghost use Rattle.mk_name.specs.declared.fault.Kind.TheVariants.{NotYet};
 
 use crate::rulebook::{Rule, Rulebook, may_be_goal};
-use mk_text::fault::{Fault, Halt, Kind, Source};
+use mk_name::fault::{Fault, Halt, Kind, Source};
+use mk_name::name::Name;
 use mk_text::line::{Line, LineKind};
-use mk_text::name::Name;
 use mk_text::root::Root;
 use mk_text::spelling::plain_word;
 use std::alloc::{AllocError, Global};

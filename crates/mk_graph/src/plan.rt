@@ -1,6 +1,6 @@
 //! The plan: all that some goals need, in serial order.
 ghost use Rattle.std.specs.Prelude.{◌≡◌, ◌<◌, ◌≤◌, ◌++◌, List, [], ◌∷◌, ℕ, length, map, get_or, nat_eq, IsTrue, IfOk, Ok, Err};
-ghost use Rattle.mk_text.specs.Names.{has, same_name, IsDistinct};
+ghost use Rattle.mk_name.specs.Names.{has, same_name, IsDistinct};
 ghost use Rattle.mk_graph.specs.Assembled.{node_of, IsAssembled, IsNumbering};
 ghost use Rattle.mk_graph.specs.Numbered.{name_at};
 ghost use Rattle.mk_graph.specs.Plan.{Node};
@@ -10,8 +10,8 @@ use crate::faults::maker_of;
 use crate::maker::Maker;
 use crate::numbering::Numbering;
 use crate::rulebook::Rulebook;
+use mk_name::name::Name;
 use mk_text::listing::Listing;
-use mk_text::name::Name;
 use std::alloc::{AllocError, Global};
 use std::marker::Model;
 

@@ -1,6 +1,6 @@
 //! From a book of rules, a listing and some goals to a plan, or to what is wrong with the graph.
 ghost use Rattle.std.specs.Prelude.{◌≡◌};
-ghost use Rattle.mk_text.specs.declared.fault.Halt.TheVariants as halts;
+ghost use Rattle.mk_name.specs.declared.fault.Halt.TheVariants as halts;
 ghost use Rattle.mk_graph.specs.Answer.{Answers, Comes, IsAnswer, goals_of, graph_fault};
 
 use crate::faults::{cycle_of, least_unmade};
@@ -8,9 +8,9 @@ use crate::graph::graph_of;
 use crate::plan::{Plan, assemble};
 use crate::rulebook::Rulebook;
 use crate::serial::{Walked, serial_order};
-use mk_text::fault::{Fault, Halt, Kind, Source};
+use mk_name::fault::{Fault, Halt, Kind, Source};
+use mk_name::name::Name;
 use mk_text::listing::Listing;
-use mk_text::name::Name;
 use std::alloc::Global;
 
 /// A fault of the graph.

@@ -1,7 +1,7 @@
 //! The prerequisites of each name as a row of numbers.
 ghost use Rattle.std.specs.Prelude.{◌≡◌, ◌<◌, ◌≤◌, ◌+◌, List, [], ℕ, length, take, map, None, nat_eq, get_or, IsTrue, IfOk, OnOk, IfSome, IfNone};
 ghost use Rattle.std.specs.List.{flat_map, sum_by};
-ghost use Rattle.mk_text.specs.Names.{firsts, has, kept};
+ghost use Rattle.mk_name.specs.Names.{firsts, has, kept};
 ghost use Rattle.mk_graph.specs.Rows.{row};
 ghost use Rattle.mk_graph.specs.Numbered.{name_at};
 ghost use Rattle.mk_graph.specs.Seen.{IsSeen, firsts_of, AllBelow, joined_of, edges_of};

@@ -2,14 +2,14 @@
 ghost use Rattle.std.specs.Prelude.{◌≡◌, ◌≢◌, ◌-◌, ◌<◌, false, [], ◌∷◌, ◌++◌, length, map, slice_get, take, find, Some, IfOk, IfErr, OnOk};
 ghost use Rattle.std.specs.List.{All};
 ghost use Rattle.std.specs.Option.{option_copied, option_map};
-ghost use Rattle.mk_text.specs.Names.{firsts, kept, same_name};
-ghost use Rattle.mk_text.specs.declared.fault.Halt.TheVariants.{Memory};
+ghost use Rattle.mk_name.specs.Names.{firsts, kept, same_name};
+ghost use Rattle.mk_name.specs.declared.fault.Halt.TheVariants.{Memory};
 ghost use Rattle.mk_graph.specs.Index.{NotesEntry, NotesTarget};
 ghost use Rattle.mk_graph.specs.Book.{default_goal, has_recipe, is_target, may_be_goal, places_of, prerequisites_of, recipe_place, second_recipe, second_target, targets_of};
 
 use indexmap::IndexSet;
-use mk_text::fault::Halt;
-use mk_text::name::Name;
+use mk_name::fault::Halt;
+use mk_name::name::Name;
 use std::alloc::{AllocError, Global};
 use std::marker::Model;
 

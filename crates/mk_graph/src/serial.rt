@@ -1,6 +1,6 @@
 //! The serial order of a graph on numbers, found by one walk with a stack of its own.
 ghost use Rattle.std.specs.Prelude.{◌≡◌, ◌++◌, ◌<◌, ℕ, map, [], reverse, length, nat_eq, IfOk, OnOk, IsTrue};
-ghost use Rattle.mk_text.specs.Names.{has};
+ghost use Rattle.mk_name.specs.Names.{has};
 ghost use Rattle.mk_graph.specs.Rows.{row, InRange};
 ghost use Rattle.mk_graph.specs.Walk.{IsWalked};
 ghost use Rattle.mk_graph.specs.declared.serial.Step.TheVariants.{Enter};

@@ -6,7 +6,7 @@ use Rattle.std.specs.List.{list_any}
 use Rattle.std.proofs.lemmas.Slice.Eq.{slice_eq-Decides}
 use Rattle.std.proofs.lemmas.Bool.Decides.{Decides-eqb}
 use Rattle.std.proofs.lemmas.List.Elements.{Contains-append_right}
-use Rattle.mk_text.specs.Names.{Name, same_name}
+use Rattle.mk_name.specs.Names.{Name, same_name}
 use Rattle.mk_sched.specs.Stores.{Bytes, File, bytes_of}
 use Rattle.mk_sched.specs.Events.{Act, Skip, Start, Look, Put, Erase, Finish, Phase, Waiting, Running, Skipped, Ran, Entry, Looked, Wrote, entries, written, is_passed, is_started}
 

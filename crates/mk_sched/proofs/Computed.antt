@@ -2,7 +2,7 @@
 use Rattle.std.proofs.Common.{ℕ, zero, suc, ◌≡◌, ◌<◌, ◌≤◌, ◌⊎◌, inl, inr, Bool, true, false, List, [], ◌∷◌, reverse, Some, refl, sym, ap, ◌∙◌, if◌then◌else◌, Contains, length, slice_index_or, subst, ◌==◌, subst₂, nat_lt, arith, eqb-true, eq-eqb, ltb-true}
 use Rattle.std.specs.List.{list_all}
 use Rattle.std.proofs.lemmas.Bool.{false≢true, and_parts}
-use Rattle.mk_text.specs.Names.{Name, same_name}
+use Rattle.mk_name.specs.Names.{Name, same_name}
 use Rattle.mk_foot.specs.Jobs.{Before, edge, further, IsValid, IsRaceFree, IsPrerequisite, node_count, name_of, prerequisites_of, has_recipe, is_phony, is_listed, is_live, reads_of, writes_of, may_read, may_write}
 use Rattle.mk_foot.proofs.JobsLemmas.{clash_live}
 use Rattle.mk_sched.specs.Stores.{Bytes, File, Store}

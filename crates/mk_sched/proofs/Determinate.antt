@@ -2,7 +2,7 @@
 use Rattle.std.proofs.Common.{ℕ, zero, suc, ◌≡◌, ◌<◌, ◌&&◌, Bool, List, [], ◌∷◌, ◌++◌, Option, refl, sym, ap, ◌∙◌, reverse, arith}
 use mathlib.Core.List.{reverse_aux, reverse_aux-eq}
 use Rattle.std.proofs.lemmas.List.{reverse-reverse}
-use Rattle.mk_text.specs.Names.{Name}
+use Rattle.mk_name.specs.Names.{Name}
 use Rattle.mk_foot.specs.Jobs.{Jobs, IsValid, IsRaceFree, Before, node_count, has_recipe}
 use Rattle.mk_foot.proofs.JobsLemmas.{before_less}
 use Rattle.mk_sched.specs.Stores.{Bytes, Store}

@@ -1,6 +1,6 @@
 -- Events, and what a list of events leaves. A past is the list of the events so far, the newest first.
 use Rattle.std.specs.Prelude.{ℕ, ◌==◌, Bool, true, false, List, [], ◌∷◌, Option, Some, None, if◌then◌else◌}
-use Rattle.mk_text.specs.Names.{Name, same_name}
+use Rattle.mk_name.specs.Names.{Name, same_name}
 use Rattle.mk_sched.specs.Stores.{Bytes, File, Store}
 
 -- one step of one node: skipped; or started, a look at a file, a file put, a file erased, finished

@@ -1,6 +1,6 @@
 -- Recipes as programs: what a recipe does next is a function of what it did and saw so far. Such recipes agree.
 use Rattle.std.specs.Prelude.{ℕ, ◌≡◌, true, List, Option, Some, None, take, slice_get, reverse}
-use Rattle.mk_text.specs.Names.{Name}
+use Rattle.mk_name.specs.Names.{Name}
 use Rattle.mk_sched.specs.Stores.{Bytes}
 use Rattle.mk_sched.specs.Events.{Event, Entry, Looked, Wrote, phase, is_started, history}
 use Rattle.mk_sched.specs.Runs.{RecipesAgree}

@@ -1,6 +1,6 @@
 -- Worked cases, computed: files of equal times, and a parallel run put in order.
 use Rattle.std.specs.Prelude.{◌≡◌, true, false, List, [], ◌∷◌, reverse, Some, None, if◌then◌else◌}
-use Rattle.mk_text.specs.Names.{Name, same_name}
+use Rattle.mk_name.specs.Names.{Name, same_name}
 use Rattle.mk_graph.specs.declared.maker.Maker.TheVariants.{Rule}
 use Rattle.mk_foot.specs.Jobs.{Jobs}
 use Rattle.mk_sched.specs.Stores.{Store}

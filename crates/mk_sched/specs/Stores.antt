@@ -1,7 +1,7 @@
 -- Stores: what stands at each name, and which nodes are out of date.
 use Rattle.std.specs.Prelude.{ℕ, ◌≡◌, ◌<◌, ◌&&◌, ◌||◌, ◌==◌, nat_lt, Bool, true, List, Option, Some, None, is_some, is_none}
 use Rattle.std.specs.List.{list_any}
-use Rattle.mk_text.specs.Names.{Name}
+use Rattle.mk_name.specs.Names.{Name}
 use Rattle.mk_foot.specs.Jobs.{Jobs, node_count, name_of, prerequisites_of, has_recipe, is_phony, is_listed}
 
 -- what a file holds

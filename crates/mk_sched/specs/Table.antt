@@ -1,7 +1,7 @@
 -- Allowed events as the format of logs tells them: a state, which is a store and two sets of nodes, and a table of what each
 -- event asks of it and changes.
 use Rattle.std.specs.Prelude.{ℕ, ◌≡◌, ◌<◌, ◌⊎◌, ◌==◌, ◌↔◌, Bool, true, false, List, [], ◌∷◌, reverse, Some, None, if◌then◌else◌}
-use Rattle.mk_text.specs.Names.{Name, same_name}
+use Rattle.mk_name.specs.Names.{Name, same_name}
 use Rattle.mk_foot.specs.Jobs.{Jobs, IsPrerequisite, node_count, has_recipe, may_read, may_write}
 use Rattle.mk_sched.specs.Stores.{Store, File, bytes_of, is_stale}
 use Rattle.mk_sched.specs.Events.{Act, Skip, Start, Look, Put, Erase, Finish, Event, phase, is_passed, is_running, count_to, store_after}

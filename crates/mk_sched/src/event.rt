@@ -3,7 +3,7 @@ ghost use Rattle.std.specs.Prelude.{◌≡◌};
 ghost use Rattle.mk_sched.specs.Steps.{step_of, steps_at};
 
 use crate::contents::Contents;
-use mk_text::name::Name;
+use mk_name::name::Name;
 
 /// One atomic step of one node, which is told by its number in the plan (profile).
 #[derive(Debug, Drop)]

@@ -1,9 +1,9 @@
 -- Where everything is plain, the answer is that of the definition.
 use Rattle.std.proofs.Common.{◌≡◌, ℕ, ◌+◌, Bool, true, false, List, [], ◌∷◌, Option, Some, None, Result, Ok, Err, length, nat_lt, refl, sym, ap, ◌∙◌, ◌⊎◌, inl, inr, ⊎_elim}
 use Rattle.std.proofs.lemmas.Bool.{cases_Bool, cond-true, cond-false}
-use Rattle.mk_text.specs.Told.{Told}
-use Rattle.mk_text.specs.declared.fault.Kind.{Kind}
-use Rattle.mk_text.specs.declared.fault.Kind.TheVariants.{BadAssignment, NotYet, TextTooLarge}
+use Rattle.mk_name.specs.Told.{Told}
+use Rattle.mk_name.specs.declared.fault.Kind.{Kind}
+use Rattle.mk_name.specs.declared.fault.Kind.TheVariants.{BadAssignment, NotYet, TextTooLarge}
 use Rattle.mk_text.specs.declared.line.LineKind.{LineKind}
 use Rattle.mk_text.specs.declared.line.LineKind.TheVariants.{Assign, Entry, Recipe}
 use Rattle.mk_text.specs.LogicalLine.{LogicalLine}

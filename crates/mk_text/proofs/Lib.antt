@@ -1,7 +1,6 @@
 mod Agree
 pub mod Joins
 pub mod ListingLines
-pub mod Names
 pub mod Ordered
 mod Places
 pub mod Plain
@@ -10,6 +9,5 @@ pub mod Reduced
 mod Searches
 mod Stand
 mod Steps
-pub mod Visible
 mod Words
 mod Written

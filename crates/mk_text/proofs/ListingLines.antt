@@ -8,7 +8,7 @@ use Rattle.std.proofs.lemmas.List.{take_rest, take-append-drop, drop_more, get_o
 use Rattle.std.proofs.lemmas.List.Splits.{slice_split_none, slice_split_at}
 use Rattle.memchr.specs.Find.{Nowhere, NoneBefore, Passes, is_byte}
 use Rattle.mk_text.specs.Listing.{lines}
-use Rattle.mk_text.specs.Names.{has, same_name}
+use Rattle.mk_name.specs.Names.{has, same_name}
 
 -- a text without a newline is one line
 pub lines_none : (text : List ℕ) → Nowhere (Passes (is_byte 10) text) 0 (length text) → lines text ≡ text ∷ []

@@ -6,7 +6,7 @@ use Rattle.std.specs.declared.cmp.Ordering.{Ordering}
 use Rattle.std.specs.declared.cmp.Ordering.TheVariants.{Less, Equal, Greater}
 use Rattle.std.specs.Ordering.{nat_cmp, is_eq, match_ordering}
 use Rattle.mk_text.specs.Listing.{in_order}
-use Rattle.mk_text.specs.Names.{has, same_name}
+use Rattle.mk_name.specs.Names.{has, same_name}
 
 or_same : (a b c : Bool) → a ≡ b → (b || c) ≡ (a || (b || c))
 or_same true b c e = ap (λ x. x || c) (sym e)

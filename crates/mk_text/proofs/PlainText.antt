@@ -2,8 +2,8 @@
 use Rattle.std.proofs.Common.{◌≡◌, ℕ, zero, suc, ◌+◌, ◌-◌, Bool, true, false, not, cond, List, [], ◌∷◌, Option, Some, Result, Ok, Err, length, get_or, drop, arith, refl, sym, ap, ◌∙◌, ◌==◌, ◌||◌, ⊎_elim}
 use Rattle.std.specs.List.{list_any, join_with_byte}
 use Rattle.std.proofs.lemmas.Bool.{cases_Bool, or_parts, or_from, not-true, cond-true, cond-false}
-use Rattle.mk_text.specs.declared.fault.Kind.{Kind}
-use Rattle.mk_text.specs.declared.fault.Kind.TheVariants.{BadAssignment, NotYet}
+use Rattle.mk_name.specs.declared.fault.Kind.{Kind}
+use Rattle.mk_name.specs.declared.fault.Kind.TheVariants.{BadAssignment, NotYet}
 use Rattle.mk_text.specs.declared.line.Operator.{Operator}
 use Rattle.mk_text.specs.declared.line.Operator.TheVariants.{Delayed, Append, Conditional}
 use Rattle.mk_text.specs.declared.line.LineKind.{LineKind}

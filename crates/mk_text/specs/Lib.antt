@@ -1,15 +1,11 @@
 pub mod Blocks
 pub mod Device
-pub mod Gives
 pub mod GivesLines
 pub mod Listing
 pub mod LogicalLine
 pub mod LogicalLines
-pub mod Names
 pub mod Outside
 pub mod Pieces
 pub mod PlainLines
-pub mod Shown
 pub mod Slices
 pub mod Spelling
-pub mod Told

@@ -5,8 +5,8 @@ use Rattle.std.specs.Cmp.Lexicographic.{slice_cmp}
 use Rattle.std.specs.List.{slice_split}
 use Rattle.std.specs.Ordering.{nat_cmp}
 use Rattle.mk_text.specs.Spelling.{path_name}
-use Rattle.mk_text.specs.Told.{Told}
-use Rattle.mk_text.specs.declared.fault.Source.TheVariants.{Listing}
+use Rattle.mk_name.specs.Told.{Told}
+use Rattle.mk_name.specs.declared.fault.Source.TheVariants.{Listing}
 
 -- what stands between the newlines of a text
 abbrev pub lines : List ℕ → List (List ℕ)

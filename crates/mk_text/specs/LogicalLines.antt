@@ -5,10 +5,10 @@ use Rattle.std.specs.List.{join_with_byte, list_any, list_all, before_first, pre
 use Rattle.std.specs.Option.{option_map}
 use Rattle.std.specs.Result.{result_map_both}
 use Rattle.std.specs.Str.{bytes_eq}
-use Rattle.mk_text.specs.Told.{Told}
-use Rattle.mk_text.specs.declared.fault.Kind.{Kind}
-use Rattle.mk_text.specs.declared.fault.Kind.TheVariants.{NoColon, StrayRecipe, DoubleColon, BadAssignment, Include, TextTooLarge}
-use Rattle.mk_text.specs.declared.fault.Source.TheVariants.{Makefile}
+use Rattle.mk_name.specs.Told.{Told}
+use Rattle.mk_name.specs.declared.fault.Kind.{Kind}
+use Rattle.mk_name.specs.declared.fault.Kind.TheVariants.{NoColon, StrayRecipe, DoubleColon, BadAssignment, Include, TextTooLarge}
+use Rattle.mk_name.specs.declared.fault.Source.TheVariants.{Makefile}
 use Rattle.mk_text.specs.declared.line.Operator.{Operator}
 use Rattle.mk_text.specs.declared.line.Operator.TheVariants.{Delayed, Immediate, Append, Conditional}
 use Rattle.mk_text.specs.declared.line.LineKind.{LineKind}

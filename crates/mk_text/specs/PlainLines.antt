@@ -1,9 +1,9 @@
 -- What is answered of logical lines today: texts in which everything is plain.
 use Rattle.std.specs.Prelude.{◌≡◌, ℕ, ◌+◌, Bool, false, List, [], ◌∷◌, length, drop, slice_index, Option, None, Some, Result, Ok, Err, ◌==◌, ◌||◌, ◌⊎◌, nat_lt, not, if◌then◌else◌}
 use Rattle.std.specs.List.{list_any}
-use Rattle.mk_text.specs.Told.{Told}
-use Rattle.mk_text.specs.declared.fault.Kind.{Kind}
-use Rattle.mk_text.specs.declared.fault.Kind.TheVariants.{BadAssignment, TextTooLarge, NotYet}
+use Rattle.mk_name.specs.Told.{Told}
+use Rattle.mk_name.specs.declared.fault.Kind.{Kind}
+use Rattle.mk_name.specs.declared.fault.Kind.TheVariants.{BadAssignment, TextTooLarge, NotYet}
 use Rattle.mk_text.specs.declared.line.LineKind.{LineKind}
 use Rattle.mk_text.specs.declared.line.LineKind.TheVariants.{Assign, Entry, Recipe}
 use Rattle.mk_text.specs.LogicalLine.{LogicalLine}

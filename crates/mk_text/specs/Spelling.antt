@@ -2,10 +2,10 @@
 use Rattle.std.specs.Prelude.{◌≢◌, ℕ, ◌-◌, Bool, false, List, [], ◌∷◌, ◌++◌, length, take, Option, Some, None, Result, Ok, Err, ◌==◌, ◌&&◌, ◌||◌, nat_lt, nat_le, nat_eq, not, fold, codes, if◌then◌else◌}
 use Rattle.std.specs.List.{slice_split, join_with_byte, list_all, list_any}
 use Rattle.std.specs.Cmp.Lexicographic.{pointwise}
-use Rattle.mk_text.specs.Told.{Told}
-use Rattle.mk_text.specs.declared.fault.Kind.TheVariants.{BadName}
-use Rattle.mk_text.specs.declared.fault.Source.{Source}
-use Rattle.mk_text.specs.declared.fault.Source.TheVariants.{Makefile, Settings}
+use Rattle.mk_name.specs.Told.{Told}
+use Rattle.mk_name.specs.declared.fault.Kind.TheVariants.{BadName}
+use Rattle.mk_name.specs.declared.fault.Source.{Source}
+use Rattle.mk_name.specs.declared.fault.Source.TheVariants.{Makefile, Settings}
 
 -- what stands between the slashes of a path
 abbrev pub components : List ℕ → List (List ℕ)

@@ -4,7 +4,7 @@ ghost use Rattle.std.specs.Option.{option_map};
 ghost use Rattle.std.specs.List.{join_with_byte, list_all};
 ghost use Rattle.mk_text.specs.Spelling.{components, is_plain, one_more, reduced, below, name_of};
 
-use crate::name::Name;
+use mk_name::name::Name;
 use std::alloc::{AllocError, Global};
 
 /// Puts one more component at the end of a reduced list.

@@ -10,9 +10,9 @@ ghost use Rattle.mk_text.specs.PlainLines.{is_plain, without_assignment, plain_s
 ghost use Rattle.mk_text.specs.GivesLines.{GivesLines};
 ghost use Rattle.mk_text.specs.Slices.{StandIn};
 
-use crate::fault::{Fault, Halt, Kind, Source};
 use crate::line::{Line, LineKind};
 use memchr::{memchr, memchr2, memchr3};
+use mk_name::fault::{Fault, Halt, Kind, Source};
 use std::alloc::Global;
 
 #[cfg(test)]

@@ -1,15 +1,15 @@
 //! The listing: the files that exist, one path a line.
 ghost use Rattle.std.specs.Prelude.{◌≡◌, ◌<◌, ◌∷◌, [], List, ℕ, length};
 ghost use Rattle.std.specs.Prelude.{Ok, OnOk, IfErr, IfNone, IfSome};
-ghost use Rattle.mk_text.specs.Gives.{Gives, Halts};
+ghost use Rattle.mk_name.specs.Gives.{Gives, Halts};
 ghost use Rattle.mk_text.specs.Listing.{in_order, listing_of, line_names, lines, with_names};
-ghost use Rattle.mk_text.specs.Names.{has, same_name};
+ghost use Rattle.mk_name.specs.Names.{has, same_name};
 
-use crate::fault::{Halt, Source};
-use crate::name::Name;
 use crate::root::Root;
 use crate::spelling::plain_path;
 use memchr::memchr;
+use mk_name::fault::{Halt, Source};
+use mk_name::name::Name;
 use std::alloc::Global;
 use std::collections::BTreeSet;
 use std::marker::Model;
@@ -99,7 +99,7 @@ pub fn listed_in_any_order()
 #[cfg(test)]
 mod tests {
     use super::*;
-    use crate::report::refused_report;
+    use mk_name::report::refused_report;
     use std::alloc::AllocError;
     use std::test::Fail;
 

@@ -1,11 +1,11 @@
 //! The root: the directory that relative paths start from.
 ghost use Rattle.std.specs.Prelude.{◌≡◌, List, ℕ, map, IfOk};
-ghost use Rattle.mk_text.specs.Gives.{Gives};
+ghost use Rattle.mk_name.specs.Gives.{Gives};
 ghost use Rattle.mk_text.specs.Spelling.{components, reduced, root_of};
 
 use crate::components::{add_path, copies};
-use crate::fault::{Fault, Halt, Source};
 use crate::limits::is_root;
+use mk_name::fault::{Fault, Halt, Source};
 use std::alloc::{AllocError, Global};
 use std::marker::Model;
 

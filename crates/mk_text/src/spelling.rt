@@ -1,13 +1,13 @@
 //! The plain spelling of paths.
 ghost use Rattle.std.specs.Prelude.{◌≡◌, List, ℕ, [], ◌∷◌, ◌++◌, All, codes, IfOk};
-ghost use Rattle.mk_text.specs.Gives.{Gives, Halts};
+ghost use Rattle.mk_name.specs.Gives.{Gives, Halts};
 ghost use Rattle.mk_text.specs.Spelling as spec;
 
 use crate::components::{add_path, is_plain_path, name_below};
-use crate::fault::{Fault, Halt, Kind, Source};
 use crate::limits::{is_absolute, is_path, is_word};
-use crate::name::Name;
 use crate::root::Root;
+use mk_name::fault::{Fault, Halt, Kind, Source};
+use mk_name::name::Name;
 use std::alloc::{AllocError, Global};
 
 /// The plain name of a word of a makefile, or of a goal (profile).

@@ -1,6 +1,6 @@
 use super::{TEXT_LIMIT, lines};
-use crate::fault::Halt;
 use crate::line::{Line, LineKind};
+use mk_name::fault::Halt;
 use std::alloc::{AllocError, Global};
 use std::fmt::Write;
 use std::str;

@@ -2,7 +2,7 @@ use Rattle.std.proofs.Common.{◌≡◌, false, ◌||◌, [], ◌∷◌, Ok, Err
 use Rattle.std.specs.List.{list_any}
 use Rattle.std.specs.Option.{option_map, option_or}
 use Rattle.mk_text.specs.Spelling.{bad_name}
-use Rattle.mk_text.specs.declared.fault.Source.TheVariants.{Makefile}
+use Rattle.mk_name.specs.declared.fault.Source.TheVariants.{Makefile}
 use Rattle.mk_graph.specs.PlainRules.{entry_of, is_not_yet, is_reserved_target, is_special, meaning, refused_word}
 use Rattle.mk_graph.proofs.Words.{words_good, words_told}
 use Rattle.mk_graph.proofs.plain_rules.entry_of_words.Goals as goal

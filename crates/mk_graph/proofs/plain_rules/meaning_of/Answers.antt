@@ -1,6 +1,6 @@
 use Rattle.std.proofs.Common.{Some, None, [], ◌∷◌, if◌then◌else◌, sym, ◌∙◌, ap}
 use Rattle.mk_text.specs.Spelling.{bad_name}
-use Rattle.mk_text.specs.declared.fault.Source.TheVariants.{Makefile}
+use Rattle.mk_name.specs.declared.fault.Source.TheVariants.{Makefile}
 use Rattle.mk_graph.proofs.Words.{meaning_refused, word_refused}
 use Rattle.mk_graph.proofs.plain_rules.meaning_of.Goals as goal
 

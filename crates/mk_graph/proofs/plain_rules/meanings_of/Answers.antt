@@ -1,7 +1,7 @@
 use Rattle.std.proofs.Common.{[], ◌∷◌, ◌++◌, ◌∙◌, ap, get_or}
 use Rattle.std.proofs.lemmas.List.{get_or_default}
 use Rattle.mk_text.specs.Spelling.{bad_name}
-use Rattle.mk_text.specs.declared.fault.Source.TheVariants.{Makefile}
+use Rattle.mk_name.specs.declared.fault.Source.TheVariants.{Makefile}
 use Rattle.mk_graph.specs.PlainRules.{meaning}
 use Rattle.mk_graph.proofs.Words.{fault_more, names_more}
 use Rattle.mk_graph.proofs.plain_rules.meanings_of.Goals as goal

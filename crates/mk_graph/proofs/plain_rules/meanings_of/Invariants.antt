@@ -1,7 +1,7 @@
 use Rattle.std.proofs.Common.{◌≡◌, ◌∷◌, [], map, take}
 use Rattle.std.specs.Option.{option_map}
 use Rattle.mk_text.specs.Spelling.{bad_name}
-use Rattle.mk_text.specs.declared.fault.Source.TheVariants.{Makefile}
+use Rattle.mk_name.specs.declared.fault.Source.TheVariants.{Makefile}
 use Rattle.mk_graph.specs.PlainRules.{meaning, refused_word}
 use Rattle.mk_graph.proofs.plain_rules.meanings_of.Given as goal
 

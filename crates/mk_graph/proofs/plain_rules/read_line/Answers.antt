@@ -1,7 +1,7 @@
 use Rattle.std.proofs.Common.{◌≡◌, ◌+◌, Option, Result, drop, take, ◌∙◌, ap, subst}
 use Rattle.std.proofs.lemmas.List.{drop-drop}
-use Rattle.mk_text.specs.Told.{Told}
-use Rattle.mk_text.specs.Gives.{Gives}
+use Rattle.mk_name.specs.Told.{Told}
+use Rattle.mk_name.specs.Gives.{Gives}
 use Rattle.mk_text.specs.LogicalLine.{text_of}
 use Rattle.mk_graph.specs.Book.{Entry}
 use Rattle.mk_graph.specs.PlainRules.{before_semicolon, prerequisite_words, target_words, words_answer, words_of}

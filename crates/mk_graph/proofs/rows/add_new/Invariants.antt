@@ -1,5 +1,5 @@
 use Rattle.std.proofs.Common.{◌≡◌, take, nat_eq}
-use Rattle.mk_text.specs.Names.{kept}
+use Rattle.mk_name.specs.Names.{kept}
 use Rattle.mk_graph.specs.Seen.{IsSeen}
 use Rattle.mk_graph.proofs.rows.add_new.Given as goal
 

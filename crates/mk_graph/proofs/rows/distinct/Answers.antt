@@ -1,7 +1,7 @@
 use Rattle.std.proofs.Common.{◌≡◌, ◌∙◌, sym, ap, subst, ◌<◌, length, arith, get_or, List, ℕ, rules, nat_eq, [], Option}
 use Rattle.std.specs.Prelude.{Vec}
 use Rattle.std.specs.Global.{Global}
-use Rattle.mk_text.specs.Names.{kept}
+use Rattle.mk_name.specs.Names.{kept}
 use Rattle.mk_graph.specs.Seen.{AllBelow}
 use Rattle.mk_graph.proofs.Steps.{In}
 use Rattle.mk_graph.proofs.Rowing.{firsts_within}

@@ -1,7 +1,7 @@
 use Rattle.std.proofs.Common.{◌≡◌, ◌∙◌, sym, ap, subst, ◌<◌, length, arith, get_or, List, ℕ, rules, nat_eq}
 use Rattle.std.specs.List.{flat_map}
 use Rattle.std.proofs.lemmas.List.{take_all}
-use Rattle.mk_text.specs.Names.{firsts}
+use Rattle.mk_name.specs.Names.{firsts}
 use Rattle.mk_graph.specs.Rows.{row}
 use Rattle.mk_graph.proofs.Rowing.{in_at, joined_next, joined_within_size}
 use Rattle.mk_graph.proofs.Measure.{row_read}

@@ -1,6 +1,6 @@
 use Rattle.std.proofs.Common.{◌≡◌, take, nat_eq}
 use Rattle.std.specs.List.{flat_map}
-use Rattle.mk_text.specs.Names.{firsts}
+use Rattle.mk_name.specs.Names.{firsts}
 use Rattle.mk_graph.specs.Rows.{row}
 use Rattle.mk_graph.specs.Seen.{IsSeen}
 use Rattle.mk_graph.proofs.rows.joined.Given as goal

@@ -3,7 +3,7 @@ use Rattle.std.specs.Prelude.{Vec, nat_eq, IsTrue}
 use Rattle.std.specs.Global.{Global}
 use Rattle.std.proofs.lemmas.List.{length_push, take_all}
 use Rattle.std.specs.List.{flat_map}
-use Rattle.mk_text.specs.Names.{has, firsts}
+use Rattle.mk_name.specs.Names.{has, firsts}
 use Rattle.mk_graph.specs.Book.{places_of}
 use Rattle.mk_graph.specs.Numbered.{name_at}
 use Rattle.mk_graph.specs.Rows.{row}

@@ -1,5 +1,5 @@
 use Rattle.std.proofs.Common.{◌≡◌, ◌<◌, ℕ, drop, nat_eq, true, false, get_or, length}
-use Rattle.mk_text.specs.Names.{has}
+use Rattle.mk_name.specs.Names.{has}
 use Rattle.mk_graph.proofs.rows.unmark.Given as goal
 
 -- what is marked still stands in the rest of the row

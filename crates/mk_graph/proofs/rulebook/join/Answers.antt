@@ -1,7 +1,7 @@
 use Rattle.std.proofs.Common.{sym, ◌∙◌, ap}
 use Rattle.std.specs.Cmp.Lexicographic.{nat_list_eq_equiv}
 use Rattle.indexmap.specs.IndexSet.{insert_key}
-use Rattle.mk_text.specs.Names.{same_name}
+use Rattle.mk_name.specs.Names.{same_name}
 use Rattle.mk_graph.proofs.Firsts.{insert_key-present, kept_more}
 use Rattle.mk_graph.proofs.rulebook.join.Goals as goal
 use Rattle.mk_graph.proofs.rulebook.join.Goals.{then-not-contains+in_ok-copy+in_ok-insert, else-not-contains}

@@ -1,5 +1,5 @@
 use Rattle.std.proofs.Common.{◌≡◌, take}
-use Rattle.mk_text.specs.Names.{kept, same_name}
+use Rattle.mk_name.specs.Names.{kept, same_name}
 use Rattle.mk_graph.proofs.rulebook.join.Given as goal
 
 -- the names so far are taken in

@@ -1,6 +1,6 @@
 use Rattle.std.proofs.Common.{◌≡◌, List, [], ◌∷◌, ◌++◌, sym, ◌∙◌, ap, map, refl, subst, take}
 use Rattle.std.proofs.lemmas.List.{take_more}
-use Rattle.mk_text.specs.Names.{Name}
+use Rattle.mk_name.specs.Names.{Name}
 use Rattle.mk_graph.specs.Book.{Entry}
 use Rattle.mk_graph.specs.Index.{IsIndexed}
 use Rattle.mk_graph.proofs.Notes.{indexed-empty}

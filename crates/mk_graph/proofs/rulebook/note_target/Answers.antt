@@ -1,7 +1,7 @@
 use Rattle.std.proofs.Common.{Some, [], ◌∷◌, ◌++◌, sym, ◌∙◌, ap, map}
 use Rattle.std.proofs.lemmas.List.{map-append}
 use Rattle.indexmap.specs.IndexSet.{insert_key}
-use Rattle.mk_text.specs.Names.{same_name}
+use Rattle.mk_name.specs.Names.{same_name}
 use Rattle.mk_graph.specs.Index.{with_target}
 use Rattle.mk_graph.proofs.Notes.{absent_noted, indexed_same, present_noted}
 use Rattle.mk_graph.proofs.rulebook.note_target.Goals as goal

@@ -1,5 +1,5 @@
 use Rattle.std.proofs.Common.{◌≡◌, take}
-use Rattle.mk_text.specs.Names.{kept, same_name}
+use Rattle.mk_name.specs.Names.{kept, same_name}
 use Rattle.mk_graph.specs.Numbered.{Stand}
 use Rattle.mk_graph.proofs.numbering.Numbering.put_all.Given as goal
 

@@ -1,7 +1,7 @@
 use Rattle.std.proofs.Common.{◌∙◌, ap}
 use Rattle.std.proofs.lemmas.List.{take_all}
 use Rattle.std.specs.List.{flat_map}
-use Rattle.mk_text.specs.Names.{firsts, same_name}
+use Rattle.mk_name.specs.Names.{firsts, same_name}
 use Rattle.mk_graph.proofs.Indexes.{joined_more, prerequisites_at, flat_map-places_of}
 use Rattle.mk_graph.proofs.rulebook.Rulebook.prerequisites.Goals as goal
 

@@ -1,6 +1,6 @@
 use Rattle.std.proofs.Common.{◌≡◌, take}
 use Rattle.std.specs.List.{flat_map}
-use Rattle.mk_text.specs.Names.{firsts, same_name}
+use Rattle.mk_name.specs.Names.{firsts, same_name}
 use Rattle.mk_graph.proofs.Indexes.{prerequisites_at}
 use Rattle.mk_graph.proofs.rulebook.Rulebook.prerequisites.Given as goal
 

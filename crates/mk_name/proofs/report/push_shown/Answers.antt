@@ -1,6 +1,6 @@
 use Rattle.std.proofs.Common.{rules, sym, ◌∙◌}
-use Rattle.mk_text.proofs.Visible.{shown_visible}
-use Rattle.mk_text.proofs.report.push_shown.Goals as goal
+use Rattle.mk_name.proofs.Visible.{shown_visible}
+use Rattle.mk_name.proofs.report.push_shown.Goals as goal
 
 pub returns-then-is_all_visible : goal.returns-then-is_all_visible
 returns-then-is_all_visible c =

@@ -1,7 +1,7 @@
 //! How names and faults are shown.
 ghost use Rattle.std.specs.Prelude.{◌≡◌, ◌++◌, IfOk, OnOk};
 ghost use Rattle.std.specs.List.{list_all};
-ghost use Rattle.mk_text.specs.Shown as spec;
+ghost use Rattle.mk_name.specs.Shown as spec;
 
 use crate::fault::{Fault, Kind, Source};
 use crate::name::Name;

@@ -1,7 +1,7 @@
 use Rattle.std.proofs.Common.{◌≡◌, ◌++◌, take}
 use Rattle.std.specs.List.{flat_map}
-use Rattle.mk_text.specs.Shown as spec
-use Rattle.mk_text.proofs.report.refused_report.Given as goal
+use Rattle.mk_name.specs.Shown as spec
+use Rattle.mk_name.proofs.report.refused_report.Given as goal
 
 -- the names so far have their lines
 abbrev pub invariant-loop-name : goal.invariant-loop-name

@@ -1,7 +1,7 @@
 -- What a fault says.
 use Rattle.std.specs.Prelude.{ℕ, List}
-use Rattle.mk_text.specs.declared.fault.Kind.{Kind}
-use Rattle.mk_text.specs.declared.fault.Source.{Source}
+use Rattle.mk_name.specs.declared.fault.Kind.{Kind}
+use Rattle.mk_name.specs.declared.fault.Source.{Source}
 
 -- a fault: what is wrong, in which text or stage, at which line, operand or node, and the names that it tells
 pub record Told : Type 0 where

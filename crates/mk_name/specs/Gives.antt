@@ -1,8 +1,8 @@
 -- What a call says that gives a value, a fault or want of memory.
 use Rattle.std.specs.Prelude.{◌≡◌, Result, Ok, Err}
-use Rattle.mk_text.specs.Told.{Told}
-use Rattle.mk_text.specs.declared.fault.Halt.{Halt}
-use Rattle.mk_text.specs.declared.fault.Halt.TheVariants as halts
+use Rattle.mk_name.specs.Told.{Told}
+use Rattle.mk_name.specs.declared.fault.Halt.{Halt}
+use Rattle.mk_name.specs.declared.fault.Halt.TheVariants as halts
 
 -- want of memory may come in place of any answer; a fault is the answer's own
 abbrev pub Halts : {Y : Type 0} → Halt → Result Y Told → Type 0

@@ -1,6 +1,6 @@
 //! Faults: what is wrong with an input, and where.
 ghost use Rattle.std.specs.Prelude.{◌≡◌, [], ◌∷◌, IfOk};
-ghost use Rattle.mk_text.specs.declared.fault.Halt.TheVariants.{Memory};
+ghost use Rattle.mk_name.specs.declared.fault.Halt.TheVariants.{Memory};
 
 use crate::name::Name;
 use std::alloc::{AllocError, AllocFailed, Global};
@@ -60,7 +60,7 @@ pub enum Kind {
 }
 
 impl Kind {
-    ghost use Rattle.mk_text.specs.Shown.{number_of, word_of};
+    ghost use Rattle.mk_name.specs.Shown.{number_of, word_of};
 
     /// The number by which reports tell it.
     pub fn number(self) -> u8
@@ -149,7 +149,7 @@ pub struct Fault {
 }
 
 impl Model for Fault {
-    ghost use Rattle.mk_text.specs.Told.{Told};
+    ghost use Rattle.mk_name.specs.Told.{Told};
 
     ghost Value = { Told };
 

@@ -2,11 +2,11 @@
 use Rattle.std.specs.Prelude.{ℕ, ◌/◌, ◌%◌, Bool, List, [], ◌∷◌, ◌++◌, ◌==◌, ◌&&◌, ◌||◌, nat_le, not, slice_index, codes, if◌then◌else◌}
 use Rattle.std.specs.List.{flat_map}
 use Rattle.std.specs.Fmt.{decimal}
-use Rattle.mk_text.specs.Told.{Told}
-use Rattle.mk_text.specs.declared.fault.Kind.{Kind}
-use Rattle.mk_text.specs.declared.fault.Kind.TheVariants as kinds
-use Rattle.mk_text.specs.declared.fault.Source.{Source}
-use Rattle.mk_text.specs.declared.fault.Source.TheVariants as sources
+use Rattle.mk_name.specs.Told.{Told}
+use Rattle.mk_name.specs.declared.fault.Kind.{Kind}
+use Rattle.mk_name.specs.declared.fault.Kind.TheVariants as kinds
+use Rattle.mk_name.specs.declared.fault.Source.{Source}
+use Rattle.mk_name.specs.declared.fault.Source.TheVariants as sources
 
 -- a byte that stands for itself: a visible one that is no backslash, or one past ASCII
 abbrev pub is_visible : ℕ → Bool

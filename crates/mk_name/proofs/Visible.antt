@@ -2,7 +2,7 @@
 use Rattle.std.proofs.Common.{◌≡◌, ◌∙◌, ℕ, true, List, [], ◌∷◌, ◌++◌, ap, refl, ◌/◌, ◌%◌}
 use Rattle.std.specs.List.{list_all}
 use Rattle.std.proofs.lemmas.Bool.{and_parts, cond-true}
-use Rattle.mk_text.specs.Shown.{is_visible, shown, hex_digit}
+use Rattle.mk_name.specs.Shown.{is_visible, shown, hex_digit}
 
 -- a name of visible bytes is shown as it is
 pub shown_visible : (name : List ℕ) → list_all is_visible name ≡ true → shown name ≡ name

@@ -7,7 +7,7 @@ use Rattle.std.proofs.lemmas.Bool.{or_cases, or_left, or_right, or_parts, or_fro
 use Rattle.std.proofs.lemmas.List.{append-nil}
 use Rattle.std.proofs.lemmas.List.Sums.{sum_by-cons, sum_by-append}
 use Rattle.std.proofs.lemmas.List.Folds.{list_any-append}
-use Rattle.mk_text.specs.Names.{Name, same_name, has, kept, firsts, IsDistinct}
+use Rattle.mk_name.specs.Names.{Name, same_name, has, kept, firsts, IsDistinct}
 
 -- a test of equality
 pub record IsExact {X : Type 0} (same : X → X → Bool) : Type 0 where
@@ -68,24 +68,24 @@ module _ {X : Type 0} (same : X → X → Bool) (exact : IsExact same) where
   pub has-push_other : (xs : List X) (y x : X) → (y ≡ x → ⊥) → has same xs x ≡ has same (xs ++ y ∷ []) x
   has-push_other xs y x n =
       elim (cases_Bool (has same xs x)) [
-        inl t ↦ t ∙ sym (in_left xs (y ∷ []) x t)
-      | inr f ↦ f ∙ sym (not_in (xs ++ y ∷ []) x (λ h. elim (in_push_cases xs y x h) [ inl t ↦ both_ways _ f t | inr e ↦ n e ]))
+        | inl t ↦ t ∙ sym (in_left xs (y ∷ []) x t)
+        | inr f ↦ f ∙ sym (not_in (xs ++ y ∷ []) x (λ h. elim (in_push_cases xs y x h) [ inl t ↦ both_ways _ f t | inr e ↦ n e ]))
       ]
 
   pub in_joined : {Y : Type 0} (test : Y → Y → Bool) (sound : IsExact test) (f : Y → List X) (ys : List Y) (y : Y) (x : X) → In test ys y → In same (f y) x → In same (flat_map f ys) x
   in_joined test sound f [] y x m h = absurd (both_ways _ refl m)
   in_joined test sound f (z ∷ ys) y x m h =
       elim (or_cases (test z y) _ m) [
-        inl e ↦ in_left (f z) (flat_map f ys) x (subst (λ (w : _). In same (f w) x) (sym (sound.equal z y e)) h)
-      | inr t ↦ in_right (f z) (flat_map f ys) x (in_joined test sound f ys y x t h)
+        | inl e ↦ in_left (f z) (flat_map f ys) x (subst (λ (w : _). In same (f w) x) (sym (sound.equal z y e)) h)
+        | inr t ↦ in_right (f z) (flat_map f ys) x (in_joined test sound f ys y x t h)
       ]
 
   pub joined_within : {Y : Type 0} (test : Y → Y → Bool) (sound : IsExact test) (f : Y → List X) (ys : List Y) (xs : List X) → ((y : Y) → In test ys y → Within same (f y) xs) → Within same (flat_map f ys) xs
   joined_within test sound f [] xs h x m = absurd (both_ways _ refl m)
   joined_within test sound f (z ∷ ys) xs h x m =
       elim (in_cases (f z) (flat_map f ys) x m) [
-        inl l ↦ h z (or_left _ _ (sound.itself z)) x l
-      | inr r ↦ joined_within test sound f ys xs (λ y i. h y (or_right (test z y) _ i)) x r
+        | inl l ↦ h z (or_left _ _ (sound.itself z)) x l
+        | inr r ↦ joined_within test sound f ys xs (λ y i. h y (or_right (test z y) _ i)) x r
       ]
 
   pub kept_new : (front : List X) (x : X) (xs : List X) → has same front x ≡ false → kept same front (x ∷ xs) ≡ kept same (front ++ x ∷ []) xs
@@ -109,32 +109,36 @@ module _ {X : Type 0} (same : X → X → Bool) (exact : IsExact same) where
   kept_front front [] x h = h
   kept_front front (y ∷ ys) x h =
       elim (cases_Bool (has same front y)) [
-        inl t ↦ subst (λ (zs : List X). In same zs x) (sym (kept_old front y ys t)) (kept_front front ys x h)
-      | inr f ↦ subst (λ (zs : List X). In same zs x) (sym (kept_new front y ys f)) (kept_front (front ++ y ∷ []) ys x (in_left front (y ∷ []) x h))
+        | inl t ↦ subst (λ (zs : List X). In same zs x) (sym (kept_old front y ys t)) (kept_front front ys x h)
+        | inr f ↦ subst (λ (zs : List X). In same zs x) (sym (kept_new front y ys f)) (kept_front (front ++ y ∷ []) ys x (in_left front (y ∷ []) x h))
       ]
 
   pub kept_has : (front xs : List X) (x : X) → In same xs x → In same (kept same front xs) x
   kept_has front [] x h = absurd (both_ways _ refl h)
   kept_has front (y ∷ ys) x h =
       elim (cases_Bool (has same front y)) [
-        inl t ↦ subst (λ (zs : List X). In same zs x) (sym (kept_old front y ys t)) (elim (in_cons_cases y x ys h) [
-            inl e ↦ kept_front front ys x (subst (λ (z : X). In same front z) e t)
-          | inr i ↦ kept_has front ys x i ])
-      | inr f ↦ subst (λ (zs : List X). In same zs x) (sym (kept_new front y ys f)) (elim (in_cons_cases y x ys h) [
-            inl e ↦ kept_front (front ++ y ∷ []) ys x (subst (λ (z : X). In same (front ++ y ∷ []) z) e (in_push front y))
-          | inr i ↦ kept_has (front ++ y ∷ []) ys x i ])
+        | inl t ↦ subst (λ (zs : List X). In same zs x) (sym (kept_old front y ys t)) (elim (in_cons_cases y x ys h) [
+          | inl e ↦ kept_front front ys x (subst (λ (z : X). In same front z) e t)
+          | inr i ↦ kept_has front ys x i
+        ])
+        | inr f ↦ subst (λ (zs : List X). In same zs x) (sym (kept_new front y ys f)) (elim (in_cons_cases y x ys h) [
+          | inl e ↦ kept_front (front ++ y ∷ []) ys x (subst (λ (z : X). In same (front ++ y ∷ []) z) e (in_push front y))
+          | inr i ↦ kept_has (front ++ y ∷ []) ys x i
+        ])
       ]
 
   pub kept_cases : (front xs : List X) (x : X) → In same (kept same front xs) x → In same front x ⊎ In same xs x
   kept_cases front [] x h = inl h
   kept_cases front (y ∷ ys) x h =
       elim (cases_Bool (has same front y)) [
-        inl t ↦ elim (kept_cases front ys x (subst (λ (zs : List X). In same zs x) (kept_old front y ys t) h)) [
-            inl l ↦ inl l
-          | inr r ↦ inr (in_tail y x ys r) ]
-      | inr f ↦ elim (kept_cases (front ++ y ∷ []) ys x (subst (λ (zs : List X). In same zs x) (kept_new front y ys f) h)) [
-            inl l ↦ elim (in_push_cases front y x l) [ inl i ↦ inl i | inr e ↦ inr (subst (λ (z : X). In same (y ∷ ys) z) e (in_head y ys)) ]
-          | inr r ↦ inr (in_tail y x ys r) ]
+        | inl t ↦ elim (kept_cases front ys x (subst (λ (zs : List X). In same zs x) (kept_old front y ys t) h)) [
+          | inl l ↦ inl l
+          | inr r ↦ inr (in_tail y x ys r)
+        ]
+        | inr f ↦ elim (kept_cases (front ++ y ∷ []) ys x (subst (λ (zs : List X). In same zs x) (kept_new front y ys f) h)) [
+          | inl l ↦ elim (in_push_cases front y x l) [ inl i ↦ inl i | inr e ↦ inr (subst (λ (z : X). In same (y ∷ ys) z) e (in_head y ys)) ]
+          | inr r ↦ inr (in_tail y x ys r)
+        ]
       ]
 
   -- what is kept of a list may be kept again in its place
@@ -142,8 +146,8 @@ module _ {X : Type 0} (same : X → X → Bool) (exact : IsExact same) where
   kept_again front some [] = refl
   kept_again front some (x ∷ xs) =
       elim (cases_Bool (has same some x)) [
-        inl t ↦ ap (kept same front) (kept_old some x xs t) ∙ kept_again front some xs ∙ sym (kept_old (kept same front some) x xs (kept_has front some x t))
-      | inr f ↦ ap (kept same front) (kept_new some x xs f) ∙ kept_again front (some ++ x ∷ []) xs ∙ ap (λ zs. kept same zs xs) (kept-append front some (x ∷ []))
+        | inl t ↦ ap (kept same front) (kept_old some x xs t) ∙ kept_again front some xs ∙ sym (kept_old (kept same front some) x xs (kept_has front some x t))
+        | inr f ↦ ap (kept same front) (kept_new some x xs f) ∙ kept_again front (some ++ x ∷ []) xs ∙ ap (λ zs. kept same zs xs) (kept-append front some (x ∷ []))
       ]
 
   pub distinct_push : (xs : List X) (x : X) → IsDistinct same xs → has same xs x ≡ false → IsDistinct same (xs ++ x ∷ [])
@@ -156,8 +160,8 @@ module _ {X : Type 0} (same : X → X → Bool) (exact : IsExact same) where
   distinct_kept front [] d = d
   distinct_kept front (x ∷ xs) d =
       elim (cases_Bool (has same front x)) [
-        inl t ↦ subst (λ (zs : List X). IsDistinct same zs) (sym (kept_old front x xs t)) (distinct_kept front xs d)
-      | inr f ↦ subst (λ (zs : List X). IsDistinct same zs) (sym (kept_new front x xs f)) (distinct_kept (front ++ x ∷ []) xs (distinct_push front x d f))
+        | inl t ↦ subst (λ (zs : List X). IsDistinct same zs) (sym (kept_old front x xs t)) (distinct_kept front xs d)
+        | inr f ↦ subst (λ (zs : List X). IsDistinct same zs) (sym (kept_new front x xs f)) (distinct_kept (front ++ x ∷ []) xs (distinct_push front x d f))
       ]
 
   -- the list around one of its items
@@ -165,15 +169,15 @@ module _ {X : Type 0} (same : X → X → Bool) (exact : IsExact same) where
   parted [] x h = absurd (both_ways _ refl h)
   parted (y ∷ ys) x h =
       elim (in_cons_cases y x ys h) [
-        inl e ↦ ([], ys, ap (λ z. z ∷ ys) e)
-      | inr i ↦ let p = parted ys x i in (y ∷ p.0, p.1, ap (λ zs. y ∷ zs) p.2)
+        | inl e ↦ ([], ys, ap (λ z. z ∷ ys) e)
+        | inr i ↦ let p = parted ys x i in (y ∷ p.0, p.1, ap (λ zs. y ∷ zs) p.2)
       ]
 
   without : (front back : List X) (x y : X) → (x ≡ y → ⊥) → In same (front ++ x ∷ back) y → In same (front ++ back) y
   without front back x y n h =
       elim (in_cases front (x ∷ back) y h) [
-        inl l ↦ in_left front back y l
-      | inr r ↦ elim (in_cons_cases x y back r) [ inl e ↦ absurd (n e) | inr i ↦ in_right front back y i ]
+        | inl l ↦ in_left front back y l
+        | inr r ↦ elim (in_cons_cases x y back r) [ inl e ↦ absurd (n e) | inr i ↦ in_right front back y i ]
       ]
 
   -- distinct items of a list weigh no more than the list
@@ -182,6 +186,6 @@ module _ {X : Type 0} (same : X → X → Bool) (exact : IsExact same) where
   sum_within weight (x ∷ xs) ys d w =
       let p = parted ys x (w x (in_head x xs)) in
       let rest : sum_by weight xs ≤ sum_by weight (p.0 ++ p.1) = sum_within weight xs (p.0 ++ p.1) d.1
-          (λ y i. without p.0 p.1 x y (λ e. both_ways _ d.0 (subst (λ (z : X). In same xs z) (sym e) i)) (subst (λ (zs : List X). In same zs y) p.2 (w y (in_tail x y xs i)))) in
+      (λ y i. without p.0 p.1 x y (λ e. both_ways _ d.0 (subst (λ (z : X). In same xs z) (sym e) i)) (subst (λ (zs : List X). In same zs y) p.2 (w y (in_tail x y xs i)))) in
       let whole : sum_by weight ys ≡ sum_by weight (p.0 ++ x ∷ p.1) = ap (sum_by weight) p.2 in
       omega (arith, rest, whole, sum_by-cons weight x xs, sum_by-append weight p.0 p.1, sum_by-append weight p.0 (x ∷ p.1), sum_by-cons weight x p.1)

@@ -1,0 +1,4 @@
+pub mod Gives
+pub mod Names
+pub mod Shown
+pub mod Told
