@@ -1,0 +1,4 @@
+mod Asked
+mod OrderLines
+mod GoalsLemmas
+mod Planned
