@@ -1,0 +1,4 @@
+mod Asked
+mod GoalsLemmas
+mod OrderLines
+mod Planned

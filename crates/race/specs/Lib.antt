@@ -1,0 +1,5 @@
+pub mod Answered
+pub mod CommandLine
+pub mod Goals
+pub mod OrderText
+pub mod Stages

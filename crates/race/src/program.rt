@@ -1,0 +1,252 @@
+//! The program: from the words of the command line to what is written.
+ghost use Rattle.std.specs.Prelude.{◌≡◌, ◌≢◌, IfOk, IfSome, IsErr, List, OnErr, OnOk, Some, false, map, true, ℕ};
+ghost use Rattle.clap.specs.Words.{kind_of, subcommand_of, takes};
+ghost use Rattle.race.specs.Answered as spec;
+ghost use Rattle.race.specs.CommandLine.{program};
+ghost use Rattle.race.specs.declared.words.Request.TheVariants.{Order};
+
+use crate::opener::Opener;
+use crate::order::order_text;
+use crate::stages::plan_of;
+use crate::words::{Build, Request, read_words};
+use clap::error::ErrorKind;
+use mk_name::fault::Halt;
+use mk_name::report::refused_report;
+use mk_text::device::{Intake, Outlet, ReadStop, read_all, write_all};
+use std::alloc::{AllocError, Global};
+use std::fmt;
+use std::process::ExitCode;
+use thiserror::Error;
+
+/// How the program ends.
+#[derive(Clone, Copy, Debug, PartialEq, Eq)]
+pub enum Status {
+    /// The plan is printed, or the help.
+    Done,
+    /// The inputs are refused, and the report says why.
+    Refused,
+    /// A device failed, memory is short, or the words are wrong.
+    Failed,
+}
+
+impl From<Status> for ExitCode {
+    fn from(status: Status) -> ExitCode {
+        match status {
+            Status::Done => ExitCode::from(0),
+            Status::Refused => ExitCode::from(2),
+            Status::Failed => ExitCode::from(3),
+        }
+    }
+}
+
+/// A file that the program reads.
+#[derive(Clone, Copy, Debug, PartialEq, Eq)]
+pub enum InputFile {
+    Makefile,
+    Listing,
+}
+
+impl fmt::Display for InputFile {
+    fn fmt<W: fmt::Write>(&self, f: &mut fmt::Formatter<W>) -> fmt::Result {
+        f.write_str(match self {
+            InputFile::Makefile => "makefile",
+            InputFile::Listing => "listing",
+        })
+    }
+}
+
+const OUT_OF_MEMORY: &str = "race: out of memory";
+
+/// Why the program ends with the status of a device, of memory or of usage. Its text is what stands on the standard
+/// error, without the newline.
+#[derive(Debug, Drop, Error)]
+pub enum Failure {
+    /// The input cannot be opened, or cannot be read to its end.
+    #[error("race: read failed: {0}")]
+    Read(InputFile),
+    /// The standard output takes no more.
+    #[error("race: write failed")]
+    Write,
+    /// Memory ran out.
+    #[error("{}", OUT_OF_MEMORY)]
+    Memory,
+    /// The words are wrong; the text is `clap`'s.
+    #[error("{0}")]
+    Usage(String),
+}
+
+impl From<AllocError> for Failure {
+    fn from(_error: AllocError) -> Failure {
+        Failure::Memory
+    }
+}
+
+/// What the program says, and how it ends where that is written.
+#[derive(Debug, Drop)]
+struct Answer {
+    status: Status,
+    text: Vec<u8>,
+}
+
+/// Runs the program on the words of the command line, of which the first is its own name. The answer or the help goes to
+/// `out`; what is wrong with the words, a device or memory to `err`, whose own failure is passed over. Nothing is written
+/// before every file is opened, and then read to its end.
+pub fn race_words<'a, P: Opener, O: Outlet, E: Outlet>(
+    alloc: Global,
+    words: &'a [&'a str],
+    opener: &mut P,
+    out: &mut O,
+    err: &mut E,
+) -> Status
+    requires out_works { O.has_failed out.old ≡ false }
+    requires err_works { E.has_failed err.old ≡ false }
+    ensures failed { O.has_failed out.new ≡ true → result ≡ Status.Failed }
+    // What is not the whole answer is nothing, or what a device took before it failed.
+    ensures nothing { result ≡ Status.Failed → O.has_failed out.new ≡ false → out.new ≡ out.old }
+    ensures answer { takes program (map (λ word. word.now) words.entry.now) ≡ true
+        → result ≢ Status.Failed → spec.WritesAnswer
+        (subcommand_of program (map (λ word. word.now) words.entry.now))
+        (P.text opener.old) result (O.written out.old) (O.written out.new) }
+{
+    match answer_written(alloc, words, opener, out) {
+        Ok(status) => status,
+        Err(failure) => {
+            tell(alloc, &failure, err);
+            Status::Failed
+        }
+    }
+}
+
+/// Writes what is wrong. A failure of the device is passed over.
+pub fn tell<E: Outlet>(alloc: Global, failure: &Failure, err: &mut E)
+    requires { E.has_failed err.old ≡ false }
+{
+    let told = match format!(in alloc; "{failure}\n") {
+        Ok(line) => write_all(err, line.as_bytes()),
+        Err(_) => write_all(err, OUT_OF_MEMORY.as_bytes()),
+    };
+    let _ = told;
+}
+
+fn answer_written<'a, P: Opener, O: Outlet>(
+    alloc: Global,
+    words: &'a [&'a str],
+    opener: &mut P,
+    out: &mut O,
+) -> Result<Status, Failure>
+    requires { O.has_failed out.old ≡ false }
+    ensures works { OnOk result (O.has_failed out.new ≡ false) }
+    ensures nothing { OnErr result (O.has_failed out.new ≡ false → out.new ≡ out.old) }
+    ensures status { IfOk result (λ status. status ≢ Status.Failed) }
+    ensures answer { takes program (map (λ word. word.now) words.entry.now) ≡ true
+        → IfOk result (λ status. spec.WritesAnswer
+        (subcommand_of program (map (λ word. word.now) words.entry.now))
+        (P.text opener.old) status (O.written out.old) (O.written out.new)) }
+{
+    let answer = match read_words(alloc, words) {
+        Ok(request) => answer_of(alloc, &request, opener)?,
+        Err(error) => help_of(alloc, &error)?,
+    };
+    match write_all(out, answer.text.as_slice()) {
+        Ok(()) => Ok(answer.status),
+        Err(_) => Err(Failure::Write),
+    }
+}
+
+/// The help, where the words ask for it.
+fn help_of(alloc: Global, error: &clap::Error) -> Result<Answer, Failure>
+    ensures status { IfOk result (λ answer. answer.status ≢ Status.Failed) }
+    ensures memory { kind_of error.now ≡ ErrorKind.OutOfMemory → IsErr result }
+{
+    if error.kind() == ErrorKind::OutOfMemory {
+        return Err(Failure::Memory);
+    }
+    let text = error.to_string(alloc)?;
+    if error.use_stderr() {
+        return Err(Failure::Usage(String::from_str(alloc, text.trim_end())?));
+    }
+    Ok(Answer {
+        status: Status::Done,
+        text: text.into_bytes(),
+    })
+}
+
+fn answer_of<P: Opener>(
+    alloc: Global,
+    request: &Request<'_>,
+    opener: &mut P,
+) -> Result<Answer, Failure>
+    ensures status { IfOk result (λ answer. answer.status ≢ Status.Failed) }
+    ensures answer { IfOk result (λ answer.
+        spec.IsAnswer request.now (P.text opener.old) answer.status answer.text.items) }
+{
+    match request {
+        Request::Order(build) => order(alloc, build, opener),
+    }
+}
+
+/// The serial order of a build, or why it is refused. All files are opened before any is read.
+fn order<P: Opener>(alloc: Global, build: &Build<'_>, opener: &mut P) -> Result<Answer, Failure>
+    ensures status { IfOk result (λ answer. answer.status ≢ Status.Failed) }
+    ensures answer { IfOk result (λ answer.
+        spec.IsAnswer (Order build.now) (P.text opener.old) answer.status answer.text.items) }
+{
+    let mut makefile = opened(opener, build.makefile, InputFile::Makefile)?;
+    let mut listing = opened(opener, build.listing, InputFile::Listing)?;
+    let makefile = text_of(alloc, &mut makefile, InputFile::Makefile)?;
+    let listing = text_of(alloc, &mut listing, InputFile::Listing)?;
+    order_of(alloc, build, makefile.as_slice(), listing.as_slice())
+}
+
+/// What the texts of a build give. The only failure is want of memory.
+fn order_of(
+    alloc: Global,
+    build: &Build<'_>,
+    makefile: &[u8],
+    listing: &[u8],
+) -> Result<Answer, Failure>
+    ensures { IfOk result (λ answer. spec.IsOrderAnswer build.now.root.now
+        (map (λ operand. operand.now) build.now.operands.items)
+        makefile.now listing.now answer.status answer.text.items) }
+{
+    match plan_of(
+        alloc,
+        build.root,
+        build.operands.as_slice(),
+        makefile,
+        listing,
+    ) {
+        Ok(plan) => Ok(Answer {
+            status: Status::Done,
+            text: order_text(alloc, &plan)?,
+        }),
+        Err(Halt::Fault(fault)) => Ok(Answer {
+            status: Status::Refused,
+            text: refused_report(alloc, &fault)?,
+        }),
+        Err(Halt::Memory) => Err(Failure::Memory),
+    }
+}
+
+fn opened<P: Opener>(opener: &mut P, path: &str, input: InputFile) -> Result<P::File, Failure>
+    ensures works { IfOk result (λ file. P.File.has_failed file ≡ false) }
+    ensures whole { IfOk result (λ file. (bytes : List ℕ)
+        → P.text opener.old path.now ≡ Some bytes → P.File.left file ≡ Some bytes) }
+    ensures same { (path : List ℕ) → P.text opener.new path ≡ P.text opener.old path }
+{
+    match opener.open(path) {
+        Ok(file) => Ok(file),
+        Err(_) => Err(Failure::Read(input)),
+    }
+}
+
+fn text_of<I: Intake>(alloc: Global, file: &mut I, input: InputFile) -> Result<Vec<u8>, Failure>
+    requires { I.has_failed file.old ≡ false }
+    ensures { IfOk result (λ text. IfSome (I.left file.old) (λ bytes. text.items ≡ bytes)) }
+{
+    match read_all(alloc, file) {
+        Ok(text) => Ok(text),
+        Err(ReadStop::Memory) => Err(Failure::Memory),
+        Err(ReadStop::Broken) => Err(Failure::Read(input)),
+    }
+}
