@@ -331,3 +331,6 @@ fn note_entry(
     }
     Ok(())
 }
+
+#[cfg(test)]
+mod tests;
