@@ -342,3 +342,6 @@ pub fn plain_rules(alloc: Global, lines: &[Line], root: &Root) -> Result<Ruleboo
     let book = Rulebook::new(alloc, read.rules)?;
     checked(alloc, book, &read.lines)
 }
+
+#[cfg(test)]
+mod tests;

@@ -338,3 +338,6 @@ fn note_entry(
     }
     Ok(())
 }
+
+#[cfg(test)]
+mod tests;
