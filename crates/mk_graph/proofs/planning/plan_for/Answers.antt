@@ -89,6 +89,13 @@ assemble-requires-clause-inside c =
     let g = graph_at c.args.book.now c.args.goals.now c.in-Some.graph.names c.in-Some.graph.rows.items c.as_slice-rows.result.now c.in-Some.graph.goals.items c.as_slice-2.result.now c.as_slice-rows.ensures.value c.as_slice-2.ensures.value (rw c.in-Some.is at c.in_ok-graph.ensures.found) in
     row_within c.args.book.now c.args.listing.now c.args.goals.now c.in-Some.graph.names c.as_slice-rows.result.now c.as_slice-2.result.now g
 
+pub assemble-requires-clause-rising : goal.assemble-requires-clause-rising
+assemble-requires-clause-rising c =
+    let o = subst (λ (w : Walked). IsWalked (row c.as_slice.result.now) c.as_slice-2.result.now w) c.in-Order.is c.in_ok-ring.ensures in
+    let p = subst (λ (rs : List (Vec ℕ Global)). IsOrder (row rs) c.as_slice-2.result.now c.in-Order.order.items) (c.as_slice.ensures.value ∙ sym c.as_slice-rows.ensures.value) o in
+    let q = subst (λ (ns : List ℕ). IsOrder (row c.as_slice-rows.result.now) c.as_slice-2.result.now ns) (sym c.as_slice-in-Order.ensures.value) p in
+    q.rising
+
 pub returns : goal.returns
 returns c =
     let g = graph_at c.args.book.now c.args.goals.now c.in-Some.graph.names c.in-Some.graph.rows.items c.as_slice-rows.result.now c.in-Some.graph.goals.items c.as_slice-2.result.now c.as_slice-rows.ensures.value c.as_slice-2.ensures.value (rw c.in-Some.is at c.in_ok-graph.ensures.found) in
