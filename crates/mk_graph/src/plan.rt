@@ -30,7 +30,13 @@ impl Model for PlanNode {
 
     ghost Value = { Node };
 
-    ghost view = { λ a. record { name = a.name; prerequisites = a.prerequisites.items; maker = a.maker; phony = a.phony; listed = a.listed } };
+    ghost view = { λ a. record {
+      name = a.name;
+      prerequisites = a.prerequisites.items;
+      maker = a.maker;
+      phony = a.phony;
+      listed = a.listed;
+    } };
 }
 
 /// All that some goals need, in serial order. A node's number is its place.
@@ -86,7 +92,8 @@ fn node(
     name: &Name,
     prerequisites: Vec<u32>,
 ) -> Result<PlanNode, AllocError>
-    ensures { IfOk result (λ node. node ≡ node_of book.now listing.now name.now prerequisites.items) }
+    ensures { IfOk result
+        (λ node. node ≡ node_of book.now listing.now name.now prerequisites.items) }
 {
     Ok(PlanNode {
         name: name.copy(alloc)?,
@@ -110,7 +117,10 @@ fn nodes_of(
     requires within { (n : ℕ) → IsTrue (has nat_eq order.now n) → n < length names.now }
     requires rows { length rows.now ≡ length names.now }
     requires places { (i n : ℕ) → IsTrue (has nat_eq (row rows.now i) n) → n < length places.now }
-    ensures { IfOk result (λ nodes. nodes.items ≡ map (λ n. node_of book.now listing.now (name_at names.now n) (map (λ p. get_or places.now p 0) (row rows.now n))) order.now) }
+    ensures { IfOk result
+        (λ nodes. nodes.items ≡ map
+        (λ n. node_of book.now listing.now (name_at names.now n)
+        (map (λ p. get_or places.now p 0) (row rows.now n))) order.now) }
 {
     let mut nodes = Vec::new(alloc);
     for number in order {
@@ -147,7 +157,8 @@ pub fn assemble(
     requires rows { length rows.now ≡ length names.now }
     requires inside { (i n : ℕ) → IsTrue (has nat_eq (row rows.now i) n) → n < length names.now }
     requires rising { IsRising (row rows.now) order.now }
-    ensures { IfOk result (λ plan. IsAssembled book.now listing.now names.now rows.now order.now plan) }
+    ensures { IfOk result
+        (λ plan. IsAssembled book.now listing.now names.now rows.now order.now plan) }
 {
     let places = places_in(alloc, order, names.count())?;
     let nodes = nodes_of(alloc, book, listing, names, rows, places.as_slice(), order)?;

@@ -1,4 +1,4 @@
-use Rattle.std.proofs.Common.{◌≡◌, ◌∙◌, sym, subst, arith, ap, length, List, ℕ}
+use Rattle.std.proofs.Common.{◌∙◌, sym, subst, arith, ap, length, List, ℕ}
 use Rattle.std.proofs.lemmas.List.{length-map}
 use Rattle.mk_name.specs.Names.{Name, same_name, IsDistinct}
 use Rattle.mk_graph.specs.Assembled.{IsNumbering}

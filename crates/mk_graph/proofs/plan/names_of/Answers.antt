@@ -1,4 +1,4 @@
-use Rattle.std.proofs.Common.{◌≡◌, ◌∙◌, sym, ap, [], ◌∷◌, length, take, ◌<◌, arith}
+use Rattle.std.proofs.Common.{◌∙◌, ap, [], ◌∷◌, arith}
 use Rattle.std.proofs.lemmas.List.{take_all}
 use Rattle.mk_name.specs.Names.{same_name, kept}
 use Rattle.mk_graph.specs.Plan.{Node, names_of}

@@ -1,12 +1,12 @@
-use Rattle.std.proofs.Common.{◌≡◌, ◌∙◌, sym, ap, subst, ◌<◌, ◌≤◌, length, arith, List, ℕ, [], ◌∷◌, ◌++◌, Option, Some, None, map, drop, take, ◌+◌}
-use Rattle.std.specs.Prelude.{Vec, nat_eq, Err, Ok}
+use Rattle.std.proofs.Common.{◌∙◌, sym, ap, subst, length, List, ℕ, [], ◌∷◌, ◌++◌, Option}
+use Rattle.std.specs.Prelude.{Vec, Err}
 use Rattle.std.specs.Global.{Global}
-use Rattle.mk_name.specs.Names.{Name, same_name, IsDistinct}
+use Rattle.mk_name.specs.Names.{Name, same_name}
 use Rattle.mk_name.specs.declared.fault.Halt.{Halt}
 use Rattle.mk_name.specs.declared.fault.Kind.TheVariants as kinds
 use Rattle.mk_graph.specs.Answer.{Comes, too_large, no_rule, cycle, planned, Halts, graph_fault, IsTooLarge}
 use Rattle.mk_graph.specs.Book.{prerequisites_of}
-use Rattle.mk_graph.specs.Graph.{IsCycle, HasMoreThan}
+use Rattle.mk_graph.specs.Graph.{IsCycle}
 use Rattle.mk_graph.specs.Least.{upto, IsLeastPassing}
 use Rattle.mk_graph.specs.Makers.{is_unmade}
 use Rattle.mk_graph.specs.Numbered.{name_at}
