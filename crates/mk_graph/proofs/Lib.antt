@@ -8,6 +8,7 @@ pub mod Indexes
 mod Leasts
 pub mod Lines
 mod Measure
+mod NodeNames
 mod NodesOf
 pub mod Notes
 mod Numberings

@@ -17,6 +17,7 @@ use Rattle.mk_graph.specs.Rows.{row, IsRising}
 use Rattle.mk_graph.specs.Walk.{IsOrder}
 use Rattle.mk_graph.proofs.Bridge.{Numbers, serial_order_map, no_cycle_map, node_inside}
 use Rattle.mk_graph.proofs.Graphs.{numbers_of}
+use Rattle.mk_graph.proofs.NodeNames.{names_of_nodes, placed_before}
 use Rattle.mk_graph.proofs.Rowing.{in_at, place_of}
 use Rattle.mk_graph.proofs.Steps.{In}
 
@@ -46,10 +47,6 @@ module _ (book : List Entry) (listing goals names : List Name) (rows : List (Vec
   order_below : (n : ℕ) → In order n → n < length names
   order_below n h = node_inside same_name (prerequisites_of book) goals (name_at names) (length names) (row rows) starts (numbers_of book goals names rows starts g) n (o.nodes n h)
 
-  names_are : (ns : List ℕ) → map (λ (m : Node). m.name) (map node_at ns) ≡ map (name_at names) ns
-  names_are [] = refl
-  names_are (n ∷ ns) = ap (λ xs. name_at names n ∷ xs) (names_are ns)
-
   -- the name at the place of a number of the order
   name_back : (q : ℕ) → In order q → get_or (map (name_at names) order) (get_or places q 0) [] ≡ name_at names q
   name_back q h =
@@ -64,20 +61,6 @@ module _ (book : List Entry) (listing goals names : List Name) (rows : List (Vec
 
   in_order : (i q : ℕ) → i < length order → In (row rows (get_or order i 0)) q → In order q
   in_order i q h m = subst (λ (xs : List ℕ). In xs q) (take-append-drop i order) (in_left nat_eq nat_is_exact (take i order) (drop i order) q (o.rising i q h m))
-
-  -- a prerequisite's place comes before
-  placed_before : (i : ℕ) (qs : List ℕ) → i < length order → ((q : ℕ) → In qs q → In (take i order) q) → (p : ℕ) → In (map (λ q. get_or places q 0) qs) p → p < i
-  placed_before i [] h w p m = absurd (both_ways _ refl m)
-  placed_before i (q ∷ qs) h w p m =
-      elim (in_cons_cases nat_eq nat_is_exact (get_or places q 0) p (map (λ r. get_or places r 0) qs) m) [
-        | inl e ↦
-            (let k = place_of (take i order) q (w q (in_head nat_eq nat_is_exact q qs)) in
-            let l = length-take-le i order (omega arith) in
-            let less : k.0 < i = omega (arith, k.1, l) in
-            let here : get_or places q 0 ≡ k.0 = ap (λ r. get_or places r 0) (sym k.2 ∙ get_or-take i order k.0 0 less) ∙ at k.0 (omega arith) in
-            subst (λ (r : ℕ). r < i) (sym here ∙ e) less)
-        | inr r ↦ placed_before i qs h (λ x j. w x (in_tail nat_eq nat_is_exact q x qs j)) p r
-      ]
 
   node_is : (i : ℕ) (d : Node) → i < length order → get_or (map node_at order) i d ≡ node_at (get_or order i 0)
   node_is i d h = get_or-map node_at order i 0 d h
@@ -95,7 +78,7 @@ module _ (book : List Entry) (listing goals names : List Name) (rows : List (Vec
               listed = refl;
             });
         rising = λ i p d h m. let k = inside i h in
-            placed_before i (row rows (get_or order i 0)) k (λ q j. o.rising i q k j) p (subst (λ (x : Node). In x.prerequisites p) (ap (λ ns. get_or ns i d) is ∙ node_is i d k) m);
+            placed_before order places at i (row rows (get_or order i 0)) k (λ q j. o.rising i q k j) p (subst (λ (x : Node). In x.prerequisites p) (ap (λ ns. get_or ns i d) is ∙ node_is i d k) m);
         waits = waits;
       }
     where
@@ -103,7 +86,7 @@ module _ (book : List Entry) (listing goals names : List Name) (rows : List (Vec
       w = numbers_of book goals names rows starts g
 
       named : map (λ (x : Node). x.name) plan.nodes ≡ map (name_at names) order
-      named = ap (map (λ (x : Node). x.name)) is ∙ names_are order
+      named = ap (map (λ (x : Node). x.name)) is ∙ names_of_nodes book listing names rows places order
 
       inside : (i : ℕ) → i < length plan.nodes → i < length order
       inside i h = let l = ap length is in omega (arith, l, length-map order node_at)

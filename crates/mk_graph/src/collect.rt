@@ -63,9 +63,15 @@ pub fn collect(
     goals: &[Name],
     limit: usize,
 ) -> Result<Option<Found>, AllocError>
-    ensures found { IfOk result (λ found. IfSome found (λ f. Collected book.now goals.now f.names f.entries.items f.goals.items (length f.names))) }
+    ensures found { IfOk result
+        (λ found. IfSome found
+        (λ f. Collected book.now goals.now f.names f.entries.items f.goals.items
+        (length f.names))) }
     ensures few { IfOk result (λ found. IfSome found (λ f. length f.names ≤ limit)) }
-    ensures too_large { IfOk result (λ found. IfNone found ((names : List Name) × AreNodes same_name (prerequisites_of book.now) goals.now names × (limit < length names))) }
+    ensures too_large { IfOk result
+        (λ found. IfNone found
+        ((names : List Name) × AreNodes same_name (prerequisites_of book.now) goals.now names ×
+        (limit < length names))) }
 {
     let mut names = Numbering::new(alloc);
     let starts = names.put_all(alloc, goals)?;

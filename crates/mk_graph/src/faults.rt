@@ -101,7 +101,9 @@ fn names_from(
 ) -> Result<Vec<Name>, AllocError>
     requires within { (n : ℕ) → IsTrue (has nat_eq ring.now n) → n < length names.now }
     requires first { first < length ring.now }
-    ensures { IfOk result (λ cycle. cycle.items ≡ map (name_at names.now) (drop first ring.now ++ take (first + 1) ring.now)) }
+    ensures { IfOk result
+        (λ cycle. cycle.items ≡ map (name_at names.now)
+        (drop first ring.now ++ take (first + 1) ring.now)) }
 {
     let mut cycle = Vec::new(alloc);
     add_names(alloc, &mut cycle, names, &ring[first..])?;
@@ -113,7 +115,10 @@ fn names_from(
 pub fn cycle_of(alloc: Global, names: &Numbering, ring: &[usize]) -> Result<Vec<Name>, AllocError>
     requires some { 0 < length ring.now }
     requires within { (n : ℕ) → IsTrue (has nat_eq ring.now n) → n < length names.now }
-    ensures { IfOk result (λ cycle. (first : ℕ) × IsLeastPlace names.now ring.now (length ring.now) first × (cycle.items ≡ map (name_at names.now) (drop first ring.now ++ take (first + 1) ring.now))) }
+    ensures { IfOk result
+        (λ cycle. (first : ℕ) × IsLeastPlace names.now ring.now (length ring.now) first ×
+        (cycle.items ≡ map (name_at names.now)
+        (drop first ring.now ++ take (first + 1) ring.now))) }
 {
     let first = least_place(names, ring);
     names_from(alloc, names, ring, first)

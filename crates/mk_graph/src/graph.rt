@@ -29,9 +29,16 @@ pub fn graph_of(
     max_edges: usize,
 ) -> Result<Option<Graph>, AllocError>
     requires { max_edges ≤ 1000000 }
-    ensures found { IfOk result (λ found. IfSome found (λ g. IsGraph book.now goals.now g.names g.rows.items g.goals.items)) }
-    ensures small { IfOk result (λ found. IfSome found (λ g. HasMoreThan same_name (prerequisites_of book.now) goals.now max_names max_edges → ⊥)) }
-    ensures too_large { IfOk result (λ found. IfNone found (HasMoreThan same_name (prerequisites_of book.now) goals.now max_names max_edges)) }
+    ensures found { IfOk result
+        (λ found. IfSome found
+        (λ g. IsGraph book.now goals.now g.names g.rows.items g.goals.items)) }
+    ensures small { IfOk result
+        (λ found. IfSome found
+        (λ g. HasMoreThan same_name (prerequisites_of book.now) goals.now max_names max_edges
+        → ⊥)) }
+    ensures too_large { IfOk result
+        (λ found. IfNone found
+        (HasMoreThan same_name (prerequisites_of book.now) goals.now max_names max_edges)) }
 {
     let Some(found) = collect(alloc, book, goals, max_names)? else {
         return Ok(None);

@@ -2,9 +2,9 @@
 ghost use Rattle.std.specs.Prelude.{◌≡◌, ◌<◌, ◌≤◌, ◌++◌, List, [], ◌∷◌, ℕ, length, map, get_or, nat_eq, IsTrue, IfOk, Ok, Err};
 ghost use Rattle.mk_name.specs.Names.{has, same_name, IsDistinct};
 ghost use Rattle.mk_graph.specs.Assembled.{node_of, IsAssembled, IsNumbering};
-ghost use Rattle.mk_graph.specs.Numbered.{name_at};
-ghost use Rattle.mk_graph.specs.Plan.{Node};
-ghost use Rattle.mk_graph.specs.Rows.{row};
+ghost use Rattle.mk_graph.specs.Numbered.{name_at, number_of};
+ghost use Rattle.mk_graph.specs.Plan.{Node, names_of};
+ghost use Rattle.mk_graph.specs.Rows.{row, IsRising};
 
 use crate::faults::maker_of;
 use crate::maker::Maker;
@@ -30,13 +30,20 @@ impl Model for PlanNode {
 
     ghost Value = { Node };
 
-    ghost view = { λ a. record { name = a.name; prerequisites = a.prerequisites.items; maker = a.maker; phony = a.phony; listed = a.listed } };
+    ghost view = { λ a. record {
+      name = a.name;
+      prerequisites = a.prerequisites.items;
+      maker = a.maker;
+      phony = a.phony;
+      listed = a.listed;
+    } };
 }
 
 /// All that some goals need, in serial order. A node's number is its place.
 #[derive(Debug, Drop)]
 pub struct Plan {
     nodes: Vec<PlanNode>,
+    index: Numbering,
     wait_uses: u64,
 }
 
@@ -47,9 +54,7 @@ impl Model for Plan {
 
     ghost view = { λ a. record { nodes = a.nodes.items; wait_uses = a.wait_uses } };
 
-    ghost use Rattle.std.specs.Prelude.{◌≤◌, length};
-
-    ghost invariant = { λ a. length a.nodes.items ≤ 4294967295 };
+    ghost invariant = { λ a. plans.IsOrdered a.nodes.items a.index };
 }
 
 /// The place of each number in the order.
@@ -87,7 +92,8 @@ fn node(
     name: &Name,
     prerequisites: Vec<u32>,
 ) -> Result<PlanNode, AllocError>
-    ensures { IfOk result (λ node. node ≡ node_of book.now listing.now name.now prerequisites.items) }
+    ensures { IfOk result
+        (λ node. node ≡ node_of book.now listing.now name.now prerequisites.items) }
 {
     Ok(PlanNode {
         name: name.copy(alloc)?,
@@ -111,7 +117,10 @@ fn nodes_of(
     requires within { (n : ℕ) → IsTrue (has nat_eq order.now n) → n < length names.now }
     requires rows { length rows.now ≡ length names.now }
     requires places { (i n : ℕ) → IsTrue (has nat_eq (row rows.now i) n) → n < length places.now }
-    ensures { IfOk result (λ nodes. nodes.items ≡ map (λ n. node_of book.now listing.now (name_at names.now n) (map (λ p. get_or places.now p 0) (row rows.now n))) order.now) }
+    ensures { IfOk result
+        (λ nodes. nodes.items ≡ map
+        (λ n. node_of book.now listing.now (name_at names.now n)
+        (map (λ p. get_or places.now p 0) (row rows.now n))) order.now) }
 {
     let mut nodes = Vec::new(alloc);
     for number in order {
@@ -119,6 +128,18 @@ fn nodes_of(
         nodes.push(node(alloc, book, listing, names.name(*number), prerequisites)?)?;
     }
     Ok(nodes)
+}
+
+/// The names of some nodes, each by its node's place.
+fn names_of(alloc: Global, nodes: &[PlanNode]) -> Result<Numbering, AllocError>
+    requires { IsDistinct same_name (names_of nodes.now) }
+    ensures { IfOk result (λ names. names ≡ names_of nodes.now) }
+{
+    let mut names = Numbering::new(alloc);
+    for node in nodes {
+        names.put(alloc, &node.name)?;
+    }
+    Ok(names)
 }
 
 /// The plan of a graph whose nodes stand in this order.
@@ -135,12 +156,16 @@ pub fn assemble(
     requires distinct { IsDistinct nat_eq order.now }
     requires rows { length rows.now ≡ length names.now }
     requires inside { (i n : ℕ) → IsTrue (has nat_eq (row rows.now i) n) → n < length names.now }
-    ensures { IfOk result (λ plan. IsAssembled book.now listing.now names.now rows.now order.now plan) }
+    requires rising { IsRising (row rows.now) order.now }
+    ensures { IfOk result
+        (λ plan. IsAssembled book.now listing.now names.now rows.now order.now plan) }
 {
     let places = places_in(alloc, order, names.count())?;
     let nodes = nodes_of(alloc, book, listing, names, rows, places.as_slice(), order)?;
+    let index = names_of(alloc, nodes.as_slice())?;
     Ok(Plan {
         nodes,
+        index,
         wait_uses: book.wait_uses(),
     })
 }
@@ -153,10 +178,12 @@ impl Plan {
         self.nodes.len() as u32
     }
 
-    /// The numbers of what a node needs, in the rule's order. Its number must be below the count of nodes.
+    /// The numbers of what a node needs, in the rule's order: each is below the node's own. Its number must be below
+    /// the count of nodes.
     pub fn prerequisites(&self, n: u32) -> &[u32]
         requires { n < length self.now.nodes }
-        ensures { (d : Node) → result.now ≡ (get_or self.now.nodes n d).prerequisites }
+        ensures value { (d : Node) → result.now ≡ (get_or self.now.nodes n d).prerequisites }
+        ensures smaller { (p : ℕ) → IsTrue (has nat_eq result.now p) → p < n }
     {
         let node = &self.nodes[n as usize];
         node.prerequisites.as_slice()
@@ -169,6 +196,14 @@ impl Plan {
     {
         let node = &self.nodes[n as usize];
         &node.name
+    }
+
+    /// The number of the node with this name, if there is one.
+    pub fn number(&self, name: &Name) -> Option<u32>
+        ensures { result ≡ number_of (names_of self.now.nodes) name.now }
+    {
+        let number = self.index.number(name)?;
+        Some(number as u32)
     }
 
     /// What makes a node's name. Its number must be below the count of nodes.

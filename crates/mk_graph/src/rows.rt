@@ -45,10 +45,13 @@ fn joined(
     entries: &[Vec<usize>],
     places: &[usize],
 ) -> Result<Vec<usize>, AllocError>
-    requires within { (place n : ℕ) → IsTrue (has nat_eq (row entries.now place) n) → n < length seen.old }
-    requires places { (place : ℕ) → IsTrue (has nat_eq places.now place) → place < length entries.now }
+    requires within { (place n : ℕ) → IsTrue (has nat_eq (row entries.now place) n)
+        → n < length seen.old }
+    requires places { (place : ℕ) → IsTrue (has nat_eq places.now place)
+        → place < length entries.now }
     requires marked { IsSeen seen.old [] }
-    ensures row { IfOk result (λ joined. joined.items ≡ firsts nat_eq (flat_map (row entries.now) places.now)) }
+    ensures row { IfOk result
+        (λ joined. joined.items ≡ firsts nat_eq (flat_map (row entries.now) places.now)) }
     ensures marked { OnOk result (IsSeen seen.new []) }
 {
     let mut joined = Vec::new(alloc);
@@ -89,7 +92,8 @@ pub fn distinct_entries(
 ) -> Result<Vec<Vec<usize>>, AllocError>
     requires within { (place : ℕ) → AllBelow (length seen.old) (get_or entries.now place None) }
     requires marked { IsSeen seen.old [] }
-    ensures rows { IfOk result (λ rows. (place : ℕ) → row rows.items place ≡ firsts_of (get_or entries.now place None)) }
+    ensures rows { IfOk result
+        (λ rows. (place : ℕ) → row rows.items place ≡ firsts_of (get_or entries.now place None)) }
     ensures length { IfOk result (λ rows. length rows.items ≡ length entries.now) }
     ensures marked { OnOk result (IsSeen seen.new []) }
 {
@@ -111,12 +115,20 @@ pub fn rows_of(
 ) -> Result<Option<Vec<Vec<usize>>>, AllocError>
     requires limit { limit ≤ 1000000 }
     requires entries { length entries.now ≡ length book.now }
-    requires within { (place n : ℕ) → IsTrue (has nat_eq (row entries.now place) n) → n < length seen.old }
+    requires within { (place n : ℕ) → IsTrue (has nat_eq (row entries.now place) n)
+        → n < length seen.old }
     requires marked { IsSeen seen.old [] }
-    ensures length { IfOk result (λ found. IfSome found (λ rows. length rows.items ≡ length names.now)) }
-    ensures rows { IfOk result (λ found. IfSome found (λ rows. (i : ℕ) → i < length names.now → row rows.items i ≡ joined_of book.now entries.now (name_at names.now i))) }
-    ensures few { IfOk result (λ found. IfSome found (λ rows. edges_of book.now entries.now names.now ≤ limit)) }
-    ensures too_many { IfOk result (λ found. IfNone found ((count : ℕ) × (limit < edges_of book.now entries.now (take count names.now)))) }
+    ensures length { IfOk result
+        (λ found. IfSome found (λ rows. length rows.items ≡ length names.now)) }
+    ensures rows { IfOk result
+        (λ found. IfSome found
+        (λ rows. (i : ℕ) → i < length names.now → row rows.items i ≡ joined_of book.now entries.now
+        (name_at names.now i))) }
+    ensures few { IfOk result
+        (λ found. IfSome found (λ rows. edges_of book.now entries.now names.now ≤ limit)) }
+    ensures too_many { IfOk result
+        (λ found. IfNone found
+        ((count : ℕ) × (limit < edges_of book.now entries.now (take count names.now)))) }
 {
     let mut rows: Vec<Vec<usize>> = Vec::new(alloc);
     let mut edges = 0;

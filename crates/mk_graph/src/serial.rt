@@ -36,7 +36,8 @@ pub enum Walked {
 
 /// Puts the nodes on the stack, the first on top.
 fn enter_all(stack: &mut Vec<Step>, nodes: &[usize]) -> Result<(), AllocError>
-    ensures { OnOk result (reverse stack.new.items ≡ map Enter nodes.now ++ reverse stack.old.items) }
+    ensures { OnOk result
+        (reverse stack.new.items ≡ map Enter nodes.now ++ reverse stack.old.items) }
 {
     for place in (0..nodes.len()).rev() {
         stack.push(Step::Enter(nodes[place]))?;

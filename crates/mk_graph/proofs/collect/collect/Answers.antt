@@ -1,9 +1,9 @@
-use Rattle.std.proofs.Common.{◌≡◌, ◌∙◌, sym, ap, subst, take, drop, ◌++◌, ◌∷◌, [], List, ◌<◌, length, ◌+◌, arith, replicate, None, Option, ℕ}
+use Rattle.std.proofs.Common.{◌≡◌, ◌∙◌, sym, ap, subst, drop, List, ◌<◌, length, ◌+◌, arith, replicate, None, Option, ℕ}
 use Rattle.std.specs.Prelude.{Vec}
 use Rattle.std.specs.Global.{Global}
 use Rattle.std.proofs.lemmas.List.{take_at}
 use Rattle.mk_graph.specs.Collected.{Collected, Reads}
-use Rattle.mk_graph.proofs.Collecting.{collected_none, collected_more, collected_nodes, collected_all}
+use Rattle.mk_graph.proofs.Collecting.{collected_none, collected_more}
 use Rattle.mk_graph.proofs.collect.collect.Goals as goal
 
 pub all-init : goal.all-init

@@ -1,4 +1,4 @@
-use Rattle.std.proofs.Common.{◌≡◌, ◌∙◌, sym, ap, take, ◌++◌, ◌∷◌, [], ◌<◌, length, ◌+◌, arith, get_or}
+use Rattle.std.proofs.Common.{◌<◌, length, arith, get_or}
 use Rattle.mk_graph.proofs.Collecting.{step_skip, step_more}
 use Rattle.mk_graph.proofs.collect.read_entries.Goals as goal
 use Rattle.mk_graph.proofs.collect.read_entries.Goals.{then-is_none+in_ok-numbers+in-Some-1, then-is_none+in_ok-numbers+in-None-1, else-is_none}

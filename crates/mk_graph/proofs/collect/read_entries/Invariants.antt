@@ -1,4 +1,4 @@
-use Rattle.std.proofs.Common.{◌≡◌, take}
+use Rattle.std.proofs.Common.{take}
 use Rattle.mk_graph.specs.Collected.{Reads}
 use Rattle.mk_graph.proofs.collect.read_entries.Given as goal
 

@@ -1,4 +1,4 @@
-use Rattle.std.proofs.Common.{◌≡◌, ℕ, subst, sym, ◌∙◌, ◌+◌, arith, ◌<◌, length}
+use Rattle.std.proofs.Common.{ℕ, subst, sym, ◌∙◌, ◌+◌, arith}
 use Rattle.mk_graph.specs.Least.{IsLeastPlace}
 use Rattle.mk_graph.proofs.Rowing.{in_at}
 use Rattle.mk_graph.proofs.Leasts.{place_first, place_keep, place_take}

@@ -1,7 +1,6 @@
-use Rattle.std.proofs.Common.{◌≡◌, ℕ, subst, sym, ap, ◌∙◌, ◌+◌, arith, ◌<◌, length, Option, Some, None, true, false}
+use Rattle.std.proofs.Common.{◌≡◌, ℕ, subst, sym, ap, ◌∙◌, ◌+◌, Option, Some, None}
 use Rattle.mk_graph.specs.Least.{IsLeastPassing}
 use Rattle.mk_graph.specs.Makers.{is_unmade}
-use Rattle.mk_graph.specs.Numbered.{name_at}
 use Rattle.mk_graph.proofs.Leasts.{pass_skip, pass_first, pass_keep, pass_take}
 use Rattle.mk_graph.proofs.faults.least_unmade.Goals as goal
 use Rattle.mk_graph.proofs.faults.least_unmade.Goals.{then-is_unmade+in-Some, then-is_unmade+in_default-2, then-is_unmade+in_default, else-is_unmade}

@@ -1,4 +1,4 @@
-use Rattle.std.proofs.Common.{◌≡◌, List, ℕ, subst, take, drop, length, ◌-◌, ◌+◌, ◌++◌, sym, ap, ◌∙◌}
+use Rattle.std.proofs.Common.{List, ℕ, subst, take, drop, ◌+◌}
 use Rattle.std.proofs.lemmas.List.{take_rest, take-append-drop}
 use Rattle.mk_name.proofs.Names.{nat_is_exact, in_left, in_right}
 use Rattle.std.specs.Prelude.{nat_eq}

@@ -1,10 +1,7 @@
-use Rattle.std.proofs.Common.{◌≡◌, ◌∙◌, sym, ap, subst, ◌<◌, ◌≤◌, length, arith, get_or, take, List, ℕ, None}
-use Rattle.std.specs.Prelude.{Vec}
-use Rattle.std.specs.Global.{Global}
+use Rattle.std.proofs.Common.{◌∙◌, ap, ◌<◌, length, arith, get_or, take, ℕ, None}
 use Rattle.mk_graph.specs.Rows.{row}
-use Rattle.mk_graph.specs.Seen.{firsts_of, joined_of, edges_of}
-use Rattle.mk_graph.specs.Numbered.{name_at}
-use Rattle.mk_graph.proofs.Graphs.{distinct_below, graph_is, is_small, many_edges, if_none_at, entries_below}
+use Rattle.mk_graph.specs.Seen.{firsts_of, edges_of}
+use Rattle.mk_graph.proofs.Graphs.{distinct_below, graph_is, is_small, many_edges, if_none_at}
 use Rattle.mk_graph.proofs.graph.graph_of.Goals as goal
 
 pub rows_of-requires-clause-within : goal.rows_of-requires-clause-within

@@ -1,4 +1,4 @@
-use Rattle.std.proofs.Common.{◌≡◌, List, ℕ, map, sym, ◌∙◌, ap, subst}
+use Rattle.std.proofs.Common.{List, ℕ, map, ◌∙◌, ap, subst}
 use Rattle.mk_name.specs.Gives.{Gives}
 use Rattle.mk_graph.specs.PlainRules.{words_answer, words_of}
 use Rattle.mk_graph.proofs.plain_rules.entry_of_parts.Goals as goal

@@ -1,4 +1,4 @@
-use Rattle.std.proofs.Common.{◌≡◌, ◌+◌, Option, Result, drop, take, ◌∙◌, ap, subst}
+use Rattle.std.proofs.Common.{Option, Result, drop, take, ◌∙◌, ap, subst}
 use Rattle.std.proofs.lemmas.List.{drop-drop}
 use Rattle.mk_name.specs.Told.{Told}
 use Rattle.mk_name.specs.Gives.{Gives}

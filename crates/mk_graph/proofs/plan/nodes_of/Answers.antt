@@ -1,8 +1,6 @@
-use Rattle.std.proofs.Common.{◌≡◌, ◌∙◌, sym, ap, subst, rules, arith, get_or, ◌<◌, length, take, map, ◌++◌, ◌∷◌, [], List, ℕ, ◌+◌}
-use Rattle.std.proofs.lemmas.List.{map_more}
+use Rattle.std.proofs.Common.{◌∙◌, ap, subst, rules, arith, get_or, ◌<◌, length, map, List, ℕ}
 use Rattle.mk_graph.specs.Assembled.{node_of}
 use Rattle.mk_graph.specs.Numbered.{name_at}
-use Rattle.mk_graph.specs.Plan.{Node}
 use Rattle.mk_graph.specs.Rows.{row}
 use Rattle.mk_graph.proofs.Measure.{row_read}
 use Rattle.mk_graph.proofs.Rowing.{in_at}

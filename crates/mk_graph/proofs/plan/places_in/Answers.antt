@@ -1,4 +1,4 @@
-use Rattle.std.proofs.Common.{◌≡◌, ◌∙◌, arith, get_or, ◌<◌, length}
+use Rattle.std.proofs.Common.{◌∙◌, arith, get_or}
 use Rattle.std.proofs.lemmas.List.{length-set}
 use Rattle.mk_graph.proofs.Rowing.{in_at}
 use Rattle.mk_graph.proofs.NodesOf.{placed_more}

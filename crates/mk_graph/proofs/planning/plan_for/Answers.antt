@@ -1,12 +1,12 @@
-use Rattle.std.proofs.Common.{◌≡◌, ◌∙◌, sym, ap, subst, ◌<◌, ◌≤◌, length, arith, List, ℕ, [], ◌∷◌, ◌++◌, Option, Some, None, map, drop, take, ◌+◌}
-use Rattle.std.specs.Prelude.{Vec, nat_eq, Err, Ok}
+use Rattle.std.proofs.Common.{◌∙◌, sym, ap, subst, length, List, ℕ, [], ◌∷◌, ◌++◌, Option}
+use Rattle.std.specs.Prelude.{Vec, Err}
 use Rattle.std.specs.Global.{Global}
-use Rattle.mk_name.specs.Names.{Name, same_name, IsDistinct}
+use Rattle.mk_name.specs.Names.{Name, same_name}
 use Rattle.mk_name.specs.declared.fault.Halt.{Halt}
 use Rattle.mk_name.specs.declared.fault.Kind.TheVariants as kinds
 use Rattle.mk_graph.specs.Answer.{Comes, too_large, no_rule, cycle, planned, Halts, graph_fault, IsTooLarge}
 use Rattle.mk_graph.specs.Book.{prerequisites_of}
-use Rattle.mk_graph.specs.Graph.{IsCycle, HasMoreThan}
+use Rattle.mk_graph.specs.Graph.{IsCycle}
 use Rattle.mk_graph.specs.Least.{upto, IsLeastPassing}
 use Rattle.mk_graph.specs.Makers.{is_unmade}
 use Rattle.mk_graph.specs.Numbered.{name_at}
@@ -88,6 +88,13 @@ pub assemble-requires-clause-inside : goal.assemble-requires-clause-inside
 assemble-requires-clause-inside c =
     let g = graph_at c.args.book.now c.args.goals.now c.in-Some.graph.names c.in-Some.graph.rows.items c.as_slice-rows.result.now c.in-Some.graph.goals.items c.as_slice-2.result.now c.as_slice-rows.ensures.value c.as_slice-2.ensures.value (rw c.in-Some.is at c.in_ok-graph.ensures.found) in
     row_within c.args.book.now c.args.listing.now c.args.goals.now c.in-Some.graph.names c.as_slice-rows.result.now c.as_slice-2.result.now g
+
+pub assemble-requires-clause-rising : goal.assemble-requires-clause-rising
+assemble-requires-clause-rising c =
+    let o = subst (λ (w : Walked). IsWalked (row c.as_slice.result.now) c.as_slice-2.result.now w) c.in-Order.is c.in_ok-ring.ensures in
+    let p = subst (λ (rs : List (Vec ℕ Global)). IsOrder (row rs) c.as_slice-2.result.now c.in-Order.order.items) (c.as_slice.ensures.value ∙ sym c.as_slice-rows.ensures.value) o in
+    let q = subst (λ (ns : List ℕ). IsOrder (row c.as_slice-rows.result.now) c.as_slice-2.result.now ns) (sym c.as_slice-in-Order.ensures.value) p in
+    q.rising
 
 pub returns : goal.returns
 returns c =

@@ -1,4 +1,4 @@
-use Rattle.std.proofs.Common.{◌≡◌, ◌∙◌, sym, ap, subst, ◌<◌, length, arith, get_or, true, false, List, ℕ, Bool, ◌++◌, ◌∷◌, [], set, nat_eq}
+use Rattle.std.proofs.Common.{◌∙◌, sym, ap, subst, ◌<◌, length, arith, get_or, List, ℕ, Bool, ◌++◌, ◌∷◌, []}
 use Rattle.std.specs.Prelude.{Vec}
 use Rattle.std.specs.Global.{Global}
 use Rattle.mk_graph.specs.Seen.{IsSeen}

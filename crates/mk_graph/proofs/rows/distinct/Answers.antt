@@ -1,4 +1,4 @@
-use Rattle.std.proofs.Common.{◌≡◌, ◌∙◌, sym, ap, subst, ◌<◌, length, arith, get_or, List, ℕ, rules, nat_eq, [], Option}
+use Rattle.std.proofs.Common.{◌∙◌, ap, subst, length, arith, List, ℕ, nat_eq, [], Option}
 use Rattle.std.specs.Prelude.{Vec}
 use Rattle.std.specs.Global.{Global}
 use Rattle.mk_name.specs.Names.{kept}

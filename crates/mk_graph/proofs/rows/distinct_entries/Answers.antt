@@ -1,4 +1,4 @@
-use Rattle.std.proofs.Common.{◌≡◌, ◌∙◌, sym, ap, subst, ◌<◌, length, arith, get_or, List, ℕ, rules, ◌+◌, ◌++◌, ◌∷◌, []}
+use Rattle.std.proofs.Common.{◌≡◌, ◌∙◌, sym, ap, subst, ◌<◌, length, arith, get_or, List, ℕ, ◌+◌}
 use Rattle.std.specs.Prelude.{Vec, None}
 use Rattle.std.specs.Global.{Global}
 use Rattle.std.proofs.lemmas.List.{length_push}

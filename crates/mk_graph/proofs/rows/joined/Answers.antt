@@ -1,4 +1,4 @@
-use Rattle.std.proofs.Common.{◌≡◌, ◌∙◌, sym, ap, subst, ◌<◌, length, arith, get_or, List, ℕ, rules, nat_eq}
+use Rattle.std.proofs.Common.{◌∙◌, ap, subst, ◌<◌, length, arith, get_or, List, ℕ, rules, nat_eq}
 use Rattle.std.specs.List.{flat_map}
 use Rattle.std.proofs.lemmas.List.{take_all}
 use Rattle.mk_name.specs.Names.{firsts}

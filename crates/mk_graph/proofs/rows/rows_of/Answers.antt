@@ -1,14 +1,12 @@
-use Rattle.std.proofs.Common.{◌≡◌, ◌∙◌, sym, ap, subst, ◌<◌, ◌≤◌, ◌+◌, length, arith, get_or, take, List, ℕ, ◌++◌, ◌∷◌, []}
-use Rattle.std.specs.Prelude.{Vec, nat_eq, IsTrue}
+use Rattle.std.proofs.Common.{◌≡◌, ◌∙◌, sym, ap, subst, ◌<◌, ◌+◌, length, arith, List, ℕ}
+use Rattle.std.specs.Prelude.{Vec, nat_eq}
 use Rattle.std.specs.Global.{Global}
-use Rattle.std.proofs.lemmas.List.{length_push, take_all}
+use Rattle.std.proofs.lemmas.List.{length_push}
 use Rattle.std.specs.List.{flat_map}
-use Rattle.mk_name.specs.Names.{has, firsts}
-use Rattle.mk_graph.specs.Book.{places_of}
+use Rattle.mk_name.specs.Names.{firsts}
 use Rattle.mk_graph.specs.Numbered.{name_at}
 use Rattle.mk_graph.specs.Rows.{row}
-use Rattle.mk_graph.specs.Seen.{joined_of, edges_of}
-use Rattle.mk_graph.proofs.Steps.{In}
+use Rattle.mk_graph.specs.Seen.{joined_of}
 use Rattle.mk_graph.proofs.Rowing.{rows_more, all_in, edges_more}
 use Rattle.mk_graph.proofs.rows.rows_of.Goals as goal
 

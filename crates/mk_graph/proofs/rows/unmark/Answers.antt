@@ -1,4 +1,4 @@
-use Rattle.std.proofs.Common.{◌<◌, length, arith}
+use Rattle.std.proofs.Common.{arith}
 use Rattle.mk_graph.proofs.Rowing.{in_at}
 use Rattle.mk_graph.proofs.rows.unmark.Goals as goal
 

@@ -1,4 +1,4 @@
-use Rattle.std.proofs.Common.{◌≡◌, ℕ, [], reverse, length}
+use Rattle.std.proofs.Common.{◌≡◌, [], reverse, length}
 use Rattle.mk_graph.specs.Steps.{ring_to}
 use Rattle.mk_graph.proofs.serial.ring_of.Given as goal
 

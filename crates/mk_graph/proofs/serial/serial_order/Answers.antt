@@ -1,13 +1,11 @@
-use Rattle.std.proofs.Common.{◌≡◌, ◌∙◌, sym, ap, subst, refl, ◌<◌, ℕ, map, [], ◌∷◌, ◌++◌, reverse, length, ◌+◌, ◌≤◌, List, get_or, set, arith, rules}
-use Rattle.std.proofs.lemmas.List.{append-nil, get_or-replicate, length-replicate, length-map, length-reverse, length-append, length_push}
-use Rattle.std.specs.Prelude.{Vec}
+use Rattle.std.proofs.Common.{◌∙◌, sym, ap, subst, ◌<◌, map, ◌∷◌, ◌++◌, reverse, length, List, get_or, arith, rules}
+use Rattle.std.proofs.lemmas.List.{get_or-replicate, length-replicate, length-map, length-reverse, length-append, length_push}
 use Rattle.mk_graph.specs.Rows.{row}
-use Rattle.mk_graph.specs.declared.serial.Mark.{Mark}
-use Rattle.mk_graph.specs.declared.serial.Mark.TheVariants.{Fresh, Open, Done}
+use Rattle.mk_graph.specs.declared.serial.Mark.TheVariants.{Fresh}
 use Rattle.mk_graph.specs.declared.serial.Step.{Step}
 use Rattle.mk_graph.specs.declared.serial.Step.TheVariants.{Enter, Leave}
 use Rattle.mk_graph.proofs.Steps.{Walks, enters, begin, skip, enter, leave, finish, closes, order_has_no_cycle, enter_small, leave_small}
-use Rattle.mk_graph.proofs.Measure.{popped, length_pushed, work_enter, work_leave, row_read, reverse_push, empty_from_none, mark_read, entered}
+use Rattle.mk_graph.proofs.Measure.{popped, work_enter, work_leave, empty_from_none, mark_read, entered}
 use Rattle.mk_graph.proofs.serial.serial_order.Goals as goal
 
 pub walk-init : goal.walk-init

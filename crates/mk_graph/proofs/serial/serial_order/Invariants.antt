@@ -1,4 +1,4 @@
-use Rattle.std.proofs.Common.{◌≡◌, ℕ, ◌+◌, reverse, length}
+use Rattle.std.proofs.Common.{◌+◌, reverse, length}
 use Rattle.mk_graph.specs.Rows.{row}
 use Rattle.mk_graph.proofs.Steps.{Walks}
 use Rattle.mk_graph.proofs.Measure.{fresh_work}

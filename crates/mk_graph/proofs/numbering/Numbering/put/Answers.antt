@@ -1,8 +1,7 @@
-use Rattle.std.proofs.Common.{◌≡◌, ◌∙◌, sym, ap, subst, ℕ, List, [], ◌∷◌, ◌++◌, length, Some, None}
-use Rattle.std.proofs.Common.{arith}
-use Rattle.mk_name.specs.Names.{Name, kept, same_name, IsDistinct}
-use Rattle.mk_name.proofs.Names.{name_is_exact, kept_old, kept_new, distinct_push}
-use Rattle.mk_graph.proofs.Numberings.{number_has, number_some, number_none, numbered_push, absent_from}
+use Rattle.std.proofs.Common.{◌∙◌, sym, ap, [], ◌∷◌, ◌++◌}
+use Rattle.mk_name.specs.Names.{kept, same_name}
+use Rattle.mk_name.proofs.Names.{name_is_exact, kept_old, kept_new}
+use Rattle.mk_graph.proofs.Numberings.{number_has, number_some, numbered_push, absent_from}
 use Rattle.mk_graph.specs.Numbered.{number_of}
 use Rattle.mk_graph.proofs.numbering.Numbering.put.Goals as goal
 

@@ -1,5 +1,4 @@
-use Rattle.std.proofs.Common.{◌≡◌, ◌∙◌, sym, ap, take, ◌++◌, ◌∷◌, [], ◌<◌, length, ◌+◌, arith}
-use Rattle.mk_name.specs.Names.{kept, same_name}
+use Rattle.std.proofs.Common.{◌<◌, length, arith}
 use Rattle.mk_graph.proofs.Numberings.{put_kept, put_stand}
 use Rattle.mk_graph.proofs.numbering.Numbering.put_all.Goals as goal
 

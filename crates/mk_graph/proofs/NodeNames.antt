@@ -1,0 +1,85 @@
+-- The names of a plan's nodes, and the places of what they need.
+use Rattle.std.proofs.Common.{◌≡◌, ℕ, ◌+◌, ◌<◌, ◌≤◌, Bool, true, false, List, [], ◌∷◌, ◌++◌, length, get_or, take, sym, ◌∙◌, ap, subst, inl, inr, refl, arith, append_assoc, Some}
+use Rattle.std.specs.Prelude.{◌⊎◌, IsTrue, nat_eq, map, Vec}
+use Rattle.std.specs.Global.{Global}
+use Rattle.std.proofs.lemmas.Bool.{both_ways, false_from_ne_true}
+use Rattle.std.proofs.lemmas.List.{append-nil, get_or-map, get_or-take, length-map, length-take-le, map_more}
+use Rattle.mk_name.specs.Names.{Name, same_name, has, kept, firsts, IsDistinct}
+use Rattle.mk_name.proofs.Names.{name_is_exact, nat_is_exact, in_head, in_tail, in_push, in_left, in_cons_cases, kept_new, kept-append}
+use Rattle.mk_graph.specs.Assembled.{node_of, IsNumbering}
+use Rattle.mk_graph.specs.Book.{Entry}
+use Rattle.mk_graph.specs.Numbered.{name_at, number_of}
+use Rattle.mk_graph.specs.Plan.{Node}
+use Rattle.mk_graph.specs.Rows.{row, IsRising}
+use Rattle.mk_graph.proofs.Bridge.{has_back}
+use Rattle.mk_graph.proofs.Numberings.{number_at}
+use Rattle.mk_graph.proofs.Rowing.{place_of}
+use Rattle.mk_graph.proofs.Steps.{In}
+
+-- the nodes of some numbers have the numbers' names
+pub names_of_nodes : (book : List Entry) (listing names : List Name) (rows : List (Vec ℕ Global)) (places ns : List ℕ) → map (λ (m : Node). m.name) (map (λ n. node_of book listing (name_at names n) (map (λ p. get_or places p 0) (row rows n))) ns) ≡ map (name_at names) ns
+names_of_nodes book listing names rows places [] = refl
+names_of_nodes book listing names rows places (n ∷ ns) = ap (λ xs. name_at names n ∷ xs) (names_of_nodes book listing names rows places ns)
+
+-- distinct numbers have distinct names
+pub distinct_names : (names : List Name) (ns : List ℕ) → IsDistinct same_name names → ((n : ℕ) → In ns n → n < length names) → IsDistinct nat_eq ns → IsDistinct same_name (map (name_at names) ns)
+distinct_names names [] u w d = tt
+distinct_names names (n ∷ ns) u w d = (
+  false_from_ne_true _ (λ t.
+      let k = has_back same_name name_is_exact (name_at names) ns (name_at names n) t in
+      let here = number_at names n u (w n (in_head nat_eq nat_is_exact n ns)) in
+      let there = number_at names k.0 u (w k.0 (in_tail nat_eq nat_is_exact n k.0 ns k.1)) in
+      let e : Some k.0 ≡ Some n = sym there ∙ ap (number_of names) k.2 ∙ here in
+      let same : k.0 ≡ n = cc in
+      both_ways _ d.0 (subst (λ (m : ℕ). In ns m) same k.1)),
+  distinct_names names ns u (λ m i. w m (in_tail nat_eq nat_is_exact n m ns i)) d.1,
+)
+
+in_middle : (front : List Name) (x : Name) (xs : List Name) → IsTrue (has same_name (front ++ x ∷ xs) x)
+in_middle [] x xs = in_head same_name name_is_exact x xs
+in_middle (y ∷ ys) x xs = in_tail same_name name_is_exact y x (ys ++ x ∷ xs) (in_middle ys x xs)
+
+absent : (front : List Name) (x : Name) (xs : List Name) → IsDistinct same_name (front ++ x ∷ xs) → has same_name front x ≡ false
+absent [] x xs d = refl
+absent (y ∷ ys) x xs d =
+    false_from_ne_true _ (λ t. elim (in_cons_cases same_name name_is_exact y x ys t) [
+      | inl e ↦ both_ways _ d.0 (subst (λ (z : Name). IsTrue (has same_name (ys ++ x ∷ xs) z)) (sym e) (in_middle ys x xs))
+      | inr i ↦ both_ways _ (absent ys x xs d.1) i
+    ])
+
+-- of distinct names each is kept
+pub kept_distinct : (front xs : List Name) → IsDistinct same_name (front ++ xs) → kept same_name front xs ≡ front ++ xs
+kept_distinct front [] d = sym (append-nil front)
+kept_distinct front (x ∷ xs) d =
+    kept_new same_name name_is_exact front x xs (absent front x xs d)
+    ∙ kept_distinct (front ++ x ∷ []) xs (subst (λ (zs : List Name). IsDistinct same_name zs) (sym (append_assoc front (x ∷ []) xs)) d)
+    ∙ append_assoc front (x ∷ []) xs
+
+-- one more node's name
+pub names_more : (nodes : List Node) (names new : List Name) (i : ℕ) (d : Node) → i < length nodes → names ≡ kept same_name [] (map (λ (m : Node). m.name) (take i nodes)) → new ≡ kept same_name names ((get_or nodes i d).name ∷ []) → new ≡ kept same_name [] (map (λ (m : Node). m.name) (take (i + 1) nodes))
+names_more nodes names new i d h e is =
+    is ∙ ap (λ ns. kept same_name ns ((get_or nodes i d).name ∷ [])) e
+    ∙ sym (kept-append same_name name_is_exact [] (map (λ (m : Node). m.name) (take i nodes)) ((get_or nodes i d).name ∷ []))
+    ∙ ap (kept same_name []) (sym (map_more (λ (m : Node). m.name) nodes i d h))
+
+-- a prerequisite's place comes before
+pub placed_before : (order places : List ℕ) → IsNumbering order places → (i : ℕ) (qs : List ℕ) → i < length order → ((q : ℕ) → In qs q → In (take i order) q) → (p : ℕ) → In (map (λ q. get_or places q 0) qs) p → p < i
+placed_before order places at i [] h w p m = absurd (both_ways _ refl m)
+placed_before order places at i (q ∷ qs) h w p m =
+    elim (in_cons_cases nat_eq nat_is_exact (get_or places q 0) p (map (λ r. get_or places r 0) qs) m) [
+      | inl e ↦
+          (let k = place_of (take i order) q (w q (in_head nat_eq nat_is_exact q qs)) in
+          let l = length-take-le i order (omega arith) in
+          let less : k.0 < i = omega (arith, k.1, l) in
+          let here : get_or places q 0 ≡ k.0 = ap (λ r. get_or places r 0) (sym k.2 ∙ get_or-take i order k.0 0 less) ∙ at k.0 (omega arith) in
+          subst (λ (r : ℕ). r < i) (sym here ∙ e) less)
+      | inr r ↦ placed_before order places at i qs h (λ x j. w x (in_tail nat_eq nat_is_exact q x qs j)) p r
+    ]
+
+-- each node stands after what it needs
+pub nodes_rising : (book : List Entry) (listing names : List Name) (rows : List (Vec ℕ Global)) (order places : List ℕ) (nodes : List Node) → IsNumbering order places → IsRising (row rows) order → nodes ≡ map (λ n. node_of book listing (name_at names n) (map (λ p. get_or places p 0) (row rows n))) order → (i p : ℕ) (d : Node) → i < length nodes → IsTrue (has nat_eq (get_or nodes i d).prerequisites p) → p < i
+nodes_rising book listing names rows order places nodes at rising is i p d h m =
+    let node_at : ℕ → Node = λ n. node_of book listing (name_at names n) (map (λ q. get_or places q 0) (row rows n)) in
+    let k : i < length order = omega (arith, ap length is, length-map order node_at) in
+    placed_before order places at i (row rows (get_or order i 0)) k (λ q j. rising i q k j) p
+    (subst (λ (x : Node). In x.prerequisites p) (ap (λ ns. get_or ns i d) is ∙ get_or-map node_at order i 0 d k) m)
