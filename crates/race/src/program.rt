@@ -1,5 +1,6 @@
 //! The program: from the words of the command line to what is written.
 ghost use Rattle.std.specs.Prelude.{◌≡◌, ◌≢◌, IfOk, IfSome, IsErr, List, OnErr, OnOk, Some, false, map, true, ℕ};
+ghost use Rattle.std.specs.Io.KnownBytes.{Appends};
 ghost use Rattle.clap.specs.Words.{kind_of, subcommand_of, takes};
 ghost use Rattle.race.specs.Answered as spec;
 ghost use Rattle.race.specs.CommandLine.{program};
@@ -55,8 +56,6 @@ impl fmt::Display for InputFile {
     }
 }
 
-const OUT_OF_MEMORY: &str = "race: out of memory";
-
 /// Why the program ends with the status of a device, of memory or of usage. Its text is what stands on the standard
 /// error, without the newline.
 #[derive(Debug, Drop, Error)]
@@ -68,7 +67,7 @@ pub enum Failure {
     #[error("race: write failed")]
     Write,
     /// Memory ran out.
-    #[error("{}", OUT_OF_MEMORY)]
+    #[error("race: out of memory")]
     Memory,
     /// The words are wrong; the text is `clap`'s.
     #[error("{0}")]
@@ -120,10 +119,12 @@ pub fn race_words<'a, P: Opener, O: Outlet, E: Outlet>(
 /// Writes what is wrong. A failure of the device is passed over.
 pub fn tell<E: Outlet>(alloc: Global, failure: &Failure, err: &mut E)
     requires { E.has_failed err.old ≡ false }
+    // It only adds to what stands there.
+    ensures { (line : List ℕ) × Appends (E.written err.old) (E.written err.new) line }
 {
     let told = match format!(in alloc; "{failure}\n") {
         Ok(line) => write_all(err, line.as_bytes()),
-        Err(_) => write_all(err, OUT_OF_MEMORY.as_bytes()),
+        Err(_) => write_all(err, b"race: out of memory\n"),
     };
     let _ = told;
 }

@@ -12,7 +12,7 @@ const ABOUT: &str = "Says whether a makefile may be built with `make -j`.";
 
 const STATUSES: &str = "\
 Statuses:
-  0  the plan is printed
+  0  the answer is printed
   2  the inputs are refused: the report says where and why
   3  a file cannot be read or written, memory is short, or the words are wrong";
 
@@ -33,6 +33,11 @@ Example:
   0 plain a.c
   1 recipe a.o : a.c
   2 recipe prog : a.o
+
+Statuses:
+  0  the order is printed
+  2  the makefile, the listing, the root or a goal is refused
+  3  a file cannot be read or written, memory is short, or the words are wrong
 ";
 
 /// What a build is read from: the names of files, the root and the operands, as they were given.
