@@ -143,7 +143,7 @@ fn names_of(alloc: Global, nodes: &[PlanNode]) -> Result<Numbering, AllocError>
 }
 
 /// The plan of a graph whose nodes stand in this order.
-pub fn assemble(
+pub(crate) fn assemble(
     alloc: Global,
     book: &Rulebook,
     listing: &Listing,

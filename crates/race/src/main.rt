@@ -35,7 +35,7 @@ fn run(rt: &HostRuntime) -> Result<Status, Failure> {
     let words = texts(rt.alloc(), arguments.as_slice())?;
     let mut out = Spout::new(rt.stdout());
     let mut err = Spout::new(rt.stderr());
-    let mut files = Disk::new(rt);
+    let mut files = Disk(rt);
     let words = words.as_slice();
     Ok(race_words(rt.alloc(), words, &mut files, &mut out, &mut err))
 }

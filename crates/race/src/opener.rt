@@ -24,16 +24,7 @@ pub trait Opener {
 
 /// The files of the system that the program runs on.
 #[derive(Drop)]
-pub struct Disk<'a> {
-    rt: &'a HostRuntime,
-}
-
-impl<'a> Disk<'a> {
-    /// The files that this runtime reaches.
-    pub fn new(rt: &'a HostRuntime) -> Disk<'a> {
-        Disk { rt }
-    }
-}
+pub struct Disk<'a>(pub &'a HostRuntime);
 
 impl Opener for Disk<'_> {
     type File = Feed<File>;
@@ -41,7 +32,7 @@ impl Opener for Disk<'_> {
     ghost text = { λ _ _. None };
 
     fn open(&mut self, path: &str) -> Result<Feed<File>, Broken> {
-        match fs::open(self.rt, path) {
+        match fs::open(self.0, path) {
             Ok(file) => Ok(Feed::new(file)),
             Err(_) => Err(Broken),
         }
