@@ -1,7 +1,7 @@
 //! Builds whose serial order is printed.
 use super::Case;
 
-pub static ORDERED: [Case; 28] = [
+pub static ORDERED: [Case; 30] = [
     Case {
         about: "blank line with tab",
         root: "/w",
@@ -225,5 +225,21 @@ pub static ORDERED: [Case; 28] = [
         makefile: b"prog: a.o b.o\n\tcc\na.o: a.c\n\tcc\nb.o: b.c\n\tcc\n",
         listing: b"a.c\nb.c\n",
         out: b"0 plain a.c\n1 recipe a.o : a.c\n2 plain b.c\n3 recipe b.o : b.c\n4 recipe prog : a.o b.o\n",
+    },
+    Case {
+        about: "the example hello",
+        root: "/home/dev/hello",
+        goals: &[],
+        makefile: b"hello: main.o greet.o\n\tcc -o hello main.o greet.o\n\nmain.o: main.c greet.h\n\tcc -c main.c\n\ngreet.o: greet.c greet.h\n\tcc -c greet.c\n",
+        listing: b"README\ngreet.c\ngreet.h\nmain.c\n",
+        out: b"0 plain main.c\n1 plain greet.h\n2 recipe main.o : main.c greet.h\n3 plain greet.c\n4 recipe greet.o : greet.c greet.h\n5 recipe hello : main.o greet.o\n",
+    },
+    Case {
+        about: "the example calculator",
+        root: "/home/dev/calculator",
+        goals: &[],
+        makefile: b"all: calc tests/passed\n\ncalc: parse.o scan.o eval.o\n\tcc -o calc parse.o scan.o eval.o\n\nparse.c: parse.y\n\tyacc -d -o parse.c parse.y\n\nparse.h: parse.c\n\nscan.c: scan.l\n\tlex -t scan.l > scan.c\n\nparse.o: parse.c\n\tcc -c parse.c\n\nscan.o: scan.c parse.h\n\tcc -c scan.c\n\neval.o: eval.c parse.h\n\tcc -c eval.c\n\ntests/passed: ./calc tests/sums\n\t./calc < tests/sums && touch tests/passed\n",
+        listing: b"eval.c\nparse.y\nscan.l\ntests/sums\n",
+        out: b"0 plain parse.y\n1 recipe parse.c : parse.y\n2 recipe parse.o : parse.c\n3 plain scan.l\n4 recipe scan.c : scan.l\n5 plain parse.h : parse.c\n6 recipe scan.o : scan.c parse.h\n7 plain eval.c\n8 recipe eval.o : eval.c parse.h\n9 recipe calc : parse.o scan.o eval.o\n10 plain tests/sums\n11 recipe tests/passed : calc tests/sums\n12 plain all : calc tests/passed\n",
     },
 ];

@@ -1,7 +1,7 @@
 //! Builds that are refused.
 use super::Case;
 
-pub static REFUSED: [Case; 41] = [
+pub static REFUSED: [Case; 42] = [
     Case {
         about: "assignment not yet",
         root: "/w",
@@ -329,5 +329,13 @@ pub static REFUSED: [Case; 41] = [
         makefile: b"all: x .WAIT y\nx: s\n\tc\ny: s\n\tc\n",
         listing: b"s\n",
         out: b"refused\nF90 NotYet\nat makefile 1\n",
+    },
+    Case {
+        about: "the example misspelled",
+        root: "/home/dev/misspelled",
+        goals: &[],
+        makefile: b"site: index.html style.css\n\ttar cf site index.html style.css\n\nindex.html: index.md\n\tmarkdown index.md > index.html\n\nstyle.css: colours.css layout.css\n\tcat colours.css layout.css > style.css\n",
+        listing: b"colors.css\nindex.md\nlayout.css\n",
+        out: b"refused\nF16 NoRule\nat graph 0\nname colours.css\n",
     },
 ];
