@@ -1,4 +1,3 @@
 mod Asked
 mod GoalsLemmas
 mod OrderLines
-mod Planned

@@ -40,7 +40,3 @@ lines_of nodes some = flat_map (λ numbered. node_line nodes numbered.0 numbered
 -- the lines of all nodes
 abbrev pub order_text : Plan → List ℕ
 order_text plan = lines_of plan.nodes plan.nodes
-
--- each prerequisite is a node
-abbrev pub HasNodes : List Node → Type 0
-HasNodes nodes = (i p : ℕ) (d : Node) → i < length nodes → IsTrue (has nat_eq (get_or nodes i d).prerequisites p) → p < length nodes

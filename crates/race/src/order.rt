@@ -9,9 +9,8 @@ use mk_name::report::push_shown;
 use std::alloc::{AllocError, Global};
 
 /// The text of a plan (profile): for each node in its order its number, what makes it, its name, and behind a colon the
-/// names of its prerequisites, where it has any; these must be nodes. The only error is want of memory.
+/// names of its prerequisites, where it has any. The only error is want of memory.
 pub fn order_text(alloc: Global, plan: &Plan) -> Result<Vec<u8>, AllocError>
-    requires { spec.HasNodes plan.now.nodes }
     ensures { IfOk result (λ text. text.items ≡ spec.order_text plan.now) }
 {
     let mut out = Vec::new(alloc);
@@ -22,8 +21,7 @@ pub fn order_text(alloc: Global, plan: &Plan) -> Result<Vec<u8>, AllocError>
 }
 
 fn push_node(out: &mut Vec<u8>, alloc: Global, plan: &Plan, number: u32) -> Result<(), AllocError>
-    requires nodes { spec.HasNodes plan.now.nodes }
-    requires within { number < length plan.now.nodes }
+    requires { number < length plan.now.nodes }
     ensures { OnOk result (IfSome (slice_get plan.now.nodes number) (λ node.
         out.new.items ≡ out.old.items ++ spec.node_line plan.now.nodes number node)) }
 {

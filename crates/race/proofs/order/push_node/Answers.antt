@@ -1,15 +1,12 @@
-use Rattle.std.proofs.Common.{subst, ap, ◌∙◌, ◌++◌, ◌∷◌, [], List, ℕ}
+use Rattle.std.proofs.Common.{arith, ap, ◌∙◌, ◌++◌, ◌∷◌, [], List, ℕ}
 use Rattle.std.specs.Fmt.{decimal}
-use Rattle.std.specs.Prelude.{IsTrue, nat_eq}
-use Rattle.mk_name.specs.Names.{has}
 use Rattle.mk_name.specs.Shown.{shown}
 use Rattle.race.specs.OrderText.{needs}
-use Rattle.race.proofs.OrderLines.{line_told, no_node}
+use Rattle.race.proofs.OrderLines.{line_told}
 use Rattle.race.proofs.order.push_node.Goals as goal
 
 pub push_needs-requires : goal.push_needs-requires
-push_needs-requires c n stands =
-    c.requires.nodes c.args.number n no_node c.requires.within (subst (λ (l : List ℕ). IsTrue (has nat_eq l n)) (c.prerequisites.ensures no_node) stands)
+push_needs-requires c n stands = omega (arith, c.prerequisites.ensures.smaller n stands, c.requires)
 
 pub returns : goal.returns
 returns c =
@@ -19,5 +16,5 @@ returns c =
     ∙ ap (λ (name : List ℕ). (c.args.out.now.items ++ c.as_bytes.result.now) ++ shown name) c.as_bytes-2.ensures in
     let needed = c.in_ok-push_needs.ensures ∙ ap (λ (l : List ℕ). l ++ needs nodes c.prerequisites.result.now) named in
     let told = c.as_bytes.ensures.value ∙ c.in_ok-head.ensures.ok ∙ ap (λ (word : List ℕ). decimal c.args.number ++ 32 ∷ (word ++ 32 ∷ [])) c.kind_word-kind.ensures in
-    line_told nodes c.args.number c.maker.result c.name.result.now c.prerequisites.result.now c.args.out.now.items _ _ c.maker.ensures c.name.ensures c.prerequisites.ensures
+    line_told nodes c.args.number c.maker.result c.name.result.now c.prerequisites.result.now c.args.out.now.items _ _ c.maker.ensures c.name.ensures c.prerequisites.ensures.value
     told (c.in_ok-push.ensures.items ∙ ap (λ (l : List ℕ). l ++ 10 ∷ []) needed)
