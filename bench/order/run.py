@@ -36,10 +36,11 @@ def dense(part):
 
 
 def wide(part):
-    """9,500 targets of one listed source each, and a goal that needs them."""
+    """9,500 targets of one listed source each, and a goal that needs them, in entries that an expansion may have."""
     objects = [f"o{i:04}.o" for i in range(int(9_500 * part))]
     rules = [f"{o}: {o[:-1]}c\n\tcc -c {o[:-1]}c\n" for o in objects]
-    return f"all: {' '.join(objects)}\n" + "".join(rules), [o[:-1] + "c" for o in objects], []
+    goals = [f"all: {' '.join(objects[i:i + 4_000])}\n" for i in range(0, len(objects), 4_000)]
+    return "".join(goals + rules), [o[:-1] + "c" for o in objects], []
 
 
 def short(part):
@@ -54,7 +55,16 @@ def short(part):
         i += 1
 
 
-INPUTS = {"chain": chain, "dense": dense, "wide": wide, "short": short}
+def macros(part):
+    """40 targets of nearly 10,000 references each: 8,990 to an empty macro, 1,000 nested ones, and a value of 30,000 bytes."""
+    nested = [f"N{i} = $(N{i + 1})\n" for i in range(999)] + ["N999 = y\n"]
+    targets = [f"t{i}" for i in range(int(40 * part))]
+    rules = [f"{t}: {'$e' * 8_990} $(N0) $(L:y=y)\n\ttouch {t}\n" for t in targets]
+    text = "e =\n" + "".join(nested) + "L = " + "y " * 15_000 + "\n" + f"all: {' '.join(targets)}\n" + "".join(rules)
+    return text, ["y"], ["all"]
+
+
+INPUTS = {"chain": chain, "dense": dense, "wide": wide, "short": short, "macros": macros}
 
 
 def run(words, folder):

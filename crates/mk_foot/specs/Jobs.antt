@@ -1,5 +1,5 @@
 -- Jobs: a plan, and what each recipe may read and write. Nodes go by their numbers, their places in serial order.
-use Rattle.std.specs.Prelude.{ℕ, ◌≡◌, ◌≢◌, ◌<◌, ◌⊎◌, ◌&&◌, ◌||◌, not, Bool, true, false, List, [], ◌∷◌, length, slice_get, unwrap_or, Contains}
+use Rattle.std.specs.Prelude.{ℕ, ◌≡◌, ◌≢◌, ◌<◌, ◌⊎◌, ◌&&◌, ◌||◌, not, Bool, true, false, List, [], ◌∷◌, length, slice_get, unwrap_or, Contains, Option, Some, None}
 use Rattle.mk_name.specs.Names.{Name, same_name, has}
 use Rattle.mk_graph.specs.Plan.{Plan, Node}
 use Rattle.mk_graph.specs.declared.maker.Maker.{Maker}
@@ -49,6 +49,15 @@ is_phony jobs n = (node_at jobs n).phony
 -- the listing has a node's name
 unfoldable pub is_listed : Jobs → ℕ → Bool
 is_listed jobs n = (node_at jobs n).listed
+
+-- what makes a node's name
+unfoldable pub maker_of : Jobs → ℕ → Maker
+maker_of jobs n = (node_at jobs n).maker
+
+-- the number is that of the node with this name; or there is none, and no node has it
+abbrev pub IsNumberOf : Jobs → Name → Option ℕ → Type 0
+IsNumberOf jobs x (Some n) = (n < node_count jobs) × (name_of jobs n ≡ x)
+IsNumberOf jobs x None = (n : ℕ) → n < node_count jobs → name_of jobs n ≢ x
 
 -- the names that a node's footprints read
 unfoldable pub reads_of : Jobs → ℕ → List Name

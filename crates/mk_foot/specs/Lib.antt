@@ -1,4 +1,9 @@
+pub mod Attached
 pub mod Chains
+pub mod Footprints
 pub mod Jobs
 pub mod Laws
+pub mod Lines
+pub mod Recipes
+pub mod Rows
 pub mod Shape

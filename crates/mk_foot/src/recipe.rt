@@ -1,8 +1,11 @@
-//! Which nodes have a recipe.
-ghost use Rattle.std.specs.Prelude.{◌≡◌};
+//! Which nodes have a recipe, and which of these can run.
+ghost use Rattle.std.specs.Prelude.{◌≡◌, ◌<◌, length, get_or};
+ghost use Rattle.mk_graph.specs.Plan.{Node};
 ghost use Rattle.mk_foot.specs.Jobs.{has_commands};
+ghost use Rattle.mk_foot.specs.Recipes.{is_live_node};
 
 use mk_graph::maker::Maker;
+use mk_graph::plan::Plan;
 
 /// Whether a node of this maker has a recipe (profile): each has one but the maker `Nothing`.
 pub fn has_recipe(maker: Maker) -> bool
@@ -12,4 +15,14 @@ pub fn has_recipe(maker: Maker) -> bool
         Maker::Rule | Maker::Inferred | Maker::Default => true,
         Maker::Nothing => false,
     }
+}
+
+/// Whether a node has a recipe that can run. Its number must be below the count of nodes.
+pub(crate) fn is_live(plan: &Plan, n: u32) -> bool
+    requires { n < length plan.now.nodes }
+    ensures { (d : Node) → result ≡ is_live_node (get_or plan.now.nodes n d) }
+{
+    let needs_nothing = plan.prerequisites(n).is_empty();
+    let idle = plan.is_listed(n) && !plan.is_phony(n) && needs_nothing;
+    has_recipe(plan.maker(n)) && !idle
 }

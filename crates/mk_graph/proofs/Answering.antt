@@ -1,22 +1,21 @@
 -- What `plan` answers, from what its parts found.
-use Rattle.std.proofs.Common.{◌≡◌, ℕ, zero, suc, ◌+◌, ◌<◌, ◌≤◌, Bool, true, false, List, [], ◌∷◌, ◌++◌, length, get_or, sym, ◌∙◌, ap, subst, inl, inr, refl, arith, Some, None, Option}
-use Rattle.std.specs.Prelude.{◌⊎◌, IsTrue, nat_eq, map, Vec}
+use Rattle.std.proofs.Common.{◌≡◌, ℕ, ◌<◌, ◌≤◌, Bool, false, List, [], ◌∷◌, length, sym, ap, subst, inl, inr, refl, arith, Some, None, Option}
+use Rattle.std.specs.Prelude.{IsTrue, nat_eq, map, Vec}
 use Rattle.std.specs.List.{flat_map}
-use Rattle.std.specs.Prelude.{Result, Ok, Err}
+use Rattle.std.specs.Prelude.{Result}
 use Rattle.std.specs.Global.{Global}
-use Rattle.mk_name.specs.Told.{Told}
 use Rattle.mk_name.specs.declared.fault.Halt.{Halt}
-use Rattle.std.proofs.lemmas.Bool.{both_ways, cases_lt, true_from_ne_false, false_from_ne_true}
+use Rattle.std.proofs.lemmas.Bool.{both_ways, cases_lt}
 use Rattle.std.proofs.lemmas.List.{length-map}
-use Rattle.mk_name.specs.Names.{Name, same_name, has, IsDistinct}
-use Rattle.mk_name.proofs.Names.{name_is_exact, nat_is_exact, in_head, distinct_kept}
+use Rattle.mk_name.specs.Names.{Name, same_name, IsDistinct}
+use Rattle.mk_name.proofs.Names.{name_is_exact, nat_is_exact, distinct_kept}
 use Rattle.mk_graph.specs.Answer.{IsLeastUnmade, AllMade, IsTooLarge, Answers, Comes, IsAnswer, goals_of, goal_list}
 use Rattle.mk_graph.specs.Plan.{Plan}
-use Rattle.mk_graph.specs.Book.{Entry, prerequisites_of, default_goal}
+use Rattle.mk_rules.specs.Book.{Book, default_goal}
 use Rattle.mk_graph.specs.Collected.{IsGraph}
-use Rattle.mk_graph.specs.Graph.{IsNode, HasMoreThan, AreNodes}
+use Rattle.mk_graph.specs.Graph.{IsNode}
 use Rattle.mk_graph.specs.Least.{upto, IsLeastPassing}
-use Rattle.mk_graph.specs.Makers.{is_unmade}
+use Rattle.mk_graph.specs.Makers.{is_unmade, needs}
 use Rattle.mk_graph.specs.Numbered.{name_at}
 use Rattle.mk_graph.specs.Rows.{row, InRange, IsRing}
 use Rattle.mk_graph.specs.Walk.{IsOrder}
@@ -26,7 +25,7 @@ use Rattle.mk_graph.proofs.Numberings.{has_at}
 use Rattle.mk_graph.proofs.Rowing.{row_past}
 use Rattle.mk_graph.proofs.Steps.{In}
 
-module _ (book : List Entry) (listing goals names : List Name) (rows : List (Vec ℕ Global)) (starts : List ℕ) (g : IsGraph book goals names rows starts) where
+module _ (book : Book) (listing goals names : List Name) (rows : List (Vec ℕ Global)) (starts : List ℕ) (g : IsGraph book listing goals names rows starts) where
   pub row_within : (i n : ℕ) → In (row rows i) n → n < length names
   row_within i n h =
       elim (cases_lt i (length names)) [
@@ -44,10 +43,10 @@ module _ (book : List Entry) (listing goals names : List Name) (rows : List (Vec
   ring_some ring r = let l = ap length r.ring_is in omega arith
 
   pub ring_within : (ring : List ℕ) → IsRing (row rows) starts ring → (n : ℕ) → In ring n → n < length names
-  ring_within ring r n h = node_inside same_name (prerequisites_of book) goals (name_at names) (length names) (row rows) starts (numbers_of book goals names rows starts g) n (r.nodes n h)
+  ring_within ring r n h = node_inside same_name (needs book listing) goals (name_at names) (length names) (row rows) starts (numbers_of book listing goals names rows starts g) n (r.nodes n h)
 
   pub order_within : (order : List ℕ) → IsOrder (row rows) starts order → (n : ℕ) → In order n → n < length names
-  order_within order o n h = node_inside same_name (prerequisites_of book) goals (name_at names) (length names) (row rows) starts (numbers_of book goals names rows starts g) n (o.nodes n h)
+  order_within order o n h = node_inside same_name (needs book listing) goals (name_at names) (length names) (row rows) starts (numbers_of book listing goals names rows starts g) n (o.nodes n h)
 
   pub order_distinct : (order : List ℕ) → IsOrder (row rows) starts order → IsDistinct nat_eq order
   order_distinct order o = subst (λ (xs : List ℕ). IsDistinct nat_eq xs) (sym o.serial.order_is) (distinct_kept nat_eq nat_is_exact [] (flat_map o.serial.tree starts) tt)
@@ -58,9 +57,9 @@ module _ (book : List Entry) (listing goals names : List Name) (rows : List (Vec
         | inl many ↦ absurd (small (
           map (name_at names) order,
           record {
-            distinct = distinct_map same_name (prerequisites_of book) goals (name_at names) (length names) (row rows) starts (numbers_of book goals names rows starts g) order (order_within order o) (order_distinct order o);
+            distinct = distinct_map same_name (needs book listing) goals (name_at names) (length names) (row rows) starts (numbers_of book listing goals names rows starts g) order (order_within order o) (order_distinct order o);
             each = λ x h. let k = has_back same_name name_is_exact (name_at names) order x h in
-                subst (λ (z : Name). IsNode same_name (prerequisites_of book) goals z) k.2 (node_map same_name (prerequisites_of book) goals (name_at names) (length names) (row rows) starts (numbers_of book goals names rows starts g) k.0 (o.nodes k.0 k.1));
+                subst (λ (z : Name). IsNode same_name (needs book listing) goals z) k.2 (node_map same_name (needs book listing) goals (name_at names) (length names) (row rows) starts (numbers_of book listing goals names rows starts g) k.0 (o.nodes k.0 k.1));
           },
           inl (let l = length-map order (name_at names) in omega arith),
         ))
@@ -69,7 +68,7 @@ module _ (book : List Entry) (listing goals names : List Name) (rows : List (Vec
 
   pub all_made : IsLeastPassing (is_unmade book listing) names (length names) None → AllMade book listing goals
   all_made p x h =
-      let n = node_back same_name (prerequisites_of book) goals (name_at names) (length names) (row rows) starts (numbers_of book goals names rows starts g) x h in
+      let n = node_back same_name (needs book listing) goals (name_at names) (length names) (row rows) starts (numbers_of book listing goals names rows starts g) x h in
       subst (λ (z : Name). is_unmade book listing z ≡ false) n.3 (p n.0 n.2)
 
   pub least_is : (k : ℕ) → IsLeastPassing (is_unmade book listing) names (length names) (Some k) → IsLeastUnmade book listing goals (name_at names k)
@@ -78,7 +77,7 @@ module _ (book : List Entry) (listing goals names : List Name) (rows : List (Vec
         node = g.nodes (name_at names k) (has_at names k p.0);
         unmade = p.1;
         least = λ x h u.
-            let n = node_back same_name (prerequisites_of book) goals (name_at names) (length names) (row rows) starts (numbers_of book goals names rows starts g) x h in
+            let n = node_back same_name (needs book listing) goals (name_at names) (length names) (row rows) starts (numbers_of book listing goals names rows starts g) x h in
             subst (λ (z : Name). IsTrue (upto (name_at names k) z)) n.3 (p.2 n.0 n.2 (subst (λ (z : Name). IsTrue (is_unmade book listing z)) (sym n.3) u));
       }
 
@@ -86,19 +85,19 @@ pub passing_none : (test : Name → Bool) (names : List Name) (n : ℕ) (o : Opt
 passing_none test names n None h p = p
 passing_none test names n (Some k) h p = absurd (h k refl)
 
-pub graph_at : (book : List Entry) (goals names : List Name) (rows other : List (Vec ℕ Global)) (starts some : List ℕ) → other ≡ rows → some ≡ starts → IsGraph book goals names rows starts → IsGraph book goals names other some
-graph_at book goals names rows other starts some e f g = subst (λ (rs : List (Vec ℕ Global)). IsGraph book goals names rs some) (sym e) (subst (λ (ss : List ℕ). IsGraph book goals names rows ss) (sym f) g)
+pub graph_at : (book : Book) (listing goals names : List Name) (rows other : List (Vec ℕ Global)) (starts some : List ℕ) → other ≡ rows → some ≡ starts → IsGraph book listing goals names rows starts → IsGraph book listing goals names other some
+graph_at book listing goals names rows other starts some e f g = subst (λ (rs : List (Vec ℕ Global)). IsGraph book listing goals names rs some) (sym e) (subst (λ (ss : List ℕ). IsGraph book listing goals names rows ss) (sym f) g)
 
 -- goals that are given are the goals
-pub answer_given : (book : List Entry) (listing goals : List Name) (r : Result Plan Halt) → 0 < length goals → Answers r (Comes book listing goals) → Answers r (IsAnswer book listing (goals_of book goals))
+pub answer_given : (book : Book) (listing goals : List Name) (r : Result Plan Halt) → 0 < length goals → Answers r (Comes book listing goals) → Answers r (IsAnswer book listing (goals_of book goals))
 answer_given book listing [] r h a = absurd (omega arith)
 answer_given book listing (g ∷ gs) r h a = a
 
 -- without goals the default goal is the goal
-pub default_is : (book : List Entry) (goals : List Name) (goal : Name) → length goals ≡ 0 → default_goal book ≡ Some goal → goals_of book goals ≡ goal ∷ []
+pub default_is : (book : Book) (goals : List Name) (goal : Name) → length goals ≡ 0 → default_goal book.rules ≡ Some goal → goals_of book goals ≡ goal ∷ []
 default_is book [] goal h e = ap goal_list e
 default_is book (g ∷ gs) goal h e = absurd (omega arith)
 
-pub default_none : (book : List Entry) (goals : List Name) → length goals ≡ 0 → default_goal book ≡ None → goals_of book goals ≡ []
+pub default_none : (book : Book) (goals : List Name) → length goals ≡ 0 → default_goal book.rules ≡ None → goals_of book goals ≡ []
 default_none book [] h e = ap goal_list e
 default_none book (g ∷ gs) h e = absurd (omega arith)

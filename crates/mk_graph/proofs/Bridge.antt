@@ -1,13 +1,13 @@
 -- From numbers to the nodes that they stand for.
-use Rattle.std.proofs.Common.{◌≡◌, ℕ, zero, suc, ◌+◌, ◌-◌, ◌<◌, ◌≤◌, Bool, true, false, List, [], ◌∷◌, ◌++◌, length, sym, ◌∙◌, ap, subst, inl, inr, refl, arith, append_assoc, length-append}
-use Rattle.std.specs.Prelude.{◌⊎◌, ◌||◌, if◌then◌else◌, IsTrue, nat_eq, map}
+use Rattle.std.proofs.Common.{◌≡◌, ℕ, zero, suc, ◌<◌, Bool, true, List, [], ◌∷◌, ◌++◌, sym, ◌∙◌, ap, subst, inl, inr, refl}
+use Rattle.std.specs.Prelude.{◌||◌, IsTrue, nat_eq, map}
 use Rattle.std.specs.List.{flat_map}
 use Rattle.std.proofs.lemmas.Bool.{cases_Bool, both_ways, cases_eq, ne_eqb, eq-eqb, or_left, or_right, or_cases, false_from_ne_true}
 use Rattle.std.proofs.lemmas.List.{map-append, map_push}
-use Rattle.mk_name.specs.Names.{has, kept, firsts, IsDistinct}
+use Rattle.mk_name.specs.Names.{has, kept, IsDistinct}
 use Rattle.mk_name.proofs.Names.{IsExact, nat_is_exact, in_head, in_tail, in_push_cases, kept_new, kept_old, kept_has}
-use Rattle.mk_graph.specs.Graph.{Leads, IsNode, IsTreeAt, IsSerialOrder, HasNoCycle, IsChain}
-use Rattle.mk_graph.proofs.Steps.{In, Within}
+use Rattle.mk_graph.specs.Graph.{Leads, IsNode, IsSerialOrder, HasNoCycle, IsChain}
+use Rattle.mk_graph.proofs.Steps.{In}
 
 -- the numbers below size have names of their own, and the rows are what they need
 pub record Numbers {X : Type 0} (same : X → X → Bool) (needs : X → List X) (goals : List X) (name : ℕ → X) (size : ℕ) (next : ℕ → List ℕ) (starts : List ℕ) : Type 0 where

@@ -1,19 +1,21 @@
 -- The steps of collecting all that some goals need.
-use Rattle.std.proofs.Common.{◌≡◌, ℕ, zero, suc, ◌+◌, ◌<◌, ◌≤◌, Bool, true, false, cond, List, [], ◌∷◌, ◌++◌, length, get_or, set, take, drop, sym, ◌∙◌, ap, subst, inl, inr, refl, arith, append_assoc, length-append, Some, None, Option, replicate}
-use Rattle.std.specs.Prelude.{◌⊎◌, ◌||◌, not, is_some, IsTrue, IsSome, nat_eq, map, Vec, slice_get, filter}
-use Rattle.std.specs.List.{flat_map, All, enumerate_from}
+use Rattle.std.proofs.Common.{◌≡◌, ℕ, suc, ◌+◌, ◌<◌, ◌≤◌, Bool, false, List, [], ◌∷◌, ◌++◌, length, get_or, set, take, sym, ◌∙◌, ap, subst, inl, inr, refl, arith, append_assoc, length-append, Some, None, Option, replicate}
+use Rattle.std.specs.Option.{option_to_list}
+use Rattle.std.specs.Prelude.{not, is_some, IsTrue, IsSome, nat_eq, map, Vec, slice_get}
+use Rattle.std.specs.List.{flat_map}
 use Rattle.std.specs.Global.{Global}
-use Rattle.std.proofs.lemmas.Bool.{cases_Bool, both_ways, cases_eq}
-use Rattle.std.proofs.lemmas.List.{get_or-set_same, get_or-set_other, length-set, append-nil, take_more, get_or-replicate, length-replicate, take_at, get_or_default}
+use Rattle.std.proofs.lemmas.Bool.{both_ways, cases_eq}
+use Rattle.std.proofs.lemmas.List.{get_or-set_same, get_or-set_other, length-set, append-nil, take_more, get_or-replicate, length-replicate, get_or_default, get_or_append_left, get_or_push, length_push}
 use Rattle.std.proofs.lemmas.Option.{get_or_from_slice_get}
 use Rattle.mk_name.specs.Names.{Name, same_name, has, kept, firsts, IsDistinct}
-use Rattle.mk_name.proofs.Names.{IsExact, name_is_exact, nat_is_exact, in_head, in_tail, in_left, in_right, in_cases, in_push, in_push_cases, in_joined, kept_has, kept_cases, distinct_kept}
-use Rattle.mk_graph.specs.Book.{Entry, places_of, prerequisites_of, names_target}
-use Rattle.mk_graph.specs.Collected.{given_at, StandsFor, AllStand, Reads, Collected}
-use Rattle.mk_graph.specs.Graph.{IsNode, Leads, AreNodes}
+use Rattle.mk_name.proofs.Names.{name_is_exact, nat_is_exact, in_left, in_push, in_push_cases, in_joined, kept_has, kept_cases, kept_front, distinct_kept}
+use Rattle.mk_rules.specs.Book.{Book, Entry, places_of, prerequisites_of}
+use Rattle.mk_graph.specs.Collected.{given_at, StandsFor, Reads, Collected, SourceStands}
+use Rattle.mk_graph.specs.Makers.{inferred_source, needs}
+use Rattle.mk_graph.specs.Graph.{IsNode, AreNodes}
 use Rattle.mk_graph.specs.Numbered.{name_at, Stand}
-use Rattle.mk_graph.proofs.Indexes.{flat_map-places_of}
-use Rattle.mk_graph.proofs.Numberings.{kept_grows, stand_more, stand_kept, has_at, name_at_push}
+use Rattle.mk_rules.proofs.Indexes.{flat_map-places_of}
+use Rattle.mk_graph.proofs.Numberings.{kept_grows, stand_more, has_at, name_at_push}
 
 abbrev pub Entries : Type 0
 Entries = List (Option (Vec ℕ Global))
@@ -112,55 +114,98 @@ step_more book places i on oe names new made entries after given v h long inside
     is_given : given ≡ given_at book (get_or places i 0)
     is_given = sym (get_or_from_slice_get (map (λ e. e.prerequisites) book) (get_or places i 0) given [] gives)
 
+-- what a rule gives is needed by each of its targets
+pub given_in_needs : (book : Book) (listing : List Name) (t : Name) (place : ℕ) (x : Name) → IsTrue (has nat_eq (places_of book.rules t) place) → IsTrue (has same_name (given_at book.rules place) x) → IsTrue (has same_name (needs book listing t) x)
+given_in_needs book listing t place x p g = kept_front same_name name_is_exact (prerequisites_of book.rules t) (option_to_list (inferred_source book listing t)) x (given_needed book.rules t place x p g)
+
+-- and so is its inferred source
+pub source_in_needs : (book : Book) (listing : List Name) (t x : Name) → IsTrue (has same_name (option_to_list (inferred_source book listing t)) x) → IsTrue (has same_name (needs book listing t) x)
+source_in_needs book listing t x h = kept_has same_name name_is_exact (prerequisites_of book.rules t) (option_to_list (inferred_source book listing t)) x h
+
 -- nothing is read yet
-pub collected_none : (book : List Entry) (goals none names : List Name) (entries : Entries) (starts : List ℕ) → none ≡ [] → names ≡ kept same_name none goals → Stand names starts goals → entries ≡ replicate (length book) None → Collected book goals names entries starts 0
-collected_none book goals none names entries starts e step s is =
-    subst (λ (es : Entries). Collected book goals names es starts 0) (sym is) (record {
+pub collected_none : (book : Book) (listing goals none names : List Name) (entries : Entries) (sources : List (Option ℕ)) (starts : List ℕ) → none ≡ [] → names ≡ kept same_name none goals → Stand names starts goals → entries ≡ replicate (length book.rules) None → sources ≡ [] → Collected book listing goals names entries sources starts 0
+collected_none book listing goals none names entries sources starts e step s is empty =
+    subst (λ (es : Entries). Collected book listing goals names es sources starts 0) (sym is) (record {
       distinct = subst (λ (ns : List Name). IsDistinct same_name ns) (sym all) (distinct_kept same_name name_is_exact [] goals tt);
       nodes = λ x h. elim (kept_cases same_name name_is_exact [] goals x (subst (λ (ns : List Name). IsTrue (has same_name ns x)) all h)) [
         | inl l ↦ absurd (both_ways _ refl l)
         | inr g ↦ (x, 0, g, refl)
       ];
       starts_stand = s;
-      long = length-replicate (length book) None;
-      stand = λ p h. subst (λ (o : Option (Vec ℕ Global)). StandsFor names (given_at book p) o) (sym (get_or-replicate (length book) p None None h)) tt;
+      long = length-replicate (length book.rules) None;
+      stand = λ p h. subst (λ (o : Option (Vec ℕ Global)). StandsFor names (given_at book.rules p) o) (sym (get_or-replicate (length book.rules) p None None h)) tt;
       done = λ i p h j. absurd (omega arith);
+      counted = ap length empty;
+      sources_stand = λ i h. absurd (omega arith);
       within = omega arith;
     })
   where
     all : names ≡ kept same_name [] goals
     all = step ∙ ap (λ ns. kept same_name ns goals) e
 
--- the entries of one more name are read
-pub collected_more : (book : List Entry) (goals names new : List Name) (entries after : Entries) (starts places : List ℕ) (read : ℕ) (name : Name) → Collected book goals names entries starts read → read < length names → name ≡ name_at names read → places ≡ places_of book name → Reads book places names entries new after → Collected book goals new after starts (read + 1)
-collected_more book goals names new entries after starts places read name c h is at r =
+-- the rules of one more name are read, and its source
+pub collected_more : (book : Book) (listing goals names new newer : List Name) (entries after : Entries) (sources counted : List (Option ℕ)) (starts places : List ℕ) (read : ℕ) (name : Name) (source : Option ℕ)
+    → Collected book listing goals names entries sources starts read → read < length names → name ≡ name_at names read → places ≡ places_of book.rules name → Reads book.rules places names entries new after
+    → newer ≡ kept same_name new (option_to_list (inferred_source book listing (name_at new read))) → SourceStands newer source (inferred_source book listing (name_at new read)) → counted ≡ sources ++ source ∷ []
+    → Collected book listing goals newer after counted starts (read + 1)
+collected_more book listing goals names new newer entries after sources counted starts places read name source c h is at r step stands pushed =
     record {
-      distinct = r.distinct c.distinct;
-      nodes = λ x i. elim (r.from x i) [
-        | inl o ↦ c.nodes x o
-        | inr g ↦ node_more (name_at names read) x (c.nodes (name_at names read) (has_at names read h)) (given_needed book (name_at names read) g.0 x (subst (λ (ps : List ℕ). IsTrue (has nat_eq ps g.0)) places_here g.1) g.3)
+      distinct = subst (λ (ns : List Name). IsDistinct same_name ns) (sym step) (distinct_kept same_name name_is_exact new (option_to_list (inferred_source book listing (name_at new read))) (r.distinct c.distinct));
+      nodes = λ x i. elim (kept_cases same_name name_is_exact new (option_to_list (inferred_source book listing (name_at new read))) x (subst (λ (ns : List Name). IsTrue (has same_name ns x)) step i)) [
+        | inl j ↦ elim (r.from x j) [
+          | inl o ↦ c.nodes x o
+          | inr g ↦ node_more (name_at names read) x here (given_in_needs book listing (name_at names read) g.0 x (subst (λ (ps : List ℕ). IsTrue (has nat_eq ps g.0)) places_here g.1) g.3)
+        ]
+        | inr s ↦ node_more (name_at names read) x here (source_in_needs book listing (name_at names read) x (subst (λ (z : Name). IsTrue (has same_name (option_to_list (inferred_source book listing z)) x)) (new_at read h) s))
       ];
-      starts_stand = subst (λ (ns : List Name). Stand ns starts goals) (sym r.grows) (stand_more names r.more starts goals c.starts_stand);
+      starts_stand = subst (λ (ns : List Name). Stand ns starts goals) (sym whole) (stand_more names (r.more ++ grown.0) starts goals c.starts_stand);
       long = r.long ∙ c.long;
-      stand = r.stand c.stand;
+      stand = λ p l. subst (λ (ns : List Name). StandsFor ns (given_at book.rules p) (get_or after p None)) (sym (step ∙ grown.1)) (stands_grow new grown.0 (given_at book.rules p) (get_or after p None) (r.stand c.stand p l));
       done = λ i p k j. elim (cases_eq i read) [
-        | inl e ↦ r.done p (subst (λ (ps : List ℕ). IsTrue (has nat_eq ps p)) (ap (λ m. places_of book (name_at new m)) e ∙ ap (places_of book) (same_at read h) ∙ sym places_here) j)
-        | inr n ↦ r.stays p (c.done i p (omega arith) (subst (λ (z : Name). IsTrue (has nat_eq (places_of book z) p)) (same_at i (let w = c.within in omega arith)) j))
+        | inl e ↦ r.done p (subst (λ (ps : List ℕ). IsTrue (has nat_eq ps p)) (ap (λ m. places_of book.rules (name_at newer m)) e ∙ ap (places_of book.rules) (same_at read h) ∙ sym places_here) j)
+        | inr n ↦ r.stays p (c.done i p (omega arith) (subst (λ (z : Name). IsTrue (has nat_eq (places_of book.rules z) p)) (same_at i (let w = c.within in omega arith)) j))
       ];
-      within = let l = ap length r.grows in omega (arith, l, length-append names r.more);
+      counted = ap length pushed ∙ length_push sources source ∙ ap (λ n. n + 1) c.counted;
+      sources_stand = λ i k. subst (λ (os : List (Option ℕ)). SourceStands newer (get_or os i None) (inferred_source book listing (name_at newer i))) (sym pushed) (elim (cases_eq i read) [
+        | inl e ↦ subst (λ (m : ℕ). SourceStands newer (get_or (sources ++ source ∷ []) m None) (inferred_source book listing (name_at newer m))) (sym e)
+            (subst (λ (o : Option ℕ). SourceStands newer o (inferred_source book listing (name_at newer read))) (sym source_at)
+            (subst (λ (z : Name). SourceStands newer source (inferred_source book listing z)) (new_at read h ∙ sym (same_at read h)) stands))
+        | inr n ↦
+            (let low : i < read = omega arith in
+            subst (λ (o : Option ℕ). SourceStands newer o (inferred_source book listing (name_at newer i))) (sym (get_or_append_left sources (source ∷ []) None i (let w = c.counted in omega arith)))
+            (subst (λ (z : Name). SourceStands newer (get_or sources i None) (inferred_source book listing z)) (sym (same_at i (let w = c.within in omega arith)))
+            (subst (λ (ns : List Name). SourceStands ns (get_or sources i None) (inferred_source book listing (name_at names i))) (sym whole)
+            (stand_more names (r.more ++ grown.0) (option_to_list (get_or sources i None)) (option_to_list (inferred_source book listing (name_at names i))) (c.sources_stand i low)))))
+      ]);
+      within = let l = ap length whole in omega (arith, l, length-append names (r.more ++ grown.0));
     }
   where
-    places_here : places ≡ places_of book (name_at names read)
-    places_here = at ∙ ap (places_of book) is
+    grown : (more : List Name) × (kept same_name new (option_to_list (inferred_source book listing (name_at new read))) ≡ new ++ more)
+    grown = kept_grows new (option_to_list (inferred_source book listing (name_at new read)))
 
-    same_at : (i : ℕ) → i < length names → name_at new i ≡ name_at names i
-    same_at i k = ap (λ ns. name_at ns i) r.grows ∙ name_at_push names r.more i k
+    whole : newer ≡ names ++ (r.more ++ grown.0)
+    whole = step ∙ grown.1 ∙ ap (λ ns. ns ++ grown.0) r.grows ∙ append_assoc names r.more grown.0
 
-    node_more : (a b : Name) → IsNode same_name (prerequisites_of book) goals a → IsTrue (has same_name (prerequisites_of book a) b) → IsNode same_name (prerequisites_of book) goals b
+    here : IsNode same_name (needs book listing) goals (name_at names read)
+    here = c.nodes (name_at names read) (has_at names read h)
+
+    places_here : places ≡ places_of book.rules (name_at names read)
+    places_here = at ∙ ap (places_of book.rules) is
+
+    new_at : (i : ℕ) → i < length names → name_at new i ≡ name_at names i
+    new_at i k = ap (λ ns. name_at ns i) r.grows ∙ name_at_push names r.more i k
+
+    same_at : (i : ℕ) → i < length names → name_at newer i ≡ name_at names i
+    same_at i k = ap (λ ns. name_at ns i) whole ∙ name_at_push names (r.more ++ grown.0) i k
+
+    source_at : get_or (sources ++ source ∷ []) read None ≡ source
+    source_at = get_or_push sources source None read c.counted
+
+    node_more : (a b : Name) → IsNode same_name (needs book listing) goals a → IsTrue (has same_name (needs book listing a) b) → IsNode same_name (needs book listing) goals b
     node_more a b n i = (n.0, suc n.1, n.2, (a, n.3, i))
 
-pub collected_nodes : (book : List Entry) (goals names : List Name) (entries : Entries) (starts : List ℕ) (read : ℕ) → Collected book goals names entries starts read → AreNodes same_name (prerequisites_of book) goals names
-collected_nodes book goals names entries starts read c = record { distinct = c.distinct; each = c.nodes }
+pub collected_nodes : (book : Book) (listing goals names : List Name) (entries : Entries) (sources : List (Option ℕ)) (starts : List ℕ) (read : ℕ) → Collected book listing goals names entries sources starts read → AreNodes same_name (needs book listing) goals names
+collected_nodes book listing goals names entries sources starts read c = record { distinct = c.distinct; each = c.nodes }
 
-pub collected_all : (book : List Entry) (goals names : List Name) (entries : Entries) (starts : List ℕ) (read : ℕ) → Collected book goals names entries starts read → length names ≤ read → Collected book goals names entries starts (length names)
-collected_all book goals names entries starts read c h = let w = c.within in let e : read ≡ length names = omega arith in subst (λ (n : ℕ). Collected book goals names entries starts n) e c
+pub collected_all : (book : Book) (listing goals names : List Name) (entries : Entries) (sources : List (Option ℕ)) (starts : List ℕ) (read : ℕ) → Collected book listing goals names entries sources starts read → length names ≤ read → Collected book listing goals names entries sources starts (length names)
+collected_all book listing goals names entries sources starts read c h = let w = c.within in let e : read ≡ length names = omega arith in subst (λ (n : ℕ). Collected book listing goals names entries sources starts n) e c

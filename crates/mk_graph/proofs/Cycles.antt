@@ -1,14 +1,15 @@
 -- From a ring of numbers to a cycle of names.
-use Rattle.std.proofs.Common.{◌≡◌, ℕ, zero, suc, ◌+◌, ◌<◌, ◌≤◌, Bool, true, false, List, [], ◌∷◌, ◌++◌, length, get_or, take, drop, sym, ◌∙◌, ap, subst, inl, inr, refl, arith, append_assoc, length-append}
-use Rattle.std.specs.Prelude.{◌⊎◌, IsTrue, nat_eq, map, Vec}
+use Rattle.std.proofs.Common.{◌≡◌, ℕ, ◌+◌, List, [], ◌∷◌, ◌++◌, length, get_or, take, drop, sym, ◌∙◌, ap, subst, inl, inr, refl, append_assoc}
+use Rattle.std.specs.Prelude.{IsTrue, nat_eq, map, Vec}
 use Rattle.std.specs.Global.{Global}
 use Rattle.std.proofs.lemmas.Bool.{both_ways}
 use Rattle.std.proofs.lemmas.List.{append-nil, map-append, take-append-drop, drop_more, take_more}
-use Rattle.mk_name.specs.Names.{Name, same_name, has, IsDistinct}
+use Rattle.mk_name.specs.Names.{Name, same_name, IsDistinct}
 use Rattle.mk_name.proofs.Names.{name_is_exact, nat_is_exact, in_head, in_tail, in_cons_cases, in_left, in_right, in_cases, not_in}
-use Rattle.mk_graph.specs.Book.{Entry, prerequisites_of}
+use Rattle.mk_rules.specs.Book.{Book}
+use Rattle.mk_graph.specs.Makers.{needs}
 use Rattle.mk_graph.specs.Collected.{IsGraph}
-use Rattle.mk_graph.specs.Graph.{IsNode, IsChain, IsCycle}
+use Rattle.mk_graph.specs.Graph.{IsChain, IsCycle}
 use Rattle.mk_graph.specs.Least.{upto, IsLeastPlace}
 use Rattle.mk_graph.specs.Numbered.{name_at}
 use Rattle.mk_graph.specs.Rows.{row, IsRing}
@@ -72,21 +73,21 @@ chain_turned needs (f ∷ fs) x back first others e c =
     subst (λ (xs : List ℕ). IsChain nat_eq needs xs) (sym (append_assoc (x ∷ back) (f ∷ fs) (x ∷ [])))
     (chain_joined needs (x ∷ back) f (fs ++ x ∷ []) (chain_back needs (f ∷ fs) x (back ++ f ∷ []) whole) (chain_front needs (f ∷ fs) x (back ++ f ∷ []) whole))
 
-pub cycle_is : (book : List Entry) (goals names : List Name) (rows : List (Vec ℕ Global)) (starts ring : List ℕ) (least : ℕ) → IsGraph book goals names rows starts → IsRing (row rows) starts ring → IsLeastPlace names ring (length ring) least → IsCycle same_name upto (prerequisites_of book) goals (map (name_at names) (drop least ring ++ take (least + 1) ring))
-cycle_is book goals names rows starts ring least g r p =
+pub cycle_is : (book : Book) (listing goals names : List Name) (rows : List (Vec ℕ Global)) (starts ring : List ℕ) (least : ℕ) → IsGraph book listing goals names rows starts → IsRing (row rows) starts ring → IsLeastPlace names ring (length ring) least → IsCycle same_name upto (needs book listing) goals (map (name_at names) (drop least ring ++ take (least + 1) ring))
+cycle_is book listing goals names rows starts ring least g r p =
     record {
       first = name_at names x;
       others = map (name_at names) (back ++ front);
       closed = ap (map (name_at names)) numbers ∙ map-append (name_at names) (x ∷ back ++ front) (x ∷ []);
-      chain = subst (λ (ns : List ℕ). IsChain same_name (prerequisites_of book) (map (name_at names) ns)) (sym numbers)
-          (chain_map same_name (prerequisites_of book) goals (name_at names) (length names) (row rows) starts w (x ∷ (back ++ front) ++ x ∷ []) (λ n h. elim (in_cases nat_eq nat_is_exact (x ∷ back ++ front) (x ∷ []) n h) [ inl l ↦ below n l | inr e ↦ below n (in_left nat_eq nat_is_exact (x ∷ []) (back ++ front) n e) ])
+      chain = subst (λ (ns : List ℕ). IsChain same_name (needs book listing) (map (name_at names) ns)) (sym numbers)
+          (chain_map same_name (needs book listing) goals (name_at names) (length names) (row rows) starts w (x ∷ (back ++ front) ++ x ∷ []) (λ n h. elim (in_cases nat_eq nat_is_exact (x ∷ back ++ front) (x ∷ []) n h) [ inl l ↦ below n l | inr e ↦ below n (in_left nat_eq nat_is_exact (x ∷ []) (back ++ front) n e) ])
           (chain_turned (row rows) front x back r.first r.others (sym parts ∙ r.ring_is) (subst (λ (ns : List ℕ). IsChain nat_eq (row rows) (ns ++ r.first ∷ [])) parts r.chain)));
-      distinct = distinct_map same_name (prerequisites_of book) goals (name_at names) (length names) (row rows) starts w (x ∷ back ++ front) below
+      distinct = distinct_map same_name (needs book listing) goals (name_at names) (length names) (row rows) starts w (x ∷ back ++ front) below
           (distinct_turned front (x ∷ back) (subst (λ (ns : List ℕ). IsDistinct nat_eq ns) parts r.distinct));
       least = λ n h. let k = has_back same_name name_is_exact (name_at names) (back ++ front) n h in
           let place = place_of ring k.0 (inside k.0 (in_tail nat_eq nat_is_exact x k.0 (back ++ front) k.1)) in
           subst (λ (z : Name). IsTrue (upto (name_at names x) z)) (ap (name_at names) place.2 ∙ k.2) (p.1 place.0 place.1);
-      node = node_map same_name (prerequisites_of book) goals (name_at names) (length names) (row rows) starts w x (r.nodes x (in_at ring least p.0));
+      node = node_map same_name (needs book listing) goals (name_at names) (length names) (row rows) starts w x (r.nodes x (in_at ring least p.0));
     }
   where
     x : ℕ
@@ -98,8 +99,8 @@ cycle_is book goals names rows starts ring least g r p =
     back : List ℕ
     back = drop (least + 1) ring
 
-    w : Numbers same_name (prerequisites_of book) goals (name_at names) (length names) (row rows) starts
-    w = numbers_of book goals names rows starts g
+    w : Numbers same_name (needs book listing) goals (name_at names) (length names) (row rows) starts
+    w = numbers_of book listing goals names rows starts g
 
     parts : ring ≡ front ++ x ∷ back
     parts = sym (take-append-drop least ring) ∙ ap (λ ns. front ++ ns) (drop_more ring least 0 p.0)
@@ -111,4 +112,4 @@ cycle_is book goals names rows starts ring least g r p =
     inside n h = subst (λ (ns : List ℕ). In ns n) (sym parts) (elim (in_cases nat_eq nat_is_exact (x ∷ back) front n h) [ inl l ↦ in_right nat_eq nat_is_exact front (x ∷ back) n l | inr f ↦ in_left nat_eq nat_is_exact front (x ∷ back) n f ])
 
     below : Below (length names) (x ∷ back ++ front)
-    below n h = node_inside same_name (prerequisites_of book) goals (name_at names) (length names) (row rows) starts w n (r.nodes n (inside n h))
+    below n h = node_inside same_name (needs book listing) goals (name_at names) (length names) (row rows) starts w n (r.nodes n (inside n h))

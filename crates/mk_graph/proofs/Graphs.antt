@@ -1,21 +1,23 @@
 -- The graph by numbers, from what was collected.
-use Rattle.std.proofs.Common.{◌≡◌, ℕ, zero, suc, ◌+◌, ◌<◌, ◌≤◌, Bool, true, false, List, [], ◌∷◌, ◌++◌, length, get_or, take, drop, sym, ◌∙◌, ap, subst, inl, inr, refl, arith, length-append, Some, None, Option, unwrap_or}
-use Rattle.std.specs.Prelude.{◌⊎◌, IsTrue, IsSome, IfNone, nat_eq, map, Vec}
+use Rattle.std.proofs.Common.{◌≡◌, ℕ, zero, suc, ◌+◌, ◌<◌, ◌≤◌, List, [], ◌∷◌, ◌++◌, length, get_or, take, drop, sym, ◌∙◌, ap, subst, inl, inr, refl, arith, Some, None, Option, unwrap_or}
+use Rattle.std.specs.Prelude.{IsTrue, IsSome, IfNone, IfSome, is_some, nat_eq, map, Vec}
+use Rattle.std.specs.Option.{option_to_list}
 use Rattle.std.specs.List.{flat_map, sum_by}
 use Rattle.std.specs.Global.{Global}
 use Rattle.std.proofs.lemmas.Bool.{both_ways, cases_lt}
-use Rattle.std.proofs.lemmas.List.{length-map, map-append, take-append-drop, get_or_past}
+use Rattle.std.proofs.lemmas.List.{map-append, take-append-drop, get_or_past}
 use Rattle.std.proofs.lemmas.List.Sums.{sum_by-cons}
 use Rattle.mk_name.specs.Names.{Name, same_name, has, kept, firsts, IsDistinct}
-use Rattle.mk_name.proofs.Names.{IsExact, name_is_exact, nat_is_exact, in_head, in_cons_cases, in_tail, in_left, in_right, in_cases, not_in, kept-append, kept_again, kept_cases, sum_within}
-use Rattle.mk_graph.specs.Book.{Entry, places_of, prerequisites_of}
-use Rattle.mk_graph.specs.Collected.{given_at, StandsFor, AllStand, Collected, IsGraph}
-use Rattle.mk_graph.specs.Graph.{IsNode, AreNodes, count_edges, HasMoreThan}
+use Rattle.mk_name.proofs.Names.{name_is_exact, nat_is_exact, in_head, in_tail, in_left, in_cases, not_in, kept-append, kept_again, kept_cases, sum_within}
+use Rattle.mk_rules.specs.Book.{Book, places_of, prerequisites_of}
+use Rattle.mk_graph.specs.Collected.{given_at, StandsFor, SourceStands, Collected, IsGraph}
+use Rattle.mk_graph.specs.Graph.{count_edges, HasMoreThan}
 use Rattle.mk_graph.specs.Numbered.{name_at, number_of, Stand}
 use Rattle.mk_graph.specs.Rows.{row}
-use Rattle.mk_graph.specs.Seen.{firsts_of, AllBelow, joined_of, edges_of}
+use Rattle.mk_graph.specs.Makers.{inferred_source, needs}
+use Rattle.mk_graph.specs.Seen.{firsts_of, AllBelow, joined_of, needs_of}
 use Rattle.mk_graph.proofs.Bridge.{Numbers, Below, kept_map, node_back}
-use Rattle.mk_graph.proofs.Indexes.{flat_map-places_of, places_of-within}
+use Rattle.mk_rules.proofs.Indexes.{flat_map-places_of, places_of-within}
 use Rattle.mk_graph.proofs.Rowing.{all_in, firsts_within}
 use Rattle.mk_graph.proofs.Numberings.{has_at, number_at}
 use Rattle.mk_graph.proofs.Steps.{In}
@@ -72,62 +74,90 @@ alone names d =
       starts_inside = λ g h. absurd (both_ways _ refl h);
     }
 
--- the row of a name stands for what the name needs
-pub joined_stands : (book : List Entry) (goals names : List Name) (entries : Entries) (starts : List ℕ) (distinct : List (Vec ℕ Global)) (i : ℕ) → Collected book goals names entries starts (length names) → ((p : ℕ) → row distinct p ≡ firsts_of (get_or entries p None)) → i < length names → Stand names (joined_of book distinct (name_at names i)) (prerequisites_of book (name_at names i))
-joined_stands book goals names entries starts distinct i c is h =
+-- the rows of a name's rules stand for its prerequisites
+joined_stands : (book : Book) (listing goals names : List Name) (entries : Entries) (sources : List (Option ℕ)) (starts : List ℕ) (distinct : List (Vec ℕ Global)) (i : ℕ) → Collected book listing goals names entries sources starts (length names) → ((p : ℕ) → row distinct p ≡ firsts_of (get_or entries p None)) → i < length names → Stand names (joined_of book.rules distinct (name_at names i)) (prerequisites_of book.rules (name_at names i))
+joined_stands book listing goals names entries sources starts distinct i c is h =
     record {
       within = λ n j. elim (kept_cases nat_eq nat_is_exact [] (flat_map raw ps) n (subst (λ (xs : List ℕ). In xs n) same j)) [ inl l ↦ absurd (both_ways _ refl l) | inr r ↦ below n r ];
       names_are = ap (map (name_at names)) same
           ∙ kept_map same_name (λ x. []) [] (name_at names) (length names) (λ n. []) [] (alone names c.distinct) [] (flat_map raw ps) (λ n j. absurd (both_ways _ refl j)) below
-          ∙ ap (firsts same_name) (map_each (name_at names) raw (given_at book) ps (λ p j. (stands p j).names_are) ∙ flat_map-places_of book (name_at names i));
+          ∙ ap (firsts same_name) (map_each (name_at names) raw (given_at book.rules) ps (λ p j. (stands p j).names_are) ∙ flat_map-places_of book.rules (name_at names i));
     }
   where
     ps : List ℕ
-    ps = places_of book (name_at names i)
+    ps = places_of book.rules (name_at names i)
 
     raw : ℕ → List ℕ
     raw p = raw_of (get_or entries p None)
 
-    same : joined_of book distinct (name_at names i) ≡ firsts nat_eq (flat_map raw ps)
+    same : joined_of book.rules distinct (name_at names i) ≡ firsts nat_eq (flat_map raw ps)
     same = firsts_each (row distinct) raw [] ps (λ p j. is p ∙ firsts_raw (get_or entries p None))
 
-    stands : (p : ℕ) → In ps p → Stand names (raw p) (given_at book p)
-    stands p j = raw_stands names (given_at book p) (get_or entries p None) (c.stand p (all_in ps (length book) p (places_of-within book (name_at names i)) j)) (c.done i p h j)
+    stands : (p : ℕ) → In ps p → Stand names (raw p) (given_at book.rules p)
+    stands p j = raw_stands names (given_at book.rules p) (get_or entries p None) (c.stand p (all_in ps (length book.rules) p (places_of-within book.rules (name_at names i)) j)) (c.done i p h j)
 
     below : Below (length names) (flat_map raw ps)
     below = below_each raw (length names) ps (λ p j. (stands p j).within)
 
+-- the row of a name stands for what the name needs
+pub needs_stand : (book : Book) (listing goals names : List Name) (entries : Entries) (sources : List (Option ℕ)) (starts : List ℕ) (distinct : List (Vec ℕ Global)) (i : ℕ) → Collected book listing goals names entries sources starts (length names) → ((p : ℕ) → row distinct p ≡ firsts_of (get_or entries p None)) → i < length names → Stand names (needs_of book.rules distinct names sources i) (needs book listing (name_at names i))
+needs_stand book listing goals names entries sources starts distinct i c is h =
+    record {
+      within = λ n k. elim (kept_cases nat_eq nat_is_exact (joined_of book.rules distinct (name_at names i)) (option_to_list (get_or sources i None)) n k) [ inl l ↦ front.within n l | inr r ↦ source.within n r ];
+      names_are = kept_map same_name (λ x. []) [] (name_at names) (length names) (λ n. []) [] (alone names c.distinct) (joined_of book.rules distinct (name_at names i)) (option_to_list (get_or sources i None)) front.within source.within
+          ∙ ap (λ xs. kept same_name xs (map (name_at names) (option_to_list (get_or sources i None)))) front.names_are
+          ∙ ap (kept same_name (prerequisites_of book.rules (name_at names i))) source.names_are;
+    }
+  where
+    front : Stand names (joined_of book.rules distinct (name_at names i)) (prerequisites_of book.rules (name_at names i))
+    front = joined_stands book listing goals names entries sources starts distinct i c is h
+
+    source : Stand names (option_to_list (get_or sources i None)) (option_to_list (inferred_source book listing (name_at names i)))
+    source = c.sources_stand i h
+
+-- the number of a source is in range
+pub source_within : (names : List Name) (number : Option ℕ) (source : Option Name) → SourceStands names number source → IfSome number (λ n. n < length names)
+source_within names None source s = tt
+source_within names (Some n) source s = s.within n (in_head nat_eq nat_is_exact n [])
+
+-- there is a number where there is a source
+pub source_told : (names : List Name) (number : Option ℕ) (source : Option Name) → SourceStands names number source → is_some number ≡ is_some source
+source_told names None None s = refl
+source_told names None (Some x) s = let e = s.names_are in absurd cc
+source_told names (Some n) None s = let e = s.names_are in absurd cc
+source_told names (Some n) (Some x) s = refl
+
 -- what was read is in range
-pub entries_below : (book : List Entry) (goals names : List Name) (entries : Entries) (starts : List ℕ) (read p : ℕ) → Collected book goals names entries starts read → AllBelow (length names) (get_or entries p None)
-entries_below book goals names entries starts read p c =
-    elim (cases_lt p (length book)) [
+pub entries_below : (book : Book) (listing goals names : List Name) (entries : Entries) (sources : List (Option ℕ)) (starts : List ℕ) (read p : ℕ) → Collected book listing goals names entries sources starts read → AllBelow (length names) (get_or entries p None)
+entries_below book listing goals names entries sources starts read p c =
+    elim (cases_lt p (length book.rules)) [
       | inl l ↦ go (get_or entries p None) (c.stand p l)
       | inr g ↦ subst (λ (o : Option (Vec ℕ Global)). AllBelow (length names) o) (sym (get_or_past entries p None (let l = c.long in omega arith))) tt
     ]
   where
-    go : (o : Option (Vec ℕ Global)) → StandsFor names (given_at book p) o → AllBelow (length names) o
+    go : (o : Option (Vec ℕ Global)) → StandsFor names (given_at book.rules p) o → AllBelow (length names) o
     go None s = tt
     go (Some v) s = s.within
 
-pub distinct_below : (book : List Entry) (goals names : List Name) (entries : Entries) (starts : List ℕ) (read : ℕ) (distinct : List (Vec ℕ Global)) → Collected book goals names entries starts read → ((p : ℕ) → row distinct p ≡ firsts_of (get_or entries p None)) → (p n : ℕ) → In (row distinct p) n → n < length names
-distinct_below book goals names entries starts read distinct c is p n h = go (get_or entries p None) (entries_below book goals names entries starts read p c) (subst (λ (xs : List ℕ). In xs n) (is p) h)
+pub distinct_below : (book : Book) (listing goals names : List Name) (entries : Entries) (sources : List (Option ℕ)) (starts : List ℕ) (read : ℕ) (distinct : List (Vec ℕ Global)) → Collected book listing goals names entries sources starts read → ((p : ℕ) → row distinct p ≡ firsts_of (get_or entries p None)) → (p n : ℕ) → In (row distinct p) n → n < length names
+distinct_below book listing goals names entries sources starts read distinct c is p n h = go (get_or entries p None) (entries_below book listing goals names entries sources starts read p c) (subst (λ (xs : List ℕ). In xs n) (is p) h)
   where
     go : (o : Option (Vec ℕ Global)) → AllBelow (length names) o → In (firsts_of o) n → n < length names
     go None b i = absurd (both_ways _ refl i)
     go (Some v) b i = firsts_within v.items (length names) b n i
 
-pub graph_is : (book : List Entry) (goals names : List Name) (entries : Entries) (starts : List ℕ) (distinct rows : List (Vec ℕ Global)) → Collected book goals names entries starts (length names) → ((p : ℕ) → row distinct p ≡ firsts_of (get_or entries p None)) → length rows ≡ length names → ((i : ℕ) → i < length names → row rows i ≡ joined_of book distinct (name_at names i)) → IsGraph book goals names rows starts
-graph_is book goals names entries starts distinct rows c is long at =
+pub graph_is : (book : Book) (listing goals names : List Name) (entries : Entries) (sources : List (Option ℕ)) (starts : List ℕ) (distinct rows : List (Vec ℕ Global)) → Collected book listing goals names entries sources starts (length names) → ((p : ℕ) → row distinct p ≡ firsts_of (get_or entries p None)) → length rows ≡ length names → ((i : ℕ) → i < length names → row rows i ≡ needs_of book.rules distinct names sources i) → IsGraph book listing goals names rows starts
+graph_is book listing goals names entries sources starts distinct rows c is long at =
     record {
       distinct = c.distinct;
       nodes = c.nodes;
       starts_stand = c.starts_stand;
       long = long;
-      rows_stand = λ i h. subst (λ (ns : List ℕ). Stand names ns (prerequisites_of book (name_at names i))) (sym (at i h)) (joined_stands book goals names entries starts distinct i c is h);
+      rows_stand = λ i h. subst (λ (ns : List ℕ). Stand names ns (needs book listing (name_at names i))) (sym (at i h)) (needs_stand book listing goals names entries sources starts distinct i c is h);
     }
 
-pub numbers_of : (book : List Entry) (goals names : List Name) (rows : List (Vec ℕ Global)) (starts : List ℕ) → IsGraph book goals names rows starts → Numbers same_name (prerequisites_of book) goals (name_at names) (length names) (row rows) starts
-numbers_of book goals names rows starts g =
+pub numbers_of : (book : Book) (listing goals names : List Name) (rows : List (Vec ℕ Global)) (starts : List ℕ) → IsGraph book listing goals names rows starts → Numbers same_name (needs book listing) goals (name_at names) (length names) (row rows) starts
+numbers_of book listing goals names rows starts g =
     record {
       exact = name_is_exact;
       number = λ x. unwrap_or (number_of names x) 0;
@@ -138,30 +168,6 @@ numbers_of book goals names rows starts g =
       starts_inside = g.starts_stand.within;
     }
 
-pub place_in : (names : List Name) (x : Name) → IsTrue (has same_name names x) → (n : ℕ) × (n < length names) × (name_at names n ≡ x)
-place_in [] x h = absurd (both_ways _ refl h)
-place_in (y ∷ ys) x h =
-    elim (in_cons_cases same_name name_is_exact y x ys h) [
-      | inl e ↦ (0, omega arith, e)
-      | inr i ↦ let r = place_in ys x i in (suc r.0, omega (arith, r.1), r.2)
-    ]
-
--- edges counted by rows or by names
-edges_are : (book : List Entry) (goals names : List Name) (entries : Entries) (starts : List ℕ) (distinct : List (Vec ℕ Global)) (some : List Name) → Collected book goals names entries starts (length names) → ((p : ℕ) → row distinct p ≡ firsts_of (get_or entries p None)) → ((x : Name) → IsTrue (has same_name some x) → IsTrue (has same_name names x)) → edges_of book distinct some ≡ count_edges (prerequisites_of book) some
-edges_are book goals names entries starts distinct [] c is w = refl
-edges_are book goals names entries starts distinct (x ∷ xs) c is w =
-    sum_by-cons (λ y. length (joined_of book distinct y)) x xs
-    ∙ ap (λ n. n + edges_of book distinct xs) here
-    ∙ ap (λ n. length (prerequisites_of book x) + n) (edges_are book goals names entries starts distinct xs c is (λ y i. w y (in_tail same_name name_is_exact x y xs i)))
-    ∙ sym (sum_by-cons (λ y. length (prerequisites_of book y)) x xs)
-  where
-    at : (n : ℕ) × (n < length names) × (name_at names n ≡ x)
-    at = place_in names x (w x (in_head same_name name_is_exact x xs))
-
-    here : length (joined_of book distinct x) ≡ length (prerequisites_of book x)
-    here = subst (λ (z : Name). length (joined_of book distinct z) ≡ length (prerequisites_of book z)) at.2
-        (sym (length-map (joined_of book distinct (name_at names at.0)) (name_at names)) ∙ ap length (joined_stands book goals names entries starts distinct at.0 c is at.1).names_are)
-
 in_take : (k : ℕ) (names : List Name) (x : Name) → IsTrue (has same_name (take k names) x) → IsTrue (has same_name names x)
 in_take k names x h = subst (λ (ns : List Name). IsTrue (has same_name ns x)) (take-append-drop k names) (in_left same_name name_is_exact (take k names) (drop k names) x h)
 
@@ -170,28 +176,27 @@ distinct_take zero names d = tt
 distinct_take (suc k) [] d = tt
 distinct_take (suc k) (x ∷ xs) d = (not_in same_name name_is_exact (take k xs) x (λ h. both_ways _ d.0 (in_take k xs x h)), distinct_take k xs d.1)
 
-pub many_edges : (book : List Entry) (goals names : List Name) (entries : Entries) (starts : List ℕ) (distinct : List (Vec ℕ Global)) (k nodes edges : ℕ) → Collected book goals names entries starts (length names) → ((p : ℕ) → row distinct p ≡ firsts_of (get_or entries p None)) → edges < edges_of book distinct (take k names) → HasMoreThan same_name (prerequisites_of book) goals nodes edges
-many_edges book goals names entries starts distinct k nodes edges c is more = (
+pub many_edges : (book : Book) (listing goals names : List Name) (entries : Entries) (sources : List (Option ℕ)) (starts : List ℕ) (k nodes edges : ℕ) → Collected book listing goals names entries sources starts (length names) → edges < count_edges (needs book listing) (take k names) → HasMoreThan same_name (needs book listing) goals nodes edges
+many_edges book listing goals names entries sources starts k nodes edges c more = (
   take k names,
   record { distinct = distinct_take k names c.distinct; each = λ x h. c.nodes x (in_take k names x h) },
-  inr (subst (λ (n : ℕ). edges < n) (edges_are book goals names entries starts distinct (take k names) c is (λ x h. in_take k names x h)) more),
+  inr more,
 )
 
 count_all : {X : Type 0} (xs : List X) → sum_by (λ x. 1) xs ≡ length xs
 count_all [] = refl
 count_all (x ∷ xs) = sum_by-cons (λ y. 1) x xs ∙ ap (λ n. 1 + n) (count_all xs) ∙ omega arith
 
-pub is_small : (book : List Entry) (goals names : List Name) (entries : Entries) (starts : List ℕ) (distinct rows : List (Vec ℕ Global)) (nodes edges : ℕ) → Collected book goals names entries starts (length names) → ((p : ℕ) → row distinct p ≡ firsts_of (get_or entries p None)) → IsGraph book goals names rows starts → length names ≤ nodes → edges_of book distinct names ≤ edges → HasMoreThan same_name (prerequisites_of book) goals nodes edges → ⊥
-is_small book goals names entries starts distinct rows nodes edges c is g few low h =
+pub is_small : (book : Book) (listing goals names : List Name) (rows : List (Vec ℕ Global)) (starts : List ℕ) (nodes edges : ℕ) → IsGraph book listing goals names rows starts → length names ≤ nodes → count_edges (needs book listing) names ≤ edges → HasMoreThan same_name (needs book listing) goals nodes edges → ⊥
+is_small book listing goals names rows starts nodes edges g few low h =
     elim h.2 [
       | inl more ↦ (let s = sum_within same_name name_is_exact (λ x. 1) h.0 names h.1.distinct within in absurd (omega (arith, s, more, few, count_all h.0, count_all names)))
-      | inr more ↦ (let s = sum_within same_name name_is_exact (λ x. length (prerequisites_of book x)) h.0 names h.1.distinct within in
-          absurd (omega (arith, s, more, low, edges_are book goals names entries starts distinct names c is (λ x i. i))))
+      | inr more ↦ (let s = sum_within same_name name_is_exact (λ x. length (needs book listing x)) h.0 names h.1.distinct within in absurd (omega (arith, s, more, low)))
     ]
   where
     within : (x : Name) → IsTrue (has same_name h.0 x) → IsTrue (has same_name names x)
     within x i =
-        let n = node_back same_name (prerequisites_of book) goals (name_at names) (length names) (row rows) starts (numbers_of book goals names rows starts g) x (h.1.each x i) in
+        let n = node_back same_name (needs book listing) goals (name_at names) (length names) (row rows) starts (numbers_of book listing goals names rows starts g) x (h.1.each x i) in
         subst (λ (z : Name). IsTrue (has same_name names z)) n.3 (has_at names n.0 n.2)
 
 pub if_none_at : {T : Type 0} (o : Option T) (P : Type 0) → ((x : T) → o ≡ Some x → ⊥) → IfNone o P → P

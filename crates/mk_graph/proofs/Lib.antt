@@ -2,17 +2,12 @@ mod Answering
 mod Bridge
 mod Collecting
 mod Cycles
-pub mod Firsts
 mod Graphs
-pub mod Indexes
 mod Leasts
-pub mod Lines
 mod Measure
 mod NodeNames
 mod NodesOf
-pub mod Notes
-mod Numberings
-pub mod Recipes
+pub mod Numberings
 mod Rowing
 mod Steps
-pub mod Words
+mod Suffixes

@@ -1,10 +1,9 @@
 -- The measure of the walk, and what it reads.
-use Rattle.std.proofs.Common.{◌≡◌, ℕ, zero, suc, ◌+◌, ◌-◌, ◌<◌, ◌≤◌, Bool, List, [], ◌∷◌, ◌++◌, length, get_or, set, sym, ◌∙◌, ap, subst, inl, inr, refl, arith, length-append}
-use Rattle.std.specs.Prelude.{IsTrue, nat_eq, map, reverse, Vec}
+use Rattle.std.proofs.Common.{◌≡◌, ℕ, zero, suc, ◌+◌, ◌<◌, ◌≤◌, List, [], ◌∷◌, ◌++◌, length, get_or, set, sym, ◌∙◌, ap, subst, arith, length-append}
+use Rattle.std.specs.Prelude.{map, reverse, Vec}
 use Rattle.std.specs.Global.{Global}
-use Rattle.std.proofs.lemmas.Bool.{both_ways}
-use Rattle.std.proofs.lemmas.List.{reverse-append, length-map, length-reverse, nil_from_length, get_or_default}
-use Rattle.mk_graph.specs.Rows.{row, InRange}
+use Rattle.std.proofs.lemmas.List.{reverse-append, length-reverse, nil_from_length, get_or_default}
+use Rattle.mk_graph.specs.Rows.{row}
 use Rattle.mk_graph.specs.declared.serial.Mark.{Mark}
 use Rattle.mk_graph.specs.declared.serial.Mark.TheVariants.{Fresh, Open, Done}
 use Rattle.mk_graph.specs.declared.serial.Step.{Step}

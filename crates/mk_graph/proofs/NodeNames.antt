@@ -1,13 +1,13 @@
 -- The names of a plan's nodes, and the places of what they need.
-use Rattle.std.proofs.Common.{◌≡◌, ℕ, ◌+◌, ◌<◌, ◌≤◌, Bool, true, false, List, [], ◌∷◌, ◌++◌, length, get_or, take, sym, ◌∙◌, ap, subst, inl, inr, refl, arith, append_assoc, Some}
-use Rattle.std.specs.Prelude.{◌⊎◌, IsTrue, nat_eq, map, Vec}
+use Rattle.std.proofs.Common.{◌≡◌, ℕ, ◌+◌, ◌<◌, false, List, [], ◌∷◌, ◌++◌, length, get_or, take, sym, ◌∙◌, ap, subst, inl, inr, refl, arith, append_assoc, Some}
+use Rattle.std.specs.Prelude.{IsTrue, nat_eq, map, Vec}
 use Rattle.std.specs.Global.{Global}
 use Rattle.std.proofs.lemmas.Bool.{both_ways, false_from_ne_true}
 use Rattle.std.proofs.lemmas.List.{append-nil, get_or-map, get_or-take, length-map, length-take-le, map_more}
-use Rattle.mk_name.specs.Names.{Name, same_name, has, kept, firsts, IsDistinct}
-use Rattle.mk_name.proofs.Names.{name_is_exact, nat_is_exact, in_head, in_tail, in_push, in_left, in_cons_cases, kept_new, kept-append}
+use Rattle.mk_name.specs.Names.{Name, same_name, has, kept, IsDistinct}
+use Rattle.mk_name.proofs.Names.{name_is_exact, nat_is_exact, in_head, in_tail, in_cons_cases, kept_new, kept-append}
 use Rattle.mk_graph.specs.Assembled.{node_of, IsNumbering}
-use Rattle.mk_graph.specs.Book.{Entry}
+use Rattle.mk_rules.specs.Book.{Book}
 use Rattle.mk_graph.specs.Numbered.{name_at, number_of}
 use Rattle.mk_graph.specs.Plan.{Node}
 use Rattle.mk_graph.specs.Rows.{row, IsRising}
@@ -17,7 +17,7 @@ use Rattle.mk_graph.proofs.Rowing.{place_of}
 use Rattle.mk_graph.proofs.Steps.{In}
 
 -- the nodes of some numbers have the numbers' names
-pub names_of_nodes : (book : List Entry) (listing names : List Name) (rows : List (Vec ℕ Global)) (places ns : List ℕ) → map (λ (m : Node). m.name) (map (λ n. node_of book listing (name_at names n) (map (λ p. get_or places p 0) (row rows n))) ns) ≡ map (name_at names) ns
+pub names_of_nodes : (book : Book) (listing names : List Name) (rows : List (Vec ℕ Global)) (places ns : List ℕ) → map (λ (m : Node). m.name) (map (λ n. node_of book listing (name_at names n) (map (λ p. get_or places p 0) (row rows n))) ns) ≡ map (name_at names) ns
 names_of_nodes book listing names rows places [] = refl
 names_of_nodes book listing names rows places (n ∷ ns) = ap (λ xs. name_at names n ∷ xs) (names_of_nodes book listing names rows places ns)
 
@@ -77,7 +77,7 @@ placed_before order places at i (q ∷ qs) h w p m =
     ]
 
 -- each node stands after what it needs
-pub nodes_rising : (book : List Entry) (listing names : List Name) (rows : List (Vec ℕ Global)) (order places : List ℕ) (nodes : List Node) → IsNumbering order places → IsRising (row rows) order → nodes ≡ map (λ n. node_of book listing (name_at names n) (map (λ p. get_or places p 0) (row rows n))) order → (i p : ℕ) (d : Node) → i < length nodes → IsTrue (has nat_eq (get_or nodes i d).prerequisites p) → p < i
+pub nodes_rising : (book : Book) (listing names : List Name) (rows : List (Vec ℕ Global)) (order places : List ℕ) (nodes : List Node) → IsNumbering order places → IsRising (row rows) order → nodes ≡ map (λ n. node_of book listing (name_at names n) (map (λ p. get_or places p 0) (row rows n))) order → (i p : ℕ) (d : Node) → i < length nodes → IsTrue (has nat_eq (get_or nodes i d).prerequisites p) → p < i
 nodes_rising book listing names rows order places nodes at rising is i p d h m =
     let node_at : ℕ → Node = λ n. node_of book listing (name_at names n) (map (λ q. get_or places q 0) (row rows n)) in
     let k : i < length order = omega (arith, ap length is, length-map order node_at) in

@@ -1,19 +1,20 @@
 -- The nodes of a plan, from the graph by numbers.
-use Rattle.std.proofs.Common.{◌≡◌, ℕ, zero, suc, ◌+◌, ◌<◌, ◌≤◌, Bool, true, false, List, [], ◌∷◌, ◌++◌, length, get_or, set, take, drop, sym, ◌∙◌, ap, subst, inl, inr, refl, arith}
-use Rattle.std.specs.Prelude.{◌⊎◌, IsTrue, nat_eq, map, Vec}
+use Rattle.std.proofs.Common.{◌≡◌, ℕ, zero, suc, ◌+◌, ◌<◌, List, [], ◌∷◌, ◌++◌, length, get_or, set, take, drop, sym, ◌∙◌, ap, subst, inl, inr, refl, arith}
+use Rattle.std.specs.Prelude.{nat_eq, map, Vec}
 use Rattle.std.specs.Global.{Global}
 use Rattle.std.proofs.lemmas.Bool.{both_ways, cases_eq}
-use Rattle.std.proofs.lemmas.List.{get_or-set_same, get_or-set_other, length-set, length-map, get_or-map, get_or-take, length-take-le, map_more, take-append-drop}
-use Rattle.mk_name.specs.Names.{Name, same_name, has, IsDistinct}
-use Rattle.mk_name.proofs.Names.{nat_is_exact, in_head, in_tail, in_left, in_cons_cases}
+use Rattle.std.proofs.lemmas.List.{get_or-set_same, get_or-set_other, length-map, get_or-map, map_more, take-append-drop}
+use Rattle.mk_name.specs.Names.{Name, same_name, IsDistinct}
+use Rattle.mk_name.proofs.Names.{nat_is_exact, in_head, in_tail, in_left}
 use Rattle.mk_graph.specs.Assembled.{node_of, IsNumbering}
 use Rattle.mk_graph.specs.Answer.{IsNodeOf, IsPlan}
-use Rattle.mk_graph.specs.Book.{Entry, prerequisites_of}
+use Rattle.mk_rules.specs.Book.{Book}
+use Rattle.mk_graph.specs.Makers.{needs}
 use Rattle.mk_graph.specs.Collected.{IsGraph}
 use Rattle.mk_graph.specs.Graph.{IsSerialOrder}
-use Rattle.mk_graph.specs.Numbered.{name_at, Stand}
+use Rattle.mk_graph.specs.Numbered.{name_at}
 use Rattle.mk_graph.specs.Plan.{Node, Plan}
-use Rattle.mk_graph.specs.Rows.{row, IsRising}
+use Rattle.mk_graph.specs.Rows.{row}
 use Rattle.mk_graph.specs.Walk.{IsOrder}
 use Rattle.mk_graph.proofs.Bridge.{Numbers, serial_order_map, no_cycle_map, node_inside}
 use Rattle.mk_graph.proofs.Graphs.{numbers_of}
@@ -39,13 +40,13 @@ pub nodes_more : (f : ℕ → Node) (order : List ℕ) (i : ℕ) (old new : List
 nodes_more f order i old new n h e is at =
     is ∙ ap (λ ns. ns ++ n ∷ []) e ∙ ap (λ m. map f (take i order) ++ m ∷ []) at ∙ sym (map_more f order i 0 h)
 
-module _ (book : List Entry) (listing goals names : List Name) (rows : List (Vec ℕ Global)) (starts order places : List ℕ) (g : IsGraph book goals names rows starts) (o : IsOrder (row rows) starts order) (at : IsNumbering order places) where
+module _ (book : Book) (listing goals names : List Name) (rows : List (Vec ℕ Global)) (starts order places : List ℕ) (g : IsGraph book listing goals names rows starts) (o : IsOrder (row rows) starts order) (at : IsNumbering order places) where
   -- the node of a number
   abbrev pub node_at : ℕ → Node
   node_at n = node_of book listing (name_at names n) (map (λ p. get_or places p 0) (row rows n))
 
   order_below : (n : ℕ) → In order n → n < length names
-  order_below n h = node_inside same_name (prerequisites_of book) goals (name_at names) (length names) (row rows) starts (numbers_of book goals names rows starts g) n (o.nodes n h)
+  order_below n h = node_inside same_name (needs book listing) goals (name_at names) (length names) (row rows) starts (numbers_of book listing goals names rows starts g) n (o.nodes n h)
 
   -- the name at the place of a number of the order
   name_back : (q : ℕ) → In order q → get_or (map (name_at names) order) (get_or places q 0) [] ≡ name_at names q
@@ -65,11 +66,11 @@ module _ (book : List Entry) (listing goals names : List Name) (rows : List (Vec
   node_is : (i : ℕ) (d : Node) → i < length order → get_or (map node_at order) i d ≡ node_at (get_or order i 0)
   node_is i d h = get_or-map node_at order i 0 d h
 
-  pub plan_is : (plan : Plan) → plan.nodes ≡ map node_at order → plan.wait_uses ≡ 0 → IsPlan book listing goals plan
+  pub plan_is : (plan : Plan) → plan.nodes ≡ map node_at order → plan.wait_uses ≡ book.wait_uses → IsPlan book listing goals plan
   plan_is plan is waits =
       record {
-        order = subst (λ (xs : List Name). IsSerialOrder same_name (prerequisites_of book) goals xs) (sym named) (serial_order_map same_name (prerequisites_of book) goals (name_at names) (length names) (row rows) starts w order o.serial order_below);
-        no_cycle = no_cycle_map same_name (prerequisites_of book) goals (name_at names) (length names) (row rows) starts w o.no_cycle;
+        order = subst (λ (xs : List Name). IsSerialOrder same_name (needs book listing) goals xs) (sym named) (serial_order_map same_name (needs book listing) goals (name_at names) (length names) (row rows) starts w order o.serial order_below);
+        no_cycle = no_cycle_map same_name (needs book listing) goals (name_at names) (length names) (row rows) starts w o.no_cycle;
         nodes = λ i d h. let k = inside i h in
             subst (λ (m : Node). IsNodeOf book listing (map (λ (x : Node). x.name) plan.nodes) m) (sym (ap (λ ns. get_or ns i d) is ∙ node_is i d k)) (record {
               prerequisites = ap (λ xs. map (λ j. get_or xs j []) (map (λ p. get_or places p 0) (row rows (get_or order i 0)))) named ∙ names_back (row rows (get_or order i 0)) (λ q m. in_order i q k m) ∙ (g.rows_stand (get_or order i 0) (order_below (get_or order i 0) (in_at order i k))).names_are;
@@ -82,8 +83,8 @@ module _ (book : List Entry) (listing goals names : List Name) (rows : List (Vec
         waits = waits;
       }
     where
-      w : Numbers same_name (prerequisites_of book) goals (name_at names) (length names) (row rows) starts
-      w = numbers_of book goals names rows starts g
+      w : Numbers same_name (needs book listing) goals (name_at names) (length names) (row rows) starts
+      w = numbers_of book listing goals names rows starts g
 
       named : map (λ (x : Node). x.name) plan.nodes ≡ map (name_at names) order
       named = ap (map (λ (x : Node). x.name)) is ∙ names_of_nodes book listing names rows places order

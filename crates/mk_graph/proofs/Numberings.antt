@@ -1,15 +1,15 @@
 -- Names and their numbers.
-use Rattle.std.proofs.Common.{◌≡◌, ℕ, zero, suc, ◌+◌, ◌<◌, ◌≤◌, Bool, true, false, cond, List, [], ◌∷◌, ◌++◌, length, get_or, take, sym, ◌∙◌, ap, subst, inl, inr, refl, arith, append_assoc, length-append, Some, None, Option}
-use Rattle.std.specs.Prelude.{◌⊎◌, ◌||◌, IsTrue, nat_eq, map, position}
+use Rattle.std.proofs.Common.{◌≡◌, ℕ, zero, suc, ◌+◌, ◌<◌, Bool, true, false, cond, List, [], ◌∷◌, ◌++◌, length, get_or, take, sym, ◌∙◌, ap, subst, inl, inr, refl, arith, append_assoc, length-append, Some, None, Option}
+use Rattle.std.specs.Prelude.{◌||◌, IsTrue, nat_eq, map}
 use Rattle.std.specs.List.{list_any, position_from}
 use Rattle.std.specs.Ordering.{is_eq, nat_cmp}
 use Rattle.std.specs.Cmp.Lexicographic.{slice_cmp, texts_ties}
 use Rattle.std.proofs.lemmas.Bool.{cases_Bool, both_ways, or_parts, or_right, cond-true, cond-false, false_from_ne_true}
-use Rattle.std.proofs.lemmas.List.{append-nil, map_push, take_more, get_or_append_left, get_or_push, length_push, get_or_default}
+use Rattle.std.proofs.lemmas.List.{append-nil, map_push, take_more, get_or_append_left}
 use Rattle.std.proofs.lemmas.List.Quantifiers.{position-Some}
 use Rattle.std.proofs.lemmas.Iterator.Adapters.{position_from-zero}
 use Rattle.mk_name.specs.Names.{Name, same_name, has, kept, IsDistinct}
-use Rattle.mk_name.proofs.Names.{IsExact, name_is_exact, nat_is_exact, in_head, in_tail, kept-append, kept_new, kept_old, in_push_cases, in_push, in_left, distinct_push}
+use Rattle.mk_name.proofs.Names.{name_is_exact, nat_is_exact, in_head, in_tail, kept-append, kept_new, kept_old, in_push_cases, distinct_push}
 use Rattle.std.specs.BTreeMap.{get}
 use Rattle.std.specs.declared.collections.BTreeMap.{BTreeMap}
 use Rattle.std.specs.Global.{Global}

@@ -1,20 +1,20 @@
 -- Rows of numbers, each number once.
-use Rattle.std.proofs.Common.{◌≡◌, ℕ, zero, suc, ◌+◌, ◌<◌, ◌≤◌, Bool, true, false, cond, List, [], ◌∷◌, ◌++◌, length, get_or, set, take, drop, sym, ◌∙◌, ap, subst, inl, inr, refl, arith, append_assoc, length-append, Some, None, Option}
-use Rattle.std.specs.Prelude.{◌⊎◌, not, IsTrue, nat_eq, map, Vec}
-use Rattle.std.specs.List.{flat_map, sum_by, All}
+use Rattle.std.proofs.Common.{◌≡◌, ℕ, zero, suc, ◌+◌, ◌<◌, ◌≤◌, Bool, true, false, List, [], ◌∷◌, ◌++◌, length, get_or, set, take, sym, ◌∙◌, ap, subst, inl, inr, refl, arith, Some, None, Option}
+use Rattle.std.specs.Prelude.{IfSome, nat_eq, Vec}
+use Rattle.std.specs.List.{flat_map, All}
 use Rattle.std.proofs.lemmas.List.Sums.{sum_by_more}
 use Rattle.mk_name.specs.Names.{Name}
-use Rattle.mk_graph.specs.Book.{Entry, places_of}
-use Rattle.mk_graph.specs.Numbered.{name_at}
+use Rattle.mk_graph.specs.Graph.{count_edges}
+use Rattle.mk_graph.specs.Numbered.{name_at, Stand}
 use Rattle.std.specs.Global.{Global}
-use Rattle.std.proofs.lemmas.Bool.{cases_lt, cases_Bool, both_ways, cases_eq, not-true, not-false, false_from_ne_true}
-use Rattle.std.proofs.lemmas.List.{get_or-set_same, get_or-set_other, length-set, append-nil, take_more, take_all, flat_map_more, length_push, get_or_past, get_or_read}
+use Rattle.std.proofs.lemmas.Bool.{cases_lt, both_ways, cases_eq}
+use Rattle.std.proofs.lemmas.List.{get_or-set_same, get_or-set_other, length-set, take_more, flat_map_more, length_push, get_or_past, get_or_read, length-map}
 use Rattle.std.proofs.lemmas.List.Folds.{list_any_at}
 use Rattle.mk_name.specs.Names.{has, kept, firsts}
-use Rattle.mk_name.proofs.Names.{nat_is_exact, in_head, in_cons_cases, in_left, in_cases, in_push, has-push_other, kept_new, kept_old, kept-append, kept_cases, joined_within}
+use Rattle.mk_name.proofs.Names.{nat_is_exact, in_cons_cases, in_cases, in_push, has-push_other, kept_new, kept_old, kept-append, kept_cases}
 use Rattle.mk_graph.specs.Rows.{row}
-use Rattle.mk_graph.specs.Seen.{IsSeen, firsts_of, AllBelow, joined_of, edges_of}
-use Rattle.mk_graph.proofs.Steps.{In, Within}
+use Rattle.mk_graph.specs.Seen.{IsSeen, firsts_of, with_source}
+use Rattle.mk_graph.proofs.Steps.{In}
 
 pub in_at : (xs : List ℕ) (i : ℕ) → i < length xs → In xs (get_or xs i 0)
 in_at xs i h = list_any_at (λ y. nat_eq y (get_or xs i 0)) xs i 0 h (nat_is_exact.itself (get_or xs i 0))
@@ -101,7 +101,16 @@ place_of (x ∷ xs) n h =
 pub all_in : (xs : List ℕ) (size n : ℕ) → All (λ k. k < size) xs → In xs n → n < size
 all_in xs size n a h = let p = place_of xs n h in subst (λ (k : ℕ). k < size) p.2 (a p.0 0 p.1)
 
-pub edges_more : (book : List Entry) (entries : List (Vec ℕ Global)) (names : List Name) (i edges : ℕ) (joined : List ℕ) → i < length names → edges ≡ edges_of book entries (take i names) → joined ≡ joined_of book entries (name_at names i) → edges + length joined ≡ edges_of book entries (take (i + 1) names)
-edges_more book entries names i edges joined h e is =
-    ap (λ n. edges + n) (ap length is) ∙ ap (λ n. n + length (joined_of book entries (name_at names i))) e
-    ∙ sym (sum_by_more (λ x. length (joined_of book entries x)) names i [] h)
+pub edges_more : (needs : Name → List Name) (names : List Name) (i edges : ℕ) (numbers : List ℕ) → i < length names → edges ≡ count_edges needs (take i names) → Stand names numbers (needs (name_at names i)) → edges + length numbers ≡ count_edges needs (take (i + 1) names)
+edges_more needs names i edges numbers h e s =
+    ap (λ n. edges + n) (sym (length-map numbers (name_at names)) ∙ ap length s.names_are) ∙ ap (λ n. n + length (needs (name_at names i))) e
+    ∙ sym (sum_by_more (λ x. length (needs x)) names i [] h)
+
+-- a source that stands in the row is one of the numbers or the source
+pub with_source_below : (row : List ℕ) (source : Option ℕ) (size : ℕ) → ((n : ℕ) → In row n → n < size) → IfSome source (λ n. n < size) → (n : ℕ) → In (with_source row source) n → n < size
+with_source_below row None size h s n i = h n i
+with_source_below row (Some m) size h s n i =
+    elim (kept_cases nat_eq nat_is_exact row (m ∷ []) n i) [
+      | inl l ↦ h n l
+      | inr r ↦ elim (in_cons_cases nat_eq nat_is_exact m n [] r) [ inl e ↦ subst (λ (k : ℕ). k < size) e s | inr z ↦ absurd (both_ways _ refl z) ]
+    ]

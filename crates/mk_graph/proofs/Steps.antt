@@ -1,11 +1,11 @@
 -- The steps of the walk.
-use Rattle.std.proofs.Common.{◌≡◌, ℕ, zero, suc, ◌+◌, ◌-◌, ◌<◌, ◌≤◌, Bool, true, false, cond, List, [], ◌∷◌, ◌++◌, length, get_or, take, drop, set, sym, ◌∙◌, ap, subst, inl, inr, refl, arith, append_assoc, length-append}
-use Rattle.std.specs.Prelude.{◌⊎◌, ◌||◌, if◌then◌else◌, IsTrue, nat_eq, map, reverse}
-use Rattle.std.specs.List.{flat_map, list_any}
-use Rattle.std.proofs.lemmas.Bool.{cases_lt, cases_Bool, both_ways, cases_eq, eqb-true, eq-eqb, ne_eqb, or_left, or_right, or_cases}
-use Rattle.std.proofs.lemmas.List.{take-append-le, take_at, get_or_push, get_or_append_left, length_push, get_or-set_same, get_or-set_other, length-set, append-nil, reverse-append}
+use Rattle.std.proofs.Common.{◌≡◌, ℕ, zero, suc, ◌+◌, ◌<◌, ◌≤◌, Bool, true, false, cond, List, [], ◌∷◌, ◌++◌, length, get_or, set, sym, ◌∙◌, ap, subst, inl, inr, refl, arith, append_assoc, length-append}
+use Rattle.std.specs.Prelude.{◌⊎◌, ◌||◌, if◌then◌else◌, IsTrue, nat_eq, map}
+use Rattle.std.specs.List.{flat_map}
+use Rattle.std.proofs.lemmas.Bool.{cases_lt, cases_Bool, both_ways, cases_eq, eq-eqb, ne_eqb}
+use Rattle.std.proofs.lemmas.List.{take-append-le, take_at, get_or_push, get_or_append_left, length_push, get_or-set_same, get_or-set_other, length-set, append-nil}
 use Rattle.mk_name.specs.Names.{has, kept, firsts, IsDistinct}
-use Rattle.mk_name.proofs.Names.{IsExact, nat_is_exact, in_head, in_tail, in_cons_cases, in_left, in_right, in_cases, in_push, in_push_cases, not_in, has-push_other, in_joined, joined_within, kept_new, kept_old, kept-append, kept_within, kept_skip, distinct_push}
+use Rattle.mk_name.proofs.Names.{nat_is_exact, in_head, in_tail, in_cons_cases, in_left, in_right, in_cases, in_push, in_push_cases, not_in, has-push_other, joined_within, kept_new, kept_skip}
 use Rattle.mk_graph.specs.Graph.{Leads, IsNode, IsTreeAt, IsSerialOrder, HasNoCycle, IsChain}
 use Rattle.mk_graph.specs.Rows.{IsRing, IsRising}
 use Rattle.mk_graph.specs.Steps.{ring_to}

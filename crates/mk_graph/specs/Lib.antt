@@ -1,16 +1,14 @@
 pub mod Answer
 pub mod Assembled
-pub mod Book
 pub mod Collected
 pub mod Graph
-pub mod Index
 pub mod Least
 pub mod Makers
 pub mod Numbered
 pub mod Numbers
-pub mod PlainRules
 pub mod Plan
 pub mod Rows
 pub mod Seen
 pub mod Steps
+pub mod Suffix
 pub mod Walk

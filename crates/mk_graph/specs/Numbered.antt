@@ -1,5 +1,5 @@
 -- Names by their numbers, and the prerequisites of entries by the numbers of their names.
-use Rattle.std.specs.Prelude.{◌≡◌, ℕ, ◌<◌, List, [], map, length, position, slice_index_or, IsTrue, Option, Some, None, nat_eq}
+use Rattle.std.specs.Prelude.{◌≡◌, ℕ, ◌<◌, List, [], map, length, position, slice_index_or, IsTrue, Option, nat_eq}
 use Rattle.mk_name.specs.Names.{Name, same_name, has}
 
 -- the name with a number

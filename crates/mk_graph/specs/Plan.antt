@@ -21,8 +21,12 @@ pub record Plan : Type 0 where
 abbrev pub names_of : List Node → List Name
 names_of nodes = map (λ (n : Node). n.name) nodes
 
+-- each node stands after what it needs
+abbrev pub NeedsStandBefore : List Node → Type 0
+NeedsStandBefore nodes = (i p : ℕ) (d : Node) → i < length nodes → IsTrue (has nat_eq (get_or nodes i d).prerequisites p) → p < i
+
 -- the nodes are few, the index has their names, and each node stands after what it needs
 pub record IsOrdered (nodes : List Node) (index : List Name) : Type 0 where
   pub few : length nodes ≤ 4294967295
   pub names : index ≡ names_of nodes
-  pub rising : (i p : ℕ) (d : Node) → i < length nodes → IsTrue (has nat_eq (get_or nodes i d).prerequisites p) → p < i
+  pub rising : NeedsStandBefore nodes

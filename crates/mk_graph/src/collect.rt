@@ -1,15 +1,18 @@
-//! All that some goals need: their names, and the prerequisites of the entries that name them as targets.
-ghost use Rattle.std.specs.Prelude.{◌≡◌, ◌<◌, ◌≤◌, List, ℕ, length, replicate, None, nat_eq, IfOk, OnOk, IfSome, IfNone};
+//! All that some goals need: their names, the prerequisites of the rules that name them as targets, and their sources.
+ghost use Rattle.std.specs.Prelude.{◌≡◌, ◌<◌, ◌≤◌, List, ℕ, length, replicate, None, IfOk, OnOk, IfSome, IfNone};
 ghost use Rattle.std.specs.List.{All};
-ghost use Rattle.mk_name.specs.Names.{Name};
-ghost use Rattle.mk_graph.specs.Book.{prerequisites_of};
-ghost use Rattle.mk_graph.specs.Collected.{Collected, Reads};
+ghost use Rattle.std.specs.Option.{option_to_list};
+ghost use Rattle.mk_name.specs.Names.{Name, kept, same_name};
+ghost use Rattle.mk_graph.specs.Collected.{Collected, Reads, SourceStands};
 ghost use Rattle.mk_graph.specs.Graph.{AreNodes};
-ghost use Rattle.mk_name.specs.Names.{same_name};
+ghost use Rattle.mk_graph.specs.Makers.{inferred_source, needs};
+ghost use Rattle.mk_graph.specs.Numbered.{name_at};
 
+use crate::inference::inferred_source;
 use crate::numbering::Numbering;
-use crate::rulebook::Rulebook;
 use mk_name::name::Name;
+use mk_rules::rulebook::Rulebook;
+use mk_text::listing::Listing;
 use std::alloc::{AllocError, Global};
 
 /// What the goals need.
@@ -17,13 +20,15 @@ use std::alloc::{AllocError, Global};
 pub struct Found {
     /// The names, in the order in which they were found.
     pub names: Numbering,
-    /// The entries that name one of them as a target, by their places in the book.
+    /// The prerequisites of the rules that name one of them as a target, by their places in the book.
     pub entries: Vec<Option<Vec<usize>>>,
+    /// The numbers of the sources that inference rules make them from.
+    pub sources: Vec<Option<usize>>,
     /// The numbers of the goals.
     pub goals: Vec<usize>,
 }
 
-/// As many entries, none of them read.
+/// As many rules, none of them read.
 fn none_read(alloc: Global, count: usize) -> Result<Vec<Option<Vec<usize>>>, AllocError>
     ensures { IfOk result (λ entries. entries.items ≡ replicate count None) }
 {
@@ -34,7 +39,7 @@ fn none_read(alloc: Global, count: usize) -> Result<Vec<Option<Vec<usize>>>, All
     Ok(entries)
 }
 
-/// Reads the entries at some places, where that is not done yet.
+/// Reads the rules at some places, where that is not done yet.
 fn read_entries(
     alloc: Global,
     book: &Rulebook,
@@ -42,9 +47,10 @@ fn read_entries(
     names: &mut Numbering,
     entries: &mut [Option<Vec<usize>>],
 ) -> Result<(), AllocError>
-    requires within { All (λ place. place < length book.now) places.now }
-    requires long { length entries.old ≡ length book.now }
-    ensures { OnOk result (Reads book.now places.now names.old entries.old names.new entries.new) }
+    requires within { All (λ place. place < length book.now.rules) places.now }
+    requires long { length entries.old ≡ length book.now.rules }
+    ensures { OnOk result
+        (Reads book.now.rules places.now names.old entries.old names.new entries.new) }
 {
     for place in places {
         let place = *place;
@@ -56,26 +62,48 @@ fn read_entries(
     Ok(())
 }
 
+/// The number of the inferred source of the name with a number, if it has one. A new source is put last.
+fn read_source(
+    alloc: Global,
+    book: &Rulebook,
+    listing: &Listing,
+    names: &mut Numbering,
+    number: usize,
+) -> Result<Option<usize>, AllocError>
+    requires { number < length names.old }
+    ensures kept { let source = inferred_source book.now listing.now (name_at names.old number) in
+        OnOk result (names.new ≡ kept same_name names.old (option_to_list source)) }
+    ensures stands { let source = inferred_source book.now listing.now (name_at names.old number) in
+        IfOk result (λ found. SourceStands names.new found source) }
+{
+    match inferred_source(alloc, book, listing, names.name(number))? {
+        Some(source) => Ok(Some(names.put(alloc, &source)?)),
+        None => Ok(None),
+    }
+}
+
 /// All that the goals need, or nothing where this is more than `limit` names. The only error is want of memory.
 pub fn collect(
     alloc: Global,
     book: &Rulebook,
+    listing: &Listing,
     goals: &[Name],
     limit: usize,
 ) -> Result<Option<Found>, AllocError>
     ensures found { IfOk result
         (λ found. IfSome found
-        (λ f. Collected book.now goals.now f.names f.entries.items f.goals.items
-        (length f.names))) }
+        (λ f. Collected book.now listing.now goals.now f.names f.entries.items f.sources.items
+        f.goals.items (length f.names))) }
     ensures few { IfOk result (λ found. IfSome found (λ f. length f.names ≤ limit)) }
     ensures too_large { IfOk result
         (λ found. IfNone found
-        ((names : List Name) × AreNodes same_name (prerequisites_of book.now) goals.now names ×
+        ((names : List Name) × AreNodes same_name (needs book.now listing.now) goals.now names ×
         (limit < length names))) }
 {
     let mut names = Numbering::new(alloc);
     let starts = names.put_all(alloc, goals)?;
     let mut entries = none_read(alloc, book.rule_count())?;
+    let mut sources = Vec::new(alloc);
     let mut read = 0;
     'all: while read < names.count() {
         if names.count() > limit {
@@ -83,11 +111,13 @@ pub fn collect(
         }
         let places = book.rules_of(names.name(read));
         read_entries(alloc, book, places, &mut names, &mut entries)?;
+        sources.push(read_source(alloc, book, listing, &mut names, read)?)?;
         read += 1;
     }
     Ok(Some(Found {
         names,
         entries,
+        sources,
         goals: starts,
     }))
 }

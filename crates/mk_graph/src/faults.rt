@@ -2,39 +2,16 @@
 ghost use Rattle.std.specs.Prelude.{◌≡◌, ◌<◌, ◌+◌, ◌++◌, ◌≤◌, ℕ, length, map, drop, take, nat_eq, IsTrue, IfOk, OnOk};
 ghost use Rattle.mk_name.specs.Names.{has};
 ghost use Rattle.mk_graph.specs.Least.{upto, IsLeastPassing, IsLeastPlace};
-ghost use Rattle.mk_graph.specs.Makers.{maker_of, is_unmade};
+ghost use Rattle.mk_graph.specs.Makers.{is_unmade, maker_of};
 ghost use Rattle.mk_graph.specs.Numbered.{name_at};
 
 use crate::maker::Maker;
+use crate::makers::is_unmade;
 use crate::numbering::Numbering;
-use crate::rulebook::Rulebook;
 use mk_name::name::Name;
+use mk_rules::rulebook::Rulebook;
 use mk_text::listing::Listing;
 use std::alloc::{AllocError, Global};
-
-/// What makes a name.
-pub fn maker_of(book: &Rulebook, listing: &Listing, name: &Name) -> Maker
-    ensures { result ≡ maker_of book.now listing.now name.now }
-{
-    let _listed_files_make_nothing = listing;
-    if book.has_recipe(name) {
-        Maker::Rule
-    } else {
-        Maker::Nothing
-    }
-}
-
-/// Whether nothing makes a name, and it is no phony name, no target and not listed.
-fn is_unmade(book: &Rulebook, listing: &Listing, name: &Name) -> bool
-    ensures { result ≡ is_unmade book.now listing.now name.now }
-{
-    match maker_of(book, listing, name) {
-        Maker::Nothing => {
-            !book.is_phony(name) && !book.is_target(name) && !listing.contains(name)
-        }
-        Maker::Rule | Maker::Inferred | Maker::Default => false,
-    }
-}
 
 /// Whether one name comes before another byte by byte, or is the same.
 fn is_upto(names: &Numbering, a: usize, b: usize) -> bool
@@ -46,12 +23,18 @@ fn is_upto(names: &Numbering, a: usize, b: usize) -> bool
 }
 
 /// The number of the least of the names that nothing makes.
-pub fn least_unmade(book: &Rulebook, listing: &Listing, names: &Numbering) -> Option<usize>
+pub fn least_unmade(
+    book: &Rulebook,
+    listing: &Listing,
+    names: &Numbering,
+    makers: &[Maker],
+) -> Option<usize>
+    requires { makers.now ≡ map (maker_of book.now listing.now) names.now }
     ensures { IsLeastPassing (is_unmade book.now listing.now) names.now (length names.now) result }
 {
     let mut least = None;
     for number in 0..names.count() {
-        if is_unmade(book, listing, names.name(number)) {
+        if is_unmade(book, listing, names.name(number), makers[number]) {
             least = match least {
                 Some(best) if is_upto(names, best, number) => Some(best),
                 _ => Some(number),

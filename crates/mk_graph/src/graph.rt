@@ -1,22 +1,26 @@
 //! The graph of all that some goals need, by numbers.
-ghost use Rattle.std.specs.Prelude.{◌≤◌, IfOk, IfSome, IfNone};
+ghost use Rattle.std.specs.Prelude.{◌≡◌, ◌≤◌, map, IfOk, IfSome, IfNone};
 ghost use Rattle.mk_name.specs.Names.{same_name};
-ghost use Rattle.mk_graph.specs.Book.{prerequisites_of};
 ghost use Rattle.mk_graph.specs.Collected.{IsGraph};
 ghost use Rattle.mk_graph.specs.Graph.{HasMoreThan};
+ghost use Rattle.mk_graph.specs.Makers.{maker_of, needs};
 
 use crate::collect::collect;
+use crate::maker::Maker;
+use crate::makers::makers_of;
 use crate::numbering::Numbering;
 use crate::rows::{distinct_entries, rows_of};
-use crate::rulebook::Rulebook;
 use mk_name::name::Name;
+use mk_rules::rulebook::Rulebook;
+use mk_text::listing::Listing;
 use std::alloc::{AllocError, Global};
 
-/// The names that some goals need, and for each the numbers of what it needs.
+/// The names that some goals need, and for each the numbers of what it needs and what makes it.
 #[derive(Debug, Drop)]
 pub struct Graph {
     pub names: Numbering,
     pub rows: Vec<Vec<usize>>,
+    pub makers: Vec<Maker>,
     pub goals: Vec<usize>,
 }
 
@@ -24,6 +28,7 @@ pub struct Graph {
 pub fn graph_of(
     alloc: Global,
     book: &Rulebook,
+    listing: &Listing,
     goals: &[Name],
     max_names: usize,
     max_edges: usize,
@@ -31,35 +36,43 @@ pub fn graph_of(
     requires { max_edges ≤ 1000000 }
     ensures found { IfOk result
         (λ found. IfSome found
-        (λ g. IsGraph book.now goals.now g.names g.rows.items g.goals.items)) }
+        (λ g. IsGraph book.now listing.now goals.now g.names g.rows.items g.goals.items)) }
+    ensures makers { IfOk result
+        (λ found. IfSome found
+        (λ g. g.makers.items ≡ map (maker_of book.now listing.now) g.names)) }
     ensures small { IfOk result
         (λ found. IfSome found
-        (λ g. HasMoreThan same_name (prerequisites_of book.now) goals.now max_names max_edges
+        (λ g. HasMoreThan same_name (needs book.now listing.now) goals.now max_names max_edges
         → ⊥)) }
     ensures too_large { IfOk result
         (λ found. IfNone found
-        (HasMoreThan same_name (prerequisites_of book.now) goals.now max_names max_edges)) }
+        (HasMoreThan same_name (needs book.now listing.now) goals.now max_names max_edges)) }
 {
-    let Some(found) = collect(alloc, book, goals, max_names)? else {
+    let Some(found) = collect(alloc, book, listing, goals, max_names)? else {
         return Ok(None);
     };
     let mut marks = vec![in alloc; false; found.names.count()]?;
     let seen = marks.as_mut_slice();
     let entries = distinct_entries(alloc, seen, found.entries.as_slice())?;
+    let sources = found.sources.as_slice();
     let Some(rows) = rows_of(
         alloc,
         book,
+        listing,
         &found.names,
         entries.as_slice(),
+        sources,
         seen,
         max_edges,
     )?
     else {
         return Ok(None);
     };
+    let makers = makers_of(alloc, book, listing, &found.names, sources)?;
     Ok(Some(Graph {
         names: found.names,
         rows,
+        makers,
         goals: found.goals,
     }))
 }

@@ -1,14 +1,15 @@
-//! The rules of a makefile, and the graph that they make: who makes each name, and the serial order.
+//! The graph that the rules of makefiles make: who makes each name, what it needs, and the serial order.
 #![tactic(auto)]
 
 mod collect;
 mod faults;
 mod graph;
+mod inference;
 pub mod maker;
+mod makers;
 mod numbering;
-pub mod plain_rules;
 pub mod plan;
 pub mod planning;
 mod rows;
-pub mod rulebook;
 mod serial;
+mod suffix;

@@ -2,15 +2,15 @@
 ghost use Rattle.std.specs.Prelude.{◌≡◌, ◌<◌, ◌≤◌, ◌++◌, List, [], ◌∷◌, ℕ, length, map, get_or, nat_eq, IsTrue, IfOk, Ok, Err};
 ghost use Rattle.mk_name.specs.Names.{has, same_name, IsDistinct};
 ghost use Rattle.mk_graph.specs.Assembled.{node_of, IsAssembled, IsNumbering};
+ghost use Rattle.mk_graph.specs.Makers.{maker_of};
 ghost use Rattle.mk_graph.specs.Numbered.{name_at, number_of};
-ghost use Rattle.mk_graph.specs.Plan.{Node, names_of};
+ghost use Rattle.mk_graph.specs.Plan.{Node, NeedsStandBefore, names_of};
 ghost use Rattle.mk_graph.specs.Rows.{row, IsRising};
 
-use crate::faults::maker_of;
 use crate::maker::Maker;
 use crate::numbering::Numbering;
-use crate::rulebook::Rulebook;
 use mk_name::name::Name;
+use mk_rules::rulebook::Rulebook;
 use mk_text::listing::Listing;
 use std::alloc::{AllocError, Global};
 use std::marker::Model;
@@ -90,15 +90,17 @@ fn node(
     book: &Rulebook,
     listing: &Listing,
     name: &Name,
+    maker: Maker,
     prerequisites: Vec<u32>,
 ) -> Result<PlanNode, AllocError>
+    requires { maker ≡ maker_of book.now listing.now name.now }
     ensures { IfOk result
         (λ node. node ≡ node_of book.now listing.now name.now prerequisites.items) }
 {
     Ok(PlanNode {
         name: name.copy(alloc)?,
         prerequisites,
-        maker: maker_of(book, listing, name),
+        maker,
         phony: book.is_phony(name),
         listed: listing.contains(name),
     })
@@ -110,11 +112,13 @@ fn nodes_of(
     book: &Rulebook,
     listing: &Listing,
     names: &Numbering,
+    makers: &[Maker],
     rows: &[Vec<usize>],
     places: &[u32],
     order: &[usize],
 ) -> Result<Vec<PlanNode>, AllocError>
     requires within { (n : ℕ) → IsTrue (has nat_eq order.now n) → n < length names.now }
+    requires makers { makers.now ≡ map (maker_of book.now listing.now) names.now }
     requires rows { length rows.now ≡ length names.now }
     requires places { (i n : ℕ) → IsTrue (has nat_eq (row rows.now i) n) → n < length places.now }
     ensures { IfOk result
@@ -125,7 +129,9 @@ fn nodes_of(
     let mut nodes = Vec::new(alloc);
     for number in order {
         let prerequisites = placed(alloc, rows[*number].as_slice(), places)?;
-        nodes.push(node(alloc, book, listing, names.name(*number), prerequisites)?)?;
+        let name = names.name(*number);
+        let maker = makers[*number];
+        nodes.push(node(alloc, book, listing, name, maker, prerequisites)?)?;
     }
     Ok(nodes)
 }
@@ -148,12 +154,14 @@ pub(crate) fn assemble(
     book: &Rulebook,
     listing: &Listing,
     names: &Numbering,
+    makers: &[Maker],
     rows: &[Vec<usize>],
     order: &[usize],
 ) -> Result<Plan, AllocError>
     requires few { length order.now ≤ 4294967295 }
     requires within { (n : ℕ) → IsTrue (has nat_eq order.now n) → n < length names.now }
     requires distinct { IsDistinct nat_eq order.now }
+    requires makers { makers.now ≡ map (maker_of book.now listing.now) names.now }
     requires rows { length rows.now ≡ length names.now }
     requires inside { (i n : ℕ) → IsTrue (has nat_eq (row rows.now i) n) → n < length names.now }
     requires rising { IsRising (row rows.now) order.now }
@@ -161,7 +169,16 @@ pub(crate) fn assemble(
         (λ plan. IsAssembled book.now listing.now names.now rows.now order.now plan) }
 {
     let places = places_in(alloc, order, names.count())?;
-    let nodes = nodes_of(alloc, book, listing, names, rows, places.as_slice(), order)?;
+    let nodes = nodes_of(
+        alloc,
+        book,
+        listing,
+        names,
+        makers,
+        rows,
+        places.as_slice(),
+        order,
+    )?;
     let index = names_of(alloc, nodes.as_slice())?;
     Ok(Plan {
         nodes,
@@ -171,15 +188,17 @@ pub(crate) fn assemble(
 }
 
 impl Plan {
-    /// How many nodes there are.
+    /// How many nodes there are. No name is that of two nodes, and each node stands after what it needs.
     pub fn count(&self) -> u32
-        ensures { result ≡ length self.now.nodes }
+        ensures count { result ≡ length self.now.nodes }
+        ensures distinct { IsDistinct same_name (names_of self.now.nodes) }
+        ensures rising { NeedsStandBefore self.now.nodes }
     {
-        self.nodes.len() as u32
+        self.index.count() as u32
     }
 
-    /// The numbers of what a node needs, in the rule's order: each is below the node's own. Its number must be below
-    /// the count of nodes.
+    /// The numbers of what a node needs, in the rule's order and the inferred source last, unless the rules name it:
+    /// each is below the node's own. Its number must be below the count of nodes.
     pub fn prerequisites(&self, n: u32) -> &[u32]
         requires { n < length self.now.nodes }
         ensures value { (d : Node) → result.now ≡ (get_or self.now.nodes n d).prerequisites }

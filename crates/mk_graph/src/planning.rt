@@ -6,10 +6,10 @@ ghost use Rattle.mk_graph.specs.Answer.{Answers, Comes, IsAnswer, goals_of, grap
 use crate::faults::{cycle_of, least_unmade};
 use crate::graph::graph_of;
 use crate::plan::{Plan, assemble};
-use crate::rulebook::Rulebook;
 use crate::serial::{Walked, serial_order};
 use mk_name::fault::{Fault, Halt, Kind, Source};
 use mk_name::name::Name;
+use mk_rules::rulebook::Rulebook;
 use mk_text::listing::Listing;
 use std::alloc::Global;
 
@@ -27,10 +27,11 @@ fn graph_fault(kind: Kind, names: Vec<Name>) -> Halt
 fn plan_for(alloc: Global, book: &Rulebook, listing: &Listing, goals: &[Name]) -> Result<Plan, Halt>
     ensures { Answers result (Comes book.now listing.now goals.now) }
 {
-    let Some(graph) = graph_of(alloc, book, goals, 20_000, 200_000)? else {
+    let Some(graph) = graph_of(alloc, book, listing, goals, 20_000, 200_000)? else {
         return Err(graph_fault(Kind::GraphTooLarge, Vec::new(alloc)));
     };
-    if let Some(number) = least_unmade(book, listing, &graph.names) {
+    let makers = graph.makers.as_slice();
+    if let Some(number) = least_unmade(book, listing, &graph.names, makers) {
         let mut names = Vec::new(alloc);
         names.push(graph.names.name(number).copy(alloc)?)?;
         return Err(graph_fault(Kind::NoRule, names));
@@ -42,12 +43,22 @@ fn plan_for(alloc: Global, book: &Rulebook, listing: &Listing, goals: &[Name]) -
         }
         Walked::Order(order) => {
             let rows = graph.rows.as_slice();
-            Ok(assemble(alloc, book, listing, &graph.names, rows, order.as_slice())?)
+            Ok(assemble(
+                alloc,
+                book,
+                listing,
+                &graph.names,
+                makers,
+                rows,
+                order.as_slice(),
+            )?)
         }
     }
 }
 
-/// The plan of all that the goals need; without goals, of what the default goal needs ("Target Rules").
+/// The plan of all that the goals need; without goals, of what the default goal needs ("Target Rules"). A name needs its
+/// prerequisites, and last the source from which an inference rule makes it, unless that is one of them ("Inference
+/// Rules").
 ///
 /// The first of these faults is answered, all of the graph at place 0: `NoGoal` without goals and without a default
 /// goal; `GraphTooLarge` over 20,000 names or 200,000 edges (profile); `NoRule` with the byte-wise least name that

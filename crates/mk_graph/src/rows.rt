@@ -3,11 +3,14 @@ ghost use Rattle.std.specs.Prelude.{◌≡◌, ◌<◌, ◌≤◌, ◌+◌, List
 ghost use Rattle.std.specs.List.{flat_map, sum_by};
 ghost use Rattle.mk_name.specs.Names.{firsts, has, kept};
 ghost use Rattle.mk_graph.specs.Rows.{row};
-ghost use Rattle.mk_graph.specs.Numbered.{name_at};
-ghost use Rattle.mk_graph.specs.Seen.{IsSeen, firsts_of, AllBelow, joined_of, edges_of};
+ghost use Rattle.mk_graph.specs.Numbered.{name_at, Stand};
+ghost use Rattle.mk_graph.specs.Graph.{count_edges};
+ghost use Rattle.mk_graph.specs.Makers.{needs};
+ghost use Rattle.mk_graph.specs.Seen.{IsSeen, firsts_of, AllBelow, joined_of, needs_of, with_source};
 
 use crate::numbering::Numbering;
-use crate::rulebook::Rulebook;
+use mk_rules::rulebook::Rulebook;
+use mk_text::listing::Listing;
 use std::alloc::{AllocError, Global};
 
 /// Puts those numbers at the end of the row that do not stand in it. What stands in it is marked.
@@ -38,7 +41,7 @@ fn unmark(seen: &mut [bool], row: &[usize])
     }
 }
 
-/// The numbers of some entries joined, each where it first stands.
+/// The numbers of some rules joined, each where it first stands. They are marked then.
 fn joined(
     alloc: Global,
     seen: &mut [bool],
@@ -52,14 +55,55 @@ fn joined(
     requires marked { IsSeen seen.old [] }
     ensures row { IfOk result
         (λ joined. joined.items ≡ firsts nat_eq (flat_map (row entries.now) places.now)) }
-    ensures marked { OnOk result (IsSeen seen.new []) }
+    ensures marked { IfOk result (λ joined. IsSeen seen.new joined.items) }
 {
     let mut joined = Vec::new(alloc);
     for place in places {
         add_new(&mut joined, seen, entries[*place].as_slice())?;
     }
-    unmark(seen, joined.as_slice());
     Ok(joined)
+}
+
+/// Puts the number of a source, if there is one, at the end of the row, unless it stands in it. What stands in the row
+/// is marked.
+fn add_source(
+    row: &mut Vec<usize>,
+    seen: &mut [bool],
+    source: Option<usize>,
+) -> Result<(), AllocError>
+    requires within { IfSome source (λ n. n < length seen.old) }
+    requires marked { IsSeen seen.old row.old.items }
+    ensures row { OnOk result (row.new.items ≡ with_source row.old.items source) }
+    ensures marked { OnOk result (IsSeen seen.new row.new.items) }
+{
+    match source {
+        Some(number) => add_new(row, seen, &[number]),
+        None => Ok(()),
+    }
+}
+
+/// The numbers of some rules joined, each where it first stands, and then that of a source.
+fn full_row(
+    alloc: Global,
+    seen: &mut [bool],
+    entries: &[Vec<usize>],
+    places: &[usize],
+    source: Option<usize>,
+) -> Result<Vec<usize>, AllocError>
+    requires within { (place n : ℕ) → IsTrue (has nat_eq (row entries.now place) n)
+        → n < length seen.old }
+    requires places { (place : ℕ) → IsTrue (has nat_eq places.now place)
+        → place < length entries.now }
+    requires source { IfSome source (λ n. n < length seen.old) }
+    requires marked { IsSeen seen.old [] }
+    ensures row { IfOk result
+        (λ full. full.items ≡ with_source (firsts nat_eq (flat_map (row entries.now) places.now)) source) }
+    ensures marked { OnOk result (IsSeen seen.new []) }
+{
+    let mut row = joined(alloc, seen, entries, places)?;
+    add_source(&mut row, seen, source)?;
+    unmark(seen, row.as_slice());
+    Ok(row)
 }
 
 /// The numbers of an entry, each where it first stands; none for an entry that was not read.
@@ -108,32 +152,42 @@ pub fn distinct_entries(
 pub fn rows_of(
     alloc: Global,
     book: &Rulebook,
+    listing: &Listing,
     names: &Numbering,
     entries: &[Vec<usize>],
+    sources: &[Option<usize>],
     seen: &mut [bool],
     limit: usize,
 ) -> Result<Option<Vec<Vec<usize>>>, AllocError>
     requires limit { limit ≤ 1000000 }
-    requires entries { length entries.now ≡ length book.now }
+    requires entries { length entries.now ≡ length book.now.rules }
+    requires sources { length sources.now ≡ length names.now }
     requires within { (place n : ℕ) → IsTrue (has nat_eq (row entries.now place) n)
         → n < length seen.old }
+    requires sources_within { (i : ℕ) → i < length names.now
+        → IfSome (get_or sources.now i None) (λ n. n < length seen.old) }
     requires marked { IsSeen seen.old [] }
+    requires stand { (i : ℕ) → i < length names.now
+        → Stand names.now (needs_of book.now.rules entries.now names.now sources.now i)
+        (needs book.now listing.now (name_at names.now i)) }
     ensures length { IfOk result
         (λ found. IfSome found (λ rows. length rows.items ≡ length names.now)) }
     ensures rows { IfOk result
         (λ found. IfSome found
-        (λ rows. (i : ℕ) → i < length names.now → row rows.items i ≡ joined_of book.now entries.now
-        (name_at names.now i))) }
+        (λ rows. (i : ℕ) → i < length names.now
+        → row rows.items i ≡ needs_of book.now.rules entries.now names.now sources.now i)) }
     ensures few { IfOk result
-        (λ found. IfSome found (λ rows. edges_of book.now entries.now names.now ≤ limit)) }
+        (λ found. IfSome found
+        (λ rows. count_edges (needs book.now listing.now) names.now ≤ limit)) }
     ensures too_many { IfOk result
         (λ found. IfNone found
-        ((count : ℕ) × (limit < edges_of book.now entries.now (take count names.now)))) }
+        ((count : ℕ) × (limit < count_edges (needs book.now listing.now) (take count names.now)))) }
 {
     let mut rows: Vec<Vec<usize>> = Vec::new(alloc);
     let mut edges = 0;
     for number in 0..names.count() {
-        let row = joined(alloc, seen, entries, book.rules_of(names.name(number)))?;
+        let places = book.rules_of(names.name(number));
+        let row = full_row(alloc, seen, entries, places, sources[number])?;
         edges += row.len();
         if edges > limit {
             return Ok(None);

@@ -13,3 +13,13 @@ Halts (halts.Fault fault) answer = answer ≡ Err fault
 abbrev pub Gives : {Y : Type 0} → Result Y Halt → Result Y Told → Type 0
 Gives (Ok value) answer = answer ≡ Ok value
 Gives (Err halt) answer = Halts halt answer
+
+-- want of memory may come in place of any answer; a fault is one of the answers
+abbrev pub HaltsAmong : {Y : Type 0} → Halt → (Result Y Told → Type 0) → Type 0
+HaltsAmong halts.Memory answers = Unit {0}
+HaltsAmong (halts.Fault fault) answers = answers (Err fault)
+
+-- a call gives a value or a fault that is one of the answers, unless memory ran out
+abbrev pub Answers : {Y : Type 0} → Result Y Halt → (Result Y Told → Type 0) → Type 0
+Answers (Ok value) answers = answers (Ok value)
+Answers (Err halt) answers = HaltsAmong halt answers

@@ -58,7 +58,6 @@ number_of kinds.BadProof = 25
 number_of kinds.UnknownInclude = 26
 number_of kinds.IncludeTooDeep = 27
 number_of kinds.TooManyIncludes = 28
-number_of kinds.NotYet = 90
 
 -- the word by which reports tell it
 abbrev pub word_of : Kind → List ℕ
@@ -90,7 +89,6 @@ word_of kinds.BadProof = codes "BadProof"
 word_of kinds.UnknownInclude = codes "UnknownInclude"
 word_of kinds.IncludeTooDeep = codes "IncludeTooDeep"
 word_of kinds.TooManyIncludes = codes "TooManyIncludes"
-word_of kinds.NotYet = codes "NotYet"
 
 -- how a source is shown; a text that an include line names has its name behind a colon
 abbrev pub source_text : Source → List ℕ

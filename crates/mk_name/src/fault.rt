@@ -56,7 +56,6 @@ pub enum Kind {
     UnknownInclude,
     IncludeTooDeep,
     TooManyIncludes,
-    NotYet,
 }
 
 impl Kind {
@@ -95,7 +94,6 @@ impl Kind {
             Kind::UnknownInclude => 26,
             Kind::IncludeTooDeep => 27,
             Kind::TooManyIncludes => 28,
-            Kind::NotYet => 90,
         }
     }
 
@@ -132,7 +130,6 @@ impl Kind {
             Kind::UnknownInclude => "UnknownInclude",
             Kind::IncludeTooDeep => "IncludeTooDeep",
             Kind::TooManyIncludes => "TooManyIncludes",
-            Kind::NotYet => "NotYet",
         }
     }
 }

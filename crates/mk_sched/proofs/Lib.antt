@@ -1,11 +1,16 @@
+pub mod Among
 pub mod Basics
 pub mod ByTable
 pub mod Computed
+pub mod Deciding
 pub mod Determinate
 pub mod InOrder
 pub mod Listing
 pub mod Moving
 pub mod OneRun
 pub mod Plainly
+pub mod Refusing
+pub mod Replaying
+pub mod Storing
 pub mod Surely
 pub mod TwoRuns

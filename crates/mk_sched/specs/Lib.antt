@@ -6,10 +6,17 @@ pub mod Laws
 pub mod MissingHeader
 pub mod Plain
 pub mod Programs
+pub mod Refusals
+pub mod Refused
+pub mod Replayed
 pub mod Runs
 pub mod Serial
 pub mod SmallCases
+pub mod Standing
 pub mod Steps
+pub mod Stopped
+pub mod Stored
 pub mod Stores
 pub mod Sure
 pub mod Table
+pub mod Timed

@@ -8,6 +8,7 @@ ghost use Rattle.mk_sched.specs.Table.{StateIsTold, MayIsTable, RunsByTable};
 ghost use Rattle.mk_sched.specs.InTime.{InTime, BeginningIsRun};
 ghost use Rattle.mk_sched.specs.Controls.{ControlsTell};
 ghost use Rattle.mk_sched.specs.Counter.{CounterMoves};
+ghost use Rattle.mk_sched.specs.Refused.{AllowedUnlessRefused};
 
 /// Until a node starts, its own file is as at the opening.
 pub fn own_file()
@@ -112,4 +113,9 @@ pub fn controls_tell()
 /// The number of running nodes moves by one at a start and at a finish.
 pub fn counter_moves()
     ensures { CounterMoves }
+{}
+
+/// An event is allowed exactly unless one of its refusals holds.
+pub fn allowed_unless_refused()
+    ensures { AllowedUnlessRefused }
 {}

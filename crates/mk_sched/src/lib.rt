@@ -3,5 +3,14 @@
 
 pub mod contents;
 pub mod event;
+pub mod file;
+mod judge;
 pub mod laws;
+pub mod refusal;
+pub mod replay;
+mod stage;
+mod stale;
+mod state;
+pub mod store;
+mod times;
 pub mod worked;

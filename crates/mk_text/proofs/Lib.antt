@@ -1,13 +1,15 @@
-mod Agree
+mod Blanks
+mod Cuts
 pub mod Joins
 pub mod ListingLines
 pub mod Ordered
+mod Outsides
+mod Piecing
 mod Places
 pub mod Plain
-mod PlainText
 pub mod Reduced
 mod Searches
+mod Sequence
+mod Sorting
 mod Stand
-mod Steps
-mod Words
 mod Written

@@ -6,6 +6,5 @@ pub mod LogicalLine
 pub mod LogicalLines
 pub mod Outside
 pub mod Pieces
-pub mod PlainLines
 pub mod Slices
 pub mod Spelling

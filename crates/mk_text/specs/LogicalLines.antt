@@ -1,9 +1,9 @@
 -- The logical lines of a makefile (POSIX.1-2024 XCU make, "Makefile Syntax", and the profile).
 -- A text is cut into blocks of physical lines, and each block is nothing, one logical line, or a fault.
-use Rattle.std.specs.Prelude.{ℕ, ◌+◌, ◌-◌, Bool, true, false, List, [], ◌∷◌, length, take, drop, map, codes, slice_index, Option, None, Some, Result, Ok, Err, ◌==◌, ◌&&◌, ◌||◌, nat_lt, not, if◌then◌else◌}
-use Rattle.std.specs.List.{join_with_byte, list_any, list_all, before_first, prefix_len}
-use Rattle.std.specs.Option.{option_map}
-use Rattle.std.specs.Result.{result_map_both}
+use Rattle.std.specs.Prelude.{ℕ, ◌+◌, ◌-◌, Bool, true, false, List, [], ◌∷◌, length, take, drop, map, codes, slice_get, slice_index, Option, None, Some, Result, Ok, Err, ◌==◌, ◌&&◌, ◌||◌, nat_lt, not, if◌then◌else◌}
+use Rattle.std.specs.List.{join_with_byte, list_any, list_all, before_first, filter_map, last_or, prefix_len, sum_by}
+use Rattle.std.specs.Option.{option_and_then, option_flatten, option_map, option_map_or, unwrap_or}
+use Rattle.std.specs.Result.{result_err, result_ok}
 use Rattle.std.specs.Str.{bytes_eq}
 use Rattle.mk_name.specs.Told.{Told}
 use Rattle.mk_name.specs.declared.fault.Kind.{Kind}
@@ -146,36 +146,56 @@ sort_of below block =
     else (if slice_index (bytes_of block) 0 == tab then sort_of_command below (bytes_of block)
     else sort_of_text (join_with_byte space (pieces_of block)))
 
--- the pieces of the line that a block is: a command line has one, without the tab
-abbrev pub line_pieces : LineKind → List (List ℕ) → List (List ℕ)
-line_pieces Recipe block = drop 1 (bytes_of block) ∷ []
-line_pieces (Entry at behind) block = pieces_of block
-line_pieces (Assign from to operator start value) block = pieces_of block
+-- the pieces of the line that a block is: one that begins with a tab has one, all of it without the tab
+abbrev pub line_pieces : List (List ℕ) → List (List ℕ)
+line_pieces block = if slice_index (bytes_of block) 0 == tab then drop 1 (bytes_of block) ∷ [] else pieces_of block
 
--- whether an entry is open behind a block: an entry opens, an assignment closes, and all else leaves it
-abbrev pub opens : Bool → Result (Option LineKind) Kind → Bool
-opens below (Err fault) = below
-opens below (Ok None) = below
-opens below (Ok (Some Recipe)) = below
-opens below (Ok (Some (Entry at behind))) = true
-opens below (Ok (Some (Assign from to operator start value))) = false
+-- whether a line of this kind opens an entry: an assignment closes it, and a command line leaves it
+abbrev pub opening : LineKind → Option Bool
+opening (Entry at behind) = Some true
+opening (Assign from to operator start value) = Some false
+opening Recipe = None
+
+-- the same of a block; only a line that begins with a tab depends on what is open
+abbrev pub block_opening : List (List ℕ) → Option Bool
+block_opening block = option_and_then opening (option_flatten (result_ok (sort_of false block)))
+
+-- whether an entry is open below these blocks: the last entry or assignment among them is an entry
+abbrev pub is_open : List (List (List ℕ)) → Bool
+is_open blocks = unwrap_or (last_or None (filter_map block_opening blocks)) false
+
+-- the number of the first physical line below these blocks, from 1
+abbrev pub line_below : List (List (List ℕ)) → ℕ
+line_below blocks = sum_by length blocks + 1
 
 -- a fault of a makefile's line
 abbrev pub fault_at : Kind → ℕ → Told
 fault_at kind place = record { kind = kind; source = Makefile; place = place; names = [] }
 
--- the lines of a block of this sort, from physical line n on, and of all that follow it
-abbrev pub with_block : ℕ → List (List ℕ) → Result (Option LineKind) Kind → Result (List LogicalLine) Told → Result (List LogicalLine) Told
-with_block n block (Err kind) later = Err (fault_at kind n)
-with_block n block (Ok None) later = later
-with_block n block (Ok (Some kind)) later =
-    result_map_both (λ lines. record { kind = kind; first_line = n; pieces = line_pieces kind block } ∷ lines) (λ fault. fault) later
+-- the line, if any, that a block of this sort is from physical line n on
+abbrev pub line_at : ℕ → List (List ℕ) → Result (Option LineKind) Kind → Result (Option LogicalLine) Told
+line_at n block (Err kind) = Err (fault_at kind n)
+line_at n block (Ok None) = Ok None
+line_at n block (Ok (Some kind)) = Ok (Some (record { kind = kind; first_line = n; pieces = line_pieces block }))
 
--- the lines of some blocks, from physical line n on, below an entry that may be open; or the fault of the first that has one
-abbrev pub lines_of : Bool → ℕ → List (List (List ℕ)) → Result (List LogicalLine) Told
-lines_of below n [] = Ok []
-lines_of below n (block ∷ blocks) =
-    with_block n block (sort_of below block) (lines_of (opens below (sort_of below block)) (n + length block) blocks)
+-- the line, if any, that a block is below these blocks
+abbrev pub line_of : List (List (List ℕ)) → List (List ℕ) → Result (Option LogicalLine) Told
+line_of above block = line_at (line_below above) block (sort_of (is_open above) block)
+
+-- each block with all that stand above it
+abbrev pub with_above : List (List (List ℕ)) → List (List (List (List ℕ)) × List (List ℕ))
+with_above [] = []
+with_above (block ∷ blocks) = ([], block) ∷ map (λ p. (block ∷ p.0, p.1)) (with_above blocks)
+
+-- what each block gives: a line, nothing or a fault
+abbrev pub answers : List (List (List ℕ)) → List (Result (Option LogicalLine) Told)
+answers blocks = map (λ p. line_of p.0 p.1) (with_above blocks)
+
+-- the first fault of all, or else their lines
+abbrev pub lines_or_fault : List (Result (Option LogicalLine) Told) → Result (List LogicalLine) Told
+lines_or_fault given =
+    option_map_or (λ fault. Err fault) (slice_get (filter_map result_err given) 0)
+    (Ok (filter_map (λ answer. option_flatten (result_ok answer)) given))
 
 -- a text may have so many bytes
 abbrev pub text_limit : ℕ
@@ -185,4 +205,4 @@ text_limit = 1048576
 abbrev pub logical_lines : List ℕ → Result (List LogicalLine) Told
 logical_lines text =
     if nat_lt text_limit (length text) then Err (fault_at TextTooLarge 0)
-    else lines_of false 1 (blocks_of (physical_lines text))
+    else lines_or_fault (answers (blocks_of (physical_lines text)))

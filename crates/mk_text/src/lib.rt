@@ -3,6 +3,7 @@
 
 pub use mk_name::{fault, name, report};
 
+mod blocks;
 mod components;
 pub mod device;
 pub mod feed;
@@ -10,6 +11,9 @@ mod limits;
 pub mod line;
 pub mod lines;
 pub mod listing;
+mod references;
 pub mod root;
+mod sort;
 pub mod spelling;
 pub mod spout;
+mod words;

@@ -1,6 +1,10 @@
 //! The listing: the files that exist, one path a line.
 ghost use Rattle.std.specs.Prelude.{◌≡◌, ◌<◌, ◌∷◌, [], List, ℕ, length};
-ghost use Rattle.std.specs.Prelude.{Ok, OnOk, IfErr, IfNone, IfSome};
+ghost use Rattle.std.specs.Prelude.{◌↔◌, Ok, OnOk, IfErr, IfNone, IfSome, IsSome, IsTrue};
+ghost use Rattle.std.specs.BTreeMap.{get};
+ghost use Rattle.std.specs.List.{All};
+ghost use Rattle.std.specs.Cmp.Lexicographic.{slice_cmp};
+ghost use Rattle.std.specs.Ordering.{nat_cmp};
 ghost use Rattle.mk_name.specs.Gives.{Gives, Halts};
 ghost use Rattle.mk_text.specs.Listing.{in_order, listing_of, line_names, lines, with_names};
 ghost use Rattle.mk_name.specs.Names.{has, same_name};
@@ -11,7 +15,7 @@ use memchr::memchr;
 use mk_name::fault::{Halt, Source};
 use mk_name::name::Name;
 use std::alloc::Global;
-use std::collections::BTreeSet;
+use std::collections::{BTreeMap, BTreeSet};
 use std::marker::Model;
 
 /// The names of the files that exist, each once.
@@ -52,6 +56,18 @@ impl Listing {
         ensures { result ≡ has same_name self.now name.now }
     {
         self.names.contains(name)
+    }
+
+    /// Whether each of the files that exist is a key of the map.
+    pub fn are_all_in<V>(&self, map: &BTreeMap<Name, V>) -> bool
+        ensures { IsTrue result ↔ All (λ name. IsSome (get (slice_cmp nat_cmp) map.now name)) self.now }
+    {
+        for name in &self.names {
+            if !map.contains_key(name) {
+                return false;
+            }
+        }
+        true
     }
 }
 

@@ -1,3 +1,3 @@
 mod Asked
-mod GoalsLemmas
 mod OrderLines
+mod Told

@@ -1,8 +1,8 @@
 -- The text of a plan: a line for each node in its order.
-use Rattle.std.specs.Prelude.{IsTrue, nat_eq, get_or, length, ◌<◌, ℕ, List, [], ◌∷◌, ◌++◌, codes, slice_get, option_map, unwrap_or}
+use Rattle.std.specs.Prelude.{ℕ, List, [], ◌∷◌, ◌++◌, codes, slice_get, option_map, unwrap_or}
 use Rattle.std.specs.Fmt.{decimal}
 use Rattle.std.specs.List.{enumerate_from, flat_map}
-use Rattle.mk_name.specs.Names.{Name, has}
+use Rattle.mk_name.specs.Names.{Name}
 use Rattle.mk_name.specs.Shown.{line, shown}
 use Rattle.mk_graph.specs.Plan.{Node, Plan}
 use Rattle.mk_graph.specs.declared.maker.Maker.{Maker}

@@ -4,7 +4,6 @@
 mod opener;
 mod order;
 mod program;
-mod stages;
 mod words;
 
 use mk_text::spout::Spout;

@@ -1,5 +1,5 @@
 //! The program: from the words of the command line to what is written.
-ghost use Rattle.std.specs.Prelude.{◌≡◌, ◌≢◌, IfOk, IfSome, IsErr, List, OnErr, OnOk, Some, false, map, true, ℕ};
+ghost use Rattle.std.specs.Prelude.{◌≡◌, ◌≢◌, ◌↔◌, ◌++◌, ◌∷◌, [], IfErr, IfOk, IfSome, IsErr, IsErrOf, List, None, OnErr, OnOk, Some, false, is_some, map, option_map, true, ℕ};
 ghost use Rattle.std.specs.Io.KnownBytes.{Appends};
 ghost use Rattle.clap.specs.Words.{kind_of, subcommand_of, takes};
 ghost use Rattle.race.specs.Answered as spec;
@@ -8,11 +8,12 @@ ghost use Rattle.race.specs.declared.words.Request.TheVariants.{Order};
 
 use crate::opener::Opener;
 use crate::order::order_text;
-use crate::stages::plan_of;
 use crate::words::{Build, Request, read_words};
 use clap::error::ErrorKind;
 use mk_name::fault::Halt;
 use mk_name::report::refused_report;
+use mk_race::input::Input;
+use mk_race::stages::plan_of;
 use mk_text::device::{Intake, Outlet, ReadStop, read_all, write_all};
 use std::alloc::{AllocError, Global};
 use std::fmt;
@@ -31,6 +32,11 @@ pub enum Status {
 }
 
 impl From<Status> for ExitCode {
+    ghost use Rattle.std.specs.Process.{exit_status};
+    ghost use Rattle.race.specs.Answered.{number_of};
+
+    ghost from_gives = { λ status code. exit_status code ≡ number_of status };
+
     fn from(status: Status) -> ExitCode {
         match status {
             Status::Done => ExitCode::from(0),
@@ -43,13 +49,19 @@ impl From<Status> for ExitCode {
 /// A file that the program reads.
 #[derive(Clone, Copy, Debug, PartialEq, Eq)]
 pub enum InputFile {
+    Base,
     Makefile,
     Listing,
 }
 
 impl fmt::Display for InputFile {
+    ghost use Rattle.race.specs.Answered.{word_of};
+
+    ghost output = { λ input. Some (word_of input) };
+
     fn fmt<W: fmt::Write>(&self, f: &mut fmt::Formatter<W>) -> fmt::Result {
         f.write_str(match self {
+            InputFile::Base => "base",
             InputFile::Makefile => "makefile",
             InputFile::Listing => "listing",
         })
@@ -75,6 +87,10 @@ pub enum Failure {
 }
 
 impl From<AllocError> for Failure {
+    ghost use Rattle.race.specs.declared.program.Failure.TheVariants as failures;
+
+    ghost from_gives = { λ _ failure. failure ≡ failures.Memory };
+
     fn from(_error: AllocError) -> Failure {
         Failure::Memory
     }
@@ -100,6 +116,13 @@ pub fn race_words<'a, P: Opener, O: Outlet, E: Outlet>(
     requires out_works { O.has_failed out.old ≡ false }
     requires err_works { E.has_failed err.old ≡ false }
     ensures failed { O.has_failed out.new ≡ true → result ≡ Status.Failed }
+    // A failure is told by a line, where the device takes one, and nothing else is.
+    ensures told { result ≡ Status.Failed → E.has_failed err.new ≡ false
+        → spec.AppendsLine (E.written err.old) (E.written err.new) }
+    ensures silent { result ≢ Status.Failed → err.new ≡ err.old }
+    ensures refused { result ≡ Status.Refused → spec.WritesAnswer
+        (subcommand_of program (map (λ word. word.now) words.entry.now))
+        (P.text opener.old) result (O.written out.old) (O.written out.new) }
     // What is not the whole answer is nothing, or what a device took before it failed.
     ensures nothing { result ≡ Status.Failed → O.has_failed out.new ≡ false → out.new ≡ out.old }
     ensures answer { takes program (map (λ word. word.now) words.entry.now) ≡ true
@@ -119,14 +142,25 @@ pub fn race_words<'a, P: Opener, O: Outlet, E: Outlet>(
 /// Writes what is wrong. A failure of the device is passed over.
 pub fn tell<E: Outlet>(alloc: Global, failure: &Failure, err: &mut E)
     requires { E.has_failed err.old ≡ false }
-    // It only adds to what stands there.
-    ensures { (line : List ℕ) × Appends (E.written err.old) (E.written err.new) line }
+    // It only adds to what stands there: a line, unless the device fails.
+    ensures adds { (text : List ℕ) × Appends (E.written err.old) (E.written err.new) text }
+    ensures line { E.has_failed err.new ≡ false
+        → spec.AppendsLine (E.written err.old) (E.written err.new) }
 {
-    let told = match format!(in alloc; "{failure}\n") {
+    let told = match line_of(alloc, failure) {
         Ok(line) => write_all(err, line.as_bytes()),
         Err(_) => write_all(err, b"race: out of memory\n"),
     };
     let _ = told;
+}
+
+/// The line that tells a failure. The only error is want of memory.
+fn line_of(alloc: Global, failure: &Failure) -> Result<String, AllocError>
+    ensures { IfOk result (λ line. (text : List ℕ) × (line.bytes.items ≡ text ++ 10 ∷ [])) }
+{
+    let mut line = failure.to_string(alloc)?;
+    line.push('\n')?;
+    Ok(line)
 }
 
 fn answer_written<'a, P: Opener, O: Outlet>(
@@ -136,7 +170,10 @@ fn answer_written<'a, P: Opener, O: Outlet>(
     out: &mut O,
 ) -> Result<Status, Failure>
     requires { O.has_failed out.old ≡ false }
-    ensures works { OnOk result (O.has_failed out.new ≡ false) }
+    ensures write { IsErrOf result Failure.Write ↔ (O.has_failed out.new ≡ true) }
+    ensures refused { IfOk result (λ status. status ≡ Status.Refused → spec.WritesAnswer
+        (subcommand_of program (map (λ word. word.now) words.entry.now))
+        (P.text opener.old) status (O.written out.old) (O.written out.new)) }
     ensures nothing { OnErr result (O.has_failed out.new ≡ false → out.new ≡ out.old) }
     ensures status { IfOk result (λ status. status ≢ Status.Failed) }
     ensures answer { takes program (map (λ word. word.now) words.entry.now) ≡ true
@@ -156,7 +193,8 @@ fn answer_written<'a, P: Opener, O: Outlet>(
 
 /// The help, where the words ask for it.
 fn help_of(alloc: Global, error: &clap::Error) -> Result<Answer, Failure>
-    ensures status { IfOk result (λ answer. answer.status ≢ Status.Failed) }
+    ensures status { IfOk result (λ answer. answer.status ≡ Status.Done) }
+    ensures failure { IfErr result (λ failure. failure ≢ Failure.Write) }
     ensures memory { kind_of error.now ≡ ErrorKind.OutOfMemory → IsErr result }
 {
     if error.kind() == ErrorKind::OutOfMemory {
@@ -178,6 +216,7 @@ fn answer_of<P: Opener>(
     opener: &mut P,
 ) -> Result<Answer, Failure>
     ensures status { IfOk result (λ answer. answer.status ≢ Status.Failed) }
+    ensures failure { IfErr result (λ failure. failure ≢ Failure.Write) }
     ensures answer { IfOk result (λ answer.
         spec.IsAnswer request.now (P.text opener.old) answer.status answer.text.items) }
 {
@@ -189,37 +228,45 @@ fn answer_of<P: Opener>(
 /// The serial order of a build, or why it is refused. All files are opened before any is read.
 fn order<P: Opener>(alloc: Global, build: &Build<'_>, opener: &mut P) -> Result<Answer, Failure>
     ensures status { IfOk result (λ answer. answer.status ≢ Status.Failed) }
+    ensures failure { IfErr result (λ failure. failure ≢ Failure.Write) }
     ensures answer { IfOk result (λ answer.
         spec.IsAnswer (Order build.now) (P.text opener.old) answer.status answer.text.items) }
 {
+    let base = opened_base(opener, build.base)?;
     let mut makefile = opened(opener, build.makefile, InputFile::Makefile)?;
     let mut listing = opened(opener, build.listing, InputFile::Listing)?;
+    let base = base_text(alloc, base)?;
     let makefile = text_of(alloc, &mut makefile, InputFile::Makefile)?;
     let listing = text_of(alloc, &mut listing, InputFile::Listing)?;
-    order_of(alloc, build, makefile.as_slice(), listing.as_slice())
+    order_of(alloc, build, &base, &makefile, &listing)
 }
 
 /// What the texts of a build give. The only failure is want of memory.
 fn order_of(
     alloc: Global,
     build: &Build<'_>,
+    base: &[u8],
     makefile: &[u8],
     listing: &[u8],
 ) -> Result<Answer, Failure>
-    ensures { IfOk result (λ answer. spec.IsOrderAnswer build.now.root.now
-        (map (λ operand. operand.now) build.now.operands.items)
-        makefile.now listing.now answer.status answer.text.items) }
+    ensures answer { IfOk result (λ answer. spec.IsOrderAnswer
+        (spec.texts_for build.now base.now makefile.now listing.now)
+        answer.status answer.text.items) }
+    ensures memory { IfErr result (λ failure. failure ≡ Failure.Memory) }
 {
-    match plan_of(
-        alloc,
-        build.root,
-        build.operands.as_slice(),
+    let operands = bytes_of(alloc, build.operands.as_slice())?;
+    let input = Input {
+        base,
         makefile,
         listing,
-    ) {
-        Ok(plan) => Ok(Answer {
+        footprints: &[],
+        root: build.root.as_bytes(),
+        operands: operands.as_slice(),
+    };
+    match plan_of(alloc, &input) {
+        Ok(planned) => Ok(Answer {
             status: Status::Done,
-            text: order_text(alloc, &plan)?,
+            text: order_text(alloc, &planned.plan)?,
         }),
         Err(Halt::Fault(fault)) => Ok(Answer {
             status: Status::Refused,
@@ -229,7 +276,50 @@ fn order_of(
     }
 }
 
+/// The bytes of some texts. The only error is want of memory.
+fn bytes_of<'a>(alloc: Global, texts: &[&'a str]) -> Result<Vec<&'a [u8]>, AllocError>
+    ensures { IfOk result (λ list. map (λ bytes. bytes.now) list.items
+        ≡ map (λ text. text.now) texts.now) }
+{
+    let mut list = Vec::new(alloc);
+    for text in texts {
+        list.push(text.as_bytes())?;
+    }
+    Ok(list)
+}
+
+/// Opens the base makefile, where one is given.
+fn opened_base<P: Opener>(opener: &mut P, path: Option<&str>) -> Result<Option<P::File>, Failure>
+    ensures failure { IfErr result (λ failure. failure ≡ Failure.Read InputFile.Base) }
+    ensures works { IfOk result (λ file. IfSome file (λ f. P.File.has_failed f ≡ false)) }
+    ensures given { IfOk result (λ file. is_some file ≡ is_some path.entry) }
+    ensures whole { IfOk result (λ file. IfSome file (λ f. (bytes : List ℕ)
+        → spec.base_of (P.text opener.old) (option_map (λ p. p.now) path.entry) ≡ Some bytes
+        → P.File.left f ≡ Some bytes)) }
+    ensures same { (path : List ℕ) → P.text opener.new path ≡ P.text opener.old path }
+{
+    match path {
+        Some(path) => Ok(Some(opened(opener, path, InputFile::Base)?)),
+        None => Ok(None),
+    }
+}
+
+/// The text of the base makefile, which is empty where there is none.
+fn base_text<I: Intake + Drop>(alloc: Global, file: Option<I>) -> Result<Vec<u8>, Failure>
+    requires { IfSome file (λ f. I.has_failed f ≡ false) }
+    ensures text { IfOk result (λ text. IfSome file (λ f. IfSome (I.left f) (λ bytes.
+        text.items ≡ bytes))) }
+    ensures none { IfOk result (λ text. file ≡ None → text.items ≡ []) }
+    ensures failure { IfErr result (λ failure. failure ≢ Failure.Write) }
+{
+    match file {
+        Some(mut file) => text_of(alloc, &mut file, InputFile::Base),
+        None => Ok(Vec::new(alloc)),
+    }
+}
+
 fn opened<P: Opener>(opener: &mut P, path: &str, input: InputFile) -> Result<P::File, Failure>
+    ensures failure { IfErr result (λ failure. failure ≡ Failure.Read input) }
     ensures works { IfOk result (λ file. P.File.has_failed file ≡ false) }
     ensures whole { IfOk result (λ file. (bytes : List ℕ)
         → P.text opener.old path.now ≡ Some bytes → P.File.left file ≡ Some bytes) }
@@ -243,7 +333,9 @@ fn opened<P: Opener>(opener: &mut P, path: &str, input: InputFile) -> Result<P::
 
 fn text_of<I: Intake>(alloc: Global, file: &mut I, input: InputFile) -> Result<Vec<u8>, Failure>
     requires { I.has_failed file.old ≡ false }
-    ensures { IfOk result (λ text. IfSome (I.left file.old) (λ bytes. text.items ≡ bytes)) }
+    ensures text { IfOk result (λ text. IfSome (I.left file.old) (λ bytes. text.items ≡ bytes)) }
+    ensures read { IsErrOf result (Failure.Read input) ↔ (I.has_failed file.new ≡ true) }
+    ensures failure { IfErr result (λ failure. failure ≢ Failure.Write) }
 {
     match read_all(alloc, file) {
         Ok(text) => Ok(text),

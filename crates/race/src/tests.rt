@@ -1,16 +1,38 @@
 //! Whole runs of the program over files and outputs in memory.
 ghost use Rattle.std.specs.Prelude.{None};
 
-mod ordered;
-mod refused;
+mod examples;
+mod ordered_macros_1;
+mod ordered_macros_2;
+mod ordered_macros_3;
+mod ordered_plain;
+mod ordered_rules_1;
+mod ordered_rules_2;
+mod ordered_rules_3;
+mod refused_macros_1;
+mod refused_macros_2;
+mod refused_macros_3;
+mod refused_plain;
+mod refused_rules;
 
 use crate::opener::Opener;
 use crate::program::{Status, race_words};
+use examples::{ORDERED_EXAMPLES, REFUSED_EXAMPLES};
 use mk_text::device::Broken;
 use mk_text::feed::Feed;
 use mk_text::spout::Spout;
-use ordered::ORDERED;
-use refused::REFUSED;
+use ordered_macros_1::ORDERED_MACROS_1;
+use ordered_macros_2::ORDERED_MACROS_2;
+use ordered_macros_3::ORDERED_MACROS_3;
+use ordered_plain::ORDERED_PLAIN;
+use ordered_rules_1::ORDERED_RULES_1;
+use ordered_rules_2::ORDERED_RULES_2;
+use ordered_rules_3::ORDERED_RULES_3;
+use refused_macros_1::REFUSED_MACROS_1;
+use refused_macros_2::REFUSED_MACROS_2;
+use refused_macros_3::REFUSED_MACROS_3;
+use refused_plain::REFUSED_PLAIN;
+use refused_rules::REFUSED_RULES;
 use std::alloc::Global;
 use std::io;
 use std::io::{ErrorKind, Read, Write};
@@ -20,7 +42,8 @@ use std::test::Fail;
 pub struct Case {
     pub about: &'static str,
     pub root: &'static str,
-    pub goals: &'static [&'static str],
+    pub operands: &'static [&'static str],
+    pub base: Option<&'static [u8]>,
     pub makefile: &'static [u8],
     pub listing: &'static [u8],
     pub out: &'static [u8],
@@ -45,6 +68,7 @@ impl Read for Page<'_> {
 /// The files that are there.
 #[derive(Drop)]
 struct Shelf<'a> {
+    base: Option<Page<'a>>,
     makefile: Option<Page<'a>>,
     listing: Option<Page<'a>>,
 }
@@ -56,6 +80,7 @@ impl<'a> Opener for Shelf<'a> {
 
     fn open(&mut self, path: &str) -> Result<Feed<Page<'a>>, Broken> {
         let page = match path {
+            "base" => self.base,
             "makefile" => self.makefile,
             "listing" => self.listing,
             _ => None,
@@ -83,18 +108,31 @@ fn run(alloc: Global, words: &[&str], shelf: &mut Shelf<'_>) -> Outcome {
     }
 }
 
+const ORDER: [&str; 7] = [
+    "race",
+    "order",
+    "--makefile",
+    "makefile",
+    "--listing",
+    "listing",
+    "--root",
+];
+
 /// A makefile with one target, and an empty listing.
 fn good() -> Shelf<'static> {
     Shelf {
+        base: None,
         makefile: Some(Page::Text(b"all:\n")),
         listing: Some(Page::Text(b"")),
     }
 }
 
+/// A run of `order` with these inputs.
 fn order<'a>(
     alloc: Global,
     root: &'a str,
-    goals: &[&'a str],
+    operands: &[&'a str],
+    base: Option<&'a [u8]>,
     makefile: &'a [u8],
     listing: &'a [u8],
 ) -> Result<Outcome, Fail> {
@@ -111,33 +149,132 @@ fn order<'a>(
     ] {
         words.push(word)?;
     }
-    words.extend_from_slice(goals)?;
+    if base.is_some() {
+        words.push("--base")?;
+        words.push("base")?;
+    }
+    words.extend_from_slice(operands)?;
     let mut shelf = Shelf {
+        base: base.map(Page::Text),
         makefile: Some(Page::Text(makefile)),
         listing: Some(Page::Text(listing)),
     };
     Ok(run(alloc, words.as_slice(), &mut shelf))
 }
 
-#[test]
-fn orders_and_refuses(rt: HostRuntime) -> Result<(), Fail> {
-    for (cases, status) in [
-        (ORDERED.as_slice(), Status::Done),
-        (REFUSED.as_slice(), Status::Refused),
-    ] {
-        for case in cases {
-            let run = order(
-                rt.alloc(),
-                case.root,
-                case.goals,
-                case.makefile,
-                case.listing,
-            )?;
-            assert_eq!(rt; run.out.as_slice(), case.out, "{}", case.about);
-            assert_eq!(rt; run.status, status, "{}", case.about);
-            assert_eq!(rt; run.err.as_slice(), b"".as_slice(), "{}", case.about);
+/// What the first case is about that does not end so, or nothing.
+fn first_wrong(alloc: Global, cases: &[Case], status: Status) -> Result<&'static str, Fail> {
+    for case in cases {
+        let run = order(
+            alloc,
+            case.root,
+            case.operands,
+            case.base,
+            case.makefile,
+            case.listing,
+        )?;
+        if run.status != status || run.out.as_slice() != case.out || !run.err.is_empty() {
+            return Ok(case.about);
         }
     }
+    Ok("")
+}
+
+#[test]
+fn orders_the_examples(rt: HostRuntime) -> Result<(), Fail> {
+    let wrong = first_wrong(rt.alloc(), &ORDERED_EXAMPLES, Status::Done)?;
+    assert_eq!(rt; wrong, "");
+    Ok(())
+}
+
+#[test]
+fn refuses_an_example(rt: HostRuntime) -> Result<(), Fail> {
+    let wrong = first_wrong(rt.alloc(), &REFUSED_EXAMPLES, Status::Refused)?;
+    assert_eq!(rt; wrong, "");
+    Ok(())
+}
+
+#[test]
+fn orders_by_macros(rt: HostRuntime) -> Result<(), Fail> {
+    let wrong = first_wrong(rt.alloc(), &ORDERED_MACROS_1, Status::Done)?;
+    assert_eq!(rt; wrong, "");
+    Ok(())
+}
+
+#[test]
+fn orders_by_more_macros(rt: HostRuntime) -> Result<(), Fail> {
+    let wrong = first_wrong(rt.alloc(), &ORDERED_MACROS_2, Status::Done)?;
+    assert_eq!(rt; wrong, "");
+    Ok(())
+}
+
+#[test]
+fn orders_by_yet_more_macros(rt: HostRuntime) -> Result<(), Fail> {
+    let wrong = first_wrong(rt.alloc(), &ORDERED_MACROS_3, Status::Done)?;
+    assert_eq!(rt; wrong, "");
+    Ok(())
+}
+
+#[test]
+fn orders_plain_rules(rt: HostRuntime) -> Result<(), Fail> {
+    let wrong = first_wrong(rt.alloc(), &ORDERED_PLAIN, Status::Done)?;
+    assert_eq!(rt; wrong, "");
+    Ok(())
+}
+
+#[test]
+fn orders_by_inference(rt: HostRuntime) -> Result<(), Fail> {
+    let wrong = first_wrong(rt.alloc(), &ORDERED_RULES_1, Status::Done)?;
+    assert_eq!(rt; wrong, "");
+    Ok(())
+}
+
+#[test]
+fn orders_by_more_inference(rt: HostRuntime) -> Result<(), Fail> {
+    let wrong = first_wrong(rt.alloc(), &ORDERED_RULES_2, Status::Done)?;
+    assert_eq!(rt; wrong, "");
+    Ok(())
+}
+
+#[test]
+fn orders_by_yet_more_inference(rt: HostRuntime) -> Result<(), Fail> {
+    let wrong = first_wrong(rt.alloc(), &ORDERED_RULES_3, Status::Done)?;
+    assert_eq!(rt; wrong, "");
+    Ok(())
+}
+
+#[test]
+fn refuses_macros(rt: HostRuntime) -> Result<(), Fail> {
+    let wrong = first_wrong(rt.alloc(), &REFUSED_MACROS_1, Status::Refused)?;
+    assert_eq!(rt; wrong, "");
+    Ok(())
+}
+
+#[test]
+fn refuses_more_macros(rt: HostRuntime) -> Result<(), Fail> {
+    let wrong = first_wrong(rt.alloc(), &REFUSED_MACROS_2, Status::Refused)?;
+    assert_eq!(rt; wrong, "");
+    Ok(())
+}
+
+#[test]
+fn refuses_yet_more_macros(rt: HostRuntime) -> Result<(), Fail> {
+    let wrong = first_wrong(rt.alloc(), &REFUSED_MACROS_3, Status::Refused)?;
+    assert_eq!(rt; wrong, "");
+    Ok(())
+}
+
+#[test]
+fn refuses_plain_rules(rt: HostRuntime) -> Result<(), Fail> {
+    let wrong = first_wrong(rt.alloc(), &REFUSED_PLAIN, Status::Refused)?;
+    assert_eq!(rt; wrong, "");
+    Ok(())
+}
+
+#[test]
+fn refuses_special_targets(rt: HostRuntime) -> Result<(), Fail> {
+    let wrong = first_wrong(rt.alloc(), &REFUSED_RULES, Status::Refused)?;
+    assert_eq!(rt; wrong, "");
     Ok(())
 }
 
@@ -148,7 +285,14 @@ fn orders_a_long_line(rt: HostRuntime) -> Result<(), Fail> {
         let next = number + 1;
         makefile.push_str(format!(in rt.alloc(); "n{number:05}: n{next:05}\n")?.as_str())?;
     }
-    let run = order(rt.alloc(), "/w", &[], makefile.as_bytes(), b"n19999\n")?;
+    let run = order(
+        rt.alloc(),
+        "/w",
+        &[],
+        None,
+        makefile.as_bytes(),
+        b"n19999\n",
+    )?;
     assert_eq!(rt; run.status, Status::Done);
     assert!(rt;
         run.out
@@ -209,17 +353,6 @@ fn refuses_words(rt: HostRuntime) -> Result<(), Fail> {
         &[
             "order",
             "--makefile",
-            "makefile",
-            "--listing",
-            "listing",
-            "--root",
-            "/w",
-            "--base",
-            "base",
-        ],
-        &[
-            "order",
-            "--makefile",
             "none",
             "--listing",
             "listing",
@@ -254,40 +387,37 @@ fn helps(rt: HostRuntime) {
     }
 }
 
-/// What each file is, and which is told where one or both are not there or cannot be read. All files are opened before
-/// any is read.
+/// Which file is told where some are not there or cannot be read. All files are opened before any is read.
 #[test]
-fn tells_the_first_file_that_fails(rt: HostRuntime) {
+fn tells_the_first_file_that_fails(rt: HostRuntime) -> Result<(), Fail> {
     let text = Page::Text(b"");
-    for (makefile, listing, told) in [
-        (None, None, "makefile"),
-        (None, Some(text), "makefile"),
-        (Some(text), None, "listing"),
-        (Some(Page::Unreadable), None, "listing"),
-        (Some(Page::Unreadable), Some(Page::Unreadable), "makefile"),
-        (Some(Page::Unreadable), Some(text), "makefile"),
-        (Some(text), Some(Page::Unreadable), "listing"),
+    let broken = Page::Unreadable;
+    for (base, makefile, listing, told) in [
+        (None, None, None, "base"),
+        (None, Some(text), Some(text), "base"),
+        (Some(text), None, None, "makefile"),
+        (Some(text), None, Some(text), "makefile"),
+        (Some(text), Some(text), None, "listing"),
+        (Some(broken), Some(broken), None, "listing"),
+        (Some(text), Some(broken), Some(broken), "makefile"),
+        (Some(text), Some(broken), Some(text), "makefile"),
+        (Some(text), Some(text), Some(broken), "listing"),
+        (Some(broken), Some(broken), Some(broken), "base"),
     ] {
-        let mut shelf = Shelf { makefile, listing };
-        let words = [
-            "race",
-            "order",
-            "--makefile",
-            "makefile",
-            "--listing",
-            "listing",
-            "--root",
-            "w",
-        ];
+        let mut shelf = Shelf {
+            base,
+            makefile,
+            listing,
+        };
+        let mut words = Vec::from_slice(rt.alloc(), &ORDER)?;
+        words.extend_from_slice(&["w", "--base", "base"])?;
         let run = run(rt.alloc(), words.as_slice(), &mut shelf);
+        let line = format!(in rt.alloc(); "race: read failed: {told}\n")?;
         assert_eq!(rt; run.status, Status::Failed);
         assert_eq!(rt; run.out.len(), 0);
-        assert!(rt; run.err.as_slice().starts_with(b"race: read failed: "));
-        assert!(rt;
-            run.err.as_slice()[19..].starts_with(told.as_bytes()),
-            "{told}"
-        );
+        assert_eq!(rt; run.err.as_slice(), line.as_bytes());
     }
+    Ok(())
 }
 
 /// A writer that is full.

@@ -40,9 +40,11 @@ Statuses:
   3  a file cannot be read or written, memory is short, or the words are wrong
 ";
 
-/// What a build is read from: the names of files, the root and the operands, as they were given.
+/// What a build is read from: the paths of files, the base makefile's where one is given, the root and the operands, as
+/// they were given.
 #[derive(Debug, Drop)]
 pub struct Build<'a> {
+    pub base: Option<&'a str>,
     pub makefile: &'a str,
     pub listing: &'a str,
     pub root: &'a str,
@@ -99,10 +101,6 @@ fn with_build<'a>(alloc: Global, command: Command<'a>) -> Result<Command<'a>, Al
     ensures local { IfOk result (λ new.
         (fields_of new).has_globals ≡ (fields_of command.entry).has_globals) }
 {
-    let goals = Arg::new(alloc, "goals")
-        .action(ArgAction::Append)
-        .value_name("GOAL")
-        .help("What is to be built");
     command
         .arg(option(alloc, "makefile", "FILE", "The makefile"))?
         .arg(option(
@@ -117,7 +115,18 @@ fn with_build<'a>(alloc: Global, command: Command<'a>) -> Result<Command<'a>, Al
             "DIR",
             "The folder, as an absolute path, that other paths are below",
         ))?
-        .arg(goals)
+        .arg(base(alloc))?
+        .arg(operands(alloc))
+}
+
+fn operands<'a>(alloc: Global) -> Arg<'a>
+    ensures rule { rule_of result ≡ spec.operands }
+    ensures local { result.global ≡ false }
+{
+    Arg::new(alloc, "operands")
+        .action(ArgAction::Append)
+        .value_name("OPERAND")
+        .help("A goal, which is to be built, or NAME=VALUE, which defines a macro")
 }
 
 fn option<'a>(alloc: Global, name: &'a str, value: &'a str, help: &'a str) -> Arg<'a>
@@ -132,13 +141,22 @@ fn option<'a>(alloc: Global, name: &'a str, value: &'a str, help: &'a str) -> Ar
         .help(help)
 }
 
+fn base<'a>(alloc: Global) -> Arg<'a>
+    ensures rule { rule_of result ≡ spec.base }
+    ensures local { result.global ≡ false }
+{
+    let help = "A makefile with the rules and macros that come before those of the makefile";
+    option(alloc, "base", "FILE", help).required(false)
+}
+
 fn build_of<'a>(alloc: Global, found: &ArgMatches<'a>) -> Result<Build<'a>, AllocError>
     ensures { IfOk result (λ build. spec.HasValues build (rows_of (found_of found.now))) }
 {
     Ok(Build {
+        base: found.get_str("base"),
         makefile: found.get_str("makefile").unwrap_or(""),
         listing: found.get_str("listing").unwrap_or(""),
         root: found.get_str("root").unwrap_or(""),
-        operands: Vec::from_slice(alloc, found.get_strs("goals").unwrap_or(&[]))?,
+        operands: Vec::from_slice(alloc, found.get_strs("operands").unwrap_or(&[]))?,
     })
 }

@@ -5,10 +5,9 @@ use Rattle.mk_name.specs.Names.{Name, same_name}
 use Rattle.mk_name.specs.declared.fault.Halt.{Halt}
 use Rattle.mk_name.specs.declared.fault.Kind.TheVariants as kinds
 use Rattle.mk_graph.specs.Answer.{Comes, too_large, no_rule, cycle, planned, Halts, graph_fault, IsTooLarge}
-use Rattle.mk_graph.specs.Book.{prerequisites_of}
 use Rattle.mk_graph.specs.Graph.{IsCycle}
 use Rattle.mk_graph.specs.Least.{upto, IsLeastPassing}
-use Rattle.mk_graph.specs.Makers.{is_unmade}
+use Rattle.mk_graph.specs.Makers.{is_unmade, needs}
 use Rattle.mk_graph.specs.Numbered.{name_at}
 use Rattle.mk_graph.specs.Rows.{row, IsRing}
 use Rattle.mk_graph.specs.Walk.{IsWalked, IsOrder}
@@ -39,19 +38,19 @@ returns-in-Some-least_unmade c =
 
 pub serial_order-requires-clause-range : goal.serial_order-requires-clause-range
 serial_order-requires-clause-range c =
-    let g = graph_at c.args.book.now c.args.goals.now c.in-Some.graph.names c.in-Some.graph.rows.items c.as_slice.result.now c.in-Some.graph.goals.items c.as_slice-2.result.now c.as_slice.ensures.value c.as_slice-2.ensures.value (rw c.in-Some.is at c.in_ok-graph.ensures.found) in
+    let g = graph_at c.args.book.now c.args.listing.now c.args.goals.now c.in-Some.graph.names c.in-Some.graph.rows.items c.as_slice.result.now c.in-Some.graph.goals.items c.as_slice-2.result.now c.as_slice.ensures.value c.as_slice-2.ensures.value (rw c.in-Some.is at c.in_ok-graph.ensures.found) in
     in_range c.args.book.now c.args.listing.now c.args.goals.now c.in-Some.graph.names c.as_slice.result.now c.as_slice-2.result.now g
 
 pub cycle_of-requires-clause-within : goal.cycle_of-requires-clause-within
 cycle_of-requires-clause-within c =
-    let g = graph_at c.args.book.now c.args.goals.now c.in-Some.graph.names c.in-Some.graph.rows.items c.as_slice.result.now c.in-Some.graph.goals.items c.as_slice-2.result.now c.as_slice.ensures.value c.as_slice-2.ensures.value (rw c.in-Some.is at c.in_ok-graph.ensures.found) in
+    let g = graph_at c.args.book.now c.args.listing.now c.args.goals.now c.in-Some.graph.names c.in-Some.graph.rows.items c.as_slice.result.now c.in-Some.graph.goals.items c.as_slice-2.result.now c.as_slice.ensures.value c.as_slice-2.ensures.value (rw c.in-Some.is at c.in_ok-graph.ensures.found) in
     let r = subst (λ (w : Walked). IsWalked (row c.as_slice.result.now) c.as_slice-2.result.now w) c.in-Ring.is c.in_ok-ring.ensures in
     let q = subst (λ (ns : List ℕ). IsRing (row c.as_slice.result.now) c.as_slice-2.result.now ns) (sym c.as_slice-in-Ring.ensures.value) r in
     ring_within c.args.book.now c.args.listing.now c.args.goals.now c.in-Some.graph.names c.as_slice.result.now c.as_slice-2.result.now g c.as_slice-in-Ring.result.now q
 
 pub returns-in-Ring : goal.returns-in-Ring
 returns-in-Ring c =
-    let g = graph_at c.args.book.now c.args.goals.now c.in-Some.graph.names c.in-Some.graph.rows.items c.as_slice.result.now c.in-Some.graph.goals.items c.as_slice-2.result.now c.as_slice.ensures.value c.as_slice-2.ensures.value (rw c.in-Some.is at c.in_ok-graph.ensures.found) in
+    let g = graph_at c.args.book.now c.args.listing.now c.args.goals.now c.in-Some.graph.names c.in-Some.graph.rows.items c.as_slice.result.now c.in-Some.graph.goals.items c.as_slice-2.result.now c.as_slice.ensures.value c.as_slice-2.ensures.value (rw c.in-Some.is at c.in_ok-graph.ensures.found) in
     let small = rw c.in-Some.is at c.in_ok-graph.ensures.small in
     let r = subst (λ (w : Walked). IsWalked (row c.as_slice.result.now) c.as_slice-2.result.now w) c.in-Ring.is c.in_ok-ring.ensures in
     let q = subst (λ (ns : List ℕ). IsRing (row c.as_slice.result.now) c.as_slice-2.result.now ns) (sym c.as_slice-in-Ring.ensures.value) r in
@@ -60,33 +59,33 @@ returns-in-Ring c =
     let found = c.in_ok-names-in-Ring.ensures in
     subst (λ (h : Halt). Halts h (Comes c.args.book.now c.args.listing.now c.args.goals.now)) (sym c.graph_fault-in-Ring.ensures)
     (cycle c.in_ok-names-in-Ring.names.items small made
-    (subst (λ (ns : List Name). IsCycle same_name upto (prerequisites_of c.args.book.now) c.args.goals.now ns) (sym found.2)
-    (cycle_is c.args.book.now c.args.goals.now c.in-Some.graph.names c.as_slice.result.now c.as_slice-2.result.now c.as_slice-in-Ring.result.now found.0 g q found.1)))
+    (subst (λ (ns : List Name). IsCycle same_name upto (needs c.args.book.now c.args.listing.now) c.args.goals.now ns) (sym found.2)
+    (cycle_is c.args.book.now c.args.listing.now c.args.goals.now c.in-Some.graph.names c.as_slice.result.now c.as_slice-2.result.now c.as_slice-in-Ring.result.now found.0 g q found.1)))
 
 pub assemble-requires-clause-few : goal.assemble-requires-clause-few
 assemble-requires-clause-few c =
-    let g = graph_at c.args.book.now c.args.goals.now c.in-Some.graph.names c.in-Some.graph.rows.items c.as_slice.result.now c.in-Some.graph.goals.items c.as_slice-2.result.now c.as_slice.ensures.value c.as_slice-2.ensures.value (rw c.in-Some.is at c.in_ok-graph.ensures.found) in
+    let g = graph_at c.args.book.now c.args.listing.now c.args.goals.now c.in-Some.graph.names c.in-Some.graph.rows.items c.as_slice.result.now c.in-Some.graph.goals.items c.as_slice-2.result.now c.as_slice.ensures.value c.as_slice-2.ensures.value (rw c.in-Some.is at c.in_ok-graph.ensures.found) in
     let o = subst (λ (w : Walked). IsWalked (row c.as_slice.result.now) c.as_slice-2.result.now w) c.in-Order.is c.in_ok-ring.ensures in
     let q = subst (λ (ns : List ℕ). IsOrder (row c.as_slice.result.now) c.as_slice-2.result.now ns) (sym c.as_slice-in-Order.ensures.value) o in
     order_few c.args.book.now c.args.listing.now c.args.goals.now c.in-Some.graph.names c.as_slice.result.now c.as_slice-2.result.now g c.as_slice-in-Order.result.now q (rw c.in-Some.is at c.in_ok-graph.ensures.small)
 
 pub assemble-requires-clause-within : goal.assemble-requires-clause-within
 assemble-requires-clause-within c =
-    let g = graph_at c.args.book.now c.args.goals.now c.in-Some.graph.names c.in-Some.graph.rows.items c.as_slice.result.now c.in-Some.graph.goals.items c.as_slice-2.result.now c.as_slice.ensures.value c.as_slice-2.ensures.value (rw c.in-Some.is at c.in_ok-graph.ensures.found) in
+    let g = graph_at c.args.book.now c.args.listing.now c.args.goals.now c.in-Some.graph.names c.in-Some.graph.rows.items c.as_slice.result.now c.in-Some.graph.goals.items c.as_slice-2.result.now c.as_slice.ensures.value c.as_slice-2.ensures.value (rw c.in-Some.is at c.in_ok-graph.ensures.found) in
     let o = subst (λ (w : Walked). IsWalked (row c.as_slice.result.now) c.as_slice-2.result.now w) c.in-Order.is c.in_ok-ring.ensures in
     let q = subst (λ (ns : List ℕ). IsOrder (row c.as_slice.result.now) c.as_slice-2.result.now ns) (sym c.as_slice-in-Order.ensures.value) o in
     order_within c.args.book.now c.args.listing.now c.args.goals.now c.in-Some.graph.names c.as_slice.result.now c.as_slice-2.result.now g c.as_slice-in-Order.result.now q
 
 pub assemble-requires-clause-distinct : goal.assemble-requires-clause-distinct
 assemble-requires-clause-distinct c =
-    let g = graph_at c.args.book.now c.args.goals.now c.in-Some.graph.names c.in-Some.graph.rows.items c.as_slice.result.now c.in-Some.graph.goals.items c.as_slice-2.result.now c.as_slice.ensures.value c.as_slice-2.ensures.value (rw c.in-Some.is at c.in_ok-graph.ensures.found) in
+    let g = graph_at c.args.book.now c.args.listing.now c.args.goals.now c.in-Some.graph.names c.in-Some.graph.rows.items c.as_slice.result.now c.in-Some.graph.goals.items c.as_slice-2.result.now c.as_slice.ensures.value c.as_slice-2.ensures.value (rw c.in-Some.is at c.in_ok-graph.ensures.found) in
     let o = subst (λ (w : Walked). IsWalked (row c.as_slice.result.now) c.as_slice-2.result.now w) c.in-Order.is c.in_ok-ring.ensures in
     let q = subst (λ (ns : List ℕ). IsOrder (row c.as_slice.result.now) c.as_slice-2.result.now ns) (sym c.as_slice-in-Order.ensures.value) o in
     order_distinct c.args.book.now c.args.listing.now c.args.goals.now c.in-Some.graph.names c.as_slice.result.now c.as_slice-2.result.now g c.as_slice-in-Order.result.now q
 
 pub assemble-requires-clause-inside : goal.assemble-requires-clause-inside
 assemble-requires-clause-inside c =
-    let g = graph_at c.args.book.now c.args.goals.now c.in-Some.graph.names c.in-Some.graph.rows.items c.as_slice-rows.result.now c.in-Some.graph.goals.items c.as_slice-2.result.now c.as_slice-rows.ensures.value c.as_slice-2.ensures.value (rw c.in-Some.is at c.in_ok-graph.ensures.found) in
+    let g = graph_at c.args.book.now c.args.listing.now c.args.goals.now c.in-Some.graph.names c.in-Some.graph.rows.items c.as_slice-rows.result.now c.in-Some.graph.goals.items c.as_slice-2.result.now c.as_slice-rows.ensures.value c.as_slice-2.ensures.value (rw c.in-Some.is at c.in_ok-graph.ensures.found) in
     row_within c.args.book.now c.args.listing.now c.args.goals.now c.in-Some.graph.names c.as_slice-rows.result.now c.as_slice-2.result.now g
 
 pub assemble-requires-clause-rising : goal.assemble-requires-clause-rising
@@ -98,7 +97,7 @@ assemble-requires-clause-rising c =
 
 pub returns : goal.returns
 returns c =
-    let g = graph_at c.args.book.now c.args.goals.now c.in-Some.graph.names c.in-Some.graph.rows.items c.as_slice-rows.result.now c.in-Some.graph.goals.items c.as_slice-2.result.now c.as_slice-rows.ensures.value c.as_slice-2.ensures.value (rw c.in-Some.is at c.in_ok-graph.ensures.found) in
+    let g = graph_at c.args.book.now c.args.listing.now c.args.goals.now c.in-Some.graph.names c.in-Some.graph.rows.items c.as_slice-rows.result.now c.in-Some.graph.goals.items c.as_slice-2.result.now c.as_slice-rows.ensures.value c.as_slice-2.ensures.value (rw c.in-Some.is at c.in_ok-graph.ensures.found) in
     let small = rw c.in-Some.is at c.in_ok-graph.ensures.small in
     let o = subst (λ (w : Walked). IsWalked (row c.as_slice.result.now) c.as_slice-2.result.now w) c.in-Order.is c.in_ok-ring.ensures in
     let p = subst (λ (rs : List (Vec ℕ Global)). IsOrder (row rs) c.as_slice-2.result.now c.in-Order.order.items) (c.as_slice.ensures.value ∙ sym c.as_slice-rows.ensures.value) o in

@@ -1,9 +1,6 @@
-use Rattle.std.proofs.Common.{◌∙◌, ap, subst, ◌<◌, length, arith, get_or, List, ℕ, rules, nat_eq}
-use Rattle.std.specs.List.{flat_map}
-use Rattle.std.proofs.lemmas.List.{take_all}
-use Rattle.mk_name.specs.Names.{firsts}
+use Rattle.std.proofs.Common.{◌∙◌, subst, ◌<◌, length, arith, get_or, List, ℕ, rules}
 use Rattle.mk_graph.specs.Rows.{row}
-use Rattle.mk_graph.proofs.Rowing.{in_at, joined_next, joined_within_size}
+use Rattle.mk_graph.proofs.Rowing.{in_at, joined_next}
 use Rattle.mk_graph.proofs.Measure.{row_read}
 use Rattle.mk_graph.proofs.Steps.{In}
 use Rattle.mk_graph.proofs.rows.joined.Goals as goal
@@ -30,9 +27,3 @@ loop-place-preserved c =
       row = joined_next (row c.args.entries.now) c.args.places.now c.loop-place.place-index c.loop-place.joined.items c.add_new.new.row.items c.as_slice.result.now c.loop-place-test.true c.loop-place.invariant.row is c.in_ok-add_new.ensures.row;
       marked = c.in_ok-add_new.ensures.marked;
     }
-
-pub unmark-requires-clause-within : goal.unmark-requires-clause-within
-unmark-requires-clause-within c = λ n h.
-    let all = c.loop-place.invariant.row ∙ ap (λ ps. firsts nat_eq (flat_map (row c.args.entries.now) ps)) (take_all c.loop-place.place-index c.args.places.now c.loop-place-test.false) in
-    let w = joined_within_size (row c.args.entries.now) (length c.args.seen.now) c.args.places.now c.as_slice-2.result.now c.requires.within (c.as_slice-2.ensures.value ∙ all) n h in
-    omega (arith, w, c.loop-place.auto.seen)

@@ -1,0 +1,330 @@
+-- From the nodes of a plan to jobs: the first fault, or rows that are well-formed.
+use Rattle.std.proofs.Common.{◌≡◌, ℕ, zero, suc, ◌+◌, ◌<◌, ◌≤◌, Bool, true, false, not, ◌&&◌, ◌||◌, List, [], ◌∷◌, ◌++◌, Option, None, Some, length, get_or, take, drop, slice_get, sym, ap, ap₂, subst, ◌∙◌, refl, arith, map, inl, inr, Vec}
+use Rattle.std.specs.Prelude.{Result, Ok, Err, find, is_some, unwrap_or, Contains, IsTrue, nat_eq}
+use Rattle.std.specs.List.{cons_option, enumerate_from, filter_map}
+use Rattle.std.specs.Option.{option_map_or, option_map}
+use Rattle.std.proofs.lemmas.Bool.{and_parts, both_ways, cases_Bool, cases_lt, cond-true, cond-false, eq-eqb, or_cases, or_right, or_left}
+use Rattle.std.proofs.lemmas.List.{drop_all, drop_more, take_more, take_all, map_push, get_or-map, length-map}
+use Rattle.std.proofs.lemmas.List.FromFn.{get_or-enumerate_from, length-enumerate_from}
+use Rattle.std.proofs.lemmas.Option.{unwrap_or-slice_get, slice_get_past}
+use Rattle.std.specs.Global.{Global}
+use Rattle.std.specs.List.Sorted.{IsStrictlySortedBy}
+use Rattle.mk_name.specs.Told.{Told}
+use Rattle.mk_name.specs.Names.{Name, has, same_name, IsDistinct}
+use Rattle.mk_name.specs.Gives.{Halts}
+use Rattle.mk_name.specs.declared.fault.Kind.TheVariants.{MissingFootprint, WritesTarget}
+use Rattle.mk_name.specs.declared.fault.Halt.{Halt}
+use Rattle.mk_name.specs.declared.fault.Halt.TheVariants as halts
+use Rattle.mk_name.proofs.Names.{name_is_exact}
+use Rattle.mk_graph.specs.Numbered.{number_of}
+use Rattle.mk_graph.specs.Plan.{Plan, Node, names_of, NeedsStandBefore}
+use Rattle.mk_graph.proofs.Numberings.{has_at, number_at, number_has, number_none}
+use Rattle.mk_foot.specs.Attached.{attached, first_fault, footprint_of, is_taken, jobs_with, node_answer, node_fault, recipe_fault, told}
+use Rattle.mk_foot.specs.Footprints.{Footprint, Footprints, footprint_at, no_footprint}
+use Rattle.mk_foot.specs.Jobs.{Jobs, IsPrerequisite, nobody, node_at, node_count, name_of, is_live, reads_of, writes_of, prerequisites_of, may_write}
+use Rattle.mk_foot.specs.Recipes.{is_live_node}
+use Rattle.mk_foot.specs.Shape.{IsRising, IsWellFormed}
+use Rattle.mk_foot.proofs.Accessors.{live_is, name_there, name_count}
+use Rattle.mk_foot.proofs.JobsLemmas.{live_node}
+
+-- a name has a number where it stands in the list
+pub numbered-has : (names : List Name) (x : Name) → is_some (number_of names x) ≡ has same_name names x
+numbered-has names x = by (number_of names x) refl
+  where
+    by : (o : Option ℕ) → number_of names x ≡ o → is_some o ≡ has same_name names x
+    by None e = sym (number_none names x e)
+    by (Some n) e = sym (number_has names x n e)
+
+-- what a value or a fault says of the fault before it
+pub fault_none : {X : Type 0} (o : Option Told) (x y : X) → option_map_or (λ fault. Err fault) o (Ok x) ≡ Ok y → (o ≡ None) × (x ≡ y)
+fault_none None x y e = (refl, (let f : ◌≡◌ {A = Result _ Told} (Ok x) (Ok y) = e in cc))
+fault_none (Some t) x y e = absurd (let f : ◌≡◌ {A = Result _ Told} (Err t) (Ok y) = e in cc)
+
+pub fault_some : {X : Type 0} (o : Option Told) (x : X) (t : Told) → option_map_or (λ fault. Err fault) o (Ok x) ≡ Err t → o ≡ Some t
+fault_some None x t e = absurd (let f : ◌≡◌ {A = Result _ Told} (Ok x) (Err t) = e in cc)
+fault_some (Some s) x t e = (let f : ◌≡◌ {A = Result _ Told} (Err s) (Err t) = e in cc)
+
+-- a halt for one answer is one for another with the same faults
+pub halts_along : {X Y : Type 0} (halt : Halt) (small : Result X Told) (big : Result Y Told) → ((t : Told) → small ≡ Err t → big ≡ Err t)
+    → Halts halt small → Halts halt big
+halts_along halts.Memory small big same h = tt
+halts_along (halts.Fault fault) small big same h = same fault h
+
+-- what is known before the node of a number: the first fault is among the nodes that are left, and those before have no fault
+-- and rising rows
+pub record RowsTo (plan : Plan) (targets : List Name) (footprints : Footprints) (n : ℕ) (reads writes : List (List Name)) : Type 0 where
+  pub first : slice_get (filter_map (node_fault (names_of plan.nodes) targets footprints) (drop n (enumerate_from 0 plan.nodes))) 0 ≡ first_fault plan targets footprints
+  pub reads_are : reads ≡ map (λ (node : Node). (footprint_of footprints node).reads) (take n plan.nodes)
+  pub writes_are : writes ≡ map (λ (node : Node). (footprint_of footprints node).writes) (take n plan.nodes)
+  pub good : (k : ℕ) → k < n → node_fault (names_of plan.nodes) targets footprints (k, get_or plan.nodes k nobody) ≡ None
+  pub reads_rise : (k : ℕ) → k < n → IsRising (footprint_of footprints (get_or plan.nodes k nobody)).reads
+  pub writes_rise : (k : ℕ) → k < n → IsRising (footprint_of footprints (get_or plan.nodes k nobody)).writes
+
+pub rows_none : (plan : Plan) (targets : List Name) (footprints : Footprints) → RowsTo plan targets footprints 0 [] []
+rows_none plan targets footprints = record {
+  first = refl;
+  reads_are = refl;
+  writes_are = refl;
+  good = λ k below. absurd (omega (arith, below));
+  reads_rise = λ k below. absurd (omega (arith, below));
+  writes_rise = λ k below. absurd (omega (arith, below));
+}
+
+module _ (plan : Plan) (targets : List Name) (footprints : Footprints) (n : ℕ) (within : n < length plan.nodes) (reads writes : List (List Name)) (before : RowsTo plan targets footprints n reads writes) where
+  fault_in : ℕ × Node → Option Told
+  fault_in = node_fault (names_of plan.nodes) targets footprints
+
+  node : Node
+  node = get_or plan.nodes n nobody
+
+  node_here : drop n (enumerate_from 0 plan.nodes) ≡ (n, node) ∷ drop (n + 1) (enumerate_from 0 plan.nodes)
+  unfolding node
+  node_here =
+      drop_more (enumerate_from 0 plan.nodes) n (0, nobody) (omega (arith, within, length-enumerate_from 0 plan.nodes))
+      ∙ ap (λ x. x ∷ drop (n + 1) (enumerate_from 0 plan.nodes))
+      (get_or-enumerate_from 0 plan.nodes n (0, nobody) within ∙ ap (λ m. (m, get_or plan.nodes n nobody)) (omega arith))
+
+  at_first : (o : Option Told) → fault_in (n, node) ≡ o
+      → slice_get (filter_map fault_in (drop n (enumerate_from 0 plan.nodes))) 0 ≡ slice_get (cons_option o (filter_map fault_in (drop (n + 1) (enumerate_from 0 plan.nodes)))) 0
+  at_first o e =
+      ap (λ l. slice_get (filter_map fault_in l) 0) node_here
+      ∙ ap (λ p. slice_get (cons_option p (filter_map fault_in (drop (n + 1) (enumerate_from 0 plan.nodes)))) 0) e
+
+  -- the fault of a node is the first
+  pub fault_first : (t : Told) → node_answer (names_of plan.nodes) targets footprints (n, get_or plan.nodes n nobody) ≡ Err t → attached plan targets footprints ≡ Err t
+  unfolding fault_in node
+  fault_first t e =
+      let here = fault_some (node_fault (names_of plan.nodes) targets footprints (n, get_or plan.nodes n nobody)) _ t e in
+      ap (λ o. option_map_or (λ fault. Err fault) o (Ok (jobs_with footprints plan))) (sym before.first ∙ at_first (Some t) here)
+
+  -- one row more
+  pub rows_more : (row : Footprint) → node_answer (names_of plan.nodes) targets footprints (n, get_or plan.nodes n nobody) ≡ Ok row
+      → IsRising row.reads → IsRising row.writes → RowsTo plan targets footprints (n + 1) (reads ++ row.reads ∷ []) (writes ++ row.writes ∷ [])
+  unfolding fault_in node
+  rows_more row e reads_rise writes_rise =
+      let parts = fault_none (node_fault (names_of plan.nodes) targets footprints (n, get_or plan.nodes n nobody)) _ row e in
+      let one : take (n + 1) plan.nodes ≡ take n plan.nodes ++ get_or plan.nodes n nobody ∷ [] = take_more plan.nodes n nobody within in
+      record {
+        first = sym (at_first None parts.0) ∙ before.first;
+        reads_are = ap₂ (λ xs x. xs ++ x ∷ []) before.reads_are (ap (λ (f : Footprint). f.reads) (sym parts.1))
+            ∙ sym (ap (map (λ (d : Node). (footprint_of footprints d).reads)) one ∙ map_push (λ (d : Node). (footprint_of footprints d).reads) (take n plan.nodes) (get_or plan.nodes n nobody));
+        writes_are = ap₂ (λ xs x. xs ++ x ∷ []) before.writes_are (ap (λ (f : Footprint). f.writes) (sym parts.1))
+            ∙ sym (ap (map (λ (d : Node). (footprint_of footprints d).writes)) one ∙ map_push (λ (d : Node). (footprint_of footprints d).writes) (take n plan.nodes) (get_or plan.nodes n nobody));
+        good = λ k below. by_place (λ k. node_fault (names_of plan.nodes) targets footprints (k, get_or plan.nodes k nobody) ≡ None) before.good parts.0 k below;
+        reads_rise = λ k below. by_place (λ k. IsRising (footprint_of footprints (get_or plan.nodes k nobody)).reads) before.reads_rise
+            (subst (λ (f : Footprint). IsRising f.reads) (sym parts.1) reads_rise) k below;
+        writes_rise = λ k below. by_place (λ k. IsRising (footprint_of footprints (get_or plan.nodes k nobody)).writes) before.writes_rise
+            (subst (λ (f : Footprint). IsRising f.writes) (sym parts.1) writes_rise) k below;
+      }
+    where
+      by_place : (P : ℕ → Type 0) → ((k : ℕ) → k < n → P k) → P n → (k : ℕ) → k < n + 1 → P k
+      by_place P old new k below =
+          elim (cases_lt k n) [
+            | inl less ↦ old k less
+            | inr more ↦ subst P (let e : n ≡ k = omega (arith, below, more) in e) new
+          ]
+
+-- behind the last node there is no fault
+pub rows_all : (plan : Plan) (targets : List Name) (footprints : Footprints) (n : ℕ) (reads writes : List (List Name)) → length plan.nodes ≤ n
+    → RowsTo plan targets footprints n reads writes
+    → attached plan targets footprints ≡ Ok (record { plan = plan; reads = reads; writes = writes })
+rows_all plan targets footprints n reads writes past rows =
+    let none : first_fault plan targets footprints ≡ None =
+    sym rows.first ∙ ap (λ l. slice_get (filter_map (node_fault (names_of plan.nodes) targets footprints) l) 0)
+    (drop_all n (enumerate_from 0 plan.nodes) (omega (arith, past, length-enumerate_from 0 plan.nodes))) in
+    ap (λ o. option_map_or (λ fault. Err fault) o (Ok (jobs_with footprints plan))) none
+    ∙ λ i. Ok (record {
+      plan = plan;
+      reads = (sym (rows.reads_are ∙ ap (map (λ (d : Node). (footprint_of footprints d).reads)) (take_all n plan.nodes past))) i;
+      writes = (sym (rows.writes_are ∙ ap (map (λ (d : Node). (footprint_of footprints d).writes)) (take_all n plan.nodes past))) i;
+    })
+
+pub rising_nil : IsRising []
+unfolding IsStrictlySortedBy
+rising_nil = tt
+
+-- a name that is not the own one is taken where a node or a target has it
+pub taken_is : (own node target r : Bool) → own ≡ true → (node || target) ≡ r → r ≡ (own && (node || target))
+taken_is own node target r e f = sym (ap (λ b. b && (node || target)) e ∙ f)
+
+-- the jobs of nodes that have no fault
+module _ (plan : Plan) (targets : List Name) (footprints : Footprints)
+    (distinct : IsDistinct same_name (names_of plan.nodes)) (rising : NeedsStandBefore plan.nodes)
+    (good : (k : ℕ) → k < length plan.nodes → node_fault (names_of plan.nodes) targets footprints (k, get_or plan.nodes k nobody) ≡ None)
+    (reads_rise : (k : ℕ) → k < length plan.nodes → IsRising (footprint_of footprints (get_or plan.nodes k nobody)).reads)
+    (writes_rise : (k : ℕ) → k < length plan.nodes → IsRising (footprint_of footprints (get_or plan.nodes k nobody)).writes) where
+  jobs : Jobs
+  jobs = jobs_with footprints plan
+
+  node_is : (n : ℕ) → node_at jobs n ≡ get_or plan.nodes n nobody
+  unfolding jobs
+  node_is n = unwrap_or-slice_get plan.nodes n nobody
+
+  reads_at : (n : ℕ) → n < length plan.nodes → reads_of jobs n ≡ (footprint_of footprints (get_or plan.nodes n nobody)).reads
+  unfolding jobs reads_of
+  reads_at n below =
+      unwrap_or-slice_get (map (λ (d : Node). (footprint_of footprints d).reads) plan.nodes) n []
+      ∙ get_or-map (λ (d : Node). (footprint_of footprints d).reads) plan.nodes n nobody [] below
+
+  writes_at : (n : ℕ) → n < length plan.nodes → writes_of jobs n ≡ (footprint_of footprints (get_or plan.nodes n nobody)).writes
+  unfolding jobs writes_of
+  writes_at n below =
+      unwrap_or-slice_get (map (λ (d : Node). (footprint_of footprints d).writes) plan.nodes) n []
+      ∙ get_or-map (λ (d : Node). (footprint_of footprints d).writes) plan.nodes n nobody [] below
+
+  reads_past : (n : ℕ) → length plan.nodes ≤ n → reads_of jobs n ≡ []
+  unfolding jobs reads_of
+  reads_past n past = ap (λ o. unwrap_or o [])
+      (slice_get_past (map (λ (d : Node). (footprint_of footprints d).reads) plan.nodes) n (omega (arith, past, length-map plan.nodes (λ (d : Node). (footprint_of footprints d).reads))))
+
+  writes_past : (n : ℕ) → length plan.nodes ≤ n → writes_of jobs n ≡ []
+  unfolding jobs writes_of
+  writes_past n past = ap (λ o. unwrap_or o [])
+      (slice_get_past (map (λ (d : Node). (footprint_of footprints d).writes) plan.nodes) n (omega (arith, past, length-map plan.nodes (λ (d : Node). (footprint_of footprints d).writes))))
+
+  live_at : (n : ℕ) → is_live_node (get_or plan.nodes n nobody) ≡ is_live jobs n
+  live_at n = ap is_live_node (sym (node_is n)) ∙ live_is jobs n
+
+  name_is : (n : ℕ) → name_of jobs n ≡ (get_or plan.nodes n nobody).name
+  unfolding name_of
+  name_is n = ap (λ (d : Node). d.name) (node_is n)
+
+  count_is : node_count jobs ≡ length plan.nodes
+  unfolding node_count jobs
+  count_is = refl
+
+  idle_nothing : (n : ℕ) → is_live jobs n ≡ false → footprint_of footprints (get_or plan.nodes n nobody) ≡ no_footprint
+  idle_nothing n idle = cond-false (is_live_node (get_or plan.nodes n nobody)) _ _ (live_at n ∙ idle)
+
+  same_place : (n m : ℕ) → n < node_count jobs → m < node_count jobs → name_of jobs n ≡ name_of jobs m → n ≡ m
+  unfolding jobs
+  same_place n m n_below m_below same =
+      let names = names_of plan.nodes in
+      let n_there : n < length names = omega (arith, n_below, name_count jobs) in
+      let m_there : m < length names = omega (arith, m_below, name_count jobs) in
+      let found : Some n ≡ Some m =
+      sym (number_at names n distinct n_there)
+      ∙ ap (number_of names) (name_there jobs n n_below ∙ same ∙ sym (name_there jobs m m_below))
+      ∙ number_at names m distinct m_there in
+      cc
+
+  contains_has : (xs : List ℕ) (x : ℕ) → Contains xs x → IsTrue (has nat_eq xs x)
+  contains_has [] x (k, below, is) = absurd (omega (arith, below))
+  contains_has (y ∷ ys) x (zero, below, is) = or_left (nat_eq y x) _ (eq-eqb y x is)
+  contains_has (y ∷ ys) x (suc k, below, is) = or_right (nat_eq y x) _ (contains_has ys x (k, omega (arith, below), is))
+
+  needs_smaller : (n p : ℕ) → IsPrerequisite jobs p n → p < n
+  unfolding prerequisites_of jobs
+  needs_smaller n p needs =
+      let there : Contains (get_or plan.nodes n nobody).prerequisites p = subst (λ (d : Node). Contains d.prerequisites p) (node_is n) needs in
+      elim (cases_lt n (length plan.nodes)) [
+        | inl below ↦ rising n p nobody below (contains_has _ p there)
+        | inr past ↦
+            let nobody_there : Contains nobody.prerequisites p = subst (λ (d : Node). Contains d.prerequisites p) (unwrap_or_past plan.nodes n past) needs in
+            absurd (omega (arith, nobody_there.1))
+      ]
+    where
+      unwrap_or_past : (nodes : List Node) (i : ℕ) → length nodes ≤ i → unwrap_or (slice_get nodes i) nobody ≡ nobody
+      unwrap_or_past nodes i past = ap (λ o. unwrap_or o nobody) (slice_get_past nodes i past)
+
+  -- what a live recipe writes is not taken
+  not_taken : (own : Name) (writes : List Name) (x : Name) → find (is_taken (names_of plan.nodes) targets own) writes ≡ None
+      → has same_name writes x ≡ true → is_taken (names_of plan.nodes) targets own x ≡ false
+  not_taken own [] x none there = absurd (both_ways _ refl there)
+  not_taken own (y ∷ ys) x none there =
+      elim (cases_Bool (is_taken (names_of plan.nodes) targets own y)) [
+        | inl taken ↦ absurd (let e : Some y ≡ None = sym (cond-true (is_taken (names_of plan.nodes) targets own y) (Some y) _ taken) ∙ none in cc)
+        | inr free ↦ elim (or_cases (same_name y x) _ there) [
+          | inl same ↦ subst (λ (z : Name). is_taken (names_of plan.nodes) targets own z ≡ false) (name_is_exact.equal y x same) free
+          | inr later ↦ not_taken own ys x (sym (cond-false (is_taken (names_of plan.nodes) targets own y) (Some y) _ free) ∙ none) later
+        ]
+      ]
+
+  option_none : {A B : Type 0} (f : A → B) (o : Option A) → option_map f o ≡ None → o ≡ None
+  option_none f None e = refl
+  option_none f (Some a) e = absurd (let g : Some (f a) ≡ None = e in cc)
+
+  free_writes : (n : ℕ) (own : Name) (o : Option Footprint) (x : Name) → recipe_fault (names_of plan.nodes) targets n own o ≡ None
+      → has same_name (unwrap_or o no_footprint).writes x ≡ true → is_taken (names_of plan.nodes) targets own x ≡ false
+  free_writes n own None x none there = absurd (let g : Some (told MissingFootprint n (own ∷ [])) ≡ None = none in cc)
+  free_writes n own (Some footprint) x none there =
+      not_taken own footprint.writes x (option_none (λ y. told WritesTarget n (own ∷ y ∷ [])) (find (is_taken (names_of plan.nodes) targets own) footprint.writes) none) there
+
+  same_own : (own : Name) (x : Name) → has same_name (names_of plan.nodes) x ≡ true → is_taken (names_of plan.nodes) targets own x ≡ false → own ≡ x
+  same_own own x there free =
+      elim (cases_Bool (same_name own x)) [
+        | inl same ↦ name_is_exact.equal own x same
+        | inr other ↦ absurd (both_ways _ free
+            (ap₂ (λ a b. not a && b) other (or_left (has same_name (names_of plan.nodes) x) (has same_name targets x) there)))
+      ]
+
+  own_alone : (n m : ℕ) → m < node_count jobs → may_write jobs n (name_of jobs m) ≡ true → name_of jobs n ≡ name_of jobs m
+  unfolding may_write jobs
+  own_alone n m below writes =
+      let parts = and_parts _ _ writes in
+      let x = name_of jobs m in
+      let n_below : n < length plan.nodes = subst (λ k. n < k) count_is (live_node jobs n parts.0) in
+      let node = get_or plan.nodes n nobody in
+      let live : is_live_node node ≡ true = live_at n ∙ parts.0 in
+      let mine : footprint_of footprints node ≡ unwrap_or (footprint_at footprints node.name) no_footprint = cond-true (is_live_node node) _ _ live in
+      let there : has same_name (unwrap_or (footprint_at footprints node.name) no_footprint).writes x ≡ true =
+      ap (λ (f : Footprint). has same_name f.writes x) (sym mine) ∙ ap (λ ws. has same_name ws x) (sym (writes_at n n_below)) ∙ parts.1 in
+      let none : recipe_fault (names_of plan.nodes) targets n node.name (footprint_at footprints node.name) ≡ None =
+      sym (cond-true (is_live_node node) _ _ live) ∙ good n n_below in
+      let named : has same_name (names_of plan.nodes) x ≡ true =
+      subst (λ (y : Name). has same_name (names_of plan.nodes) y ≡ true) (name_there jobs m below) (has_at (names_of plan.nodes) m (omega (arith, below, name_count jobs))) in
+      name_is n ∙ same_own node.name x named (free_writes n node.name (footprint_at footprints node.name) x none there)
+
+  all_rows : (f : Node → List Name) → length (map f plan.nodes) ≡ node_count jobs
+  unfolding jobs node_count
+  all_rows f = length-map plan.nodes f
+
+  shape_is : IsWellFormed jobs
+  unfolding jobs
+  shape_is = record {
+    distinct = same_place;
+    smaller = needs_smaller;
+    all_reads = all_rows (λ (d : Node). (footprint_of footprints d).reads);
+    all_writes = all_rows (λ (d : Node). (footprint_of footprints d).writes);
+    reads_rise = λ n. elim (cases_lt n (length plan.nodes)) [
+      | inl below ↦ subst IsRising (sym (reads_at n below)) (reads_rise n below)
+      | inr past ↦ subst IsRising (sym (reads_past n past)) rising_nil
+    ];
+    writes_rise = λ n. elim (cases_lt n (length plan.nodes)) [
+      | inl below ↦ subst IsRising (sym (writes_at n below)) (writes_rise n below)
+      | inr past ↦ subst IsRising (sym (writes_past n past)) rising_nil
+    ];
+    no_reads = λ n idle. elim (cases_lt n (length plan.nodes)) [
+      | inl below ↦ reads_at n below ∙ ap (λ (f : Footprint). f.reads) (idle_nothing n idle)
+      | inr past ↦ reads_past n past
+    ];
+    no_writes = λ n idle. elim (cases_lt n (length plan.nodes)) [
+      | inl below ↦ writes_at n below ∙ ap (λ (f : Footprint). f.writes) (idle_nothing n idle)
+      | inr past ↦ writes_past n past
+    ];
+    own = own_alone;
+  }
+
+-- a row behind the others
+pub row_pushed : (rows new : List (Vec Name Global)) (v : Vec Name Global) (row : List Name) → new ≡ rows ++ v ∷ [] → v.items ≡ row
+    → map (λ (r : Vec Name Global). r.items) rows ++ row ∷ [] ≡ map (λ (r : Vec Name Global). r.items) new
+row_pushed rows new v row e f =
+    ap (λ x. map (λ (r : Vec Name Global). r.items) rows ++ x ∷ []) (sym f)
+    ∙ sym (map_push (λ (r : Vec Name Global). r.items) rows v) ∙ ap (map (λ (r : Vec Name Global). r.items)) (sym e)
+
+-- behind the last node the rows are well-formed
+pub rows_shape : (plan : Plan) (targets : List Name) (footprints : Footprints) (n : ℕ) (reads writes : List (List Name)) → length plan.nodes ≤ n
+    → IsDistinct same_name (names_of plan.nodes) → NeedsStandBefore plan.nodes
+    → RowsTo plan targets footprints n reads writes → IsWellFormed (record { plan = plan; reads = reads; writes = writes })
+unfolding jobs
+rows_shape plan targets footprints n reads writes past distinct rising rows =
+    let whole : IsWellFormed (jobs_with footprints plan) =
+    shape_is plan targets footprints distinct rising
+    (λ k below. rows.good k (omega (arith, below, past)))
+    (λ k below. rows.reads_rise k (omega (arith, below, past)))
+    (λ k below. rows.writes_rise k (omega (arith, below, past))) in
+    subst IsWellFormed (λ i. record {
+      plan = plan;
+      reads = (sym (rows.reads_are ∙ ap (map (λ (d : Node). (footprint_of footprints d).reads)) (take_all n plan.nodes past))) i;
+      writes = (sym (rows.writes_are ∙ ap (map (λ (d : Node). (footprint_of footprints d).writes)) (take_all n plan.nodes past))) i;
+    }) whole

@@ -1,0 +1,8 @@
+use Rattle.std.proofs.Common.{◌∙◌, ap}
+use Rattle.mk_graph.specs.Numbered.{number_of}
+use Rattle.mk_graph.specs.Plan.{names_of}
+use Rattle.mk_foot.proofs.Accessors.{number_is}
+use Rattle.mk_foot.proofs.jobs.Jobs.number.Goals as goal
+
+pub returns : goal.returns
+returns c = number_is c.args.self.now c.args.name.now _ (c.number.ensures ∙ ap (λ jobs. number_of (names_of jobs.plan.nodes) c.args.name.now) c.self.view_is)

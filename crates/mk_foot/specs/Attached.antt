@@ -1,0 +1,62 @@
+-- What `attach` answers: the jobs of a plan and its footprints, or the first node at fault.
+use Rattle.std.specs.Prelude.{ℕ, Bool, List, [], ◌∷◌, Option, None, Some, Result, Ok, Err, ◌&&◌, ◌||◌, not, find, map, slice_get, unwrap_or, if◌then◌else◌}
+use Rattle.std.specs.List.{enumerate_from, filter_map}
+use Rattle.std.specs.Option.{option_map, option_map_or}
+use Rattle.mk_name.specs.Names.{Name, has, same_name}
+use Rattle.mk_name.specs.Told.{Told}
+use Rattle.mk_name.specs.declared.fault.Kind.{Kind}
+use Rattle.mk_name.specs.declared.fault.Kind.TheVariants.{MissingFootprint, WritesTarget}
+use Rattle.mk_name.specs.declared.fault.Source.TheVariants as sources
+use Rattle.mk_graph.specs.Plan.{Node, Plan, names_of}
+use Rattle.mk_foot.specs.Footprints.{Footprint, Footprints, footprint_at, no_footprint}
+use Rattle.mk_foot.specs.Jobs.{Jobs}
+use Rattle.mk_foot.specs.Recipes.{is_live_node}
+
+-- a fault of the node with a number
+abbrev pub told : Kind → ℕ → List Name → Told
+told kind number names = record { kind = kind; source = sources.Jobs; place = number; names = names }
+
+-- a name belongs to another than a target: it is not the target's own, but that of a node or of a target of a target rule
+abbrev pub is_taken : List Name → List Name → Name → Name → Bool
+is_taken names targets own x = not (same_name own x) && (has same_name names x || has same_name targets x)
+
+-- the fault of a live recipe: no line names its target, or it writes what belongs to another, of which the least name is told
+abbrev pub recipe_fault : List Name → List Name → ℕ → Name → Option Footprint → Option Told
+recipe_fault names targets number own None = Some (told MissingFootprint number (own ∷ []))
+recipe_fault names targets number own (Some footprint) =
+    option_map (λ x. told WritesTarget number (own ∷ x ∷ [])) (find (is_taken names targets own) footprint.writes)
+
+-- the fault of a node with its number: only a live recipe has one
+abbrev pub node_fault : List Name → List Name → Footprints → ℕ × Node → Option Told
+node_fault names targets footprints placed =
+    if is_live_node placed.1 then recipe_fault names targets placed.0 placed.1.name (footprint_at footprints placed.1.name) else None
+
+-- the first of these faults
+abbrev pub first_fault : Plan → List Name → Footprints → Option Told
+first_fault plan targets footprints =
+    slice_get (filter_map (node_fault (names_of plan.nodes) targets footprints) (enumerate_from 0 plan.nodes)) 0
+
+-- what a node reads and writes: its footprint where it is live, and else nothing
+abbrev pub footprint_of : Footprints → Node → Footprint
+footprint_of footprints node = if is_live_node node then unwrap_or (footprint_at footprints node.name) no_footprint else no_footprint
+
+-- the jobs of a plan and footprints
+abbrev pub jobs_with : Footprints → Plan → Jobs
+jobs_with footprints plan = record {
+  plan = plan;
+  reads = map (λ (node : Node). (footprint_of footprints node).reads) plan.nodes;
+  writes = map (λ (node : Node). (footprint_of footprints node).writes) plan.nodes;
+}
+
+-- what `attach` answers for a plan and the targets of target rules: the jobs, or the first fault
+abbrev pub attached : Plan → List Name → Footprints → Result Jobs Told
+attached plan targets footprints = option_map_or (λ fault. Err fault) (first_fault plan targets footprints) (Ok (jobs_with footprints plan))
+
+-- what one node gives: what it reads and writes, or its fault
+abbrev pub node_answer : List Name → List Name → Footprints → ℕ × Node → Result Footprint Told
+node_answer names targets footprints placed =
+    option_map_or (λ fault. Err fault) (node_fault names targets footprints placed) (Ok (footprint_of footprints placed.1))
+
+-- what a live node with a footprint gives
+abbrev pub live_answer : List Name → List Name → ℕ → Name → Footprint → Result Footprint Told
+live_answer names targets number own footprint = option_map_or (λ fault. Err fault) (recipe_fault names targets number own (Some footprint)) (Ok footprint)

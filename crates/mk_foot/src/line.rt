@@ -1,0 +1,145 @@
+//! One line of footprints: what the recipe of a target reads and writes, as an object of JSON.
+ghost use Rattle.std.specs.Prelude.{◌≡◌, IfOk, option_and_then, option_map};
+ghost use Rattle.serde_json.specs.View.{items_view, view};
+ghost use Rattle.mk_foot.specs.Lines as spec;
+
+use mk_name::fault::Halt;
+use mk_name::name::Name;
+use mk_text::root::Root;
+use mk_text::spelling::plain_path;
+use serde_json::Value;
+use std::alloc::{AllocError, Global};
+use std::marker::Model;
+
+/// What a line says: a target, and the paths that its recipe reads and writes, as they stand there.
+#[derive(Debug, Drop)]
+pub(crate) struct Line {
+    pub(crate) target: Name,
+    pub(crate) reads: Vec<Name>,
+    pub(crate) writes: Vec<Name>,
+}
+
+impl Model for Line {
+    ghost use Rattle.mk_foot.specs.Lines as spec;
+
+    ghost Value = { spec.Line };
+
+    ghost view = { λ a. record {
+      target = a.target;
+      reads = a.reads.items;
+      writes = a.writes.items;
+    } };
+}
+
+/// The name of a text, if it is a path.
+fn path_in(alloc: Global, value: &Value, root: &Root) -> Result<Option<Name>, AllocError>
+    ensures { IfOk result (λ name. name ≡ spec.path_in root.now (view value.now)) }
+{
+    let Some(text) = value.as_str() else {
+        return Ok(None);
+    };
+    match plain_path(alloc, text.as_bytes(), root) {
+        Ok(name) => Ok(Some(name)),
+        Err(Halt::Fault(_)) => Ok(None),
+        Err(Halt::Memory) => Err(AllocError),
+    }
+}
+
+/// The names of a list, if each of its items is a path.
+fn paths_in(alloc: Global, values: &[Value], root: &Root) -> Result<Option<Vec<Name>>, AllocError>
+    ensures { IfOk result (λ names.
+        option_map (λ list. list.items) names ≡ spec.paths_in root.now (items_view values.now)) }
+{
+    let mut names = Vec::new(alloc);
+    for value in values {
+        match path_in(alloc, value, root)? {
+            Some(name) => names.push(name)?,
+            None => return Ok(None),
+        }
+    }
+    Ok(Some(names))
+}
+
+/// The names of the list under a key.
+fn paths_under(
+    alloc: Global,
+    object: &Value,
+    key: &str,
+    root: &Root,
+) -> Result<Option<Vec<Name>>, AllocError>
+    ensures { IfOk result (λ names.
+        option_map (λ list. list.items) names ≡ spec.paths_under root.now key.now (view object.now)) }
+{
+    match object.get(key).and_then(Value::as_array) {
+        Some(values) => paths_in(alloc, values.as_slice(), root),
+        None => Ok(None),
+    }
+}
+
+/// The name under a key.
+fn path_under(
+    alloc: Global,
+    object: &Value,
+    key: &str,
+    root: &Root,
+) -> Result<Option<Name>, AllocError>
+    ensures { IfOk result (λ name. name ≡ spec.path_under root.now key.now (view object.now)) }
+{
+    match object.get(key) {
+        Some(value) => path_in(alloc, value, root),
+        None => Ok(None),
+    }
+}
+
+/// The line that an object says.
+fn line_in(alloc: Global, object: &Value, root: &Root) -> Result<Option<Line>, AllocError>
+    ensures { IfOk result (λ line. line ≡ spec.line_in root.now (view object.now)) }
+{
+    let Some(target) = path_under(alloc, object, "target", root)? else {
+        return Ok(None);
+    };
+    let Some(reads) = paths_under(alloc, object, "reads", root)? else {
+        return Ok(None);
+    };
+    let Some(writes) = paths_under(alloc, object, "writes", root)? else {
+        return Ok(None);
+    };
+    Ok(Some(Line {
+        target,
+        reads,
+        writes,
+    }))
+}
+
+/// What a text of JSON means; nothing where it is none, or no UTF-8.
+fn value_of(alloc: Global, text: &[u8]) -> Result<Option<Value>, AllocError>
+    ensures { IfOk result (λ value. option_map (λ v. view v) value ≡ spec.value_of text.now) }
+{
+    match Value::from_slice(alloc, text) {
+        Ok(value) => Ok(Some(value)),
+        Err(error) => {
+            if error.is_memory() {
+                return Err(AllocError);
+            }
+            Ok(None)
+        }
+    }
+}
+
+/// Whether it has no byte but spaces, tabs and carriage returns.
+pub(crate) fn is_blank(text: &[u8]) -> bool
+    ensures { result ≡ spec.is_blank text.now }
+{
+    text.iter()
+        .all(|byte| *byte == b' ' || *byte == b'\t' || *byte == b'\r')
+}
+
+/// The line of a text that is not blank; none where it is bad.
+pub(crate) fn line_of(alloc: Global, text: &[u8], root: &Root) -> Result<Option<Line>, AllocError>
+    ensures { IfOk result (λ line. line ≡ option_and_then (spec.line_in root.now) (spec.value_of text.now)) }
+{
+    match value_of(alloc, text)? {
+        Some(object) => line_in(alloc, &object, root),
+        None => Ok(None),
+    }
+}

@@ -1,8 +1,0 @@
-use Rattle.std.proofs.Common.{rules, length, ◌<◌, arith}
-use Rattle.mk_graph.proofs.Firsts.{firsts_short}
-use Rattle.mk_graph.proofs.rulebook.distinct.Goals as goal
-
-pub returns-then-len-lt2 : goal.returns-then-len-lt2
-returns-then-len-lt2 c =
-    let small : length c.args.names.items < 2 = first_of (search rules, omega (arith, c.args.names.ok)) in
-    firsts_short c.args.names.items small

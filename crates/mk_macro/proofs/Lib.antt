@@ -1,0 +1,11 @@
+pub mod Items
+pub mod Joining
+pub mod Over
+pub mod Places
+pub mod Refusals
+pub mod Steps
+pub mod Table
+pub mod Unique
+pub mod Walked
+pub mod Weaving
+pub mod Work

@@ -1,0 +1,100 @@
+-- The macros of an ordered table.
+use Rattle.std.proofs.Common.{◌≡◌, ℕ, Bool, true, false, cond, List, [], ◌∷◌, Option, Some, None, map, refl, sym, ap, subst, ◌∙◌, ⊎_elim}
+use Rattle.std.specs.Prelude.{Vec}
+use Rattle.std.specs.Global.{Global}
+use Rattle.std.specs.declared.cmp.Ordering.{Ordering}
+use Rattle.std.specs.Prelude.{◌++◌, Result, Ok, Err, OnOk, OnErr, MatchOption, IsSome}
+use Rattle.std.specs.Map.{lookup, set_value, IsKeyTest, AreApart, KeepsOthers}
+use Rattle.std.proofs.lemmas.Map.Steps.{set_value_same}
+use Rattle.std.specs.BTreeMap.{BTreeMap, get_by, is_at, UpdatesBy, WritesThrough}
+use Rattle.std.specs.Ordering.{is_eq, nat_cmp}
+use Rattle.std.specs.Cmp.{eq_by_cmp_equiv}
+use Rattle.std.specs.Cmp.Lexicographic.{slice_cmp, bytes_decides, nat_list_cmp_total, nat_list_eq_equiv}
+use Rattle.std.proofs.lemmas.Bool.{cases_Bool, cond-true, cond-false}
+use Rattle.std.proofs.lemmas.Map.Text.{is_eq-slice_cmp}
+use Rattle.mk_name.specs.Names.{Name, same_name}
+use Rattle.mk_macro.specs.Macros.{Definition, Entries, defined, macros_of}
+
+abbrev pub Key : Type 0
+Key = Vec ℕ Global
+
+abbrev pub compare : Name → Key → Ordering
+compare name key = slice_cmp nat_cmp name key.items
+
+abbrev pub shown : List (Key × Definition) → Entries
+shown entries = map (λ e. (e.0.items, e.1)) entries
+
+-- a look-up in the table is one among the entries
+pub look_up : (entries : List (Key × Definition)) (name : Name) → lookup (is_at (compare name)) entries ≡ macros_of (shown entries) name
+look_up [] name = refl
+look_up (e ∷ es) name =
+    ap (λ b. cond b (Some e.1) (lookup (is_at (compare name)) es)) (is_eq-slice_cmp name e.0.items)
+    ∙ ap (λ r. cond (same_name name e.0.items) (Some e.1) r) (look_up es name)
+
+apart : (bs cs ks : List ℕ) → same_name bs cs ≡ false → same_name bs ks ≡ true → same_name cs ks ≡ false
+apart bs cs ks n y = nat_list_eq_equiv.symm cs ks ∙ sym (nat_list_eq_equiv.congr bs ks cs y) ∙ n
+
+apart_in_order : (bs cs ks : List ℕ) → same_name bs cs ≡ false → is_eq (slice_cmp nat_cmp bs ks) ≡ true → is_eq (slice_cmp nat_cmp cs ks) ≡ false
+apart_in_order bs cs ks n y = is_eq-slice_cmp cs ks ∙ apart bs cs ks n (sym (is_eq-slice_cmp bs ks) ∙ y)
+
+module _ {K : Type 0} (eq : K → K → Bool) (test : K → Bool) where
+  other_entries : {X : Type 0} (old new : List (K × X)) → KeepsOthers eq test old new → (other : K → Bool) → IsKeyTest eq other → AreApart test other → lookup other new ≡ lookup other old
+  unfolding KeepsOthers
+  other_entries old new h = h
+
+by_bytes : {W : Type 0} (f g : List ℕ → W) (bs : List ℕ) (w : W) → g bs ≡ w → ((cs : List ℕ) → same_name bs cs ≡ false → g cs ≡ f cs) → (cs : List ℕ) → g cs ≡ cond (same_name bs cs) w (f cs)
+by_bytes f g bs w here other cs =
+    ⊎_elim
+    (λ y. subst (λ l. g l ≡ w) ((bytes_decides bs cs).0 y) here ∙ sym (cond-true (same_name bs cs) w (f cs) y))
+    (λ n. other cs n ∙ sym (cond-false (same_name bs cs) w (f cs) n))
+    (cases_Bool (same_name bs cs))
+
+-- the macros after a change at one name
+pub table_defined : (m n : BTreeMap Key Definition) (name : Name) (d : Definition) → UpdatesBy (λ x y. slice_cmp nat_cmp x.items y.items) (compare name) m n (Some d)
+    → macros_of (shown n.entries) ≡ defined (macros_of (shown m.entries)) name d
+table_defined m n name d h = λ i other. at_each other i
+  where
+    at_each : (other : Name) → macros_of (shown n.entries) other ≡ cond (same_name name other) (Some d) (macros_of (shown m.entries) other)
+    at_each other =
+        sym (look_up n.entries other)
+        ∙ by_bytes (λ bs. get_by (compare bs) m) (λ bs. get_by (compare bs) n) name (Some d) h.1
+        (λ cs e. other_entries _ _ _ _ h.3 _ (λ x y. (eq_by_cmp_equiv nat_list_cmp_total).congr cs x.items y.items) (λ k. apart_in_order name cs k.items e)) other
+        ∙ ap (λ r. cond (same_name name other) (Some d) r) (look_up m.entries other)
+
+-- the same where the key has this name, and where the macros stand as a value
+pub table_defined_at : (m n : BTreeMap Key Definition) (key name : Name) (d : Definition) (es : Entries) → UpdatesBy (λ x y. slice_cmp nat_cmp x.items y.items) (compare key) m n (Some d)
+    → key ≡ name → shown m.entries ≡ es → macros_of (shown n.entries) ≡ defined (macros_of es) name d
+table_defined_at m n key name d es h same view =
+    table_defined m n key d h ∙ ap (λ x. defined (macros_of (shown m.entries)) x d) same ∙ ap (λ xs. defined (macros_of xs) name d) view
+
+abbrev pub extended_by : Definition → List ℕ → Definition
+extended_by old text = record { value = old.value ++ text; manner = old.manner }
+
+found : (m : BTreeMap Key Definition) (name : Name) (o : Option Definition) (es : Entries) → get_by (compare name) m ≡ o → shown m.entries ≡ es → macros_of es name ≡ o
+found m name o es is view = ap (λ xs. macros_of xs name) (sym view) ∙ sym (look_up m.entries name) ∙ is
+
+-- a value that was written through a loan
+pub extended : {X E : Type 0} (r : Result X E) (m n : BTreeMap Key Definition) (name : Name) (text : List ℕ) (old new : Definition) (es : Entries)
+    → OnOk r (new ≡ extended_by old text) → get_by (compare name) m ≡ Some old → WritesThrough (λ x y. slice_cmp nat_cmp x.items y.items) (compare name) m new n → shown m.entries ≡ es
+    → OnOk r (MatchOption (macros_of es name) (macros_of (shown n.entries) ≡ macros_of es) (λ o. macros_of (shown n.entries) ≡ defined (macros_of es) name (extended_by o text)))
+extended (Err x) m n name text old new es now is writes view = tt
+extended (Ok x) m n name text old new es now is writes view =
+    rw (found m name (Some old) es is view)
+    (table_defined_at m n name name new es (writes.3 (some_from is)) refl view ∙ ap (λ d. defined (macros_of es) name d) now)
+  where
+    some_from : {o : Option Definition} {d : Definition} → o ≡ Some d → IsSome o
+    some_from {o} e = rw e refl
+
+pub kept : {X E : Type 0} (r : Result X E) (m n : BTreeMap Key Definition) (name : Name) (old new : Definition) (es : Entries)
+    → OnErr r (new ≡ old) → get_by (compare name) m ≡ Some old → WritesThrough (λ x y. slice_cmp nat_cmp x.items y.items) (compare name) m new n → shown m.entries ≡ es
+    → OnErr r (macros_of (shown n.entries) ≡ macros_of es)
+kept (Ok x) m n name old new es same is writes view = tt
+kept (Err x) m n name old new es same is writes view =
+    ap (λ xs. macros_of (shown xs)) (writes.0 ∙ ap (λ d. set_value (is_at (compare name)) m.entries d) same ∙ set_value_same (is_at (compare name)) m.entries old is)
+    ∙ ap macros_of view
+
+-- no macro of the name
+pub extended_none : (m n : BTreeMap Key Definition) (name : Name) (text : List ℕ) (es : Entries) → get_by (compare name) m ≡ None → n.entries ≡ m.entries → shown m.entries ≡ es
+    → MatchOption (macros_of es name) (macros_of (shown n.entries) ≡ macros_of es) (λ o. macros_of (shown n.entries) ≡ defined (macros_of es) name (extended_by o text))
+extended_none m n name text es is same view =
+    rw (found m name None es is view) (ap (λ xs. macros_of (shown xs)) same ∙ ap macros_of view)

@@ -1,0 +1,12 @@
+pub mod Answers
+pub mod Assignments
+pub mod Busy
+pub mod Expansion
+pub mod Laws
+pub mod Limits
+pub mod Macros
+pub mod Operands
+pub mod Reference
+pub mod References
+pub mod Substitution
+pub mod Words

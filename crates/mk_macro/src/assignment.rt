@@ -1,0 +1,192 @@
+//! What an assignment does (POSIX.1-2024 XCU make, "Macros", and the profile).
+ghost use Rattle.std.specs.Prelude.{◌≡◌, ◌∷◌, ◌++◌, [], take, drop, Some, None, IfOk, OnOk, OnErr, MatchOption, option_map};
+ghost use Rattle.mk_text.specs.LogicalLine.{text_of};
+ghost use Rattle.mk_macro.specs.Answers.{AnswersLeft};
+ghost use Rattle.mk_macro.specs.Assignments.{IsAssigned, IsAssignment, LeadsTo, delayed, effect, first_effect};
+ghost use Rattle.mk_macro.specs.Macros.{defined, macros_of};
+
+use crate::definition::{Definition, Manner};
+use crate::macros::Macros;
+use mk_name::fault::Halt;
+use mk_text::line::{Line, LineKind, Operator};
+use std::alloc::{AllocError, Global};
+
+#[cfg(test)]
+mod tests;
+
+/// The text of a logical line: its pieces with one space between each two.
+fn text_of(alloc: Global, line: &Line) -> Result<Vec<u8>, AllocError>
+    ensures { IfOk result (λ text. text.items ≡ text_of line.now) }
+{
+    let mut text = Vec::new(alloc);
+    for (i, piece) in line.pieces().iter().enumerate() {
+        if i > 0 {
+            text.push(b' ')?;
+        }
+        text.extend_from_slice(piece)?;
+    }
+    Ok(text)
+}
+
+/// The first bytes of a text, all where it has fewer.
+fn front(text: &[u8], count: usize) -> &[u8]
+    ensures { result.now ≡ take count text.now }
+{
+    &text[..count.min(text.len())]
+}
+
+/// What stands behind the first bytes of a text.
+fn behind(text: &[u8], count: usize) -> &[u8]
+    ensures { result.now ≡ drop count text.now }
+{
+    &text[count.min(text.len())..]
+}
+
+impl Macros {
+    /// How the macro came by its value, if it is defined.
+    fn manner(&self, name: &[u8]) -> Option<Manner>
+        ensures { result ≡ option_map (λ d. d.manner) (macros_of self.now name.now) }
+    {
+        match self.definition(name) {
+            Some(definition) => Some(definition.manner()),
+            None => None,
+        }
+    }
+
+    /// Defines a macro whose value is expanded where it is used.
+    fn set_delayed(&mut self, alloc: Global, name: &[u8], text: &[u8]) -> Result<(), AllocError>
+        ensures defined { OnOk result
+            (macros_of self.new ≡ defined (macros_of self.old) name.now (delayed text.now)) }
+        ensures unchanged { OnErr result (macros_of self.new ≡ macros_of self.old) }
+    {
+        let value = Vec::from_slice(alloc, text)?;
+        self.define(alloc, name, Definition::new(value, Manner::Delayed))
+    }
+
+    /// Defines a macro as what a text expands to.
+    fn set_immediate(&mut self, alloc: Global, name: &[u8], text: &[u8]) -> Result<(), Halt>
+        ensures answer { AnswersLeft result (macros_of self.new)
+            (LeadsTo (macros_of self.old) name.now (first_effect Operator.Immediate text.now)) }
+        ensures unchanged { OnErr result (macros_of self.new ≡ macros_of self.old) }
+    {
+        let value = self.expand(alloc, text)?;
+        self.define(alloc, name, Definition::new(value, Manner::Immediate))?;
+        Ok(())
+    }
+
+    /// Puts one space and a text at the end of a macro's value, if it is defined.
+    fn add(&mut self, alloc: Global, name: &[u8], text: &[u8]) -> Result<(), AllocError>
+        ensures extended { OnOk result (MatchOption (macros_of self.old name.now)
+            (macros_of self.new ≡ macros_of self.old)
+            (λ old. macros_of self.new ≡ defined (macros_of self.old) name.now
+            (record old { value = old.value ++ 32 ∷ text.now }))) }
+        ensures unchanged { OnErr result (macros_of self.new ≡ macros_of self.old) }
+    {
+        let mut added = Vec::new(alloc);
+        added.push(b' ')?;
+        added.extend_from_slice(text)?;
+        self.extend(name, &added)
+    }
+
+    /// Assigns a text to a name that stands for nothing yet.
+    fn assign_first(
+        &mut self,
+        alloc: Global,
+        name: &[u8],
+        operator: Operator,
+        text: &[u8],
+    ) -> Result<(), Halt>
+        ensures answer { AnswersLeft result (macros_of self.new)
+            (LeadsTo (macros_of self.old) name.now (first_effect operator text.now)) }
+        ensures unchanged { OnErr result (macros_of self.new ≡ macros_of self.old) }
+    {
+        match operator {
+            Operator::Immediate => self.set_immediate(alloc, name, text),
+            Operator::Delayed | Operator::Append | Operator::Conditional => {
+                self.set_delayed(alloc, name, text)?;
+                Ok(())
+            }
+        }
+    }
+
+    /// Adds a text to a macro that was made in this manner.
+    fn append(
+        &mut self,
+        alloc: Global,
+        name: &[u8],
+        manner: Manner,
+        text: &[u8],
+    ) -> Result<(), Halt>
+        requires { option_map (λ d. d.manner) (macros_of self.old name.now) ≡ Some manner }
+        ensures answer { AnswersLeft result (macros_of self.new)
+            (IsAssigned (macros_of self.old) name.now Operator.Append text.now) }
+        ensures unchanged { OnErr result (macros_of self.new ≡ macros_of self.old) }
+    {
+        match manner {
+            Manner::Given => Ok(()),
+            Manner::Delayed => {
+                self.add(alloc, name, text)?;
+                Ok(())
+            }
+            Manner::Immediate => {
+                let value = self.expand(alloc, text)?;
+                self.add(alloc, name, &value)?;
+                Ok(())
+            }
+        }
+    }
+
+    /// Assigns a text to a name.
+    fn assign_text(
+        &mut self,
+        alloc: Global,
+        name: &[u8],
+        operator: Operator,
+        text: &[u8],
+    ) -> Result<(), Halt>
+        ensures answer { AnswersLeft result (macros_of self.new)
+            (IsAssigned (macros_of self.old) name.now operator text.now) }
+        ensures unchanged { OnErr result (macros_of self.new ≡ macros_of self.old) }
+    {
+        match self.manner(name) {
+            None => self.assign_first(alloc, name, operator, text),
+            Some(Manner::Given) => Ok(()),
+            Some(manner) => match operator {
+                Operator::Conditional => Ok(()),
+                Operator::Append => self.append(alloc, name, manner, text),
+                Operator::Delayed | Operator::Immediate => {
+                    self.assign_first(alloc, name, operator, text)
+                }
+            },
+        }
+    }
+
+    /// Does what an assignment says ("Macros"); any other line changes nothing. `=` keeps the text as
+    /// it is; `::=` and `:=` expand it at once, and it is never expanded again; `+=` adds one space
+    /// and the text, which it expands where the value was expanded; `?=` is `=` where the name stands
+    /// for nothing yet. On such a name `+=` is `=` too (profile). An operand's macro stays as it is,
+    /// and the text is not looked at (profile).
+    ///
+    /// The faults are those of [`Macros::expand`]. After a fault, and after want of memory, which may
+    /// come in place of any answer, the macros are as before.
+    pub fn assign(&mut self, alloc: Global, line: &Line) -> Result<(), Halt>
+        ensures answer { AnswersLeft result (macros_of self.new)
+            (IsAssignment (macros_of self.old) line.now) }
+        ensures unchanged { OnErr result (macros_of self.new ≡ macros_of self.old) }
+    {
+        match line.kind() {
+            LineKind::Assign {
+                name_start,
+                name_end,
+                operator,
+                value_start,
+                ..
+            } => {
+                let text = text_of(alloc, line)?;
+                let name = behind(front(&text, name_end), name_start);
+                self.assign_text(alloc, name, operator, behind(&text, value_start))
+            }
+            LineKind::Entry { .. } | LineKind::Recipe => Ok(()),
+        }
+    }
+}

@@ -1,0 +1,303 @@
+use crate::macros::Macros;
+use mk_name::fault::{Fault, Halt};
+use mk_text::line::Operator;
+use std::alloc::{AllocError, Global};
+use std::fmt::Write;
+use std::str;
+use std::test::Fail;
+
+const SET: Operator = Operator::Delayed;
+
+const NOW: Operator = Operator::Immediate;
+
+const ADD: Operator = Operator::Append;
+
+const NEW: Operator = Operator::Conditional;
+
+/// A fault as a text: its number and its names.
+fn fault_shown(alloc: Global, fault: &Fault) -> Result<String, AllocError> {
+    let number = fault.kind().number();
+    let mut all = format!(in alloc; "F{number}")?;
+    for name in fault.names() {
+        let name = str::from_utf8(name.as_bytes()).unwrap_or("?");
+        write!(all, " {name}")?;
+    }
+    Ok(all)
+}
+
+/// What a text expands to, or its fault.
+fn expanded(alloc: Global, macros: &Macros, text: &[u8]) -> Result<String, AllocError> {
+    match macros.expand(alloc, text) {
+        Ok(bytes) => String::from_str(alloc, str::from_utf8(&bytes).unwrap_or("?")),
+        Err(Halt::Fault(fault)) => fault_shown(alloc, &fault),
+        Err(Halt::Memory) => Err(AllocError),
+    }
+}
+
+/// Assigns, and shows the fault where there is one.
+fn assigned(
+    alloc: Global,
+    macros: &mut Macros,
+    name: &str,
+    operator: Operator,
+    text: &[u8],
+) -> Result<String, AllocError> {
+    match macros.assign_text(alloc, name.as_bytes(), operator, text) {
+        Ok(()) => Ok(String::new(alloc)),
+        Err(Halt::Fault(fault)) => fault_shown(alloc, &fault),
+        Err(Halt::Memory) => Err(AllocError),
+    }
+}
+
+/// Some macros, and what a text expands to under them.
+const REFERENCES: &[(&str, &str)] = &[
+    // Plain bytes, and a dollar sign that stands for itself.
+    ("a b\tc", "a b\tc"),
+    ("$$", "$"),
+    ("$$A$$(A)", "$A$(A)"),
+    // Names in either brackets, and of one byte; nothing where the macro is not defined.
+    ("[$(A)${A}$A]", "[xxx]"),
+    ("[$(U)$U${U:a=b}]", "[]"),
+    ("[$(A%B)]", "[]"),
+    // A value is expanded where it is used, and an immediate one never.
+    ("$(L)", "-x-"),
+    ("$(I)", "$(A)"),
+    // Wrong forms: no end, a wrong name, a dollar sign inside, a substitution without `=` or with `%`.
+    ("x$", "F9"),
+    ("$(A", "F9"),
+    ("${A)", "F9"),
+    ("$()", "F9"),
+    ("$(A B)", "F9"),
+    ("${a)}", "F9"),
+    ("$(A$(B))", "F9"),
+    ("$(a=b)", "F9"),
+    ("$ ", "F9"),
+    ("$)", "F9"),
+    ("$=", "F9"),
+    ("$:", "F9"),
+    ("$(A:.c)", "F9"),
+    ("$(A:%=x)", "F9"),
+    ("$(A:x=%)", "F9"),
+    ("$(E)y", "F9"),
+    // The substitution's first `=` parts it, and the first colon ends the name.
+    ("$(A:b:c=d)", "x"),
+    ("$(A:x=c=d)", "c=d"),
+    // Internal macros, alone or with `D` or `F`; the form comes first.
+    ("$@", "F10 @"),
+    ("$*", "F10 *"),
+    ("$%", "F10 %"),
+    ("$(*)", "F10 *"),
+    ("$(^F)", "F10 ^F"),
+    ("$(@D:a=b)", "F10 @D"),
+    ("$(@:x)", "F9"),
+    ("$(@:%=x)", "F9"),
+    ("$(@DF)", ""),
+    // A macro inside its own value: the inner reference's name is told.
+    ("$(P)", "F8 P"),
+    ("$(Q)", "F8 Q"),
+    // The first that fails decides, from left to right, and inside a value first.
+    ("$(P)$@", "F8 P"),
+    ("$@$(P)", "F10 @"),
+    ("$(V)$(", "F10 @"),
+    // The end of each word is changed, and the blanks stay.
+    ("$(W:.c=.o)", " a.o\tb.o  d.cc "),
+    ("$(W:=.o)", " a.c.o\tb.c.o  d.cc.o "),
+    ("$(W:.c=)", " a\tb  d.cc "),
+    ("$(W:a.c=)", " \tb.c  d.cc "),
+    ("$(W:.c\tb=x)", " a.c\tb.c  d.cc "),
+    ("$(U:=x)", ""),
+    ("$(A:x=y z)", "y z"),
+    // Blanks alone have no words.
+    ("[$(B:=x)]", "[ \t]"),
+];
+
+#[test]
+fn references(rt: HostRuntime) -> Result<(), Fail> {
+    let alloc = rt.alloc();
+    let mut macros = Macros::new(alloc, &[]).ok().ok_or("macros")?;
+    for (name, operator, text) in [
+        ("A", SET, "x"),
+        ("B", SET, " \t"),
+        ("L", SET, "-$(A)-"),
+        ("I", NOW, "$$(A)"),
+        ("E", SET, "x$"),
+        ("P", SET, "a$(Q)"),
+        ("Q", SET, "$(P)"),
+        ("V", SET, "$@"),
+        ("W", SET, " a.c\tb.c  d.cc "),
+    ] {
+        let fault = assigned(alloc, &mut macros, name, operator, text.as_bytes())?;
+        assert_eq!(rt; fault.as_str(), "", "{name}");
+    }
+    for (text, want) in REFERENCES {
+        let got = expanded(alloc, &macros, text.as_bytes())?;
+        assert_eq!(rt; got.as_str(), *want, "{text}");
+    }
+    Ok(())
+}
+
+/// An assignment's name, operator and text, its fault, and what `[$(A)]` comes to behind it.
+const ASSIGNMENTS: &[(&str, Operator, &str, &str, &str)] = &[
+    // Late: the value changes with what it refers to.
+    ("A", SET, "$(B)", "", "[]"),
+    ("B", SET, "b", "", "[b]"),
+    ("A", ADD, "$(B)", "", "[b b]"),
+    ("A", NEW, "z", "", "[b b]"),
+    // At once: it stays as it is, and what is added is expanded too.
+    ("A", NOW, "$(A)$$B", "", "[b b$B]"),
+    ("B", SET, "c", "", "[b b$B]"),
+    ("A", ADD, "$(B)", "", "[b b$B c]"),
+    ("B", SET, "d", "", "[b b$B c]"),
+    // A fault of such a text leaves the macro.
+    ("A", NOW, "$(", "F9", "[b b$B c]"),
+    ("A", ADD, "$@", "F10 @", "[b b$B c]"),
+    ("L", SET, "$(L)", "", "[b b$B c]"),
+    ("A", NOW, "$(L)", "F8 L", "[b b$B c]"),
+    // A wrong reference in a late value is no fault until it is used.
+    ("A", SET, "$(", "", "F9"),
+    // A value without bytes is a value: one space and the text are added, and `?=` does nothing.
+    ("A", SET, "", "", "[]"),
+    ("A", NEW, "b", "", "[]"),
+    ("A", ADD, "b", "", "[ b]"),
+    // On a name that stands for nothing `+=` and `?=` are `=`.
+    ("N", ADD, "$(B)", "", "[ b]"),
+    ("A", SET, "$(N)", "", "[d]"),
+    ("O", NEW, "$(B)", "", "[d]"),
+    ("A", SET, "$(O)", "", "[d]"),
+    // An operand's macro stays, and the text is not looked at.
+    ("G", SET, "x", "", "[d]"),
+    ("G", NOW, "$@", "", "[d]"),
+    ("G", ADD, "x", "", "[d]"),
+    ("A", SET, "$(G)", "", "[gd]"),
+    // A name that only references may not have.
+    ("@", SET, "x", "", "[gd]"),
+];
+
+#[test]
+fn assignments(rt: HostRuntime) -> Result<(), Fail> {
+    let alloc = rt.alloc();
+    let operands: [&[u8]; 1] = [b"G=g$(B)"];
+    let mut macros = Macros::new(alloc, &operands).ok().ok_or("macros")?;
+    for (name, operator, text, fault, want) in ASSIGNMENTS {
+        let got = assigned(alloc, &mut macros, name, *operator, text.as_bytes())?;
+        assert_eq!(rt; got.as_str(), *fault, "{name} {text}");
+        let got = expanded(alloc, &macros, b"[$(A)]")?;
+        assert_eq!(rt; got.as_str(), *want, "{name} {text}");
+    }
+    Ok(())
+}
+
+/// Operands, and what `$(A)$(A+)$(goal)` comes to, or the fault with its place.
+const OPERANDS: &[(&[&[u8]], &str)] = &[
+    (&[], ""),
+    (&[b"goal", b"A=x"], "x"),
+    (&[b"A=x", b"A=y"], "y"),
+    (&[b"A= b=c "], " b=c "),
+    (&[b"A+=b"], "b"),
+    (&[b"A="], ""),
+    (&[b"goal", b"A=x", b"=y"], "F5 at 3"),
+    (&[b"A =b"], "F5 at 1"),
+    (&[b"A:=b", b"=y"], "F5 at 1"),
+    (&[b"A=$(B)", b"B=z"], "z"),
+];
+
+#[test]
+fn operands(rt: HostRuntime) -> Result<(), Fail> {
+    let alloc = rt.alloc();
+    for (operands, want) in OPERANDS {
+        let got = match Macros::new(alloc, operands) {
+            Ok(macros) => expanded(alloc, &macros, b"$(A)$(A+)$(goal)")?,
+            Err(Halt::Fault(fault)) => {
+                let number = fault.kind().number();
+                let place = fault.place();
+                format!(in alloc; "F{number} at {place}")?
+            }
+            Err(Halt::Memory) => return Err(AllocError.into()),
+        };
+        assert_eq!(rt; got.as_str(), *want);
+    }
+    Ok(())
+}
+
+/// So many copies of a text.
+fn copies(alloc: Global, text: &str, count: usize) -> Result<Vec<u8>, AllocError> {
+    let mut all = Vec::new(alloc);
+    for _ in 0..count {
+        all.extend_from_slice(text.as_bytes())?;
+    }
+    Ok(all)
+}
+
+/// Macros with long values.
+fn long_macros(alloc: Global) -> Result<Macros, Fail> {
+    let mut macros = Macros::new(alloc, &[]).ok().ok_or("macros")?;
+    let mut text = copies(alloc, "a", 65_536)?;
+    assigned(alloc, &mut macros, "A", SET, &text)?;
+    assigned(alloc, &mut macros, "C", NOW, &text)?;
+    assigned(alloc, &mut macros, "D", NOW, &text)?;
+    assigned(alloc, &mut macros, "D", ADD, b"b")?;
+    text.extend_from_slice(b"$@")?;
+    assigned(alloc, &mut macros, "B", SET, &text)?;
+    let words = copies(alloc, "a ", 32_768)?;
+    assigned(alloc, &mut macros, "W", NOW, &words)?;
+    Ok(macros)
+}
+
+/// How long a text's expansion is, or its fault.
+fn length_shown(alloc: Global, macros: &Macros, text: &[u8]) -> Result<String, AllocError> {
+    match macros.expand(alloc, text) {
+        Ok(bytes) => {
+            let length = bytes.len();
+            format!(in alloc; "{length}")
+        }
+        Err(Halt::Fault(fault)) => fault_shown(alloc, &fault),
+        Err(Halt::Memory) => Err(AllocError),
+    }
+}
+
+/// A text, and the length of its expansion or its fault.
+const LENGTHS: &[(&str, &str)] = &[
+    ("$(A)", "65536"),
+    ("$(C)$(U)", "65536"),
+    ("x$(A)", "F11"),
+    ("$(A)x", "F11"),
+    // A value counts for the text around it only once it is complete.
+    ("$(B)", "F10 @"),
+    ("x$(B)", "F10 @"),
+    // A value may have grown past the limit: only its use fails.
+    ("$(D)", "F11"),
+    // Substitutions that make a text longer and shorter.
+    ("$(W)", "65536"),
+    ("$(W:=b)", "F11"),
+    ("$(W:a=)", "32768"),
+    ("$(A:a=)", "65535"),
+];
+
+#[test]
+fn lengths(rt: HostRuntime) -> Result<(), Fail> {
+    let alloc = rt.alloc();
+    let macros = long_macros(alloc)?;
+    for (text, want) in LENGTHS {
+        let got = length_shown(alloc, &macros, text.as_bytes())?;
+        assert_eq!(rt; got.as_str(), *want, "{text}");
+    }
+    Ok(())
+}
+
+#[test]
+fn counts(rt: HostRuntime) -> Result<(), Fail> {
+    let alloc = rt.alloc();
+    let macros = Macros::new(alloc, &[]).ok().ok_or("macros")?;
+    for (text, count, want) in [
+        ("a", 65_536, "65536"),
+        ("a", 65_537, "F11"),
+        ("$(U)", 10_000, "0"),
+        ("$(U)", 10_001, "F11"),
+        ("$$", 65_536, "65536"),
+    ] {
+        let text = copies(alloc, text, count)?;
+        let got = length_shown(alloc, &macros, &text)?;
+        assert_eq!(rt; got.as_str(), want);
+    }
+    Ok(())
+}

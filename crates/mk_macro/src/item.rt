@@ -1,0 +1,206 @@
+//! The items of a text: bytes that stand for themselves, and references (POSIX.1-2024 XCU make,
+//! "Macros").
+ghost use Rattle.std.specs.Prelude.{◌≡◌, ◌<◌, true, false, List, [], ◌∷◌, length, drop, ◌==◌, IfNone, IfSome};
+ghost use Rattle.std.specs.List.{list_all, position};
+ghost use Rattle.std.specs.Option.{option_map_or};
+ghost use Rattle.mk_text.specs.LogicalLines.{is_macro_byte};
+ghost use Rattle.mk_macro.specs.Reference.{is_macro_name};
+ghost use Rattle.mk_macro.specs.References.{before, behind, bracketed, changing, closed_by, dollar_item, dollar_length, holds, items_of, reference_to};
+
+use std::marker::Model;
+
+/// A substitution: what stands at the end of a word, and what comes in its place.
+#[derive(Debug, Drop)]
+pub struct Change<'a> {
+    from: &'a [u8],
+    to: &'a [u8],
+}
+
+impl<'a> Model for Change<'a> {
+    ghost use Rattle.mk_macro.specs.Reference.{Change};
+
+    ghost Value = { Change };
+
+    ghost view = { λ a. record { from = a.from.now; to = a.to.now } };
+}
+
+impl<'a> Change<'a> {
+    /// What stands at the end of a word.
+    pub fn from(&self) -> &'a [u8]
+        ensures { result.now ≡ self.now.from }
+    {
+        self.from
+    }
+
+    /// What comes in its place.
+    pub fn to(&self) -> &'a [u8]
+        ensures { result.now ≡ self.now.to }
+    {
+        self.to
+    }
+}
+
+/// A reference to a macro, with its substitution where it has one.
+#[derive(Debug, Drop)]
+pub struct Reference<'a> {
+    name: &'a [u8],
+    change: Option<Change<'a>>,
+}
+
+impl<'a> Model for Reference<'a> {
+    ghost use Rattle.mk_macro.specs.Reference.{Reference};
+
+    ghost Value = { Reference };
+
+    ghost view = { λ a. record { name = a.name.now; change = a.change } };
+}
+
+impl<'a> Reference<'a> {
+    /// The macro's name.
+    pub fn name(&self) -> &'a [u8]
+        ensures { result.now ≡ self.now.name }
+    {
+        self.name
+    }
+
+    /// The substitution.
+    pub fn change(&self) -> &Option<Change<'a>>
+        ensures { result.now ≡ self.now.change }
+    {
+        &self.change
+    }
+}
+
+/// What a text consists of.
+#[derive(Debug, Drop)]
+pub enum Item<'a> {
+    /// A byte that stands for itself.
+    Plain(u8),
+    Refers(Reference<'a>),
+    /// A reference with a wrong form.
+    Broken,
+}
+
+/// Whether the byte may stand in a macro's name.
+fn is_macro_byte(byte: u8) -> bool
+    ensures { result ≡ is_macro_byte byte }
+{
+    !matches!(
+        byte,
+        b' ' | b'\t' | b'$' | b'(' | b')' | b'{' | b'}' | b':' | b'=' | b'#'
+    )
+}
+
+/// Whether the text is a macro's name.
+pub fn is_macro_name(text: &[u8]) -> bool
+    ensures { result ≡ is_macro_name text.now }
+{
+    !text.is_empty() && has_macro_bytes(text)
+}
+
+/// Whether each byte may stand in a macro's name.
+fn has_macro_bytes(text: &[u8]) -> bool
+    ensures { result ≡ list_all is_macro_byte text.now }
+{
+    text.iter().all(|byte| is_macro_byte(*byte))
+}
+
+/// What stands before the first of these bytes, and what stands behind it.
+pub fn split_at_byte(text: &[u8], byte: u8) -> Option<(&[u8], &[u8])>
+    ensures none { IfNone result (holds byte text.now ≡ false) }
+    ensures some { IfSome result (λ cut. holds byte text.now ≡ true) }
+    ensures before { IfSome result (λ cut. cut.0.now ≡ before byte text.now) }
+    ensures behind { IfSome result (λ cut. cut.1.now ≡ behind byte text.now) }
+{
+    let at = place_of(text, byte)?;
+    Some((&text[..at], &text[at + 1..]))
+}
+
+/// The place of the first of these bytes.
+fn place_of(text: &[u8], byte: u8) -> Option<usize>
+    ensures place { result ≡ position (λ b. b == byte) text.now }
+    ensures inside { IfSome result (λ at. at < length text.now) }
+{
+    text.iter().position(|other| *other == byte)
+}
+
+/// Whether the text holds the byte.
+fn holds(text: &[u8], byte: u8) -> bool
+    ensures { result ≡ holds byte text.now }
+{
+    text.iter().any(|other| *other == byte)
+}
+
+/// What a reference with this name and this substitution is.
+fn reference_to<'a>(name: &'a [u8], change: Option<Change<'a>>) -> Item<'a>
+    ensures { result ≡ reference_to name.now change.entry }
+{
+    if is_macro_name(name) {
+        return Item::Refers(Reference { name, change });
+    }
+    Item::Broken
+}
+
+/// A reference with this text behind its colon.
+fn changing<'a>(name: &'a [u8], text: &'a [u8]) -> Item<'a>
+    ensures { result ≡ changing name.now text.now }
+{
+    if holds(text, b'%') {
+        return Item::Broken;
+    }
+    match split_at_byte(text, b'=') {
+        Some((from, to)) => reference_to(name, Some(Change { from, to })),
+        None => Item::Broken,
+    }
+}
+
+/// A reference with this text between its brackets.
+fn bracketed(inside: &[u8]) -> Item
+    ensures { result ≡ bracketed inside.now }
+{
+    if holds(inside, b'$') {
+        return Item::Broken;
+    }
+    match split_at_byte(inside, b':') {
+        Some((name, text)) => changing(name, text),
+        None => reference_to(inside, None),
+    }
+}
+
+/// A reference whose brackets hold what stands before the first closing one, and what stands
+/// behind that.
+fn closed_by(closing: u8, text: &[u8]) -> (Item, &[u8])
+    ensures item { result.0 ≡ closed_by closing text.now }
+    ensures behind { result.1.now ≡ behind closing text.now }
+{
+    match split_at_byte(text, closing) {
+        Some((inside, rest)) => (bracketed(inside), rest),
+        None => (Item::Broken, &text[text.len()..]),
+    }
+}
+
+/// The item that a dollar sign begins before this text, and what stands behind it.
+fn dollar_item(text: &[u8]) -> (Item, &[u8])
+    ensures item { result.0 ≡ dollar_item text.now }
+    ensures behind { result.1.now ≡ drop (dollar_length text.now) text.now }
+{
+    match text {
+        [] => (Item::Broken, text),
+        [b'$', rest @ ..] => (Item::Plain(b'$'), rest),
+        [b'(', rest @ ..] => closed_by(b')', rest),
+        [b'{', rest @ ..] => closed_by(b'}', rest),
+        [_, rest @ ..] => (reference_to(&text[..1], None), rest),
+    }
+}
+
+/// The first item of a text, and what stands behind it.
+pub fn first_item(text: &[u8]) -> Option<(Item, &[u8])>
+    ensures items { items_of text.now ≡ option_map_or (λ cut. cut.0 ∷ items_of cut.1.now) result [] }
+    ensures shorter { IfSome result (λ cut. length cut.1.now < length text.now) }
+{
+    match text {
+        [] => None,
+        [b'$', rest @ ..] => Some(dollar_item(rest)),
+        [byte, rest @ ..] => Some((Item::Plain(*byte), rest)),
+    }
+}

@@ -1,0 +1,13 @@
+//! Macros: what operands and assignments define, and what a text expands to.
+#![tactic(auto)]
+
+mod assignment;
+mod definition;
+mod expansion;
+mod fault;
+mod item;
+pub mod laws;
+pub mod macros;
+mod open;
+mod operands;
+mod substitution;

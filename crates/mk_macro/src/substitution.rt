@@ -1,0 +1,161 @@
+//! Substitutions at the ends of words (POSIX.1-2024 XCU make, "Macros"), in texts that may be so
+//! long and no longer.
+ghost use Rattle.std.specs.Prelude.{◌≡◌, ◌≤◌, ◌<◌, ◌+◌, ◌++◌, ◌==◌, length, take, drop, IfErr, IfNone, IfSome, OnOk};
+ghost use Rattle.std.specs.List.{position};
+ghost use Rattle.mk_text.specs.Blocks.{is_blank};
+ghost use Rattle.mk_macro.specs.Limits.{IsOver};
+ghost use Rattle.mk_macro.specs.Substitution.{changed, changed_word, with_change};
+ghost use Rattle.mk_macro.specs.Words.{AreWords, IsOneWord};
+
+use crate::fault::unnamed;
+use crate::item::Change;
+use mk_name::fault::{Halt, Kind};
+use std::alloc::Global;
+
+fn is_blank(byte: u8) -> bool
+    ensures { result ≡ is_blank byte }
+{
+    byte == b' ' || byte == b'\t'
+}
+
+/// The place of the first blank.
+fn first_blank(text: &[u8]) -> Option<usize>
+    ensures place { result ≡ position is_blank text.now }
+    ensures inside { IfSome result (λ at. at < length text.now) }
+{
+    text.iter().position(|byte| is_blank(*byte))
+}
+
+/// What stands before the first blank, that blank, and what stands behind it.
+fn cut_word(text: &[u8]) -> Option<(&[u8], &[u8], &[u8])>
+    ensures none { IfNone result (IsOneWord text.now) }
+    ensures some { IfSome result (λ cut. AreWords text.now cut.0.now cut.1.now cut.2.now) }
+    ensures shorter { IfSome result (λ cut. length cut.2.now < length text.now) }
+{
+    match first_blank(text) {
+        Some(at) => Some((&text[..at], &text[at..at + 1], &text[at + 1..])),
+        None => None,
+    }
+}
+
+/// Puts bytes at the end, if the text is then no longer than the limit.
+pub fn push_bytes(out: &mut Vec<u8>, alloc: Global, bytes: &[u8], limit: usize) -> Result<(), Halt>
+    ensures text { OnOk result (out.new.items ≡ out.old.items ++ bytes.now) }
+    ensures within { OnOk result (length out.new.items ≤ limit) }
+    ensures over { IfErr result (λ halt.
+        IsOver halt limit (length out.old.items + length bytes.now)) }
+{
+    if out.len() + bytes.len() > limit {
+        return Err(unnamed(alloc, Kind::ExpansionTooLarge));
+    }
+    out.extend_from_slice(bytes)?;
+    Ok(())
+}
+
+/// A word in two parts: what stays of it, and what comes in the place of its end.
+fn parts<'a>(change: &Change<'a>, word: &'a [u8]) -> (&'a [u8], &'a [u8])
+    ensures { result.0.now ++ result.1.now ≡ changed_word change.now word.now }
+{
+    if word.is_empty() {
+        return (word, word);
+    }
+    match word.strip_suffix(change.from()) {
+        Some(front) => (front, change.to()),
+        None => (word, &word[word.len()..]),
+    }
+}
+
+/// Puts a word at the end, with its end changed.
+fn push_word(
+    out: &mut Vec<u8>,
+    alloc: Global,
+    change: &Change,
+    word: &[u8],
+    limit: usize,
+) -> Result<(), Halt>
+    ensures text { OnOk result (out.new.items ≡ out.old.items ++ changed_word change.now word.now) }
+    ensures within { OnOk result (length out.new.items ≤ limit) }
+    ensures over { IfErr result (λ halt.
+        IsOver halt limit (length out.old.items + length (changed_word change.now word.now))) }
+{
+    let (front, end) = parts(change, word);
+    push_bytes(out, alloc, front, limit)?;
+    push_bytes(out, alloc, end, limit)
+}
+
+/// Puts a text at the end, with the end of each of its words changed.
+fn push_with_change(
+    out: &mut Vec<u8>,
+    alloc: Global,
+    change: &Change,
+    text: &[u8],
+    limit: usize,
+) -> Result<(), Halt>
+    ensures text { OnOk result (out.new.items ≡ out.old.items ++ with_change change.now text.now) }
+    ensures within { OnOk result (length out.new.items ≤ limit) }
+    ensures over { IfErr result (λ halt.
+        IsOver halt limit (length out.old.items + length (with_change change.now text.now))) }
+{
+    let mut rest = text;
+    'words: while let Some((word, blank, others)) = cut_word(rest) {
+        push_word(out, alloc, change, word, limit)?;
+        push_bytes(out, alloc, blank, limit)?;
+        rest = others;
+    }
+    push_word(out, alloc, change, rest, limit)
+}
+
+/// Puts a text at the end, with the substitution made where there is one. What comes to be longer
+/// than the limit is refused before it is built, and then the text is left with some beginning of
+/// what was to be put.
+pub fn push_changed(
+    out: &mut Vec<u8>,
+    alloc: Global,
+    change: &Option<Change>,
+    text: &[u8],
+    limit: usize,
+) -> Result<(), Halt>
+    ensures text { OnOk result (out.new.items ≡ out.old.items ++ changed change.now text.now) }
+    ensures within { OnOk result (length out.new.items ≤ limit) }
+    ensures over { IfErr result (λ halt.
+        IsOver halt limit (length out.old.items + length (changed change.now text.now))) }
+{
+    match change {
+        Some(change) => push_with_change(out, alloc, change, text, limit),
+        None => push_bytes(out, alloc, text, limit),
+    }
+}
+
+/// Makes the substitution, where there is one, in what stands behind the first `start` bytes.
+pub fn change_end(
+    out: &mut Vec<u8>,
+    alloc: Global,
+    start: usize,
+    change: &Option<Change>,
+    limit: usize,
+) -> Result<(), Halt>
+    requires { start ≤ length out.old.items }
+    ensures text { OnOk result
+        (out.new.items ≡ take start out.old.items ++ changed change.now (drop start out.old.items)) }
+    ensures within { OnOk result (length out.new.items ≤ limit) }
+    ensures over { IfErr result (λ halt.
+        IsOver halt limit (start + length (changed change.now (drop start out.old.items)))) }
+{
+    let Some(change) = change else {
+        return check_length(out, alloc, limit);
+    };
+    let end = Vec::from_slice(alloc, &out[start..])?;
+    out.truncate(start);
+    push_with_change(out, alloc, change, &end, limit)
+}
+
+/// Whether the text is no longer than the limit; the answer where it is longer is a fault.
+fn check_length(out: &[u8], alloc: Global, limit: usize) -> Result<(), Halt>
+    ensures within { OnOk result (length out.now ≤ limit) }
+    ensures over { IfErr result (λ halt. IsOver halt limit (length out.now)) }
+{
+    if out.len() > limit {
+        return Err(unnamed(alloc, Kind::ExpansionTooLarge));
+    }
+    Ok(())
+}

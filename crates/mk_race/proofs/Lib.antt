@@ -1,0 +1,3 @@
+mod GoalsLemmas
+mod StageLemmas
+mod Staging

@@ -1,0 +1,7 @@
+//! From the texts of a build to its plan and its jobs.
+#![tactic(auto)]
+
+pub mod input;
+pub mod preparing;
+pub mod settings;
+pub mod stages;

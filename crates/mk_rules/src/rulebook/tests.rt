@@ -1,0 +1,285 @@
+//! Books of entries that stand as lines: targets, a colon, prerequisites, and a semicolon for commands.
+use super::Rulebook;
+use crate::rule::Rule;
+use mk_name::fault::{Halt, Source};
+use mk_name::name::Name;
+use std::alloc::{AllocError, Global};
+use std::fmt::Write;
+use std::str;
+
+fn name(alloc: Global, text: &str) -> Result<Name, AllocError> {
+    Ok(Name::from_bytes(Vec::from_slice(alloc, text.as_bytes())?))
+}
+
+fn names(alloc: Global, words: &str) -> Result<Vec<Name>, AllocError> {
+    let mut names = Vec::new(alloc);
+    for word in words.split(' ') {
+        if !word.is_empty() {
+            names.push(name(alloc, word)?)?;
+        }
+    }
+    Ok(names)
+}
+
+fn entry(alloc: Global, text: &str, line: u64) -> Result<Rule, AllocError> {
+    let (targets, rest) = text.split_once(':').unwrap_or((text, ""));
+    let (prerequisites, _) = rest.split_once(';').unwrap_or((rest, ""));
+    let targets = names(alloc, targets)?;
+    let prerequisites = names(alloc, prerequisites)?;
+    let has_commands = text.contains(';');
+    Rule::new(
+        alloc,
+        Source::Makefile,
+        line,
+        targets,
+        prerequisites,
+        has_commands,
+    )
+}
+
+fn book(alloc: Global, text: &str) -> Result<Rulebook, AllocError> {
+    let mut entries = Vec::new(alloc);
+    for (place, line) in text.lines().enumerate() {
+        entries.push(entry(alloc, line, (place as u64).saturating_add(1))?)?;
+    }
+    Rulebook::new(alloc, entries)
+}
+
+fn shown_name(name: &Name) -> &str {
+    str::from_utf8(name.as_bytes()).unwrap_or("?")
+}
+
+fn add_name(all: &mut String, title: &str, name: &Name) -> Result<(), AllocError> {
+    let name = shown_name(name);
+    writeln!(all, "{title} {name}")?;
+    Ok(())
+}
+
+fn add_names(all: &mut String, title: &str, names: &[Name]) -> Result<(), AllocError> {
+    for name in names {
+        add_name(all, title, name)?;
+    }
+    Ok(())
+}
+
+/// What a book says of a name, a line for each thing.
+fn add_meanings(all: &mut String, book: &Rulebook, name: &Name) -> Result<(), AllocError> {
+    if book.has_inference(name) {
+        add_name(all, "inference", name)?;
+    }
+    if book.is_phony(name) {
+        add_name(all, "phony", name)?;
+    }
+    if book.is_target(name) {
+        add_name(all, "target", name)?;
+    }
+    Ok(())
+}
+
+/// What the special targets and the inference rules say.
+fn specials_shown(alloc: Global, text: &str) -> Result<String, AllocError> {
+    let book = book(alloc, text)?;
+    let mut all = String::new(alloc);
+    add_names(&mut all, "suffix", book.suffixes())?;
+    for name in &names(alloc, ".c.o .c .o .c.c .o.c .DEFAULT .DEFAULT.o x .WAIT")? {
+        add_meanings(&mut all, &book, name)?;
+    }
+    let has_default = book.has_default();
+    let wait_uses = book.wait_uses();
+    writeln!(all, "{has_default} {wait_uses}")?;
+    Ok(all)
+}
+
+const SPECIALS: &[(&str, &str)] = &[
+    ("", "false 0\n"),
+    // The list of suffixes: words that are no suffixes neither append nor clear, a repeated one keeps its
+    // first place.
+    (
+        ".SUFFIXES: .c foo .o .a.b . .a/b\n.SUFFIXES: .y .c",
+        "suffix .c\nsuffix .o\nsuffix .y\nfalse 0\n",
+    ),
+    (
+        ".SUFFIXES: .c .o\n.SUFFIXES: foo",
+        "suffix .c\nsuffix .o\nfalse 0\n",
+    ),
+    (
+        ".SUFFIXES: .c .o\n.SUFFIXES:\n.SUFFIXES: .o .c",
+        "suffix .o\nsuffix .c\nfalse 0\n",
+    ),
+    (
+        ".SUFFIXES: .c .o\n.SUFFIXES: .WAIT\n.SUFFIXES:",
+        "false 1\n",
+    ),
+    (".SUFFIXES: .WAIT", "suffix .WAIT\nfalse 1\n"),
+    // An inference rule: one target, also where it stands twice, commands and no prerequisites.
+    (
+        ".SUFFIXES: .c .o\n.c.o .c.o: ;",
+        "suffix .c\nsuffix .o\ninference .c.o\nfalse 0\n",
+    ),
+    (
+        ".SUFFIXES: .c .o\n.c: ;\n.c: ;",
+        "suffix .c\nsuffix .o\ninference .c\nfalse 0\n",
+    ),
+    (
+        ".SUFFIXES: .c .o\n.c.o:",
+        "suffix .c\nsuffix .o\ntarget .c.o\nfalse 0\n",
+    ),
+    (
+        ".SUFFIXES: .c .o\n.c.o: x ;",
+        "suffix .c\nsuffix .o\ntarget .c.o\nfalse 0\n",
+    ),
+    (
+        ".SUFFIXES: .c .o\n.c.o: .WAIT ;",
+        "suffix .c\nsuffix .o\ntarget .c.o\nfalse 1\n",
+    ),
+    (
+        ".SUFFIXES: .c .o\n.c.o x: ;",
+        "suffix .c\nsuffix .o\ntarget .c.o\ntarget x\nfalse 0\n",
+    ),
+    (
+        ".SUFFIXES: .c .o\n.c.c: ;\n.o.c: ;",
+        "suffix .c\nsuffix .o\ntarget .c.c\ninference .o.c\nfalse 0\n",
+    ),
+    (
+        ".SUFFIXES: .c\n.c.o: ;",
+        "suffix .c\ntarget .c.o\nfalse 0\n",
+    ),
+    // By the list as it stands in the end.
+    (
+        ".c.o: ;\n.SUFFIXES: .c .o",
+        "suffix .c\nsuffix .o\ninference .c.o\nfalse 0\n",
+    ),
+    (
+        ".SUFFIXES: .c .o\n.c.o: ;\n.SUFFIXES:",
+        "target .c.o\nfalse 0\n",
+    ),
+    // A special name is never one, but a suffix it can be.
+    (
+        ".SUFFIXES: .DEFAULT .o\n.DEFAULT: ;\n.DEFAULT.o: ;",
+        "suffix .DEFAULT\nsuffix .o\ninference .DEFAULT.o\ntrue 0\n",
+    ),
+    (".DEFAULT:", "false 0\n"),
+    (".DEFAULT: ;\n.DEFAULT:\n.DEFAULT: ;", "true 0\n"),
+    // Phony names; `.WAIT` counts wherever it stands twice, but not in an entry without targets.
+    (
+        ".PHONY: .WAIT x .WAIT\n.PHONY:",
+        "phony x\nphony .WAIT\nfalse 2\n",
+    ),
+    (
+        ".SILENT: .WAIT\nx: a .WAIT b\n: .WAIT x ;",
+        "target x\nfalse 2\n",
+    ),
+];
+
+#[test]
+fn special_targets(rt: HostRuntime) -> Result<(), AllocError> {
+    let alloc = rt.alloc();
+    for (text, expected) in SPECIALS {
+        let found = specials_shown(alloc, text)?;
+        assert_eq!(rt; found.as_str(), *expected);
+    }
+    Ok(())
+}
+
+/// A target, with the places of its rules, the place of its recipe and its prerequisites.
+fn add_target(all: &mut String, alloc: Global, book: &Rulebook, name: &Name) -> Result<(), Halt> {
+    let places = book.rules_of(name);
+    let recipe = book.recipe_place(name);
+    let title = shown_name(name);
+    writeln!(all, "{places:?} {recipe:?} {title}")?;
+    let needs = book.prerequisites(alloc, name)?;
+    add_names(all, "needs", &needs)?;
+    Ok(())
+}
+
+/// The source and the line of the rule at a place, and its prerequisites.
+fn add_rule(all: &mut String, book: &Rulebook, place: usize) -> Result<(), AllocError> {
+    if place < book.rule_count() {
+        let source = book.rule_source(place);
+        let line = book.rule_line(place);
+        writeln!(all, "{source:?} {line}")?;
+        add_names(all, "of", book.rule_prerequisites(place))?;
+    }
+    Ok(())
+}
+
+/// The second recipe, with its rule.
+fn add_second(all: &mut String, book: &Rulebook) -> Result<(), AllocError> {
+    if let Some((place, name)) = book.second_recipe() {
+        add_name(all, "second", name)?;
+        add_rule(all, book, place)?;
+    }
+    Ok(())
+}
+
+/// The targets, the default goal and the second recipe.
+fn targets_shown(alloc: Global, text: &str) -> Result<String, Halt> {
+    let book = book(alloc, text)?;
+    let mut all = String::new(alloc);
+    for number in 0..text.len() {
+        if let Some(name) = book.target(number) {
+            add_target(&mut all, alloc, &book, name)?;
+        }
+    }
+    if let Some(name) = book.default_goal() {
+        add_name(&mut all, "goal", name)?;
+    }
+    add_second(&mut all, &book)?;
+    Ok(all)
+}
+
+const TARGETS: &[(&str, &str)] = &[
+    // The prerequisites of all rules joined, without repeats and `.WAIT`; one recipe.
+    (
+        "c a: b .WAIT d\na: e b ;\n.x a: .WAIT",
+        "[0] None c\nneeds b\nneeds d\n[0, 1, 2] Some(1) a\nneeds b\nneeds d\nneeds e\n[2] None .x\ngoal c\n",
+    ),
+    // An entry without targets is no rule.
+    (": x ;\na:\n", "[0] None a\ngoal a\n"),
+    // The default goal begins with no period or holds a slash.
+    (
+        ".a: x\n.a/b:\nc:",
+        "[0] None .a\nneeds x\n[1] None .a/b\n[2] None c\ngoal .a/b\n",
+    ),
+    (".PHONY: x\n.a:\n.SILENT: b", "[0] None .a\n"),
+    (".a:\n/x:", "[0] None .a\n[1] None /x\ngoal /x\n"),
+    // The second recipe is that of the first such target of the first such entry.
+    (
+        "a b: ;\nb a: z .WAIT y ;\na: ;",
+        "[0, 1, 2] Some(0) a\nneeds z\nneeds y\n[0, 1] Some(0) b\nneeds z\nneeds y\ngoal a\nsecond b\nMakefile 2\nof z\nof y\n",
+    ),
+    ("a a: ;", "[0] Some(0) a\ngoal a\n"),
+    // Inference rules and special targets have no second recipe.
+    (".c: ;\n.SUFFIXES: .c\n.c: ;\n.DEFAULT: ;\n.DEFAULT: ;", ""),
+    (
+        ".SUFFIXES: .c\n.c: ;\n.c: ;\n.SUFFIXES:",
+        "[0, 1] Some(0) .c\nsecond .c\nMakefile 3\n",
+    ),
+];
+
+#[test]
+fn target_rules(rt: HostRuntime) -> Result<(), Halt> {
+    let alloc = rt.alloc();
+    for (text, expected) in TARGETS {
+        let found = targets_shown(alloc, text)?;
+        assert_eq!(rt; found.as_str(), *expected);
+    }
+    Ok(())
+}
+
+#[test]
+fn parts_of_a_rule(rt: HostRuntime) -> Result<(), AllocError> {
+    let alloc = rt.alloc();
+    let targets = names(alloc, "b a b")?;
+    let prerequisites = names(alloc, ".WAIT a .WAIT")?;
+    let rule = Rule::new(alloc, Source::Base, 7, targets, prerequisites, true)?;
+    assert!(rt; rule.targets() == names(alloc, "b a")?.as_slice());
+    assert!(rt; rule.prerequisites() == names(alloc, ".WAIT a .WAIT")?.as_slice());
+    assert!(rt; matches!(rule.source(), Source::Base));
+    assert_eq!(rt; rule.line(), 7);
+    assert!(rt; rule.has_commands());
+    let book = Rulebook::new(alloc, vec![in alloc; rule]?)?;
+    assert_eq!(rt; book.rule_count(), 1);
+    assert!(rt; book.has_recipe(&name(alloc, "a")?));
+    Ok(())
+}

@@ -1,0 +1,138 @@
+//! What the text of a logical line is that is no command line (POSIX.1-2024 XCU make, "Makefile
+//! Syntax" and "Macros").
+ghost use Rattle.std.specs.Prelude.{◌≡◌, ◌<◌, ◌≤◌, ◌+◌, ◌&&◌, ◌==◌, Ok, Some, length, nat_lt, slice_index};
+ghost use Rattle.std.specs.List.{list_all};
+ghost use Rattle.mk_text.specs.LogicalLines.{assignment, at_colon, at_equals, begins_with_operator, entry, equals, is_include, is_macro_byte, sort_of_text};
+
+use crate::line::{LineKind, Operator};
+use crate::references::place_outside;
+use crate::words::{are_blanks, count_blanks, is_blank, split_word};
+use mk_name::fault::Kind;
+
+/// Whether a text is that of an include line.
+fn is_include(text: &[u8]) -> bool
+    ensures { result ≡ is_include text.now }
+{
+    let (first, later) = split_word(text);
+    (first == b"include".as_slice() || first == b"-include".as_slice())
+        && !begins_with_operator(later)
+}
+
+fn begins_with_operator(text: &[u8]) -> bool
+    ensures { result ≡ begins_with_operator text.now }
+{
+    match text {
+        [b':' | b'=', ..] | [b'?' | b'+' | b'!', b'=', ..] => true,
+        _ => false,
+    }
+}
+
+/// The byte at a place, or NUL past the end.
+fn byte_at(text: &[u8], place: usize) -> u8
+    ensures { result ≡ slice_index text.now place }
+{
+    text.get(place).copied().unwrap_or(0)
+}
+
+/// Whether a byte may stand in a macro's name.
+fn is_macro_byte(byte: u8) -> bool
+    ensures { result ≡ is_macro_byte byte }
+{
+    !is_blank(byte) && !matches!(byte, b'$' | b'(' | b')' | b'{' | b'}' | b':' | b'=' | b'#')
+}
+
+fn are_macro_bytes(word: &[u8]) -> bool
+    ensures { result ≡ list_all is_macro_byte word.now }
+{
+    word.iter().all(|byte| is_macro_byte(*byte))
+}
+
+/// Whether a word may be a macro's name.
+fn is_macro_name(word: &[u8]) -> bool
+    ensures { result ≡ (nat_lt 0 (length word.now) && list_all is_macro_byte word.now) }
+{
+    !word.is_empty() && are_macro_bytes(word)
+}
+
+/// An assignment whose operator begins and ends at these places.
+fn assignment(
+    text: &[u8],
+    operator: Operator,
+    start: usize,
+    end: usize,
+) -> Result<Option<LineKind>, Kind>
+    requires order { start ≤ end }
+    requires within { end ≤ length text.now }
+    ensures { result ≡ assignment text.now operator start end }
+{
+    let before = &text[..start];
+    let name_start = count_blanks(before);
+    let (name, later) = split_word(before);
+    if !is_macro_name(name) || !later.is_empty() {
+        return Err(Kind::BadAssignment);
+    }
+    Ok(Some(LineKind::Assign {
+        name_start,
+        name_end: name_start + name.len(),
+        operator,
+        operator_start: start,
+        value_start: end + count_blanks(&text[end..]),
+    }))
+}
+
+/// What a line is whose first sign is this equals sign.
+fn at_equals(text: &[u8], at: usize) -> Result<Option<LineKind>, Kind>
+    requires { at < length text.now }
+    ensures { result ≡ at_equals text.now at }
+{
+    let before = if at == 0 { 0 } else { text[at - 1] };
+    match before {
+        b'?' => assignment(text, Operator::Conditional, at - 1, at + 1),
+        b'+' => assignment(text, Operator::Append, at - 1, at + 1),
+        b'!' => Err(Kind::BadAssignment),
+        _ => assignment(text, Operator::Delayed, at, at + 1),
+    }
+}
+
+/// The entry with its colon at this place.
+fn entry(text: &[u8], at: usize) -> LineKind
+    requires { at < length text.now }
+    ensures { Ok (Some result) ≡ entry text.now at }
+{
+    LineKind::Entry {
+        colon: at,
+        semicolon: place_outside(b';', b';', &text[at + 1..]).map(|n| at + 1 + n),
+    }
+}
+
+/// What a line is whose first sign is this colon.
+fn at_colon(text: &[u8], at: usize) -> Result<Option<LineKind>, Kind>
+    requires { at < length text.now }
+    ensures { result ≡ at_colon text.now at }
+{
+    let behind = &text[at + 1..];
+    match (byte_at(behind, 0), byte_at(behind, 1), byte_at(behind, 2)) {
+        (b'=', _, _) => assignment(text, Operator::Immediate, at, at + 2),
+        (b':', b'=', _) => assignment(text, Operator::Immediate, at, at + 3),
+        (b':', b':', b'=') => Err(Kind::BadAssignment),
+        (b':', _, _) => Err(Kind::DoubleColon),
+        _ => Ok(Some(entry(text, at))),
+    }
+}
+
+/// What a text is: nothing, the text of a line of this kind, or a fault.
+pub fn sort_of_text(text: &[u8]) -> Result<Option<LineKind>, Kind>
+    ensures { result ≡ sort_of_text text.now }
+{
+    if are_blanks(text) {
+        return Ok(None);
+    }
+    if is_include(text) {
+        return Err(Kind::Include);
+    }
+    match place_outside(b':', b'=', text) {
+        None => Err(Kind::NoColon),
+        Some(at) if text[at] == b'=' => at_equals(text, at),
+        Some(at) => at_colon(text, at),
+    }
+}

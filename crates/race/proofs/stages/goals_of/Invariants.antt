@@ -1,8 +1,0 @@
-use Rattle.std.proofs.Common.{◌≡◌, Ok, map, take}
-use Rattle.std.specs.List.{enumerate_from}
-use Rattle.race.specs.Goals.{all_or_fault, goal_of}
-use Rattle.race.proofs.stages.goals_of.Given as goal
-
--- the names of the operands so far
-abbrev pub invariant-loop-number : goal.invariant-loop-number
-invariant-loop-number l = all_or_fault (map (goal_of l.root) (enumerate_from 1 (map (λ operand. operand.now) (take l.number l.operands)))) ≡ Ok l.goals.items
