@@ -1,8 +1,10 @@
 pub mod Items
 pub mod Joining
+pub mod Layers
 pub mod Over
 pub mod Places
 pub mod Refusals
+pub mod Settling
 pub mod Steps
 pub mod Table
 pub mod Unique

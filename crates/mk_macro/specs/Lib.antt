@@ -3,6 +3,7 @@ pub mod Assignments
 pub mod Busy
 pub mod Expansion
 pub mod Laws
+pub mod Layer
 pub mod Limits
 pub mod Macros
 pub mod Operands

@@ -9,35 +9,31 @@ use crate::fault::unnamed;
 use crate::item::{Item, Reference, first_item};
 use crate::macros::Macros;
 use crate::open::{Open, refuse};
-use crate::substitution::{change_end, push_bytes, push_changed};
+use crate::output::Output;
 use mk_name::fault::{Halt, Kind};
 use std::alloc::Global;
 use std::slice;
 
-/// An expanded text has at most so many bytes (profile).
-pub const BYTE_LIMIT: usize = 65_536;
-
 impl Macros {
-    /// Puts what a reference gives at the end, where it is no more than the limit; or gives the
-    /// value that is to be expanded first.
+    /// Puts what a reference gives at the end of the innermost text, where that is no more than the
+    /// limit; or gives the value that is to be expanded first.
     fn refer(
         &self,
-        out: &mut Vec<u8>,
+        out: &mut Output,
         alloc: Global,
         reference: &Reference,
-        limit: usize,
     ) -> Result<Option<&[u8]>, Halt>
         ensures referred { IfOk result (λ value. IsReferred (macros_of self.now reference.now.name)
-            reference.now.change out.old.items out.new.items limit (option_map (λ v. v.now) value)) }
+            reference.now.change out.old out.new (option_map (λ v. v.now) value)) }
         ensures over { IfErr result (IsOverReferred (macros_of self.now reference.now.name)
-            reference.now.change (length out.old.items) limit) }
+            reference.now.change out.old) }
         ensures short { IfOk result (λ value. IfSome value (λ v. length v.now < 2 ^ 64)) }
     {
         match self.definition(reference.name()) {
             None => Ok(None),
             Some(definition) if definition.is_late() => Ok(Some(definition.value())),
             Some(definition) => {
-                push_changed(out, alloc, reference.change(), definition.value(), limit)?;
+                out.push(alloc, reference.change(), definition.value())?;
                 Ok(None)
             }
         }
@@ -56,40 +52,32 @@ impl Macros {
     pub fn expand(&self, alloc: Global, text: &[u8]) -> Result<Vec<u8>, Halt>
         ensures { AnswersText result (IsExpansion (macros_of self.now) text.now) }
     {
-        let mut out = Vec::new(alloc);
+        let mut out = Output::new(alloc);
         let mut opens: Vec<Open> = Vec::new(alloc);
         let mut rest = text;
-        let mut start = 0;
         let mut count = 0;
         'items: loop {
             let Some((item, behind)) = first_item(rest) else {
                 let Some(open) = opens.pop() else {
-                    return Ok(out);
+                    return Ok(out.finish()?);
                 };
-                let limit = open.start + BYTE_LIMIT;
-                change_end(&mut out, alloc, start, open.reference.change(), limit)?;
+                out.close(alloc)?;
                 rest = open.rest;
-                start = open.start;
                 continue;
             };
             rest = behind;
             match item {
                 Item::Broken => return Err(unnamed(alloc, Kind::BadReference)),
-                Item::Plain(byte) => {
-                    push_bytes(&mut out, alloc, slice::from_ref(&byte), start + BYTE_LIMIT)?;
-                }
+                Item::Plain(byte) => out.push(alloc, &None, slice::from_ref(&byte))?,
                 Item::Refers(reference) => {
-                    refuse(alloc, &opens, count, reference.name())?;
+                    let name = reference.name();
+                    refuse(alloc, &opens, count, name)?;
                     count += 1;
-                    let value = self.refer(&mut out, alloc, &reference, start + BYTE_LIMIT)?;
+                    let value = self.refer(&mut out, alloc, &reference)?;
                     if let Some(value) = value {
-                        opens.push(Open {
-                            reference,
-                            rest,
-                            start,
-                        })?;
+                        opens.push(Open { name, rest })?;
+                        out.open(alloc, reference.into_change())?;
                         rest = value;
-                        start = out.len();
                     }
                 }
             }

@@ -69,6 +69,13 @@ impl<'a> Reference<'a> {
     {
         &self.change
     }
+
+    /// The substitution, where the name is needed no more.
+    pub fn into_change(self) -> Option<Change<'a>>
+        ensures { result ≡ self.entry.change }
+    {
+        self.change
+    }
 }
 
 /// What a text consists of.

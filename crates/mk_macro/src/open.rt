@@ -1,4 +1,4 @@
-//! References to macros whose values are being expanded.
+//! Macros whose values are being expanded.
 ghost use Rattle.std.specs.Prelude.{◌≡◌, ◌<◌, None, reverse, IfErr, OnOk};
 ghost use Rattle.std.specs.List.{list_any};
 ghost use Rattle.mk_name.specs.Names.{same_name};
@@ -7,20 +7,17 @@ ghost use Rattle.mk_macro.specs.Expansion.{is_internal, is_internal_sign, refere
 ghost use Rattle.mk_macro.specs.Limits.{IsRefusal};
 
 use crate::fault::{named, unnamed};
-use crate::item::Reference;
 use mk_name::fault::{Halt, Kind};
 use std::alloc::Global;
 
 /// One expansion may have so many references (profile).
 pub const REFERENCE_LIMIT: usize = 10_000;
 
-/// A reference whose macro's value is being expanded, and where to go on behind it: with what is
-/// left of the text, which began at this place of the output.
+/// A macro whose value is being expanded, and what is left of the text behind the reference to it.
 #[derive(Debug, Drop)]
 pub struct Open<'a> {
-    pub reference: Reference<'a>,
+    pub name: &'a [u8],
     pub rest: &'a [u8],
-    pub start: usize,
 }
 
 /// Whether the byte is the name of an internal macro.
@@ -43,9 +40,9 @@ fn is_internal(name: &[u8]) -> bool
 
 /// Whether the macro's value is being expanded.
 fn is_busy(opens: &[Open], name: &[u8]) -> bool
-    ensures { result ≡ list_any (λ open_. same_name open_.reference.name name.now) (reverse opens.now) }
+    ensures { result ≡ list_any (λ open_. same_name open_.name.now name.now) (reverse opens.now) }
 {
-    opens.iter().rev().any(|open| open.reference.name() == name)
+    opens.iter().rev().any(|open| open.name == name)
 }
 
 /// Refuses a reference to this macro behind so many references: to an internal one, to more than one

@@ -1,11 +1,11 @@
 //! Substitutions at the ends of words (POSIX.1-2024 XCU make, "Macros"), in texts that may be so
 //! long and no longer.
-ghost use Rattle.std.specs.Prelude.{◌≡◌, ◌≤◌, ◌<◌, ◌+◌, ◌++◌, ◌==◌, length, take, drop, IfErr, IfNone, IfSome, OnOk};
+ghost use Rattle.std.specs.Prelude.{◌≡◌, ◌≤◌, ◌<◌, ◌+◌, ◌++◌, ◌==◌, ℕ, List, length, IfErr, IfNone, IfOk, IfSome, OnOk};
 ghost use Rattle.std.specs.List.{position};
 ghost use Rattle.mk_text.specs.Blocks.{is_blank};
 ghost use Rattle.mk_macro.specs.Limits.{IsOver};
 ghost use Rattle.mk_macro.specs.Substitution.{changed, changed_word, with_change};
-ghost use Rattle.mk_macro.specs.Words.{AreWords, IsOneWord};
+ghost use Rattle.mk_macro.specs.Words.{AreWords, ComesToSame, IsOneWord, reach};
 
 use crate::fault::unnamed;
 use crate::item::Change;
@@ -39,7 +39,7 @@ fn cut_word(text: &[u8]) -> Option<(&[u8], &[u8], &[u8])>
 }
 
 /// Puts bytes at the end, if the text is then no longer than the limit.
-pub fn push_bytes(out: &mut Vec<u8>, alloc: Global, bytes: &[u8], limit: usize) -> Result<(), Halt>
+fn push_bytes(out: &mut Vec<u8>, alloc: Global, bytes: &[u8], limit: usize) -> Result<(), Halt>
     ensures text { OnOk result (out.new.items ≡ out.old.items ++ bytes.now) }
     ensures within { OnOk result (length out.new.items ≤ limit) }
     ensures over { IfErr result (λ halt.
@@ -83,6 +83,42 @@ fn push_word(
     push_bytes(out, alloc, end, limit)
 }
 
+/// How many bytes at the end of a text may still be changed when it goes on: as many as are looked
+/// for, and one at least, which tells that there is a word.
+fn reach(change: &Change) -> usize
+    ensures { result ≡ reach (Some change.now) }
+{
+    change.from().len().max(1)
+}
+
+/// Puts at the end what the words of a text that may go on come to, as far as no later text changes
+/// it, and gives what is left of the text.
+fn push_words<'a>(
+    out: &mut Vec<u8>,
+    alloc: Global,
+    change: &Change,
+    text: &'a [u8],
+    limit: usize,
+) -> Result<&'a [u8], Halt>
+    ensures same { IfOk result (λ left.
+        ComesToSame (Some change.now) text.now out.old.items left.now out.new.items) }
+    ensures word { IfOk result (λ left. IsOneWord left.now) }
+    ensures short { IfOk result (λ left. length left.now ≤ reach (Some change.now)) }
+    ensures inside { IfOk result (λ left. length left.now ≤ length text.now) }
+    ensures over { IfErr result (λ halt. (later : List ℕ) → IsOver halt limit
+        (length out.old.items + length (with_change change.now (text.now ++ later)))) }
+{
+    let mut rest = text;
+    'words: while let Some((word, blank, others)) = cut_word(rest) {
+        push_word(out, alloc, change, word, limit)?;
+        push_bytes(out, alloc, blank, limit)?;
+        rest = others;
+    }
+    let end = rest.len().saturating_sub(reach(change));
+    push_bytes(out, alloc, &rest[..end], limit)?;
+    Ok(&rest[end..])
+}
+
 /// Puts a text at the end, with the end of each of its words changed.
 fn push_with_change(
     out: &mut Vec<u8>,
@@ -96,13 +132,32 @@ fn push_with_change(
     ensures over { IfErr result (λ halt.
         IsOver halt limit (length out.old.items + length (with_change change.now text.now))) }
 {
-    let mut rest = text;
-    'words: while let Some((word, blank, others)) = cut_word(rest) {
-        push_word(out, alloc, change, word, limit)?;
-        push_bytes(out, alloc, blank, limit)?;
-        rest = others;
-    }
-    push_word(out, alloc, change, rest, limit)
+    let left = push_words(out, alloc, change, text, limit)?;
+    push_word(out, alloc, change, left, limit)
+}
+
+/// Puts at the end what a text that may go on comes to, with the substitution made where there is
+/// one, as far as no later text changes it, and gives what is left of the text. What comes to be
+/// longer than the limit, whatever follows, is refused before it is built.
+pub fn push_settled<'a>(
+    out: &mut Vec<u8>,
+    alloc: Global,
+    change: &Option<Change>,
+    text: &'a [u8],
+    limit: usize,
+) -> Result<&'a [u8], Halt>
+    ensures same { IfOk result (λ left.
+        ComesToSame change.now text.now out.old.items left.now out.new.items) }
+    ensures short { IfOk result (λ left. length left.now ≤ reach change.now) }
+    ensures inside { IfOk result (λ left. length left.now ≤ length text.now) }
+    ensures over { IfErr result (λ halt. (later : List ℕ) → IsOver halt limit
+        (length out.old.items + length (changed change.now (text.now ++ later)))) }
+{
+    let Some(change) = change else {
+        push_bytes(out, alloc, text, limit)?;
+        return Ok(&text[text.len()..]);
+    };
+    push_words(out, alloc, change, text, limit)
 }
 
 /// Puts a text at the end, with the substitution made where there is one. What comes to be longer
@@ -124,38 +179,4 @@ pub fn push_changed(
         Some(change) => push_with_change(out, alloc, change, text, limit),
         None => push_bytes(out, alloc, text, limit),
     }
-}
-
-/// Makes the substitution, where there is one, in what stands behind the first `start` bytes.
-pub fn change_end(
-    out: &mut Vec<u8>,
-    alloc: Global,
-    start: usize,
-    change: &Option<Change>,
-    limit: usize,
-) -> Result<(), Halt>
-    requires { start ≤ length out.old.items }
-    ensures text { OnOk result
-        (out.new.items ≡ take start out.old.items ++ changed change.now (drop start out.old.items)) }
-    ensures within { OnOk result (length out.new.items ≤ limit) }
-    ensures over { IfErr result (λ halt.
-        IsOver halt limit (start + length (changed change.now (drop start out.old.items)))) }
-{
-    let Some(change) = change else {
-        return check_length(out, alloc, limit);
-    };
-    let end = Vec::from_slice(alloc, &out[start..])?;
-    out.truncate(start);
-    push_with_change(out, alloc, change, &end, limit)
-}
-
-/// Whether the text is no longer than the limit; the answer where it is longer is a fault.
-fn check_length(out: &[u8], alloc: Global, limit: usize) -> Result<(), Halt>
-    ensures within { OnOk result (length out.now ≤ limit) }
-    ensures over { IfErr result (λ halt. IsOver halt limit (length out.now)) }
-{
-    if out.len() > limit {
-        return Err(unnamed(alloc, Kind::ExpansionTooLarge));
-    }
-    Ok(())
 }

@@ -301,3 +301,60 @@ fn counts(rt: HostRuntime) -> Result<(), Fail> {
     }
     Ok(())
 }
+
+/// Macros `X0` and so on, whose values stand in one another: each but the last is the text of `P` and
+/// the value of the next, changed so.
+fn nested_macros(
+    alloc: Global,
+    front: &[u8],
+    change: &str,
+    depth: usize,
+    last: &str,
+) -> Result<Macros, Fail> {
+    let mut macros = Macros::new(alloc, &[]).ok().ok_or("macros")?;
+    assigned(alloc, &mut macros, "P", NOW, front)?;
+    let mut name = String::from_str(alloc, "X0")?;
+    for level in 1..depth {
+        let next = format!(in alloc; "X{level}")?;
+        let text = format!(in alloc; "$(P)$({next}{change})")?;
+        assigned(alloc, &mut macros, &name, SET, text.as_bytes())?;
+        name = next;
+    }
+    assigned(alloc, &mut macros, &name, SET, last.as_bytes())?;
+    Ok(macros)
+}
+
+#[test]
+fn nested_long(rt: HostRuntime) -> Result<(), Fail> {
+    let alloc = rt.alloc();
+    let front = copies(alloc, "a", 60_000)?;
+    for (change, last, want) in [
+        ("", "", "F11"),
+        ("", "b$@", "F10 @"),
+        (":a=b", "$(X7)", "F8 X7"),
+        (":aa=", "$(", "F9"),
+    ] {
+        let macros = nested_macros(alloc, &front, change, 1_000, last)?;
+        let got = length_shown(alloc, &macros, b"$(X0)")?;
+        assert_eq!(rt; got.as_str(), want, "{change}");
+    }
+    Ok(())
+}
+
+/// Each value ends within a word that the one inside it completes: `cab`, which the reference to the
+/// value takes away. So one value leaves its first word, and a blank for each of its others.
+#[test]
+fn nested_words(rt: HostRuntime) -> Result<(), Fail> {
+    let alloc = rt.alloc();
+    let mut front = copies(alloc, "b ", 1)?;
+    front.extend_from_slice(copies(alloc, "cab ", 800)?.as_slice())?;
+    front.extend_from_slice(b"ca")?;
+    let macros = nested_macros(alloc, &front, ":cab=", 71, "$(P)")?;
+    let got = macros.expand(alloc, b"$(X0)").ok().ok_or("expanded")?;
+    let mut want = front;
+    want.extend_from_slice(b"b ")?;
+    want.extend_from_slice(copies(alloc, " ", 70 * 801 - 1)?.as_slice())?;
+    want.extend_from_slice(b"ca")?;
+    assert_eq!(rt; got.as_slice(), want.as_slice());
+    Ok(())
+}

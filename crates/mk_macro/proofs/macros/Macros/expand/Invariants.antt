@@ -8,7 +8,7 @@ use Rattle.mk_macro.proofs.macros.Macros.expand.Given as goal
 
 abbrev pub invariant-items : goal.invariant-items
 invariant-items l =
-    Stands (macros_of l.self) l.text (reverse l.opens.items) l.start l.out.items (items_of l.rest) l.count
+    Stands (macros_of l.self) l.text (reverse l.opens.items) l.out (items_of l.rest) l.count
 
 -- a reference counts more than any value is long
 abbrev pub decreases-items : goal.decreases-items
