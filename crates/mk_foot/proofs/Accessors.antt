@@ -10,6 +10,7 @@ use Rattle.mk_graph.specs.Plan.{Plan, Node, names_of}
 use Rattle.mk_graph.specs.Numbered.{name_at, number_of}
 use Rattle.mk_graph.proofs.Numberings.{number_some, number_none, has_at}
 use Rattle.mk_foot.specs.Jobs.{Jobs, nobody, node_at, node_count, name_of, prerequisites_of, IsNumberOf, is_live, has_recipe, is_phony, is_listed}
+use Rattle.mk_foot.specs.Shape.{IsWellFormed}
 use Rattle.mk_foot.specs.Recipes.{is_live_node}
 
 -- a number of a node of the jobs is one of the plan
@@ -42,6 +43,14 @@ number_is jobs x None e = λ n below same.
     let absent = number_none (names_of jobs.plan.nodes) x (sym e) in
     let here = has_at (names_of jobs.plan.nodes) n (omega (arith, below, name_count jobs)) in
     both_ways _ absent (subst (λ (y : Name). IsTrue (has same_name (names_of jobs.plan.nodes) y)) (name_there jobs n below ∙ same) here)
+
+found_is : (jobs : Jobs) (n : ℕ) (o : Option ℕ) → IsWellFormed jobs → n < node_count jobs → IsNumberOf jobs (name_of jobs n) o → o ≡ Some n
+found_is jobs n (Some m) shape below found = ap Some (shape.distinct m n found.0 below found.1)
+found_is jobs n None shape below absent = absurd (absent n below refl)
+
+-- the name of a node gives its number back
+pub number_found : (jobs : Jobs) (n : ℕ) → IsWellFormed jobs → n < node_count jobs → number_of (names_of jobs.plan.nodes) (name_of jobs n) ≡ Some n
+number_found jobs n shape below = found_is jobs n _ shape below (number_is jobs (name_of jobs n) _ refl)
 
 -- a node is live by what stands of it in the plan
 pub live_is : (jobs : Jobs) (n : ℕ) → is_live_node (node_at jobs n) ≡ is_live jobs n

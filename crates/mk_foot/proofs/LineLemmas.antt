@@ -6,7 +6,8 @@ use Rattle.std.proofs.lemmas.Bool.{cases_Bool, cond-true, cond-false}
 use Rattle.serde_json.specs.Data.{Data, Items}
 use Rattle.serde_json.specs.Read.{read}
 use Rattle.mk_name.specs.Names.{Name}
-use Rattle.mk_foot.specs.Lines.{paths_in, value_of}
+use Rattle.mk_foot.specs.Json.{value_of}
+use Rattle.mk_foot.specs.Lines.{paths_in}
 
 pub value_good : (text : List ℕ) (d : Data) → IsUtf8 text → read text ≡ Some d → Some d ≡ value_of text
 value_good text d utf8 is = sym (cond-true (is_utf8 text) (read text) None (is_utf8-from_IsUtf8 text utf8) ∙ is)

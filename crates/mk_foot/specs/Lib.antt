@@ -2,6 +2,7 @@ pub mod Attached
 pub mod Chains
 pub mod Footprints
 pub mod Jobs
+pub mod Json
 pub mod Laws
 pub mod Lines
 pub mod Recipes

@@ -1,5 +1,7 @@
 //! Jobs: a plan, and what each of its recipes may read and write.
-ghost use Rattle.std.specs.Prelude.{◌≡◌, ◌<◌};
+ghost use Rattle.std.specs.Prelude.{◌≡◌, ◌<◌, Some};
+ghost use Rattle.mk_graph.specs.Numbered.{number_of};
+ghost use Rattle.mk_graph.specs.Plan.{names_of};
 ghost use Rattle.mk_foot.specs.Jobs.{IsNumberOf, IsValid, is_listed, is_live, is_phony, maker_of, name_of, node_count, prerequisites_of, reads_of, writes_of};
 ghost use Rattle.mk_foot.specs.Rows.{with_rows};
 ghost use Rattle.mk_foot.specs.Shape.{IsRising, IsWellFormed};
@@ -61,17 +63,19 @@ impl Jobs {
         self.plan.count()
     }
 
-    /// The name of a node. Its number must be below the count of nodes.
+    /// The name of a node, whose number it gives back. Its number must be below the count of nodes.
     pub fn name(&self, n: u32) -> &Name
         requires { n < node_count self.now }
-        ensures { result.now ≡ name_of self.now n }
+        ensures name { result.now ≡ name_of self.now n }
+        ensures number { number_of (names_of self.now.plan.nodes) (name_of self.now n) ≡ Some n }
     {
         self.plan.name(n)
     }
 
     /// The number of the node with this name, if there is one.
     pub fn number(&self, name: &Name) -> Option<u32>
-        ensures { IsNumberOf self.now name.now result }
+        ensures number { IsNumberOf self.now name.now result }
+        ensures place { result ≡ number_of (names_of self.now.plan.nodes) name.now }
     {
         self.plan.number(name)
     }

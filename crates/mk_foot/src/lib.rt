@@ -4,6 +4,7 @@
 pub mod attaching;
 pub mod footprints;
 pub mod jobs;
+pub mod json;
 pub mod laws;
 mod line;
 pub mod reading;

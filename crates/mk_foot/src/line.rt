@@ -1,12 +1,12 @@
 //! One line of footprints: what the recipe of a target reads and writes, as an object of JSON.
 ghost use Rattle.std.specs.Prelude.{◌≡◌, IfOk, option_and_then, option_map};
 ghost use Rattle.serde_json.specs.View.{items_view, view};
+ghost use Rattle.mk_foot.specs.Json.{value_of};
 ghost use Rattle.mk_foot.specs.Lines as spec;
 
-use mk_name::fault::Halt;
+use crate::json::{path_in, path_under, value_of};
 use mk_name::name::Name;
 use mk_text::root::Root;
-use mk_text::spelling::plain_path;
 use serde_json::Value;
 use std::alloc::{AllocError, Global};
 use std::marker::Model;
@@ -29,20 +29,6 @@ impl Model for Line {
       reads = a.reads.items;
       writes = a.writes.items;
     } };
-}
-
-/// The name of a text, if it is a path.
-fn path_in(alloc: Global, value: &Value, root: &Root) -> Result<Option<Name>, AllocError>
-    ensures { IfOk result (λ name. name ≡ spec.path_in root.now (view value.now)) }
-{
-    let Some(text) = value.as_str() else {
-        return Ok(None);
-    };
-    match plain_path(alloc, text.as_bytes(), root) {
-        Ok(name) => Ok(Some(name)),
-        Err(Halt::Fault(_)) => Ok(None),
-        Err(Halt::Memory) => Err(AllocError),
-    }
 }
 
 /// The names of a list, if each of its items is a path.
@@ -76,21 +62,6 @@ fn paths_under(
     }
 }
 
-/// The name under a key.
-fn path_under(
-    alloc: Global,
-    object: &Value,
-    key: &str,
-    root: &Root,
-) -> Result<Option<Name>, AllocError>
-    ensures { IfOk result (λ name. name ≡ spec.path_under root.now key.now (view object.now)) }
-{
-    match object.get(key) {
-        Some(value) => path_in(alloc, value, root),
-        None => Ok(None),
-    }
-}
-
 /// The line that an object says.
 fn line_in(alloc: Global, object: &Value, root: &Root) -> Result<Option<Line>, AllocError>
     ensures { IfOk result (λ line. line ≡ spec.line_in root.now (view object.now)) }
@@ -111,32 +82,9 @@ fn line_in(alloc: Global, object: &Value, root: &Root) -> Result<Option<Line>, A
     }))
 }
 
-/// What a text of JSON means; nothing where it is none, or no UTF-8.
-fn value_of(alloc: Global, text: &[u8]) -> Result<Option<Value>, AllocError>
-    ensures { IfOk result (λ value. option_map (λ v. view v) value ≡ spec.value_of text.now) }
-{
-    match Value::from_slice(alloc, text) {
-        Ok(value) => Ok(Some(value)),
-        Err(error) => {
-            if error.is_memory() {
-                return Err(AllocError);
-            }
-            Ok(None)
-        }
-    }
-}
-
-/// Whether it has no byte but spaces, tabs and carriage returns.
-pub(crate) fn is_blank(text: &[u8]) -> bool
-    ensures { result ≡ spec.is_blank text.now }
-{
-    text.iter()
-        .all(|byte| *byte == b' ' || *byte == b'\t' || *byte == b'\r')
-}
-
 /// The line of a text that is not blank; none where it is bad.
 pub(crate) fn line_of(alloc: Global, text: &[u8], root: &Root) -> Result<Option<Line>, AllocError>
-    ensures { IfOk result (λ line. line ≡ option_and_then (spec.line_in root.now) (spec.value_of text.now)) }
+    ensures { IfOk result (λ line. line ≡ option_and_then (spec.line_in root.now) (value_of text.now)) }
 {
     match value_of(alloc, text)? {
         Some(object) => line_in(alloc, &object, root),

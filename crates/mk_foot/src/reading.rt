@@ -1,5 +1,5 @@
 //! From the text of footprints to the footprints, or to the first line at fault.
-ghost use Rattle.std.specs.Prelude.{◌≡◌, ◌≢◌, ◌+◌, ◌-◌, ◌^◌, None, Some, IfOk, IfErr, length, map, min};
+ghost use Rattle.std.specs.Prelude.{◌≡◌, ◌≢◌, ◌+◌, ◌-◌, ◌^◌, None, Some, IfOk, IfErr, length, min};
 ghost use Rattle.std.specs.Option.{option_to_list};
 ghost use Rattle.mk_graph.specs.Answer.{Answers};
 ghost use Rattle.mk_name.specs.declared.fault.Halt.TheVariants as halts;
@@ -9,7 +9,8 @@ ghost use Rattle.mk_foot.specs.Footprints.{IsRead, told};
 ghost use Rattle.mk_foot.specs.Lines.{lines_in};
 
 use crate::footprints::Footprints;
-use crate::line::{Line, is_blank, line_of};
+use crate::json::{is_blank, physical_lines};
+use crate::line::{Line, line_of};
 use mk_name::fault::{Fault, Halt, Kind, Source};
 use mk_text::root::Root;
 use std::alloc::{AllocError, Global};
@@ -45,13 +46,6 @@ pub fn read_footprints(alloc: Global, text: &[u8], root: &Root) -> Result<Footpr
         }
     }
     Ok(footprints)
-}
-
-/// What stands between the newlines of a text.
-fn physical_lines(alloc: Global, text: &[u8]) -> Result<Vec<&[u8]>, AllocError>
-    ensures { IfOk result (λ found. map (λ line. line.now) found.items ≡ lines text.now) }
-{
-    text.split(|byte| *byte == b'\n').collect(alloc)
 }
 
 /// A fault at a line of the footprints.

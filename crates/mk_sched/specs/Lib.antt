@@ -11,6 +11,7 @@ pub mod Refused
 pub mod Replayed
 pub mod Runs
 pub mod Serial
+pub mod Shown
 pub mod SmallCases
 pub mod Standing
 pub mod Steps

@@ -1,4 +1,5 @@
 //! Refusals: why an event is not allowed.
+ghost use Rattle.std.specs.Prelude.{◌≡◌};
 
 /// Why an event, or a store, is refused (profile).
 #[derive(Clone, Copy, Debug, PartialEq, Eq)]
@@ -27,4 +28,61 @@ pub enum Refusal {
     StoreNotListing,
     /// V12: the number is that of no node.
     NoNode,
+}
+
+impl Refusal {
+    ghost use Rattle.mk_sched.specs.Shown.{number_of, word_of};
+
+    /// The number by which reports tell it, from 1 to 12.
+    pub fn number(self) -> u8
+        ensures { result ≡ number_of self }
+    {
+        match self {
+            Refusal::NotReady => 1,
+            Refusal::NotStale => 2,
+            Refusal::Stale => 3,
+            Refusal::NoRecipe => 4,
+            Refusal::TwicePassed => 5,
+            Refusal::NotRunning => 6,
+            Refusal::OutsideFootprint => 7,
+            Refusal::WrongBytes => 8,
+            Refusal::NotNewer => 9,
+            Refusal::TooManyJobs => 10,
+            Refusal::StoreNotListing => 11,
+            Refusal::NoNode => 12,
+        }
+    }
+
+    /// The word by which reports tell it.
+    pub fn word(self) -> &'static str
+        ensures { result.now ≡ word_of self }
+    {
+        match self {
+            Refusal::NotReady => "NotReady",
+            Refusal::NotStale => "NotStale",
+            Refusal::Stale => "Stale",
+            Refusal::NoRecipe => "NoRecipe",
+            Refusal::TwicePassed => "TwicePassed",
+            Refusal::NotRunning => "NotRunning",
+            Refusal::OutsideFootprint => "OutsideFootprint",
+            Refusal::WrongBytes => "WrongBytes",
+            Refusal::NotNewer => "NotNewer",
+            Refusal::TooManyJobs => "TooManyJobs",
+            Refusal::StoreNotListing => "StoreNotListing",
+            Refusal::NoNode => "NoNode",
+        }
+    }
+}
+
+#[cfg(test)]
+mod tests {
+    use super::*;
+
+    #[test]
+    fn tells_numbers_and_words(rt: HostRuntime) {
+        assert_eq!(rt; Refusal::NotReady.number(), 1);
+        assert_eq!(rt; Refusal::NotNewer.number(), 9);
+        assert_eq!(rt; Refusal::NotNewer.word(), "NotNewer");
+        assert_eq!(rt; Refusal::NoNode.word(), "NoNode");
+    }
 }

@@ -1,12 +1,16 @@
-use Rattle.std.proofs.Common.{◌∙◌, ap}
+use Rattle.std.proofs.Common.{◌∙◌, ap, subst}
 use Rattle.mk_graph.specs.Plan.{Node}
 use Rattle.mk_foot.specs.Jobs.{name_of, nobody}
-use Rattle.mk_foot.proofs.Accessors.{plan_has, plan_node}
+use Rattle.mk_foot.specs.Shape.{IsWellFormed}
+use Rattle.mk_foot.proofs.Accessors.{number_found, plan_has, plan_node}
 use Rattle.mk_foot.proofs.jobs.Jobs.name.Goals as goal
 
 pub name-requires : goal.name-requires
 name-requires c = plan_has _ c.args.self.now _ (ap (λ jobs. jobs.plan) c.self.view_is) c.requires
 
-pub returns : goal.returns
+pub returns-clause-name : goal.returns-clause-name
 unfolding name_of
-returns c = c.name.ensures nobody ∙ ap (λ (d : Node). d.name) (plan_node _ c.args.self.now _ (ap (λ jobs. jobs.plan) c.self.view_is))
+returns-clause-name c = c.name.ensures nobody ∙ ap (λ (d : Node). d.name) (plan_node _ c.args.self.now _ (ap (λ jobs. jobs.plan) c.self.view_is))
+
+pub returns-clause-number : goal.returns-clause-number
+returns-clause-number c = number_found c.args.self.now c.args.n (subst IsWellFormed c.self.view_is c.self.invariant) c.requires

@@ -4,5 +4,8 @@ use Rattle.mk_graph.specs.Plan.{names_of}
 use Rattle.mk_foot.proofs.Accessors.{number_is}
 use Rattle.mk_foot.proofs.jobs.Jobs.number.Goals as goal
 
-pub returns : goal.returns
-returns c = number_is c.args.self.now c.args.name.now _ (c.number.ensures ∙ ap (λ jobs. number_of (names_of jobs.plan.nodes) c.args.name.now) c.self.view_is)
+pub returns-clause-place : goal.returns-clause-place
+returns-clause-place c = c.number.ensures ∙ ap (λ jobs. number_of (names_of jobs.plan.nodes) c.args.name.now) c.self.view_is
+
+pub returns-clause-number : goal.returns-clause-number
+returns-clause-number c = number_is c.args.self.now c.args.name.now _ (returns-clause-place c)

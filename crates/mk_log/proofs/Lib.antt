@@ -1,0 +1,7 @@
+pub mod Entering
+pub mod Lines
+pub mod OneLine
+pub mod Putting
+pub mod ReadLines
+pub mod RoundTrip
+pub mod Spelling

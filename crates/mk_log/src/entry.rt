@@ -1,0 +1,235 @@
+//! One line of a log: a file of the opening store, or an event, as an object of JSON.
+ghost use Rattle.std.specs.Prelude.{◌≡◌, IfOk, option_and_then};
+ghost use Rattle.std.specs.List.{list_any};
+ghost use Rattle.serde_json.specs.View.{view};
+ghost use Rattle.mk_foot.specs.Json.{value_of};
+ghost use Rattle.mk_log.specs.Entries as spec;
+
+use hex::FromHexError;
+use mk_foot::jobs::Jobs;
+use mk_foot::json::{path_under, value_of};
+use mk_name::name::Name;
+use mk_sched::contents::Contents;
+use mk_sched::event::Event;
+use mk_text::root::Root;
+use serde_json::Value;
+use std::alloc::{AllocError, Global};
+
+/// What a line of a log says.
+#[derive(Debug, Drop)]
+pub(crate) enum Entry {
+    /// A file of the opening store: its name, what it holds and when it was written.
+    Holds(Name, Contents, u64),
+    /// What then happened.
+    Happens(Event),
+}
+
+/// Whether there is a capital letter.
+fn has_capital(text: &[u8]) -> bool
+    ensures { result ≡ list_any spec.is_capital text.now }
+{
+    text.iter().any(|byte| byte.is_ascii_uppercase())
+}
+
+/// The bytes that a text spells in hexadecimal, two digits each, none of them a capital letter.
+fn bytes_in(alloc: Global, text: &str) -> Result<Option<Contents>, AllocError>
+    ensures { IfOk result (λ contents. contents ≡ spec.bytes_in text.now) }
+{
+    if has_capital(text.as_bytes()) {
+        return Ok(None);
+    }
+    match hex::decode(alloc, text) {
+        Ok(bytes) => Ok(Some(Contents::from_bytes(bytes))),
+        Err(FromHexError::OutOfMemory) => Err(AllocError),
+        Err(_) => Ok(None),
+    }
+}
+
+/// The bytes under the key `bytes`.
+fn bytes_under(alloc: Global, object: &Value) -> Result<Option<Contents>, AllocError>
+    ensures { IfOk result (λ contents. contents ≡ spec.bytes_under (view object.now)) }
+{
+    match object.get("bytes").and_then(Value::as_str) {
+        Some(text) => bytes_in(alloc, text),
+        None => Ok(None),
+    }
+}
+
+/// What a look saw: bytes, or that the file is absent.
+fn seen_in(alloc: Global, value: &Value) -> Result<Option<Option<Contents>>, AllocError>
+    ensures { IfOk result (λ seen. seen ≡ spec.seen_in (view value.now)) }
+{
+    match value {
+        Value::Null => Ok(Some(None)),
+        Value::String(text) => Ok(bytes_in(alloc, text.as_str())?.map(Some)),
+        _ => Ok(None),
+    }
+}
+
+/// What a look saw, by the key `bytes`.
+fn seen_under(alloc: Global, object: &Value) -> Result<Option<Option<Contents>>, AllocError>
+    ensures { IfOk result (λ seen. seen ≡ spec.seen_under (view object.now)) }
+{
+    match object.get("bytes") {
+        Some(value) => seen_in(alloc, value),
+        None => Ok(None),
+    }
+}
+
+/// The time under the key `time`.
+fn time_under(object: &Value) -> Option<u64>
+    ensures { result ≡ spec.time_under (view object.now) }
+{
+    object.get("time").and_then(Value::as_u64)
+}
+
+/// The number of the node whose name stands under the key `node`.
+fn node_under(
+    alloc: Global,
+    object: &Value,
+    jobs: &Jobs,
+    root: &Root,
+) -> Result<Option<u32>, AllocError>
+    ensures { IfOk result (λ node. node ≡ spec.node_under jobs.now root.now (view object.now)) }
+{
+    match path_under(alloc, object, "node", root)? {
+        Some(name) => Ok(jobs.number(&name)),
+        None => Ok(None),
+    }
+}
+
+/// A file of the opening store.
+fn file_in(alloc: Global, object: &Value, root: &Root) -> Result<Option<Entry>, AllocError>
+    ensures { IfOk result (λ entry. entry ≡ spec.file_in root.now (view object.now)) }
+{
+    let Some(path) = path_under(alloc, object, "path", root)? else {
+        return Ok(None);
+    };
+    let Some(contents) = bytes_under(alloc, object)? else {
+        return Ok(None);
+    };
+    let Some(time) = time_under(object) else {
+        return Ok(None);
+    };
+    Ok(Some(Entry::Holds(path, contents, time)))
+}
+
+/// The look of a node at a path.
+fn look_in(
+    alloc: Global,
+    node: u32,
+    path: Name,
+    object: &Value,
+) -> Result<Option<Event>, AllocError>
+    ensures { IfOk result (λ event. event ≡ spec.look_in node path (view object.now)) }
+{
+    match seen_under(alloc, object)? {
+        Some(seen) => Ok(Some(Event::Look(node, path, seen))),
+        None => Ok(None),
+    }
+}
+
+/// The put of a node at a path.
+fn put_in(alloc: Global, node: u32, path: Name, object: &Value) -> Result<Option<Event>, AllocError>
+    ensures { IfOk result (λ event. event ≡ spec.put_in node path (view object.now)) }
+{
+    let Some(contents) = bytes_under(alloc, object)? else {
+        return Ok(None);
+    };
+    let Some(time) = time_under(object) else {
+        return Ok(None);
+    };
+    Ok(Some(Event::Put(node, path, contents, time)))
+}
+
+/// What a node does to a path, by the word for it.
+fn touch_by(
+    alloc: Global,
+    word: &str,
+    node: u32,
+    path: Name,
+    object: &Value,
+) -> Result<Option<Event>, AllocError>
+    ensures { IfOk result (λ event. event ≡ spec.touch_by word.now node path (view object.now)) }
+{
+    match word {
+        "look" => look_in(alloc, node, path, object),
+        "put" => put_in(alloc, node, path, object),
+        "erase" => Ok(Some(Event::Erase(node, path))),
+        _ => Ok(None),
+    }
+}
+
+/// What a node does, by the word for it.
+fn event_by(
+    alloc: Global,
+    word: &str,
+    node: u32,
+    object: &Value,
+    root: &Root,
+) -> Result<Option<Event>, AllocError>
+    ensures { IfOk result (λ event. event ≡ spec.event_by word.now root.now node (view object.now)) }
+{
+    match word {
+        "skip" => Ok(Some(Event::Skip(node))),
+        "start" => Ok(Some(Event::Start(node))),
+        "finish" => Ok(Some(Event::Finish(node))),
+        _ => match path_under(alloc, object, "path", root)? {
+            Some(path) => touch_by(alloc, word, node, path, object),
+            None => Ok(None),
+        },
+    }
+}
+
+/// The event that an object says, by the word for it.
+fn event_in(
+    alloc: Global,
+    word: &str,
+    object: &Value,
+    jobs: &Jobs,
+    root: &Root,
+) -> Result<Option<Event>, AllocError>
+    ensures { IfOk result (λ event. event ≡ spec.event_in word.now jobs.now root.now (view object.now)) }
+{
+    match node_under(alloc, object, jobs, root)? {
+        Some(node) => event_by(alloc, word, node, object, root),
+        None => Ok(None),
+    }
+}
+
+/// What an object says, by the word under its key `do`.
+fn entry_in(
+    alloc: Global,
+    object: &Value,
+    jobs: &Jobs,
+    root: &Root,
+) -> Result<Option<Entry>, AllocError>
+    ensures { IfOk result (λ entry. entry ≡ spec.entry_in jobs.now root.now (view object.now)) }
+{
+    let Some(word) = object.get("do").and_then(Value::as_str) else {
+        return Ok(None);
+    };
+    if word == "file" {
+        return file_in(alloc, object, root);
+    }
+    match event_in(alloc, word, object, jobs, root)? {
+        Some(event) => Ok(Some(Entry::Happens(event))),
+        None => Ok(None),
+    }
+}
+
+/// The entry of a text that is not blank; none where it is bad. The only error is want of memory.
+pub(crate) fn entry_of(
+    alloc: Global,
+    text: &[u8],
+    jobs: &Jobs,
+    root: &Root,
+) -> Result<Option<Entry>, AllocError>
+    ensures { IfOk result (λ entry.
+        entry ≡ option_and_then (spec.entry_in jobs.now root.now) (value_of text.now)) }
+{
+    match value_of(alloc, text)? {
+        Some(object) => entry_in(alloc, &object, jobs, root),
+        None => Ok(None),
+    }
+}

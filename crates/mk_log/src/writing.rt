@@ -1,0 +1,142 @@
+//! From a log to its text.
+ghost use Rattle.std.specs.Prelude.{◌≡◌, ◌<◌, ◌≤◌, ◌++◌, ◌↔◌, IsTrue, Ok, Some, false, true, IfErr, IfOk, OnOk, List, ℕ, [], ◌∷◌, map};
+ghost use Rattle.std.specs.List.{flat_map, list_all};
+ghost use Rattle.std.specs.Map.{keys_of};
+ghost use Rattle.std.specs.Str.{is_utf8};
+ghost use Rattle.serde_json.specs.Data.{depth};
+ghost use Rattle.serde_json.specs.Read.{max_depth};
+ghost use Rattle.serde_json.specs.View.{view};
+ghost use Rattle.serde_json.specs.Written.{compact_text, has_float};
+ghost use Rattle.mk_foot.specs.Jobs as foot;
+ghost use Rattle.mk_foot.specs.Jobs.{node_count};
+ghost use Rattle.mk_foot.specs.Json.{value_of};
+ghost use Rattle.mk_sched.specs.Steps.{step_of};
+ghost use Rattle.mk_sched.specs.Stored.{IsInOrder};
+ghost use Rattle.mk_log.specs.Reading.{IsRead};
+ghost use Rattle.mk_log.specs.Spelled.{Adds, file_entry};
+ghost use Rattle.mk_log.specs.Writing.{AreOfNodes, ReadBack, is_text, line_of, log_text, names_in};
+ghost use Rattle.mk_log.specs.declared.entry.Entry.TheVariants.{Happens};
+ghost use Rattle.mk_log.specs.declared.writing.LogHalt.TheVariants.{Memory};
+
+use crate::log::Log;
+use crate::object::{event_value, file_value};
+use mk_foot::jobs::Jobs;
+use mk_name::name::Name;
+use mk_sched::event::Event;
+use mk_sched::file::File;
+use mk_sched::store::Store;
+use serde_json::Value;
+use std::alloc::{AllocError, Global};
+
+#[cfg(test)]
+mod tests;
+
+/// Why a log is not written.
+#[derive(Clone, Copy, Debug, PartialEq, Eq)]
+pub enum LogHalt {
+    /// Memory ran out.
+    Memory,
+    /// A name in it is not UTF-8.
+    NotText,
+}
+
+impl From<AllocError> for LogHalt {
+    ghost from_gives = { λ _ halt. halt ≡ Memory };
+
+    fn from(_error: AllocError) -> LogHalt {
+        LogHalt::Memory
+    }
+}
+
+/// Writes a log: its files in the byte order of their names and then its events, each as the object of JSON without spaces, its
+/// keys in byte order, and a newline (profile). The events must be of nodes of these jobs.
+///
+/// The error is `NotText` where a name in the log, a file's, a node's or a path, is not UTF-8; else it is want of memory.
+/// What is written, `read_log` reads back as the same log, below a root where each name in it is a path that names itself.
+pub fn write_log(alloc: Global, jobs: &Jobs, log: &Log) -> Result<Vec<u8>, LogHalt>
+    requires { AreOfNodes jobs.now log.now.events.items }
+    ensures text { IfOk result (λ text. text.items ≡ log_text jobs.now log.now) }
+    ensures is_text { IfOk result (λ text. is_text jobs.now log.now ≡ true) }
+    ensures not_text { IfErr result (λ halt. halt ≡ LogHalt.NotText → is_text jobs.now log.now ≡ false) }
+    ensures reads_back { IfOk result (λ text. (root : List ℕ)
+        → ReadBack jobs.now root log.now → IsRead jobs.now root text.items (Ok log.now)) }
+{
+    let mut text = Vec::new(alloc);
+    add_files(alloc, &mut text, &log.store)?;
+    add_events(alloc, &mut text, jobs, log.events.as_slice())?;
+    Ok(text)
+}
+
+/// Whether the events are of nodes of these jobs, as `write_log` asks.
+pub fn are_of_nodes(jobs: &Jobs, events: &[Event]) -> bool
+    ensures { IsTrue result ↔ AreOfNodes jobs.now events.now }
+{
+    events.iter().all(|event| event.node() < jobs.count())
+}
+
+/// Adds the lines of a store's files.
+fn add_files(alloc: Global, text: &mut Vec<u8>, store: &Store) -> Result<(), LogHalt>
+    ensures adds { OnOk result ((jobs : foot.Jobs)
+        → Adds jobs (map file_entry store.now) text.old.items text.new.items) }
+    ensures not_text { IfErr result (λ halt. halt ≡ LogHalt.NotText
+        → list_all is_utf8 (keys_of store.now) ≡ false) }
+    ensures in_order { IsInOrder store.now }
+{
+    for (path, file) in store.files() {
+        add_file(alloc, text, path, file)?;
+    }
+    Ok(())
+}
+
+/// Adds the line of a file.
+fn add_file(alloc: Global, text: &mut Vec<u8>, path: &Name, file: &File) -> Result<(), LogHalt>
+    ensures adds { OnOk result ((jobs : foot.Jobs)
+        → Adds jobs (file_entry (path.now, file.now) ∷ []) text.old.items text.new.items) }
+    ensures not_text { IfErr result (λ halt. halt ≡ LogHalt.NotText → is_utf8 path.now ≡ false) }
+{
+    let object = file_value(alloc, path, file)?;
+    Ok(add_line(alloc, text, &object)?)
+}
+
+/// Adds the lines of events, which must be of nodes of these jobs.
+fn add_events(
+    alloc: Global,
+    text: &mut Vec<u8>,
+    jobs: &Jobs,
+    events: &[Event],
+) -> Result<(), LogHalt>
+    requires { AreOfNodes jobs.now events.now }
+    ensures adds { OnOk result (Adds jobs.now (map (λ event. Happens event) events.now)
+        text.old.items text.new.items) }
+    ensures not_text { IfErr result (λ halt. halt ≡ LogHalt.NotText
+        → list_all is_utf8 (flat_map (names_in jobs.now) events.now) ≡ false) }
+{
+    for event in events {
+        add_event(alloc, text, jobs, event)?;
+    }
+    Ok(())
+}
+
+/// Adds the line of an event. Its node's number must be below the count of nodes.
+fn add_event(alloc: Global, text: &mut Vec<u8>, jobs: &Jobs, event: &Event) -> Result<(), LogHalt>
+    requires { (step_of event.now).node < node_count jobs.now }
+    ensures adds { OnOk result (Adds jobs.now (Happens event.now ∷ []) text.old.items text.new.items) }
+    ensures not_text { IfErr result (λ halt. halt ≡ LogHalt.NotText
+        → list_all is_utf8 (names_in jobs.now event.now) ≡ false) }
+{
+    let object = event_value(alloc, jobs, event)?;
+    Ok(add_line(alloc, text, &object)?)
+}
+
+/// Adds the line of an object without fractions that is not nested deep. The only error is want of memory.
+fn add_line(alloc: Global, text: &mut Vec<u8>, object: &Value) -> Result<(), AllocError>
+    requires whole { has_float (view object.now) ≡ false }
+    requires shallow { depth (view object.now) ≤ max_depth }
+    ensures line { OnOk result (text.new.items ≡ text.old.items ++ line_of (view object.now)) }
+    ensures value { OnOk result (value_of (compact_text (view object.now)) ≡ Some (view object.now)) }
+{
+    let line = object.to_vec(alloc)?;
+    text.extend_from_slice(line.as_slice())?;
+    text.push(b'\n')?;
+    Ok(())
+}
