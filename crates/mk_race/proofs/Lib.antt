@@ -1,3 +1,4 @@
 mod GoalsLemmas
+mod Playing
 mod StageLemmas
 mod Staging

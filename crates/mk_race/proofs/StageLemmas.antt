@@ -1,5 +1,5 @@
 -- Where all stages before the graph have their values, the graph decides.
-use Rattle.std.proofs.Common.{◌≡◌, List, Result, Ok, Err, ℕ, refl}
+use Rattle.std.proofs.Common.{◌≡◌, List, Ok, Err, ℕ, refl}
 use Rattle.mk_name.specs.Names.{Name}
 use Rattle.mk_name.specs.Told.{Told}
 use Rattle.mk_name.specs.Gives.{HaltsAmong}

@@ -1,2 +1,3 @@
+pub mod Played
 pub mod Settings
 pub mod Stages

@@ -3,5 +3,6 @@
 
 pub mod input;
 pub mod preparing;
+pub mod replaying;
 pub mod settings;
 pub mod stages;

@@ -1,3 +1,7 @@
+mod Answering
 mod Asked
+mod Locals
 mod OrderLines
+mod ReplayLines
 mod Told
+mod Values

@@ -1,10 +1,14 @@
 -- What the program is asked by its words, as `clap` reads them.
-use Rattle.std.specs.Prelude.{◌≡◌, true, List, [], map, Option, Some, None, codes, false, option_map, unwrap_or}
-use Rattle.clap.specs.Words.{App, Row, Rule, Text, all_of, first_of, new_app, new_rule, with_rule, with_subcommand}
-use Rattle.clap.specs.declared.builder.action.ArgAction.TheVariants.{Append, Set}
+use Rattle.std.specs.Prelude.{ℕ, ◌≡◌, Bool, true, List, [], map, Option, Some, None, codes, false, option_map, unwrap_or}
+use Rattle.std.specs.Str.{bytes_eq}
+use Rattle.std.specs.Str.Parse.{digits_value, without_leading_plus}
+use Rattle.clap.specs.Words.{App, IsUnsignedIn, Row, Rule, Text, all_of, first_of, new_app, new_rule, with_rule, with_subcommand}
+use Rattle.clap.specs.declared.builder.action.ArgAction.TheVariants.{Append, Set, SetTrue}
+use Rattle.clap.specs.declared.builder.value_parser.ValueParser.TheVariants.{Unsigned}
 use Rattle.race.specs.declared.words.Build.{Build}
 use Rattle.race.specs.declared.words.Request.{Request}
-use Rattle.race.specs.declared.words.Request.TheVariants.{Order}
+use Rattle.race.specs.declared.words.Request.TheVariants as requests
+use Rattle.race.specs.declared.words.replaying.Replay.{Replay}
 
 -- an option that must be given, with one value
 abbrev pub option : Text → Rule
@@ -27,11 +31,24 @@ with_build app =
 abbrev pub order : App
 order = with_build (new_app (codes "order"))
 
+-- how many recipes may run at once
+abbrev pub limit : Rule
+limit = record (option (codes "limit")) { required = false; parser = Some (Unsigned 1 65535) }
+
+-- a flag: files of equal times count as newer
+abbrev pub tie : Rule
+tie = record (new_rule (codes "tie")) { long = Some (codes "tie"); action = Some SetTrue }
+
+abbrev pub replay : App
+replay =
+    with_rule (with_rule (with_rule (with_rule (with_build (new_app (codes "replay")))
+    (option (codes "footprints"))) (option (codes "log"))) limit) tie
+
 -- the program: it must be given one of its subcommands
 abbrev pub program : App
 program =
     let top = record (new_app (codes "race")).top { disable_help_subcommand = true; subcommand_required = true } in
-    with_subcommand (record { top = top; subs = [] }) order.top
+    with_subcommand (with_subcommand (record { top = top; subs = [] }) order.top) replay.top
 
 -- the value of an option, which is empty where there is none
 abbrev pub value_of : Text → List Row → Text
@@ -49,7 +66,30 @@ pub record HasValues (build : Build) (rows : List Row) : Type 0 where
   pub root : build.root.now ≡ value_of (codes "root") rows
   pub operands : map (λ word. word.now) build.operands.items ≡ operands_of rows
 
+-- the limit that a value writes, a number from 1 to 65,535; without a value it is 1
+abbrev pub IsLimit : Option Text → ℕ → Type 0
+IsLimit None limit = limit ≡ 1
+IsLimit (Some text) limit = IsUnsignedIn 1 65535 text × (limit ≡ digits_value 10 (without_leading_plus text))
+
+-- the flag is set
+abbrev pub is_true : Option Text → Bool
+is_true None = false
+is_true (Some text) = bytes_eq text (codes "true")
+
+-- the replay has the values that were found
+pub record HasReplay (replay : Replay) (rows : List Row) : Type 0 where
+  pub build : HasValues replay.build rows
+  pub footprints : replay.footprints.now ≡ value_of (codes "footprints") rows
+  pub log : replay.log.now ≡ value_of (codes "log") rows
+  pub limit : (limit : ℕ) → IsLimit (first_of (codes "limit") rows) limit → replay.limit ≡ limit
+  pub tie : replay.tie ≡ is_true (first_of (codes "tie") rows)
+
 -- the request is for the subcommand of this name, with the values that were found
+abbrev pub IsFor : Request → Text → List Row → Type 0
+IsFor (requests.Order build) name rows = (name ≡ codes "order") × HasValues build rows
+IsFor (requests.Replay replay) name rows = (name ≡ codes "replay") × HasReplay replay rows
+
+-- the request is for the subcommand that was found
 abbrev pub Asks : Request → Option (Text × List Row) → Type 0
 Asks request None = ⊥
-Asks (Order build) (Some found) = (found.0 ≡ codes "order") × HasValues build found.1
+Asks request (Some found) = IsFor request found.0 found.1

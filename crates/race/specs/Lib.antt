@@ -1,3 +1,4 @@
 pub mod Answered
 pub mod CommandLine
 pub mod OrderText
+pub mod ReplayText

@@ -1,14 +1,18 @@
 //! A checker that says whether a makefile may be built with `make -j`.
 #![tactic(auto)]
 
+mod failing;
+mod inputs;
 mod opener;
 mod order;
 mod program;
+mod replay;
 mod words;
 
+use failing::Failure;
 use mk_text::spout::Spout;
 use opener::Disk;
-use program::{Failure, Status, race_words, tell};
+use program::{Status, race_words, tell};
 use std::alloc::{AllocError, Global};
 use std::env;
 use std::io::ErrorKind;

@@ -1,30 +1,36 @@
 //! The program: from the words of the command line to what is written.
-ghost use Rattle.std.specs.Prelude.{◌≡◌, ◌≢◌, ◌↔◌, ◌++◌, ◌∷◌, [], IfErr, IfOk, IfSome, IsErr, IsErrOf, List, None, OnErr, OnOk, Some, false, is_some, map, option_map, true, ℕ};
+ghost use Rattle.std.specs.Prelude.{◌≡◌, ◌≢◌, ◌↔◌, ◌++◌, ◌∷◌, [], IfErr, IfOk, IsErr, IsErrOf, List, OnErr, OnOk, false, map, true, ℕ};
 ghost use Rattle.std.specs.Io.KnownBytes.{Appends};
 ghost use Rattle.clap.specs.Words.{kind_of, subcommand_of, takes};
+ghost use Rattle.mk_race.specs.Stages.{texts_of};
 ghost use Rattle.race.specs.Answered as spec;
 ghost use Rattle.race.specs.CommandLine.{program};
-ghost use Rattle.race.specs.declared.words.Request.TheVariants.{Order};
+ghost use Rattle.race.specs.declared.words.Request.TheVariants.{Order, Replay as Replays};
 
+use crate::failing::{Failure, InputFile};
+use crate::inputs::{base_text, opened, opened_base, text_of};
 use crate::opener::Opener;
 use crate::order::order_text;
+use crate::replay::replay_text;
+use crate::words::replaying::Replay;
 use crate::words::{Build, Request, read_words};
 use clap::error::ErrorKind;
 use mk_name::fault::Halt;
 use mk_name::report::refused_report;
 use mk_race::input::Input;
+use mk_race::replaying::{Played, replay_log};
 use mk_race::stages::plan_of;
-use mk_text::device::{Intake, Outlet, ReadStop, read_all, write_all};
+use mk_text::device::{Outlet, write_all};
 use std::alloc::{AllocError, Global};
-use std::fmt;
 use std::process::ExitCode;
-use thiserror::Error;
 
 /// How the program ends.
 #[derive(Clone, Copy, Debug, PartialEq, Eq)]
 pub enum Status {
-    /// The plan is printed, or the help.
+    /// The plan is printed, the log is a run, or the help is printed.
     Done,
+    /// The log is no run.
+    NotAllowed,
     /// The inputs are refused, and the report says why.
     Refused,
     /// A device failed, memory is short, or the words are wrong.
@@ -40,59 +46,10 @@ impl From<Status> for ExitCode {
     fn from(status: Status) -> ExitCode {
         match status {
             Status::Done => ExitCode::from(0),
+            Status::NotAllowed => ExitCode::from(1),
             Status::Refused => ExitCode::from(2),
             Status::Failed => ExitCode::from(3),
         }
-    }
-}
-
-/// A file that the program reads.
-#[derive(Clone, Copy, Debug, PartialEq, Eq)]
-pub enum InputFile {
-    Base,
-    Makefile,
-    Listing,
-}
-
-impl fmt::Display for InputFile {
-    ghost use Rattle.race.specs.Answered.{word_of};
-
-    ghost output = { λ input. Some (word_of input) };
-
-    fn fmt<W: fmt::Write>(&self, f: &mut fmt::Formatter<W>) -> fmt::Result {
-        f.write_str(match self {
-            InputFile::Base => "base",
-            InputFile::Makefile => "makefile",
-            InputFile::Listing => "listing",
-        })
-    }
-}
-
-/// Why the program ends with the status of a device, of memory or of usage. Its text is what stands on the standard
-/// error, without the newline.
-#[derive(Debug, Drop, Error)]
-pub enum Failure {
-    /// The input cannot be opened, or cannot be read to its end.
-    #[error("race: read failed: {0}")]
-    Read(InputFile),
-    /// The standard output takes no more.
-    #[error("race: write failed")]
-    Write,
-    /// Memory ran out.
-    #[error("race: out of memory")]
-    Memory,
-    /// The words are wrong; the text is `clap`'s.
-    #[error("{0}")]
-    Usage(String),
-}
-
-impl From<AllocError> for Failure {
-    ghost use Rattle.race.specs.declared.program.Failure.TheVariants as failures;
-
-    ghost from_gives = { λ _ failure. failure ≡ failures.Memory };
-
-    fn from(_error: AllocError) -> Failure {
-        Failure::Memory
     }
 }
 
@@ -121,6 +78,9 @@ pub fn race_words<'a, P: Opener, O: Outlet, E: Outlet>(
         → spec.AppendsLine (E.written err.old) (E.written err.new) }
     ensures silent { result ≢ Status.Failed → err.new ≡ err.old }
     ensures refused { result ≡ Status.Refused → spec.WritesAnswer
+        (subcommand_of program (map (λ word. word.now) words.entry.now))
+        (P.text opener.old) result (O.written out.old) (O.written out.new) }
+    ensures not_allowed { result ≡ Status.NotAllowed → spec.WritesAnswer
         (subcommand_of program (map (λ word. word.now) words.entry.now))
         (P.text opener.old) result (O.written out.old) (O.written out.new) }
     // What is not the whole answer is nothing, or what a device took before it failed.
@@ -174,6 +134,9 @@ fn answer_written<'a, P: Opener, O: Outlet>(
     ensures refused { IfOk result (λ status. status ≡ Status.Refused → spec.WritesAnswer
         (subcommand_of program (map (λ word. word.now) words.entry.now))
         (P.text opener.old) status (O.written out.old) (O.written out.new)) }
+    ensures not_allowed { IfOk result (λ status. status ≡ Status.NotAllowed → spec.WritesAnswer
+        (subcommand_of program (map (λ word. word.now) words.entry.now))
+        (P.text opener.old) status (O.written out.old) (O.written out.new)) }
     ensures nothing { OnErr result (O.has_failed out.new ≡ false → out.new ≡ out.old) }
     ensures status { IfOk result (λ status. status ≢ Status.Failed) }
     ensures answer { takes program (map (λ word. word.now) words.entry.now) ≡ true
@@ -181,13 +144,35 @@ fn answer_written<'a, P: Opener, O: Outlet>(
         (subcommand_of program (map (λ word. word.now) words.entry.now))
         (P.text opener.old) status (O.written out.old) (O.written out.new)) }
 {
-    let answer = match read_words(alloc, words) {
-        Ok(request) => answer_of(alloc, &request, opener)?,
-        Err(error) => help_of(alloc, &error)?,
-    };
+    let answer = answer_to(alloc, words, opener)?;
     match write_all(out, answer.text.as_slice()) {
         Ok(()) => Ok(answer.status),
         Err(_) => Err(Failure::Write),
+    }
+}
+
+/// The answer to what the words ask, or the help.
+fn answer_to<'a, P: Opener>(
+    alloc: Global,
+    words: &'a [&'a str],
+    opener: &mut P,
+) -> Result<Answer, Failure>
+    ensures status { IfOk result (λ answer. answer.status ≢ Status.Failed) }
+    ensures failure { IfErr result (λ failure. failure ≢ Failure.Write) }
+    ensures refused { IfOk result (λ answer. answer.status ≡ Status.Refused → spec.IsAnswerTo
+        (subcommand_of program (map (λ word. word.now) words.entry.now))
+        (P.text opener.old) answer.status answer.text.items) }
+    ensures not_allowed { IfOk result (λ answer. answer.status ≡ Status.NotAllowed → spec.IsAnswerTo
+        (subcommand_of program (map (λ word. word.now) words.entry.now))
+        (P.text opener.old) answer.status answer.text.items) }
+    ensures answer { takes program (map (λ word. word.now) words.entry.now) ≡ true
+        → IfOk result (λ answer. spec.IsAnswerTo
+        (subcommand_of program (map (λ word. word.now) words.entry.now))
+        (P.text opener.old) answer.status answer.text.items) }
+{
+    match read_words(alloc, words) {
+        Ok(request) => answer_of(alloc, &request, opener),
+        Err(error) => help_of(alloc, &error),
     }
 }
 
@@ -222,6 +207,7 @@ fn answer_of<P: Opener>(
 {
     match request {
         Request::Order(build) => order(alloc, build, opener),
+        Request::Replay(asked) => answer_replay(alloc, asked, opener),
     }
 }
 
@@ -276,6 +262,75 @@ fn order_of(
     }
 }
 
+/// What the log of a build is, or why the inputs are refused. All files are opened before any is read.
+fn answer_replay<P: Opener>(
+    alloc: Global,
+    asked: &Replay<'_>,
+    opener: &mut P,
+) -> Result<Answer, Failure>
+    ensures status { IfOk result (λ answer. answer.status ≢ Status.Failed) }
+    ensures failure { IfErr result (λ failure. failure ≢ Failure.Write) }
+    ensures answer { IfOk result (λ answer.
+        spec.IsAnswer (Replays asked.now) (P.text opener.old) answer.status answer.text.items) }
+{
+    let build = &asked.build;
+    let base = opened_base(opener, build.base)?;
+    let mut makefile = opened(opener, build.makefile, InputFile::Makefile)?;
+    let mut listing = opened(opener, build.listing, InputFile::Listing)?;
+    let mut footprints = opened(opener, asked.footprints, InputFile::Footprints)?;
+    let mut log = opened(opener, asked.log, InputFile::Log)?;
+    let base = base_text(alloc, base)?;
+    let makefile = text_of(alloc, &mut makefile, InputFile::Makefile)?;
+    let listing = text_of(alloc, &mut listing, InputFile::Listing)?;
+    let footprints = text_of(alloc, &mut footprints, InputFile::Footprints)?;
+    let log = text_of(alloc, &mut log, InputFile::Log)?;
+    let operands = bytes_of(alloc, build.operands.as_slice())?;
+    let input = Input {
+        base: &base,
+        makefile: &makefile,
+        listing: &listing,
+        footprints: &footprints,
+        root: build.root.as_bytes(),
+        operands: operands.as_slice(),
+    };
+    replayed(alloc, &input, &log, asked.limit, asked.tie)
+}
+
+/// What the texts of a build and of a log give. The only failure is want of memory.
+fn replayed(
+    alloc: Global,
+    input: &Input<'_>,
+    log: &[u8],
+    limit: u16,
+    tie: bool,
+) -> Result<Answer, Failure>
+    ensures answer { IfOk result (λ answer. spec.IsReplayAnswer (texts_of input.now)
+        input.now.footprints.now log.now limit tie answer.status answer.text.items) }
+    ensures memory { IfErr result (λ failure. failure ≡ Failure.Memory) }
+{
+    match replay_log(alloc, input, log, u32::from(limit), tie) {
+        Ok(played) => Ok(Answer {
+            status: status_of(&played),
+            text: replay_text(alloc, &played)?,
+        }),
+        Err(Halt::Fault(fault)) => Ok(Answer {
+            status: Status::Refused,
+            text: refused_report(alloc, &fault)?,
+        }),
+        Err(Halt::Memory) => Err(Failure::Memory),
+    }
+}
+
+/// How the program ends after a replay.
+fn status_of(played: &Played) -> Status
+    ensures { result ≡ spec.status_of played.now }
+{
+    match played {
+        Played::Allowed(_) => Status::Done,
+        Played::NotAllowed { .. } => Status::NotAllowed,
+    }
+}
+
 /// The bytes of some texts. The only error is want of memory.
 fn bytes_of<'a>(alloc: Global, texts: &[&'a str]) -> Result<Vec<&'a [u8]>, AllocError>
     ensures { IfOk result (λ list. map (λ bytes. bytes.now) list.items
@@ -286,60 +341,4 @@ fn bytes_of<'a>(alloc: Global, texts: &[&'a str]) -> Result<Vec<&'a [u8]>, Alloc
         list.push(text.as_bytes())?;
     }
     Ok(list)
-}
-
-/// Opens the base makefile, where one is given.
-fn opened_base<P: Opener>(opener: &mut P, path: Option<&str>) -> Result<Option<P::File>, Failure>
-    ensures failure { IfErr result (λ failure. failure ≡ Failure.Read InputFile.Base) }
-    ensures works { IfOk result (λ file. IfSome file (λ f. P.File.has_failed f ≡ false)) }
-    ensures given { IfOk result (λ file. is_some file ≡ is_some path.entry) }
-    ensures whole { IfOk result (λ file. IfSome file (λ f. (bytes : List ℕ)
-        → spec.base_of (P.text opener.old) (option_map (λ p. p.now) path.entry) ≡ Some bytes
-        → P.File.left f ≡ Some bytes)) }
-    ensures same { (path : List ℕ) → P.text opener.new path ≡ P.text opener.old path }
-{
-    match path {
-        Some(path) => Ok(Some(opened(opener, path, InputFile::Base)?)),
-        None => Ok(None),
-    }
-}
-
-/// The text of the base makefile, which is empty where there is none.
-fn base_text<I: Intake + Drop>(alloc: Global, file: Option<I>) -> Result<Vec<u8>, Failure>
-    requires { IfSome file (λ f. I.has_failed f ≡ false) }
-    ensures text { IfOk result (λ text. IfSome file (λ f. IfSome (I.left f) (λ bytes.
-        text.items ≡ bytes))) }
-    ensures none { IfOk result (λ text. file ≡ None → text.items ≡ []) }
-    ensures failure { IfErr result (λ failure. failure ≢ Failure.Write) }
-{
-    match file {
-        Some(mut file) => text_of(alloc, &mut file, InputFile::Base),
-        None => Ok(Vec::new(alloc)),
-    }
-}
-
-fn opened<P: Opener>(opener: &mut P, path: &str, input: InputFile) -> Result<P::File, Failure>
-    ensures failure { IfErr result (λ failure. failure ≡ Failure.Read input) }
-    ensures works { IfOk result (λ file. P.File.has_failed file ≡ false) }
-    ensures whole { IfOk result (λ file. (bytes : List ℕ)
-        → P.text opener.old path.now ≡ Some bytes → P.File.left file ≡ Some bytes) }
-    ensures same { (path : List ℕ) → P.text opener.new path ≡ P.text opener.old path }
-{
-    match opener.open(path) {
-        Ok(file) => Ok(file),
-        Err(_) => Err(Failure::Read(input)),
-    }
-}
-
-fn text_of<I: Intake>(alloc: Global, file: &mut I, input: InputFile) -> Result<Vec<u8>, Failure>
-    requires { I.has_failed file.old ≡ false }
-    ensures text { IfOk result (λ text. IfSome (I.left file.old) (λ bytes. text.items ≡ bytes)) }
-    ensures read { IsErrOf result (Failure.Read input) ↔ (I.has_failed file.new ≡ true) }
-    ensures failure { IfErr result (λ failure. failure ≢ Failure.Write) }
-{
-    match read_all(alloc, file) {
-        Ok(text) => Ok(text),
-        Err(ReadStop::Memory) => Err(Failure::Memory),
-        Err(ReadStop::Broken) => Err(Failure::Read(input)),
-    }
 }

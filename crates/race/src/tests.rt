@@ -1,7 +1,12 @@
 //! Whole runs of the program over files and outputs in memory.
 ghost use Rattle.std.specs.Prelude.{None};
 
+mod allowed_1;
+mod allowed_2;
 mod examples;
+mod not_allowed_1;
+mod not_allowed_2;
+mod not_allowed_3;
 mod ordered_macros_1;
 mod ordered_macros_2;
 mod ordered_macros_3;
@@ -13,7 +18,12 @@ mod refused_macros_1;
 mod refused_macros_2;
 mod refused_macros_3;
 mod refused_plain;
+mod refused_replays_1;
+mod refused_replays_2;
+mod refused_replays_3;
 mod refused_rules;
+mod replayed;
+mod replays;
 
 use crate::opener::Opener;
 use crate::program::{Status, race_words};
@@ -71,6 +81,8 @@ struct Shelf<'a> {
     base: Option<Page<'a>>,
     makefile: Option<Page<'a>>,
     listing: Option<Page<'a>>,
+    footprints: Option<Page<'a>>,
+    log: Option<Page<'a>>,
 }
 
 impl<'a> Opener for Shelf<'a> {
@@ -83,6 +95,8 @@ impl<'a> Opener for Shelf<'a> {
             "base" => self.base,
             "makefile" => self.makefile,
             "listing" => self.listing,
+            "footprints" => self.footprints,
+            "log" => self.log,
             _ => None,
         };
         page.map(Feed::new).ok_or(Broken)
@@ -124,6 +138,8 @@ fn good() -> Shelf<'static> {
         base: None,
         makefile: Some(Page::Text(b"all:\n")),
         listing: Some(Page::Text(b"")),
+        footprints: Some(Page::Text(b"")),
+        log: Some(Page::Text(b"")),
     }
 }
 
@@ -158,6 +174,8 @@ fn order<'a>(
         base: base.map(Page::Text),
         makefile: Some(Page::Text(makefile)),
         listing: Some(Page::Text(listing)),
+        footprints: None,
+        log: None,
     };
     Ok(run(alloc, words.as_slice(), &mut shelf))
 }
@@ -408,6 +426,8 @@ fn tells_the_first_file_that_fails(rt: HostRuntime) -> Result<(), Fail> {
             base,
             makefile,
             listing,
+            footprints: None,
+            log: None,
         };
         let mut words = Vec::from_slice(rt.alloc(), &ORDER)?;
         words.extend_from_slice(&["w", "--base", "base"])?;

@@ -1,18 +1,22 @@
 //! The words of the command line.
-ghost use Rattle.std.specs.Prelude.{◌≡◌, IfErr, IfOk, false, map, true};
+ghost use Rattle.std.specs.Prelude.{◌≡◌, ◌⊎◌, IfErr, IfOk, codes, false, map, true};
 ghost use Rattle.clap.specs.Words.{app_of, found_of, kind_of, rows_of, rule_of, subcommand_of, takes};
 ghost use Rattle.clap.specs.declared.builder.command.Command.TheViews.{out-Command as fields_of};
 ghost use Rattle.race.specs.CommandLine as spec;
 
+pub mod replaying;
+
 use clap::error::ErrorKind;
 use clap::{Arg, ArgAction, ArgMatches, Command, Error};
+use replaying::{Replay, replay_command, replay_of};
 use std::alloc::{AllocError, Global};
 
 const ABOUT: &str = "Says whether a makefile may be built with `make -j`.";
 
 const STATUSES: &str = "\
 Statuses:
-  0  the answer is printed
+  0  the answer is printed, and it is good
+  1  the answer is printed, and it is bad: a log that is no run
   2  the inputs are refused: the report says where and why
   3  a file cannot be read or written, memory is short, or the words are wrong";
 
@@ -55,6 +59,7 @@ pub struct Build<'a> {
 #[derive(Debug, Drop)]
 pub enum Request<'a> {
     Order(Build<'a>),
+    Replay(Replay<'a>),
 }
 
 /// Reads the words of the command line, of which the first is the program's name. A fault of the words and a call for
@@ -68,9 +73,25 @@ pub fn read_words<'a>(alloc: Global, words: &'a [&'a str]) -> Result<Request<'a>
 {
     let matches = program(alloc)?.try_get_matches_from(words)?;
     match matches.subcommand() {
-        Some((_, found)) => Ok(Request::Order(build_of(alloc, found)?)),
+        Some((name, found)) => Ok(request_of(alloc, name, found)?),
         None => unreachable!(),
     }
+}
+
+/// What the matches of the subcommand with this name ask for. The only error is want of memory.
+fn request_of<'a>(
+    alloc: Global,
+    name: &str,
+    found: &ArgMatches<'a>,
+) -> Result<Request<'a>, AllocError>
+    requires { (name.now ≡ codes "order") ⊎ (name.now ≡ codes "replay") }
+    ensures { IfOk result (λ request.
+        spec.IsFor request name.now (rows_of (found_of found.now))) }
+{
+    if name == "order" {
+        return Ok(Request::Order(build_of(alloc, found)?));
+    }
+    Ok(Request::Replay(replay_of(alloc, found)?))
 }
 
 fn program<'a>(alloc: Global) -> Result<Command<'a>, AllocError>
@@ -82,7 +103,8 @@ fn program<'a>(alloc: Global) -> Result<Command<'a>, AllocError>
         .after_help(STATUSES)
         .disable_help_subcommand(true)
         .subcommand_required(true)
-        .subcommand(order(alloc)?)
+        .subcommand(order(alloc)?)?
+        .subcommand(replay_command(alloc)?)
 }
 
 fn order<'a>(alloc: Global) -> Result<Command<'a>, AllocError>

@@ -2,7 +2,7 @@ use Rattle.std.proofs.Common.{◌∙◌, Ok, ap, sym}
 use Rattle.std.proofs.lemmas.Result.{err_from_is_err_and}
 use Rattle.mk_macro.specs.Macros.{macros_of}
 use Rattle.mk_race.specs.Stages.{texts_of}
-use Rattle.mk_race.proofs.StageLemmas.{Values, halted, planned}
+use Rattle.mk_race.proofs.StageLemmas.{halted, planned}
 use Rattle.mk_race.proofs.stages.plan_of.Goals as goal
 
 pub returns : goal.returns

@@ -1,9 +1,9 @@
-use Rattle.std.proofs.Common.{ap, refl, ◌∙◌, ◌≡◌, sym, true, List, map, option_map}
+use Rattle.std.proofs.Common.{ap, refl, ◌∙◌, ◌≡◌, true, List, map}
 use Rattle.std.proofs.lemmas.Result.{err_from_is_err_and}
 use Rattle.std.specs.Borrow.{Bor}
-use Rattle.clap.specs.Words.{App, Row, Text, is_simple, subcommand_of, takes}
+use Rattle.clap.specs.Words.{App, Text, is_simple, subcommand_of, takes}
 use Rattle.race.specs.CommandLine as spec
-use Rattle.race.proofs.Asked.{asks}
+use Rattle.race.proofs.Asked.{asks, found_is, one_named}
 use Rattle.race.proofs.words.read_words.Goals as goal
 
 pub returns-in_err-matches-clause-refused : goal.returns-in_err-matches-clause-refused
@@ -12,9 +12,19 @@ returns-in_err-matches-clause-refused c =
     let words : List Text = map (λ (word : Bor Text). word.now) c.args.words.now in
     rw (p.1, p.2) (λ t. c.in_err-matches.ensures.passes (ap (λ (a : App). takes a words) c.in_ok-program.ensures.app ∙ t))
 
+pub request_of-requires : goal.request_of-requires
+request_of-requires c =
+    let words : List Text = map (λ (word : Bor Text). word.now) c.args.words.now in
+    let app = c.in_ok-program.ensures.app in
+    let simple : is_simple spec.program ≡ true = refl in
+    let same = (c.in_ok-matches.ensures.matches (ap is_simple app ∙ simple)).1 ∙ ap (λ (a : App). subcommand_of a words) app in
+    one_named words _ (found_is c.in_ok-matches.matches _ c.in-Some.name.now _ same c.in-Some.ensures.name c.in-Some.ensures.rows)
+
 pub returns-clause-values : goal.returns-clause-values
 returns-clause-values c =
     let words : List Text = map (λ (word : Bor Text). word.now) c.args.words.now in
+    let app = c.in_ok-program.ensures.app in
     let simple : is_simple spec.program ≡ true = refl in
-    let found = (c.in_ok-matches.ensures.matches (ap is_simple c.in_ok-program.ensures.app ∙ simple)).1 ∙ ap (λ (a : App). subcommand_of a words) c.in_ok-program.ensures.app in
-    asks c.in_ok-build_of-in-Some.field-0 words _ (subcommand_of spec.program words) refl (ap (option_map (λ (p : Text × List Row). p.1)) (sym found) ∙ sym c.in-Some.ensures.rows) c.in_ok-build_of-in-Some.ensures
+    let same = (c.in_ok-matches.ensures.matches (ap is_simple app ∙ simple)).1 ∙ ap (λ (a : App). subcommand_of a words) app in
+    asks c.in_ok-request_of-in-Some.field-0 (subcommand_of spec.program words) _ _
+    (found_is c.in_ok-matches.matches _ c.in-Some.name.now _ same c.in-Some.ensures.name c.in-Some.ensures.rows) c.in_ok-request_of-in-Some.ensures

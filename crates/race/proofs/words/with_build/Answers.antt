@@ -1,12 +1,8 @@
-use Rattle.std.proofs.Common.{ap₂, refl, ◌∙◌, ◌≡◌, ◌||◌, Bool, true, false}
+use Rattle.std.proofs.Common.{ap₂, refl, ◌∙◌}
 use Rattle.std.proofs.lemmas.Result.{IfOk-weaker}
 use Rattle.clap.specs.Words.{with_rule}
+use Rattle.race.proofs.Locals.{stays}
 use Rattle.race.proofs.words.with_build.Goals as goal
-
--- an argument that is not global leaves a command local
-stays : (new old global : Bool) → new ≡ (old || global) → global ≡ false → new ≡ old
-stays new true global added is_local = added
-stays new false global added is_local = added ∙ is_local
 
 pub returns-clause-app : goal.returns-clause-app
 returns-clause-app c =

@@ -1,0 +1,58 @@
+//! From the texts of a build and of a log to whether the log is a run of the build.
+ghost use Rattle.mk_name.specs.Gives.{Answers};
+ghost use Rattle.mk_race.specs.Played.{IsPlayed};
+ghost use Rattle.mk_race.specs.Stages.{texts_of};
+
+use crate::input::Input;
+use crate::preparing::prepare;
+use mk_log::log::Log;
+use mk_log::reading::read_log;
+use mk_name::fault::Halt;
+use mk_sched::refusal::Refusal;
+use mk_sched::replay::{Replayed, Stopped, replay};
+use mk_text::listing::Listing;
+use mk_text::root::Root;
+use std::alloc::Global;
+
+/// What a log is to a build.
+#[derive(Debug, Drop)]
+pub enum Played {
+    /// Its events are a run: what they leave, and whether every node has passed.
+    Allowed(Replayed),
+    /// Its events are no run, or its files are not those of the listing.
+    NotAllowed {
+        /// The place of the first event that is not allowed, from 1, or 0 for the files.
+        place: u64,
+        /// Why that event is refused, or the files are.
+        refusal: Refusal,
+    },
+}
+
+/// Replays a log against a build: whether its events, from the files that it tells, are a run of the build's jobs, in
+/// which at most `limit` nodes run at once and with `tie` files of equal times count as newer.
+///
+/// The first fault is answered: those of the jobs (see [`prepare`]), and then of the log by its lines. The only other error
+/// is want of memory.
+pub fn replay_log(
+    alloc: Global,
+    input: &Input<'_>,
+    log: &[u8],
+    limit: u32,
+    tie: bool,
+) -> Result<Played, Halt>
+    ensures { Answers result
+        (IsPlayed (texts_of input.now) input.now.footprints.now log.now limit tie) }
+{
+    let jobs = prepare(alloc, input)?;
+    let root = Root::read(alloc, input.root)?;
+    let listing = Listing::read(alloc, input.listing, &root)?;
+    let Log { store, events } = read_log(alloc, log, &jobs, &root)?;
+    match replay(alloc, &jobs, &listing, store, limit, tie, events.as_slice()) {
+        Ok(replayed) => Ok(Played::Allowed(replayed)),
+        Err(Stopped::Refused { place, refusal, .. }) => Ok(Played::NotAllowed { place, refusal }),
+        Err(Stopped::Memory) => Err(Halt::Memory),
+    }
+}
+
+#[cfg(test)]
+mod tests;
