@@ -1,5 +1,5 @@
 -- The ways through the loop of an expansion.
-use Rattle.std.proofs.Common.{◌≡◌, ℕ, ◌+◌, ◌<◌, false, List, [], ◌∷◌, ◌++◌, Option, Some, None, Result, Ok, Err, length, refl, sym, ◌∙◌, ap, subst, arith}
+use Rattle.std.proofs.Common.{◌≡◌, ℕ, ◌+◌, ◌<◌, false, List, [], ◌∷◌, ◌++◌, Option, Some, None, Result, Ok, Err, length, refl, sym, ◌∙◌, ap, subst}
 use Rattle.std.specs.Prelude.{Vec, reverse}
 use Rattle.std.specs.Global.{Global}
 use Rattle.std.specs.Result.{IsErrAnd}
@@ -70,16 +70,15 @@ opens_are {m} {text} {output} {left} {count} e s = subst (λ (os : List Open). S
 
 module _ {m : Macros} {text : List ℕ} {output : Output} {left : List Item} {count : ℕ} (opens : List Open) (s : Stands m text opens output (left) count) where
   -- a byte
-  pub plain_on : (b : ℕ) (behind bytes : List ℕ) (after : Output) → left ≡ Plain b ∷ items_of behind → bytes ≡ b ∷ [] → Puts output after bytes → Stands m text opens after (items_of behind) count
-  plain_on b behind bytes after e one puts = goes_on opens (b ∷ []) after (left_is e s) byte (subst (λ (xs : List ℕ). Puts output after xs) one puts)
+  pub plain_on : (b : ℕ) (behind : List ℕ) (after : Output) → left ≡ Plain b ∷ items_of behind → Puts output after (b ∷ []) → Stands m text opens after (items_of behind) count
+  plain_on b behind after e puts = goes_on opens (b ∷ []) after (left_is e s) byte puts
 
-  pub plain_over : (result : Result (Vec ℕ Global) Halt) (halt : Halt) (b : ℕ) (behind bytes : List ℕ) → left ≡ Plain b ∷ items_of behind → bytes ≡ b ∷ [] → IsErrAnd result (λ y. y ≡ halt) → IsTooMuch output bytes halt
+  pub plain_over : (result : Result (Vec ℕ Global) Halt) (halt : Halt) (b : ℕ) (behind : List ℕ) → left ≡ Plain b ∷ items_of behind → IsErrAnd result (λ y. y ≡ halt) → IsTooMuch output (b ∷ []) halt
       → AnswersText result (IsExpansion m text)
-  plain_over result halt b behind bytes e one same over =
-      let size : length bytes ≡ length (b ∷ []) = ap length one in
+  plain_over result halt b behind e same over =
       let now = left_is e s in
       over_answer (IsExpansion m text) result halt byte_limit _ same (over now.inner now.texts now.holds)
-      (λ h. fault_answer m text too_large (too_long opens (b ∷ []) now byte (omega arith)))
+      (λ h. fault_answer m text too_large (too_long opens (b ∷ []) now byte h))
 
   -- a broken reference
   pub broken_fails : (later : List Item) → left ≡ Broken ∷ later → IsExpansion m text (Err (macro_fault BadReference []))

@@ -12,7 +12,6 @@ use crate::open::{Open, refuse};
 use crate::output::Output;
 use mk_name::fault::{Halt, Kind};
 use std::alloc::Global;
-use std::slice;
 
 impl Macros {
     /// Puts what a reference gives at the end of the innermost text, where that is no more than the
@@ -68,7 +67,7 @@ impl Macros {
             rest = behind;
             match item {
                 Item::Broken => return Err(unnamed(alloc, Kind::BadReference)),
-                Item::Plain(byte) => out.push(alloc, &None, slice::from_ref(&byte))?,
+                Item::Plain(byte) => out.push_byte(alloc, byte)?,
                 Item::Refers(reference) => {
                     let name = reference.name();
                     refuse(alloc, &opens, count, name)?;

@@ -34,15 +34,15 @@ returns-in-Broken c =
     (broken_fails (reverse c.items.opens.items) c.items.invariant (items_of c.in-Some.behind.now)
     (c.in-Some.ensures.items ∙ ap (λ x. x ∷ items_of c.in-Some.behind.now) c.in-Broken.is))
 
-pub items-preserved-in_ok-push-in-Plain : goal.items-preserved-in_ok-push-in-Plain
-items-preserved-in_ok-push-in-Plain c =
-    plain_on (reverse c.items.opens.items) c.items.invariant c.in-Plain.byte c.in-Some.behind.now c.from_ref.result.now c.push.new.self
-    (c.in-Some.ensures.items ∙ ap (λ x. x ∷ items_of c.in-Some.behind.now) c.in-Plain.is) c.from_ref.ensures.value c.in_ok-push-in-Plain.ensures.put
+pub items-preserved-in_ok-push_byte-in-Plain : goal.items-preserved-in_ok-push_byte-in-Plain
+items-preserved-in_ok-push_byte-in-Plain c =
+    plain_on (reverse c.items.opens.items) c.items.invariant c.in-Plain.byte c.in-Some.behind.now c.push_byte.new.self
+    (c.in-Some.ensures.items ∙ ap (λ x. x ∷ items_of c.in-Some.behind.now) c.in-Plain.is) c.in_ok-push_byte-in-Plain.ensures.put
 
-pub returns-in_err-push-in-Plain : goal.returns-in_err-push-in-Plain
-returns-in_err-push-in-Plain c =
-    plain_over (reverse c.items.opens.items) c.items.invariant c.from_residual-in_err-push-in-Plain.result _ c.in-Plain.byte c.in-Some.behind.now c.from_ref.result.now
-    (c.in-Some.ensures.items ∙ ap (λ x. x ∷ items_of c.in-Some.behind.now) c.in-Plain.is) c.from_ref.ensures.value c.from_residual-in_err-push-in-Plain.ensures.1 c.in_err-push-in-Plain.ensures.over
+pub returns-in_err-push_byte-in-Plain : goal.returns-in_err-push_byte-in-Plain
+returns-in_err-push_byte-in-Plain c =
+    plain_over (reverse c.items.opens.items) c.items.invariant c.from_residual-in_err-push_byte-in-Plain.result _ c.in-Plain.byte c.in-Some.behind.now
+    (c.in-Some.ensures.items ∙ ap (λ x. x ∷ items_of c.in-Some.behind.now) c.in-Plain.is) c.from_residual-in_err-push_byte-in-Plain.ensures.1 c.in_err-push_byte-in-Plain.ensures.over
 
 pub returns-in_err-refuse-in-Refers : goal.returns-in_err-refuse-in-Refers
 returns-in_err-refuse-in-Refers c =
