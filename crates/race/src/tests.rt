@@ -24,6 +24,7 @@ mod refused_replays_3;
 mod refused_rules;
 mod replayed;
 mod replays;
+mod served;
 
 use crate::opener::Opener;
 use crate::program::{Status, race_words};

@@ -1,5 +1,6 @@
 //! The examples of the repository.
 use super::Case;
+use super::served::POSIX_BASE;
 
 pub static ORDERED_EXAMPLES: [Case; 4] = [
     Case {
@@ -33,9 +34,7 @@ pub static ORDERED_EXAMPLES: [Case; 4] = [
         about: "the example inference",
         root: "/home/dev/inference",
         operands: &[],
-        base: Some(
-            b"# The default rules of POSIX.1-2024 make (XCU make, \"Default Rules\"), for `race .. --base examples/posix-base.mk`.\n# The commands are never read by race; they stand here so that a make can run this file too.\n#\n# Left out, since race does not read it: the rules and suffixes of SCCS files (.c~ .y~ .l~ .sh~) with the macros GET,\n# GFLAGS, SCCSFLAGS and SCCSGETFLAGS. Members of archives, lib(member), are not read either: the rule .c.a stands here\n# for plain names alone. POSIX.1-2024 has no Fortran compiler, so there are no rules of .f.\n#\n# Inference takes one step: prog comes from prog.c if that is listed or a target, but not by way of a prog.c that\n# would first be made from prog.y.\n\n# suffixes and macros\n\n.SUFFIXES: .o .c .y .l .a .sh\n\nMAKE=make\nAR=ar\nARFLAGS=-rv\nYACC=yacc\nYFLAGS=\nLEX=lex\nLFLAGS=\nLDFLAGS=\nCC=c17\nCFLAGS=-O 1\n\n# single suffix rules\n\n.c:\n\t$(CC) $(CFLAGS) $(LDFLAGS) -o $@ $<\n\n.sh:\n\tcp $< $@\n\tchmod a+x $@\n\n# double suffix rules\n\n.c.o:\n\t$(CC) $(CFLAGS) -c $<\n\n.y.o:\n\t$(YACC) $(YFLAGS) $<\n\t$(CC) $(CFLAGS) -c y.tab.c\n\trm -f y.tab.c\n\tmv y.tab.o $@\n\n.l.o:\n\t$(LEX) $(LFLAGS) $<\n\t$(CC) $(CFLAGS) -c lex.yy.c\n\trm -f lex.yy.c\n\tmv lex.yy.o $@\n\n.y.c:\n\t$(YACC) $(YFLAGS) $<\n\tmv y.tab.c $@\n\n.l.c:\n\t$(LEX) $(LFLAGS) $<\n\tmv lex.yy.c $@\n\n.c.a:\n\t$(CC) -c $(CFLAGS) $<\n\t$(AR) $(ARFLAGS) $@ $*.o\n\trm -f $*.o\n",
-        ),
+        base: Some(POSIX_BASE),
         makefile: b"# The objects come from the default rules of the standard: --base examples/posix-base.mk\nOBJ = main.o parse.o\n\n.PHONY: all clean\nall: reckon\n\nreckon: $(OBJ)\t# and then the link\n\t$(CC) $(LDFLAGS) -o $@ $(OBJ)\n\nmain.o parse.o: \\\n\treckon.h\n\nclean:\n\trm -f reckon $(OBJ)\n",
         listing: b"main.c\nparse.y\nreckon.h\n",
         out: b"0 plain reckon.h\n1 plain main.c\n2 inferred main.o : reckon.h main.c\n3 plain parse.y\n4 inferred parse.o : reckon.h parse.y\n5 recipe reckon : main.o parse.o\n6 plain all : reckon\n",
