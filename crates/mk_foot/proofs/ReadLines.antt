@@ -8,7 +8,7 @@ use Rattle.std.proofs.lemmas.List.FromFn.{get_or-enumerate_from, length-enumerat
 use Rattle.std.proofs.lemmas.List.Sums.{sum_by-append, sum_by-cons}
 use Rattle.std.proofs.lemmas.Grind.{flat_map-append}
 use Rattle.std.specs.Borrow.{Bor}
-use Rattle.mk_graph.specs.Answer.{Halts}
+use Rattle.mk_name.specs.Gives.{HaltsAmong}
 use Rattle.mk_name.specs.Told.{Told}
 use Rattle.mk_name.specs.declared.fault.Halt.{Halt}
 use Rattle.mk_name.specs.declared.fault.Halt.TheVariants as halts
@@ -106,7 +106,7 @@ text_past items n past = omega (arith, past, length-map items (λ (l : Bor (List
 
 -- a call that halts but for memory by a fault
 pub halts_by : (halt : Halt) (answers : Result Footprints Told → Type 0) (fault : Told) → (halt ≢ halts.Memory → halt ≡ halts.Fault fault)
-    → (halt ≢ halts.Memory → answers (Err fault)) → Halts halt answers
+    → (halt ≢ halts.Memory → answers (Err fault)) → HaltsAmong halt answers
 halts_by halts.Memory answers fault is holds = tt
 halts_by (halts.Fault given) answers fault is holds =
     let other : halts.Fault given ≢ halts.Memory = λ e. cc in

@@ -1,7 +1,7 @@
 //! From the text of footprints to the footprints, or to the first line at fault.
 ghost use Rattle.std.specs.Prelude.{◌≡◌, ◌≢◌, ◌+◌, ◌-◌, ◌^◌, None, Some, IfOk, IfErr, length, min};
 ghost use Rattle.std.specs.Option.{option_to_list};
-ghost use Rattle.mk_graph.specs.Answer.{Answers};
+ghost use Rattle.mk_name.specs.Gives.{Answers};
 ghost use Rattle.mk_name.specs.declared.fault.Halt.TheVariants as halts;
 ghost use Rattle.mk_name.specs.declared.fault.Halt.TheVariants.{Memory};
 ghost use Rattle.mk_text.specs.Listing.{lines};

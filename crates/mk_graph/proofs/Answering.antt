@@ -9,7 +9,8 @@ use Rattle.std.proofs.lemmas.Bool.{both_ways, cases_lt}
 use Rattle.std.proofs.lemmas.List.{length-map}
 use Rattle.mk_name.specs.Names.{Name, same_name, IsDistinct}
 use Rattle.mk_name.proofs.Names.{name_is_exact, nat_is_exact, distinct_kept}
-use Rattle.mk_graph.specs.Answer.{IsLeastUnmade, AllMade, IsTooLarge, Answers, Comes, IsAnswer, goals_of, goal_list}
+use Rattle.mk_name.specs.Gives.{Answers}
+use Rattle.mk_graph.specs.Answer.{IsLeastUnmade, AllMade, IsTooLarge, Comes, IsAnswer, goals_of, goal_list}
 use Rattle.mk_graph.specs.Plan.{Plan}
 use Rattle.mk_rules.specs.Book.{Book, default_goal}
 use Rattle.mk_graph.specs.Collected.{IsGraph}

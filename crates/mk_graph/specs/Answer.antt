@@ -2,8 +2,6 @@
 use Rattle.std.specs.Prelude.{◌≡◌, ◌<◌, ℕ, false, List, [], ◌∷◌, map, length, nat_eq, get_or, IsTrue, Option, Some, None, Result, Ok, Err}
 use Rattle.mk_name.specs.Names.{Name, same_name, has}
 use Rattle.mk_name.specs.Told.{Told}
-use Rattle.mk_name.specs.declared.fault.Halt.{Halt}
-use Rattle.mk_name.specs.declared.fault.Halt.TheVariants as halts
 use Rattle.mk_name.specs.declared.fault.Kind.{Kind}
 use Rattle.mk_name.specs.declared.fault.Kind.TheVariants as kinds
 use Rattle.mk_name.specs.declared.fault.Source.TheVariants as sources
@@ -66,12 +64,3 @@ pub data Comes (book : Book) (listing goals : List Name) : Result Plan Told → 
 abbrev pub IsAnswer : Book → List Name → List Name → Result Plan Told → Type 0
 IsAnswer book listing [] answer = answer ≡ Err (graph_fault kinds.NoGoal [])
 IsAnswer book listing (g ∷ gs) answer = Comes book listing (g ∷ gs) answer
-
--- a call gives such an answer, or memory ran out
-abbrev pub Halts : {Y : Type 0} → Halt → (Result Y Told → Type 0) → Type 0
-Halts halts.Memory answers = Unit {0}
-Halts (halts.Fault fault) answers = answers (Err fault)
-
-abbrev pub Answers : {Y : Type 0} → Result Y Halt → (Result Y Told → Type 0) → Type 0
-Answers (Ok value) answers = answers (Ok value)
-Answers (Err halt) answers = Halts halt answers

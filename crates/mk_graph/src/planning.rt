@@ -1,7 +1,8 @@
 //! From a book of rules, a listing and some goals to a plan, or to what is wrong with the graph.
 ghost use Rattle.std.specs.Prelude.{◌≡◌};
+ghost use Rattle.mk_name.specs.Gives.{Answers};
 ghost use Rattle.mk_name.specs.declared.fault.Halt.TheVariants as halts;
-ghost use Rattle.mk_graph.specs.Answer.{Answers, Comes, IsAnswer, goals_of, graph_fault};
+ghost use Rattle.mk_graph.specs.Answer.{Comes, IsAnswer, goals_of, graph_fault};
 
 use crate::faults::{cycle_of, least_unmade};
 use crate::graph::graph_of;

@@ -13,7 +13,6 @@ use Rattle.mk_text.specs.Spelling.{root_of}
 use Rattle.mk_macro.specs.Macros.{Macros}
 use Rattle.mk_macro.specs.Operands.{operand_macros}
 use Rattle.mk_rules.specs.Book.{Book}
-use Rattle.mk_graph.specs.Answer as graph
 use Rattle.mk_graph.specs.Answer.{IsAnswer}
 use Rattle.mk_graph.specs.Answer.{goals_of as goals_or_default}
 use Rattle.mk_graph.specs.Plan.{Plan}
@@ -43,6 +42,6 @@ module _ (texts : Texts) (root : List ℕ) (goals : List Name) (macros : Macros)
       (Ok book, v.book_is, (Err told, answer, refl)))))))
 
   -- a halt of the graph is one of the whole
-  pub halted : (halt : Halt) → graph.Halts halt (IsAnswer book listed (goals_or_default book goals)) → HaltsAmong halt (IsPlanned texts)
+  pub halted : (halt : Halt) → HaltsAmong halt (IsAnswer book listed (goals_or_default book goals)) → HaltsAmong halt (IsPlanned texts)
   halted halts.Memory answer = tt
   halted (halts.Fault fault) answer = refused fault answer

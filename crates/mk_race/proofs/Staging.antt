@@ -5,7 +5,6 @@ use Rattle.mk_name.specs.Gives.{HaltsAmong, Halts}
 use Rattle.mk_name.specs.declared.fault.Halt.{Halt}
 use Rattle.mk_name.specs.declared.fault.Halt.TheVariants as halts
 use Rattle.mk_rules.specs.Book.{targets_of}
-use Rattle.mk_graph.specs.Answer as graph
 use Rattle.mk_foot.specs.Attached.{attached}
 use Rattle.mk_foot.specs.Footprints.{Footprints, IsRead}
 use Rattle.mk_foot.specs.Jobs.{Jobs}
@@ -20,7 +19,7 @@ module _ (texts : Texts) (footprints : List ℕ) where
 
   module _ (planned : Planned) (is : IsPlanned texts (Ok planned)) where
     -- so is one of the footprints
-    pub unread : (halt : Halt) → graph.Halts halt (IsRead planned.root footprints) → HaltsAmong halt (IsPrepared texts footprints)
+    pub unread : (halt : Halt) → HaltsAmong halt (IsRead planned.root footprints) → HaltsAmong halt (IsPrepared texts footprints)
     unread halts.Memory h = tt
     unread (halts.Fault told) h = (Ok planned, is, (Err told, h, refl))
 

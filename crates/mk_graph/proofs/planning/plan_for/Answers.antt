@@ -4,7 +4,8 @@ use Rattle.std.specs.Global.{Global}
 use Rattle.mk_name.specs.Names.{Name, same_name}
 use Rattle.mk_name.specs.declared.fault.Halt.{Halt}
 use Rattle.mk_name.specs.declared.fault.Kind.TheVariants as kinds
-use Rattle.mk_graph.specs.Answer.{Comes, too_large, no_rule, cycle, planned, Halts, graph_fault, IsTooLarge}
+use Rattle.mk_name.specs.Gives.{HaltsAmong}
+use Rattle.mk_graph.specs.Answer.{Comes, too_large, no_rule, cycle, planned, graph_fault, IsTooLarge}
 use Rattle.mk_graph.specs.Graph.{IsCycle}
 use Rattle.mk_graph.specs.Least.{upto, IsLeastPassing}
 use Rattle.mk_graph.specs.Makers.{is_unmade, needs}
@@ -20,7 +21,7 @@ use Rattle.mk_graph.proofs.planning.plan_for.Goals as goal
 
 pub returns-in_default : goal.returns-in_default
 returns-in_default c =
-    subst (λ (h : Halt). Halts h (Comes c.args.book.now c.args.listing.now c.args.goals.now)) (sym c.graph_fault.ensures)
+    subst (λ (h : Halt). HaltsAmong h (Comes c.args.book.now c.args.listing.now c.args.goals.now)) (sym c.graph_fault.ensures)
     (subst (λ (ns : List Name). Comes c.args.book.now c.args.listing.now c.args.goals.now (Err (graph_fault kinds.GraphTooLarge ns))) (sym c.new.ensures.items)
     (too_large (if_none_at c.in_ok-graph.field-0 (IsTooLarge c.args.book.now c.args.listing.now c.args.goals.now) c.in_default.not-Some c.in_ok-graph.ensures.too_large)))
 
@@ -32,7 +33,7 @@ returns-in-Some-least_unmade c =
     let n = c.in-Some-least_unmade.number in
     let p = subst (λ (o : Option ℕ). IsLeastPassing (is_unmade c.args.book.now c.args.listing.now) c.in-Some.graph.names (length c.in-Some.graph.names) o) c.in-Some-least_unmade.is c.least_unmade.ensures in
     let told = c.in_ok-push.ensures.items ∙ ap (λ ns. ns ++ c.in_ok-copy.field-0 ∷ []) c.new-names.ensures.items ∙ ap (λ x. x ∷ []) (c.in_ok-copy.ensures ∙ c.name.ensures) in
-    subst (λ (h : Halt). Halts h (Comes c.args.book.now c.args.listing.now c.args.goals.now)) (sym c.graph_fault-in-Some-least_unmade.ensures)
+    subst (λ (h : Halt). HaltsAmong h (Comes c.args.book.now c.args.listing.now c.args.goals.now)) (sym c.graph_fault-in-Some-least_unmade.ensures)
     (subst (λ (ns : List Name). Comes c.args.book.now c.args.listing.now c.args.goals.now (Err (graph_fault kinds.NoRule ns))) (sym told)
     (no_rule (name_at names n) small (least_is c.args.book.now c.args.listing.now c.args.goals.now names c.in-Some.graph.rows.items c.in-Some.graph.goals.items g n p)))
 
@@ -57,7 +58,7 @@ returns-in-Ring c =
     let made = all_made c.args.book.now c.args.listing.now c.args.goals.now c.in-Some.graph.names c.as_slice.result.now c.as_slice-2.result.now g
     (passing_none (is_unmade c.args.book.now c.args.listing.now) c.in-Some.graph.names (length c.in-Some.graph.names) c.least_unmade.result c.in_default-least_unmade.not-Some c.least_unmade.ensures) in
     let found = c.in_ok-names-in-Ring.ensures in
-    subst (λ (h : Halt). Halts h (Comes c.args.book.now c.args.listing.now c.args.goals.now)) (sym c.graph_fault-in-Ring.ensures)
+    subst (λ (h : Halt). HaltsAmong h (Comes c.args.book.now c.args.listing.now c.args.goals.now)) (sym c.graph_fault-in-Ring.ensures)
     (cycle c.in_ok-names-in-Ring.names.items small made
     (subst (λ (ns : List Name). IsCycle same_name upto (needs c.args.book.now c.args.listing.now) c.args.goals.now ns) (sym found.2)
     (cycle_is c.args.book.now c.args.listing.now c.args.goals.now c.in-Some.graph.names c.as_slice.result.now c.as_slice-2.result.now c.as_slice-in-Ring.result.now found.0 g q found.1)))
