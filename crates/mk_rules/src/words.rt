@@ -31,7 +31,7 @@ pub(crate) fn names_in(alloc: Global, text: &[u8], root: &Root) -> Result<Vec<Na
     ensures { GivesNames result (names_in root.now text.now) }
 {
     let words = words(alloc, text)?;
-    let mut names = Vec::new(alloc);
+    let mut names = Vec::with_capacity(alloc, words.len())?;
     for word in &words {
         names.push(plain_word(alloc, word, root)?)?;
     }
