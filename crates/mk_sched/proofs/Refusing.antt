@@ -4,15 +4,15 @@ use Rattle.std.specs.List.{list_any}
 use Rattle.std.proofs.lemmas.Bool.{false≢true, cases_order, or_parts}
 use Rattle.std.proofs.lemmas.List.Elements.{Contains-get_or}
 use Rattle.std.proofs.lemmas.List.Folds.{list_any_at, list_any_none}
-use Rattle.mk_name.specs.Names.{Name, same_name}
-use Rattle.mk_foot.specs.Jobs.{Jobs, IsPrerequisite, node_count, prerequisites_of, has_recipe, may_read, may_write}
-use Rattle.mk_sched.specs.Stores.{Bytes, Store, File, bytes_of, is_stale, must_run}
+use Rattle.mk_name.specs.Names.{same_name}
+use Rattle.mk_foot.specs.Jobs.{Jobs, node_count, prerequisites_of, has_recipe, may_read, may_write}
+use Rattle.mk_sched.specs.Stores.{Bytes, bytes_of, is_stale}
 use Rattle.mk_sched.specs.Events.{Act, Skip, Start, Look, Put, Erase, Finish, count_to}
 use Rattle.mk_sched.specs.Table.{State, IsAllowed, CanBegin}
-use Rattle.mk_sched.specs.Refusals.{Finds, Holds, asked, IsNewest}
+use Rattle.mk_sched.specs.Refusals.{Finds, Holds, asked}
 use Rattle.mk_sched.specs.declared.refusal.Refusal.{Refusal}
-use Rattle.mk_sched.specs.declared.refusal.Refusal.TheVariants.{NotReady, NotStale, Stale, NoRecipe, TwicePassed, NotRunning, OutsideFootprint, WrongBytes, NotNewer, TooManyJobs, StoreNotListing, NoNode}
-use Rattle.mk_sched.specs.Events.{Event, Phase, Waiting, Running, Skipped, Ran, phase, is_running}
+use Rattle.mk_sched.specs.declared.refusal.Refusal.TheVariants.{NotReady, NotStale, Stale, NoRecipe, TwicePassed, NotRunning, OutsideFootprint, WrongBytes, NotNewer, TooManyJobs, NoNode}
+use Rattle.mk_sched.specs.Events.{Phase, Waiting, Running, Skipped, Ran, phase, is_running}
 use Rattle.mk_sched.specs.Refused.{AllowedUnlessRefused}
 use Rattle.mk_sched.specs.Table.{told_by}
 use Rattle.mk_sched.proofs.Basics.{split, same_name-true, same_name-refl, is_begun}

@@ -1,22 +1,21 @@
 -- The steps of a replay.
 use Rattle.std.proofs.Common.{ℕ, zero, suc, ◌≡◌, ◌<◌, ◌≤◌, ◌+◌, ◌^◌, Bool, true, false, List, [], ◌∷◌, ◌++◌, Option, Some, None, refl, sym, ap, ◌∙◌, subst, arith, length, IsTrue, ◌↔◌, get_or, take, drop, map, reverse}
 use Rattle.std.proofs.lemmas.List.{take_more, map-append, reverse-append, take-append-drop, drop_more}
-use Rattle.mk_name.specs.Names.{Name}
 use Rattle.mk_foot.specs.Jobs.{Jobs, node_count}
 use Rattle.mk_sched.specs.Counter.{Moves}
-use Rattle.mk_sched.specs.Events.{Act, Skip, Start, Look, Put, Erase, Finish, Event, phase, is_passed, is_running, count_to, running_below, store_after}
+use Rattle.mk_sched.specs.Events.{Act, Skip, Start, Look, Put, Erase, Finish, Event, phase, is_running, count_to, running_below}
 use Rattle.mk_sched.specs.Refusals.{Finds, Holds, asked}
 use Rattle.mk_sched.specs.Replayed.{IsLeft}
 use Rattle.mk_sched.specs.Runs.{IsRun, IsComplete, May}
 use Rattle.mk_sched.specs.Standing.{state_of, CanMove}
 use Rattle.mk_sched.specs.Steps.{step_of, past_of}
-use Rattle.mk_sched.specs.Stored.{Files, store_of}
+use Rattle.mk_sched.specs.Stored.{Files}
 use Rattle.mk_sched.specs.Stores.{Store}
-use Rattle.mk_sched.specs.Table.{State, IsAllowed, changed, told_by, state_after}
+use Rattle.mk_sched.specs.Table.{State, IsAllowed, changed, told_by}
 use Rattle.mk_sched.specs.declared.event.Event.{Event as Told}
 use Rattle.mk_sched.specs.declared.stage.Stage.{Stage}
 use Rattle.mk_sched.proofs.ByTable.{state_told}
-use Rattle.mk_sched.proofs.Moving.{counter_moves, in_jobs}
+use Rattle.mk_sched.proofs.Moving.{counter_moves}
 use Rattle.mk_sched.specs.declared.refusal.Refusal.{Refusal}
 use Rattle.mk_sched.proofs.Basics.{split}
 use Rattle.mk_sched.proofs.Refusing.{allowed_unless_refused, allowed, one_answer, node_asked}
