@@ -15,12 +15,16 @@ use Rattle.std.proofs.lemmas.Map.Keys.{IsDistinct-from_sorted, sorted_head, sort
 use Rattle.std.proofs.lemmas.Map.Text.{is_eq-slice_cmp}
 use Rattle.mk_name.specs.Names.{Name, same_name, has}
 use Rattle.mk_sched.specs.Stores.{File, AgreesWithListing}
-use Rattle.mk_sched.specs.Stored.{Files, store_of, with_file, IsInOrder, one_at, how_many}
+use Rattle.mk_sched.specs.Stored.{Files, store_of, with_file, without_file, IsInOrder, one_at, how_many}
 use Rattle.mk_sched.proofs.Basics.{split, same_name-true, same_name-refl}
 
 -- the order of names finds what the test of names finds
 pub found : (files : Files) (x : Name) → lookup (is_at (slice_cmp nat_cmp x)) files ≡ store_of files x
 found files x = λ i. lookup (λ k. is_eq-slice_cmp x k i) files
+
+-- and takes out what the test of names takes out
+pub taken : (files : Files) (x : Name) → remove_entry (is_at (slice_cmp nat_cmp x)) files ≡ without_file files x
+taken files x = λ i. remove_entry (λ k. is_eq-slice_cmp x k i) files
 
 -- how many have a time after a file is put
 pub how_many-put : (files : Files) (x : Name) (file : File) (old : Option File) (t : ℕ) → IsInOrder files

@@ -4,7 +4,7 @@ use Rattle.std.specs.BTreeMap.{insert_entry}
 use Rattle.std.specs.Cmp.Lexicographic.{slice_cmp}
 use Rattle.std.specs.List.{sum_by}
 use Rattle.std.specs.List.Sorted.{IsStrictlySortedBy}
-use Rattle.std.specs.Map.{lookup, keys_of, values_of}
+use Rattle.std.specs.Map.{lookup, keys_of, remove_entry, values_of}
 use Rattle.std.specs.Ordering.{nat_cmp}
 use Rattle.mk_name.specs.Names.{Name, same_name}
 use Rattle.mk_sched.specs.Stores.{File, Store}
@@ -21,6 +21,10 @@ store_of files x = lookup (same_name x) files
 -- the files with this one at a name, each in its place in the byte order of names
 abbrev pub with_file : Files → Name → File → Files
 with_file files x file = insert_entry (slice_cmp nat_cmp) files x file
+
+-- the files without the one at a name; the same files where none stands there
+abbrev pub without_file : Files → Name → Files
+without_file files x = remove_entry (same_name x) files
 
 -- the names rise, byte by byte, so that each stands once
 abbrev pub IsInOrder : Files → Type 0

@@ -7,7 +7,7 @@ ghost use Rattle.mk_name.specs.Names.{has, same_name};
 ghost use Rattle.mk_name.specs.Names as names;
 ghost use Rattle.mk_sched.specs.Events.Act.{Put, Erase};
 ghost use Rattle.mk_sched.specs.Events.{written};
-ghost use Rattle.mk_sched.specs.Stored.{store_of, with_file, IsInOrder};
+ghost use Rattle.mk_sched.specs.Stored.{store_of, with_file, without_file, IsInOrder};
 ghost use Rattle.mk_sched.specs.Stores as stores;
 ghost use Rattle.mk_sched.specs.Stores.{AgreesWithListing};
 
@@ -92,8 +92,9 @@ impl Store {
 
     /// Erases the file at a name, if there is one.
     pub fn erase(&mut self, name: &Name)
-        ensures { (x : names.Name) →
+        ensures stands { (x : names.Name) →
             store_of self.new x ≡ written (Erase name.now) x (store_of self.old x) }
+        ensures files { self.new ≡ without_file self.old name.now }
     {
         if let Some(file) = self.files.remove(name) {
             self.times.take(file.time());

@@ -1,6 +1,6 @@
-use Rattle.std.proofs.Common.{ℕ, Some, None, sym, ap, arith}
+use Rattle.std.proofs.Common.{ℕ, Some, None, sym, ap, ◌∙◌, arith}
 use Rattle.mk_sched.specs.Stored.{Files, how_many, one_at}
-use Rattle.mk_sched.proofs.Storing.{how_many-erase, some_has_time, changed}
+use Rattle.mk_sched.proofs.Storing.{how_many-erase, some_has_time, changed, taken}
 use Rattle.mk_sched.proofs.store.Store.erase.Goals as goal
 
 pub take-requires : goal.take-requires
@@ -19,7 +19,13 @@ invariant_of-self c = record {
 }
 
 pub returns-in-Some : goal.returns-in-Some
-returns-in-Some c = rw (sym c.self.view_is) (changed c.self.inside.files.entries c.remove.new.self.entries c.args.name.now None c.remove.ensures.updates.0)
+returns-in-Some c = rw (sym c.self.view_is) (record {
+  stands = changed c.self.inside.files.entries c.remove.new.self.entries c.args.name.now None c.remove.ensures.updates.0;
+  files = c.remove.ensures.entries ∙ taken c.self.inside.files.entries c.args.name.now;
+})
 
 pub returns-in_default : goal.returns-in_default
-returns-in_default c = rw (sym c.self.view_is) (changed c.self.inside.files.entries c.remove.new.self.entries c.args.name.now None c.remove.ensures.updates.0)
+returns-in_default c = rw (sym c.self.view_is) (record {
+  stands = changed c.self.inside.files.entries c.remove.new.self.entries c.args.name.now None c.remove.ensures.updates.0;
+  files = c.remove.ensures.entries ∙ taken c.self.inside.files.entries c.args.name.now;
+})
