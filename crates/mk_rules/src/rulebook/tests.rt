@@ -76,18 +76,41 @@ fn add_meanings(all: &mut String, book: &Rulebook, name: &Name) -> Result<(), Al
     Ok(())
 }
 
-/// What the special targets and the inference rules say.
-fn specials_shown(alloc: Global, text: &str) -> Result<String, AllocError> {
-    let book = book(alloc, text)?;
-    let mut all = String::new(alloc);
-    add_names(&mut all, "suffix", book.suffixes())?;
-    for name in &names(alloc, ".c.o .c .o .c.c .o.c .DEFAULT .DEFAULT.o x .WAIT")? {
-        add_meanings(&mut all, &book, name)?;
+/// What a book says of some names, a line for each thing.
+fn add_each(all: &mut String, book: &Rulebook, names: &[Name]) -> Result<(), AllocError> {
+    for name in names {
+        add_meanings(all, book, name)?;
     }
+    Ok(())
+}
+
+/// What a book says of the names that the cases have.
+fn add_all_meanings(alloc: Global, all: &mut String, book: &Rulebook) -> Result<(), AllocError> {
+    let names = names(alloc, ".c.o .c .o .c.c .o.c .DEFAULT .DEFAULT.o x .WAIT")?;
+    add_each(all, book, names.as_slice())
+}
+
+/// Whether `.DEFAULT` has commands, and how often `.WAIT` is used.
+fn add_default(all: &mut String, book: &Rulebook) -> Result<(), AllocError> {
     let has_default = book.has_default();
     let wait_uses = book.wait_uses();
     writeln!(all, "{has_default} {wait_uses}")?;
+    Ok(())
+}
+
+/// What the special targets and the inference rules of a book say.
+fn specials_of(alloc: Global, book: &Rulebook) -> Result<String, AllocError> {
+    let mut all = String::new(alloc);
+    add_names(&mut all, "suffix", book.suffixes())?;
+    add_all_meanings(alloc, &mut all, book)?;
+    add_default(&mut all, book)?;
     Ok(all)
+}
+
+/// What the special targets and the inference rules say.
+fn specials_shown(alloc: Global, text: &str) -> Result<String, AllocError> {
+    let book = book(alloc, text)?;
+    specials_of(alloc, &book)
 }
 
 const SPECIALS: &[(&str, &str)] = &[
@@ -212,20 +235,37 @@ fn add_second(all: &mut String, book: &Rulebook) -> Result<(), AllocError> {
     Ok(())
 }
 
+/// As many targets as there may be, each with its rules.
+fn add_targets(all: &mut String, alloc: Global, book: &Rulebook, count: usize) -> Result<(), Halt> {
+    for number in 0..count {
+        if let Some(name) = book.target(number) {
+            add_target(all, alloc, book, name)?;
+        }
+    }
+    Ok(())
+}
+
+/// The default goal.
+fn add_goal(all: &mut String, book: &Rulebook) -> Result<(), AllocError> {
+    if let Some(name) = book.default_goal() {
+        add_name(all, "goal", name)?;
+    }
+    Ok(())
+}
+
+/// The targets of a book, its default goal and the second recipe.
+fn targets_of(alloc: Global, book: &Rulebook, count: usize) -> Result<String, Halt> {
+    let mut all = String::new(alloc);
+    add_targets(&mut all, alloc, book, count)?;
+    add_goal(&mut all, book)?;
+    add_second(&mut all, book)?;
+    Ok(all)
+}
+
 /// The targets, the default goal and the second recipe.
 fn targets_shown(alloc: Global, text: &str) -> Result<String, Halt> {
     let book = book(alloc, text)?;
-    let mut all = String::new(alloc);
-    for number in 0..text.len() {
-        if let Some(name) = book.target(number) {
-            add_target(&mut all, alloc, &book, name)?;
-        }
-    }
-    if let Some(name) = book.default_goal() {
-        add_name(&mut all, "goal", name)?;
-    }
-    add_second(&mut all, &book)?;
-    Ok(all)
+    targets_of(alloc, &book, text.len())
 }
 
 const TARGETS: &[(&str, &str)] = &[
@@ -267,19 +307,57 @@ fn target_rules(rt: HostRuntime) -> Result<(), Halt> {
     Ok(())
 }
 
-#[test]
-fn parts_of_a_rule(rt: HostRuntime) -> Result<(), AllocError> {
-    let alloc = rt.alloc();
+/// An entry of the base makefile, with a target twice and `.WAIT` twice.
+fn base_rule(alloc: Global) -> Result<Rule, AllocError> {
     let targets = names(alloc, "b a b")?;
     let prerequisites = names(alloc, ".WAIT a .WAIT")?;
-    let rule = Rule::new(alloc, Source::Base, 7, targets, prerequisites, true)?;
-    assert!(rt; rule.targets() == names(alloc, "b a")?.as_slice());
-    assert!(rt; rule.prerequisites() == names(alloc, ".WAIT a .WAIT")?.as_slice());
-    assert!(rt; matches!(rule.source(), Source::Base));
-    assert_eq!(rt; rule.line(), 7);
-    assert!(rt; rule.has_commands());
-    let book = Rulebook::new(alloc, vec![in alloc; rule]?)?;
-    assert_eq!(rt; book.rule_count(), 1);
-    assert!(rt; book.has_recipe(&name(alloc, "a")?));
+    Rule::new(alloc, Source::Base, 7, targets, prerequisites, true)
+}
+
+/// The parts of a rule, a line for each thing.
+fn parts_of(alloc: Global, rule: &Rule) -> Result<String, AllocError> {
+    let mut all = String::new(alloc);
+    add_names(&mut all, "target", rule.targets())?;
+    add_names(&mut all, "needs", rule.prerequisites())?;
+    let source = rule.source();
+    let line = rule.line();
+    let has_commands = rule.has_commands();
+    writeln!(all, "{source:?} {line} {has_commands}")?;
+    Ok(all)
+}
+
+fn base_rule_shown(alloc: Global) -> Result<String, AllocError> {
+    let rule = base_rule(alloc)?;
+    parts_of(alloc, &rule)
+}
+
+/// How many rules a book has, and whether `a` has a recipe.
+fn counts_of(alloc: Global, book: &Rulebook) -> Result<String, AllocError> {
+    let target = name(alloc, "a")?;
+    let count = book.rule_count();
+    let has_recipe = book.has_recipe(&target);
+    format!(in alloc; "{count} {has_recipe}")
+}
+
+fn base_book(alloc: Global) -> Result<Rulebook, AllocError> {
+    let rule = base_rule(alloc)?;
+    let rules = vec![in alloc; rule]?;
+    Rulebook::new(alloc, rules)
+}
+
+fn base_book_shown(alloc: Global) -> Result<String, AllocError> {
+    let book = base_book(alloc)?;
+    counts_of(alloc, &book)
+}
+
+#[test]
+fn parts_of_a_rule(rt: HostRuntime) -> Result<(), AllocError> {
+    let parts = base_rule_shown(rt.alloc())?;
+    assert_eq!(rt;
+        parts.as_str(),
+        "target b\ntarget a\nneeds .WAIT\nneeds a\nneeds .WAIT\nBase 7 true\n"
+    );
+    let counts = base_book_shown(rt.alloc())?;
+    assert_eq!(rt; counts.as_str(), "1 true");
     Ok(())
 }
