@@ -1,15 +1,17 @@
 use super::*;
 use mk_foot::attaching::attach;
 use mk_foot::reading::read_footprints;
+use mk_graph::plan::Plan;
 use mk_graph::planning::plan;
 use mk_macro::macros::Macros;
 use mk_name::report::refused_report;
 use mk_rules::reading::read_rules;
+use mk_rules::rulebook::Rulebook;
 use mk_sched::contents::Contents;
 use mk_sched::event::Event;
+use mk_sched::file::File;
 use mk_text::lines::lines;
 use mk_text::listing::Listing;
-use std::test::Fail;
 
 // The nodes are `s` (0), `a` (1), `b` (2) and `all` (3).
 const MAKEFILE: &str = "all: a b\na: s\n\tc\nb: s\n\tc\n";
@@ -143,79 +145,114 @@ const BAD_LINES: &[&str] = &[
 ];
 
 #[test]
-fn texts_of_logs(rt: HostRuntime) -> Result<(), Fail> {
+fn texts_of_logs(rt: HostRuntime) -> Result<(), Halt> {
     let alloc = rt.alloc();
-    let root = Root::read(alloc, b"/w").ok().ok_or("root")?;
-    let jobs = jobs_of(alloc, &root).ok().ok_or("jobs")?;
+    let root = Root::read(alloc, b"/w")?;
+    let jobs = jobs_of(alloc, &root)?;
     for (text, want) in LOGS.iter() {
-        let said = said_of(alloc, text.as_bytes(), &jobs, &root)?;
-        assert_eq!(rt; said.as_slice(), want.as_bytes(), "{text:?}");
+        let is_said = is_said(alloc, text.as_bytes(), &jobs, &root, want.as_bytes());
+        assert!(rt; is_said, "{text:?}");
     }
     Ok(())
 }
 
 #[test]
-fn bad_lines(rt: HostRuntime) -> Result<(), Fail> {
+fn bad_lines(rt: HostRuntime) -> Result<(), Halt> {
     let alloc = rt.alloc();
-    let root = Root::read(alloc, b"/w").ok().ok_or("root")?;
-    let jobs = jobs_of(alloc, &root).ok().ok_or("jobs")?;
+    let root = Root::read(alloc, b"/w")?;
+    let jobs = jobs_of(alloc, &root)?;
     for line in BAD_LINES.iter() {
-        let text = format!(in alloc; "\n{line}\n{{")?;
-        let said = said_of(alloc, text.as_bytes(), &jobs, &root)?;
-        let want = b"refused\nF24 BadLog\nat log 2\n".as_slice();
-        assert_eq!(rt; said.as_slice(), want, "{line:?}");
+        assert!(rt; is_bad(alloc, line, &jobs, &root), "{line:?}");
     }
     Ok(())
 }
 
 #[test]
-fn a_line_that_is_no_utf8(rt: HostRuntime) -> Result<(), Fail> {
+fn a_line_that_is_no_utf8(rt: HostRuntime) -> Result<(), Halt> {
     let alloc = rt.alloc();
-    let root = Root::read(alloc, b"/w").ok().ok_or("root")?;
-    let jobs = jobs_of(alloc, &root).ok().ok_or("jobs")?;
+    let root = Root::read(alloc, b"/w")?;
+    let jobs = jobs_of(alloc, &root)?;
     let text = b"{\"do\":\"start\",\"node\":\"a\",\"x\":\"\xff\"}".as_slice();
-    let said = said_of(alloc, text, &jobs, &root)?;
     let want = b"refused\nF24 BadLog\nat log 1\n".as_slice();
-    assert_eq!(rt; said.as_slice(), want);
+    assert!(rt; is_said(alloc, text, &jobs, &root, want));
     Ok(())
+}
+
+fn book_of(alloc: Global, root: &Root) -> Result<Rulebook, Halt> {
+    let lines = lines(alloc, MAKEFILE.as_bytes())?;
+    let mut macros = Macros::new(alloc, &[])?;
+    read_rules(alloc, &[], lines.as_slice(), &mut macros, root)
+}
+
+fn plan_of(alloc: Global, book: &Rulebook, root: &Root) -> Result<Plan, Halt> {
+    let listing = Listing::read(alloc, b"s", root)?;
+    plan(alloc, book, &listing, &[])
+}
+
+fn attached(alloc: Global, plan: Plan, book: &Rulebook, root: &Root) -> Result<Jobs, Halt> {
+    let footprints = read_footprints(alloc, FOOTPRINTS.as_bytes(), root)?;
+    match attach(alloc, plan, book, &footprints) {
+        Ok(jobs) => Ok(jobs),
+        Err((_plan, halt)) => Err(halt),
+    }
 }
 
 fn jobs_of(alloc: Global, root: &Root) -> Result<Jobs, Halt> {
-    let listing = Listing::read(alloc, b"s", root)?;
-    let lines = lines(alloc, MAKEFILE.as_bytes())?;
-    let mut macros = Macros::new(alloc, &[])?;
-    let rulebook = read_rules(alloc, &[], lines.as_slice(), &mut macros, root)?;
-    let plan = plan(alloc, &rulebook, &listing, &[])?;
-    let footprints = read_footprints(alloc, FOOTPRINTS.as_bytes(), root)?;
-    match attach(alloc, plan, &rulebook, &footprints) {
-        Ok(jobs) => Ok(jobs),
-        Err((_plan, halt)) => Err(halt),
+    let book = book_of(alloc, root)?;
+    let plan = plan_of(alloc, &book, root)?;
+    attached(alloc, plan, &book, root)
+}
+
+// Whether this is said of a text.
+fn is_said(alloc: Global, text: &[u8], jobs: &Jobs, root: &Root, want: &[u8]) -> bool {
+    match said_of(alloc, text, jobs, root) {
+        Ok(said) => said.as_slice() == want,
+        Err(AllocError) => false,
+    }
+}
+
+// Whether a line behind a blank one is told as bad.
+fn is_bad(alloc: Global, line: &str, jobs: &Jobs, root: &Root) -> bool {
+    let want = b"refused\nF24 BadLog\nat log 2\n".as_slice();
+    match format!(in alloc; "\n{line}\n{{") {
+        Ok(text) => is_said(alloc, text.as_bytes(), jobs, root, want),
+        Err(AllocError) => false,
     }
 }
 
 fn said_of(alloc: Global, text: &[u8], jobs: &Jobs, root: &Root) -> Result<Vec<u8>, AllocError> {
     match read_log(alloc, text, jobs, root) {
         Ok(log) => told_log(alloc, &log),
-        Err(Halt::Fault(fault)) => refused_report(alloc, &fault),
-        Err(Halt::Memory) => Vec::from_slice(alloc, b"memory"),
+        Err(halt) => told_halt(alloc, &halt),
+    }
+}
+
+fn told_halt(alloc: Global, halt: &Halt) -> Result<Vec<u8>, AllocError> {
+    match halt {
+        Halt::Fault(fault) => refused_report(alloc, fault),
+        Halt::Memory => Vec::from_slice(alloc, b"memory"),
     }
 }
 
 fn told_log(alloc: Global, log: &Log) -> Result<Vec<u8>, AllocError> {
     let mut out = Vec::new(alloc);
     for (name, file) in log.store.files() {
-        out.extend_from_slice(b"file ")?;
-        out.extend_from_slice(name.as_bytes())?;
-        let time = file.time();
-        push_number(alloc, &mut out, time)?;
-        push_contents(&mut out, file.contents())?;
-        out.push(b'\n')?;
+        push_file(alloc, &mut out, name, file)?;
     }
     for event in &log.events {
         push_event(alloc, &mut out, event)?;
         out.push(b'\n')?;
     }
     Ok(out)
+}
+
+fn push_file(alloc: Global, out: &mut Vec<u8>, name: &Name, file: &File) -> Result<(), AllocError> {
+    out.extend_from_slice(b"file ")?;
+    out.extend_from_slice(name.as_bytes())?;
+    push_number(alloc, out, file.time())?;
+    push_contents(out, file.contents())?;
+    out.push(b'\n')?;
+    Ok(())
 }
 
 fn push_event(alloc: Global, out: &mut Vec<u8>, event: &Event) -> Result<(), AllocError> {
