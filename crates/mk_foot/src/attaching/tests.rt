@@ -8,7 +8,6 @@ use mk_text::lines::lines;
 use mk_text::listing::Listing;
 use mk_text::root::Root;
 use std::alloc::AllocError;
-use std::test::Fail;
 
 const ONE_TARGET: &str = "all: a\na:\n\tc\nz: s\n\tc\n";
 
@@ -66,9 +65,9 @@ const CASES: &[(&str, &str, &str, &str)] = &[
 ];
 
 #[test]
-fn jobs_of_footprints(rt: HostRuntime) -> Result<(), Fail> {
+fn jobs_of_footprints(rt: HostRuntime) -> Result<(), Halt> {
     let alloc = rt.alloc();
-    let root = Root::read(alloc, b"/w").ok().ok_or("root")?;
+    let root = Root::read(alloc, b"/w")?;
     for (makefile, listing, text, want) in CASES.iter() {
         let said = said_of(
             alloc,
@@ -91,8 +90,39 @@ fn said_of(
 ) -> Result<Vec<u8>, AllocError> {
     match jobs_of(alloc, root, makefile, listing, text) {
         Ok(jobs) => live_nodes(alloc, &jobs),
-        Err(Halt::Fault(fault)) => refused_report(alloc, &fault),
-        Err(Halt::Memory) => Vec::from_slice(alloc, b"memory"),
+        Err(halt) => told_halt(alloc, &halt),
+    }
+}
+
+fn told_halt(alloc: Global, halt: &Halt) -> Result<Vec<u8>, AllocError> {
+    match halt {
+        Halt::Fault(fault) => refused_report(alloc, fault),
+        Halt::Memory => Vec::from_slice(alloc, b"memory"),
+    }
+}
+
+fn book_of(alloc: Global, root: &Root, makefile: &[u8]) -> Result<Rulebook, Halt> {
+    let lines = lines(alloc, makefile)?;
+    let mut macros = Macros::new(alloc, &[])?;
+    read_rules(alloc, &[], lines.as_slice(), &mut macros, root)
+}
+
+fn plan_of(alloc: Global, root: &Root, book: &Rulebook, listing: &[u8]) -> Result<Plan, Halt> {
+    let listing = Listing::read(alloc, listing, root)?;
+    plan(alloc, book, &listing, &[])
+}
+
+fn attached(
+    alloc: Global,
+    root: &Root,
+    book: &Rulebook,
+    plan: Plan,
+    text: &[u8],
+) -> Result<Jobs, Halt> {
+    let footprints = read_footprints(alloc, text, root)?;
+    match attach(alloc, plan, book, &footprints) {
+        Ok(jobs) => Ok(jobs),
+        Err((_plan, halt)) => Err(halt),
     }
 }
 
@@ -103,16 +133,9 @@ fn jobs_of(
     listing: &[u8],
     text: &[u8],
 ) -> Result<Jobs, Halt> {
-    let listing = Listing::read(alloc, listing, root)?;
-    let lines = lines(alloc, makefile)?;
-    let mut macros = Macros::new(alloc, &[])?;
-    let rulebook = read_rules(alloc, &[], lines.as_slice(), &mut macros, root)?;
-    let plan = plan(alloc, &rulebook, &listing, &[])?;
-    let footprints = read_footprints(alloc, text, root)?;
-    match attach(alloc, plan, &rulebook, &footprints) {
-        Ok(jobs) => Ok(jobs),
-        Err((_plan, halt)) => Err(halt),
-    }
+    let book = book_of(alloc, root, makefile)?;
+    let plan = plan_of(alloc, root, &book, listing)?;
+    attached(alloc, root, &book, plan, text)
 }
 
 fn live_nodes(alloc: Global, jobs: &Jobs) -> Result<Vec<u8>, AllocError> {
