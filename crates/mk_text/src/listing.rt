@@ -143,8 +143,15 @@ mod tests {
 
     fn report_of(alloc: Global, answer: Result<Listing, Halt>) -> Result<Vec<u8>, AllocError> {
         match answer {
-            Err(Halt::Fault(fault)) => refused_report(alloc, &fault),
-            _ => Ok(Vec::new(alloc)),
+            Err(halt) => report_of_halt(alloc, &halt),
+            Ok(_) => Ok(Vec::new(alloc)),
+        }
+    }
+
+    fn report_of_halt(alloc: Global, halt: &Halt) -> Result<Vec<u8>, AllocError> {
+        match halt {
+            Halt::Fault(fault) => refused_report(alloc, fault),
+            Halt::Memory => Ok(Vec::new(alloc)),
         }
     }
 }

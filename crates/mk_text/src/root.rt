@@ -95,8 +95,15 @@ mod tests {
     /// How many bytes the name of a refused root has.
     fn told(answer: Result<Root, Halt>) -> Option<usize> {
         match answer {
-            Err(Halt::Fault(fault)) => fault.names().first().map(|name| name.as_bytes().len()),
-            _ => None,
+            Err(halt) => length_told(&halt),
+            Ok(_) => None,
+        }
+    }
+
+    fn length_told(halt: &Halt) -> Option<usize> {
+        match halt {
+            Halt::Fault(fault) => fault.names().first().map(|name| name.as_bytes().len()),
+            Halt::Memory => None,
         }
     }
 }

@@ -67,10 +67,22 @@ fn refused(rt: HostRuntime) -> Result<(), Fail> {
 /// How many bytes of names a refused path or word tells.
 fn told(answer: Result<Name, Halt>) -> Option<usize> {
     match answer {
-        Err(Halt::Fault(fault)) => Some(match fault.names() {
-            [name] => name.as_bytes().len(),
-            _ => 0,
-        }),
-        _ => None,
+        Err(halt) => length_told(&halt),
+        Ok(_) => None,
+    }
+}
+
+fn length_told(halt: &Halt) -> Option<usize> {
+    match halt {
+        Halt::Fault(fault) => Some(length_of(fault.names())),
+        Halt::Memory => None,
+    }
+}
+
+/// How many bytes the name has, where there is one alone.
+fn length_of(names: &[Name]) -> usize {
+    match names {
+        [name] => name.as_bytes().len(),
+        _ => 0,
     }
 }
