@@ -4,6 +4,7 @@ use Rattle.std.specs.Io.KnownBytes.{Appends}
 use Rattle.clap.specs.Words.{Row, Text}
 use Rattle.mk_name.specs.Shown.{refused_text}
 use Rattle.mk_name.specs.Told.{Told}
+use Rattle.mk_text.specs.Device.{AppendsBeginning}
 use Rattle.mk_race.specs.Played.{IsPlayed}
 use Rattle.mk_race.specs.Stages.{IsPlanned, Texts}
 use Rattle.mk_race.specs.declared.replaying.Played.{Played}
@@ -101,3 +102,7 @@ IsAnswerTo found files status text = (request : Request) × Asks request found �
 -- it was written behind what stood there
 abbrev pub WritesAnswer : Option (Text × List Row) → (List ℕ → Option (List ℕ)) → Status → Option (List ℕ) → Option (List ℕ) → Type 0
 WritesAnswer found files status old new = (text : List ℕ) × Appends old new text × IsAnswerTo found files status text
+
+-- a beginning of it was written there, and nothing else
+abbrev pub WritesBeginning : Option (Text × List Row) → (List ℕ → Option (List ℕ)) → Option (List ℕ) → Option (List ℕ) → Type 0
+WritesBeginning found files old new = (status : Status) × (text : List ℕ) × AppendsBeginning old new text × IsAnswerTo found files status text

@@ -1,10 +1,11 @@
 -- What the program is asked by its words, as `clap` reads them.
-use Rattle.std.specs.Prelude.{ℕ, ◌≡◌, Bool, true, List, [], map, Option, Some, None, codes, false, option_map, unwrap_or}
+use Rattle.std.specs.Prelude.{ℕ, ◌≡◌, ◌⊎◌, Bool, true, List, [], map, Option, Some, None, codes, false, option_map, unwrap_or}
 use Rattle.std.specs.Str.{bytes_eq}
 use Rattle.std.specs.Str.Parse.{digits_value, without_leading_plus}
-use Rattle.clap.specs.Words.{App, IsUnsignedIn, Row, Rule, Text, all_of, first_of, new_app, new_rule, with_rule, with_subcommand}
+use Rattle.clap.specs.Words.{App, IsAmong, IsUnsignedIn, Kinds, Row, Rule, Text, all_of, first_of, new_app, new_rule, with_rule, with_subcommand}
 use Rattle.clap.specs.declared.builder.action.ArgAction.TheVariants.{Append, Set, SetTrue}
 use Rattle.clap.specs.declared.builder.value_parser.ValueParser.TheVariants.{Unsigned}
+use Rattle.clap.specs.declared.error.kind.ErrorKind.TheVariants.{DisplayHelp}
 use Rattle.race.specs.declared.words.Build.{Build}
 use Rattle.race.specs.declared.words.Request.{Request}
 use Rattle.race.specs.declared.words.Request.TheVariants as requests
@@ -93,3 +94,7 @@ IsFor (requests.Replay replay) name rows = (name ≡ codes "replay") × HasRepla
 abbrev pub Asks : Request → Option (Text × List Row) → Type 0
 Asks request None = ⊥
 Asks request (Some found) = IsFor request found.0 found.1
+
+-- the words can be answered: nothing is wrong with them, or they call for help
+abbrev pub IsAnswerable : Kinds → Type 0
+IsAnswerable wrong = (wrong ≡ []) ⊎ IsAmong DisplayHelp wrong

@@ -1,10 +1,10 @@
 //! The program: from the words of the command line to what is written.
 ghost use Rattle.std.specs.Prelude.{◌≡◌, ◌≢◌, ◌↔◌, ◌++◌, ◌∷◌, [], IfErr, IfOk, IsErr, IsErrOf, List, OnErr, OnOk, false, map, true, ℕ};
 ghost use Rattle.std.specs.Io.KnownBytes.{Appends};
-ghost use Rattle.clap.specs.Words.{kind_of, subcommand_of, takes};
+ghost use Rattle.clap.specs.Words.{fault_of, kind_of, subcommand_of, takes};
 ghost use Rattle.mk_race.specs.Stages.{texts_of};
 ghost use Rattle.race.specs.Answered as spec;
-ghost use Rattle.race.specs.CommandLine.{program};
+ghost use Rattle.race.specs.CommandLine.{IsAnswerable, program};
 ghost use Rattle.race.specs.declared.words.Request.TheVariants.{Order, Replay as Replays};
 
 use crate::failing::{Failure, InputFile};
@@ -89,6 +89,13 @@ pub fn race_words<'a, P: Opener, O: Outlet, E: Outlet>(
         → result ≢ Status.Failed → spec.WritesAnswer
         (subcommand_of program (map (λ word. word.now) words.entry.now))
         (P.text opener.old) result (O.written out.old) (O.written out.new) }
+    ensures beginning { takes program (map (λ word. word.now) words.entry.now) ≡ true
+        → O.has_failed out.new ≡ true → spec.WritesBeginning
+        (subcommand_of program (map (λ word. word.now) words.entry.now))
+        (P.text opener.old) (O.written out.old) (O.written out.new) }
+    // Words that are wrong get no answer.
+    ensures usage { result ≢ Status.Failed
+        → IsAnswerable (fault_of program (map (λ word. word.now) words.entry.now)) }
 {
     match answer_written(alloc, words, opener, out) {
         Ok(status) => status,
@@ -143,6 +150,12 @@ fn answer_written<'a, P: Opener, O: Outlet>(
         → IfOk result (λ status. spec.WritesAnswer
         (subcommand_of program (map (λ word. word.now) words.entry.now))
         (P.text opener.old) status (O.written out.old) (O.written out.new)) }
+    ensures beginning { takes program (map (λ word. word.now) words.entry.now) ≡ true
+        → O.has_failed out.new ≡ true → spec.WritesBeginning
+        (subcommand_of program (map (λ word. word.now) words.entry.now))
+        (P.text opener.old) (O.written out.old) (O.written out.new) }
+    ensures usage { OnOk result
+        (IsAnswerable (fault_of program (map (λ word. word.now) words.entry.now))) }
 {
     let answer = answer_to(alloc, words, opener)?;
     match write_all(out, answer.text.as_slice()) {
@@ -169,6 +182,8 @@ fn answer_to<'a, P: Opener>(
         → IfOk result (λ answer. spec.IsAnswerTo
         (subcommand_of program (map (λ word. word.now) words.entry.now))
         (P.text opener.old) answer.status answer.text.items) }
+    ensures usage { OnOk result
+        (IsAnswerable (fault_of program (map (λ word. word.now) words.entry.now))) }
 {
     match read_words(alloc, words) {
         Ok(request) => answer_of(alloc, &request, opener),
@@ -181,12 +196,13 @@ fn help_of(alloc: Global, error: &clap::Error) -> Result<Answer, Failure>
     ensures status { IfOk result (λ answer. answer.status ≡ Status.Done) }
     ensures failure { IfErr result (λ failure. failure ≢ Failure.Write) }
     ensures memory { kind_of error.now ≡ ErrorKind.OutOfMemory → IsErr result }
+    ensures help { OnOk result (kind_of error.now ≡ ErrorKind.DisplayHelp) }
 {
     if error.kind() == ErrorKind::OutOfMemory {
         return Err(Failure::Memory);
     }
     let text = error.to_string(alloc)?;
-    if error.use_stderr() {
+    if error.kind() != ErrorKind::DisplayHelp {
         return Err(Failure::Usage(String::from_str(alloc, text.trim_end())?));
     }
     Ok(Answer {

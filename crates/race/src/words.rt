@@ -1,6 +1,6 @@
 //! The words of the command line.
 ghost use Rattle.std.specs.Prelude.{◌≡◌, ◌⊎◌, IfErr, IfOk, codes, false, map, true};
-ghost use Rattle.clap.specs.Words.{app_of, found_of, kind_of, rows_of, rule_of, subcommand_of, takes};
+ghost use Rattle.clap.specs.Words.{FailsBy, app_of, fault_of, found_of, kind_of, rows_of, rule_of, subcommand_of, takes};
 ghost use Rattle.clap.specs.declared.builder.command.Command.TheViews.{out-Command as fields_of};
 ghost use Rattle.race.specs.CommandLine as spec;
 
@@ -70,6 +70,7 @@ pub fn read_words<'a>(alloc: Global, words: &'a [&'a str]) -> Result<Request<'a>
     ensures refused { IfErr result (λ error.
         takes spec.program (map (λ word. word.now) words.entry.now) ≡ true
         → kind_of error ≡ ErrorKind.OutOfMemory) }
+    ensures kinds { FailsBy (fault_of spec.program (map (λ word. word.now) words.entry.now)) result }
 {
     let matches = program(alloc)?.try_get_matches_from(words)?;
     match matches.subcommand() {

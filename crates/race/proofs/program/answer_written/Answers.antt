@@ -11,3 +11,7 @@ returns-in-Ok-clause-not_allowed g c =
 pub returns-in-Ok-clause-answer : goal.returns-in-Ok-clause-answer
 returns-in-Ok-clause-answer g c =
     λ taken. (c.in_ok-answer.answer.text.items, rw c.as_slice.ensures.value at c.in-Ok.ensures.all, c.in_ok-answer.ensures.answer taken)
+
+pub returns-clause-beginning : goal.returns-clause-beginning
+returns-clause-beginning g c =
+    λ taken failed. (c.in_ok-answer.answer.status, c.in_ok-answer.answer.text.items, rw c.as_slice.ensures.value at c.in-Err.ensures.beginning, c.in_ok-answer.ensures.answer taken)
