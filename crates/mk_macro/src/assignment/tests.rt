@@ -25,12 +25,19 @@ fn fault_shown(alloc: Global, fault: &Fault) -> Result<String, AllocError> {
     Ok(all)
 }
 
+/// The fault as a text, where memory has not run out.
+fn halt_shown(alloc: Global, halt: &Halt) -> Result<String, AllocError> {
+    match halt {
+        Halt::Fault(fault) => fault_shown(alloc, fault),
+        Halt::Memory => Err(AllocError),
+    }
+}
+
 /// What a text expands to, or its fault.
 fn expanded(alloc: Global, macros: &Macros, text: &[u8]) -> Result<String, AllocError> {
     match macros.expand(alloc, text) {
         Ok(bytes) => String::from_str(alloc, str::from_utf8(&bytes).unwrap_or("?")),
-        Err(Halt::Fault(fault)) => fault_shown(alloc, &fault),
-        Err(Halt::Memory) => Err(AllocError),
+        Err(halt) => halt_shown(alloc, &halt),
     }
 }
 
@@ -44,8 +51,7 @@ fn assigned(
 ) -> Result<String, AllocError> {
     match macros.assign_text(alloc, name.as_bytes(), operator, text) {
         Ok(()) => Ok(String::new(alloc)),
-        Err(Halt::Fault(fault)) => fault_shown(alloc, &fault),
-        Err(Halt::Memory) => Err(AllocError),
+        Err(halt) => halt_shown(alloc, &halt),
     }
 }
 
@@ -250,8 +256,7 @@ fn length_shown(alloc: Global, macros: &Macros, text: &[u8]) -> Result<String, A
             let length = bytes.len();
             format!(in alloc; "{length}")
         }
-        Err(Halt::Fault(fault)) => fault_shown(alloc, &fault),
-        Err(Halt::Memory) => Err(AllocError),
+        Err(halt) => halt_shown(alloc, &halt),
     }
 }
 
