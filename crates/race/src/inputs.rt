@@ -1,5 +1,5 @@
 //! How the inputs are opened and read.
-ghost use Rattle.std.specs.Prelude.{◌≡◌, ◌≢◌, ◌↔◌, [], IfErr, IfOk, IfSome, IsErrOf, List, None, Some, false, is_some, option_map, true, ℕ};
+ghost use Rattle.std.specs.Prelude.{◌≡◌, ◌↔◌, ◌⊎◌, [], IfErr, IfOk, IfSome, IsErrOf, List, None, Some, false, is_some, option_map, true, ℕ};
 ghost use Rattle.race.specs.Answered as spec;
 
 use crate::failing::{Failure, InputFile};
@@ -33,7 +33,8 @@ pub fn base_text<I: Intake + Drop>(alloc: Global, file: Option<I>) -> Result<Vec
     ensures text { IfOk result (λ text. IfSome file (λ f. IfSome (I.left f) (λ bytes.
         text.items ≡ bytes))) }
     ensures none { IfOk result (λ text. file ≡ None → text.items ≡ []) }
-    ensures failure { IfErr result (λ failure. failure ≢ Failure.Write) }
+    ensures failure { IfErr result (λ failure.
+        (failure ≡ Failure.Read InputFile.Base) ⊎ (failure ≡ Failure.Memory)) }
 {
     match file {
         Some(mut file) => text_of(alloc, &mut file, InputFile::Base),
@@ -60,7 +61,8 @@ pub fn text_of<I: Intake>(alloc: Global, file: &mut I, input: InputFile) -> Resu
     requires { I.has_failed file.old ≡ false }
     ensures text { IfOk result (λ text. IfSome (I.left file.old) (λ bytes. text.items ≡ bytes)) }
     ensures read { IsErrOf result (Failure.Read input) ↔ (I.has_failed file.new ≡ true) }
-    ensures failure { IfErr result (λ failure. failure ≢ Failure.Write) }
+    ensures failure { IfErr result (λ failure.
+        (failure ≡ Failure.Read input) ⊎ (failure ≡ Failure.Memory)) }
 {
     match read_all(alloc, file) {
         Ok(text) => Ok(text),
