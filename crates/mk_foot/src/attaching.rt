@@ -21,9 +21,6 @@ use mk_rules::rulebook::Rulebook;
 use std::alloc::Global;
 use std::marker::Model;
 
-#[cfg(test)]
-mod tests;
-
 /// The names that the recipe of one node reads and writes, rising.
 #[derive(Debug, Drop)]
 struct Row {

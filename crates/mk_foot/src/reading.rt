@@ -15,9 +15,6 @@ use mk_name::fault::{Fault, Halt, Kind, Source};
 use mk_text::root::Root;
 use std::alloc::{AllocError, Global};
 
-#[cfg(test)]
-mod tests;
-
 /// How many paths footprints may read and write, counted with repeats.
 const PATH_LIMIT: usize = 1_000_000;
 

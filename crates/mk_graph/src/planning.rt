@@ -14,9 +14,6 @@ use mk_rules::rulebook::Rulebook;
 use mk_text::listing::Listing;
 use std::alloc::Global;
 
-#[cfg(test)]
-mod tests;
-
 /// A fault of the graph.
 fn graph_fault(kind: Kind, names: Vec<Name>) -> Halt
     ensures { result ≡ halts.Fault (graph_fault kind names.items) }

@@ -17,9 +17,6 @@ use mk_sched::store::Store;
 use mk_text::root::Root;
 use std::alloc::{AllocError, Global};
 
-#[cfg(test)]
-mod tests;
-
 /// Reads a log, one object of JSON a line (profile); docs/FORMATS.md has the objects. Lines with nothing but spaces, tabs
 /// and carriage returns are passed over; the last line needs no newline; keys that an object's word does not ask for mean
 /// nothing.

@@ -28,9 +28,6 @@ use mk_sched::store::Store;
 use serde_json::Value;
 use std::alloc::{AllocError, Global};
 
-#[cfg(test)]
-mod tests;
-
 /// Why a log is not written.
 #[derive(Clone, Copy, Debug, PartialEq, Eq)]
 pub enum LogHalt {

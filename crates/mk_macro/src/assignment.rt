@@ -11,9 +11,6 @@ use mk_name::fault::Halt;
 use mk_text::line::{Line, LineKind, Operator};
 use std::alloc::{AllocError, Global};
 
-#[cfg(test)]
-mod tests;
-
 /// The text of a logical line: its pieces with one space between each two.
 fn text_of(alloc: Global, line: &Line) -> Result<Vec<u8>, AllocError>
     ensures { IfOk result (λ text. text.items ≡ text_of line.now) }

@@ -110,26 +110,3 @@ impl Hash for Name {
         self.bytes.as_slice().hash(state);
     }
 }
-
-#[cfg(test)]
-mod tests {
-    use super::*;
-    use std::test::Fail;
-
-    #[test]
-    fn tails(rt: HostRuntime) -> Result<(), Fail> {
-        let alloc = rt.alloc();
-        let name = Name::from_bytes(Vec::from_slice(alloc, b"parse.o")?);
-        for (cut, tail, want) in [
-            (5, ".y", "parse.y"),
-            (7, ".y", "parse.o.y"),
-            (100, "x", "parse.ox"),
-            (0, "a", "a"),
-        ] {
-            let changed = name.with_tail(alloc, cut, tail.as_bytes())?;
-            assert_eq!(rt; changed.as_bytes(), want.as_bytes(), "after {cut} bytes");
-        }
-        assert!(rt; name.copy(alloc)? == name);
-        Ok(())
-    }
-}

@@ -119,27 +119,3 @@ fn push_name_line(out: &mut Vec<u8>, name: &Name) -> Result<(), AllocError>
     out.push(b'\n')?;
     Ok(())
 }
-
-#[cfg(test)]
-mod tests {
-    use super::*;
-    use std::test::Fail;
-
-    #[test]
-    fn reports(rt: HostRuntime) -> Result<(), Fail> {
-        let alloc = rt.alloc();
-        let include = Name::from_bytes(Vec::from_slice(alloc, b"a b.mk")?);
-        let name = Name::from_bytes(Vec::from_slice(alloc, b"/a b\\\xc3\xa9\x7f~!/y")?);
-        let names = vec![in alloc; name]?;
-        let fault = Fault::new(Kind::NoRule, Source::Graph, 0, names);
-        let shown =
-            b"refused\nF16 NoRule\nat graph 0\nname /a\\x20b\\x5c\xc3\xa9\\x7f~!/y\n".as_slice();
-        assert_eq!(rt; refused_report(alloc, &fault)?.as_slice(), shown);
-        let source = Source::Include(include);
-        let fault = Fault::new(Kind::UnknownInclude, source, u64::MAX, Vec::new(alloc));
-        let placed =
-            b"refused\nF26 UnknownInclude\nat include:a\\x20b.mk 18446744073709551615\n".as_slice();
-        assert_eq!(rt; refused_report(alloc, &fault)?.as_slice(), placed);
-        Ok(())
-    }
-}

@@ -10,9 +10,6 @@ use mk_foot::reading::read_footprints;
 use mk_name::fault::Halt;
 use std::alloc::Global;
 
-#[cfg(test)]
-mod tests;
-
 /// The jobs of a build.
 ///
 /// The first fault is answered: those of the plan (see [`plan_of`]), then of the footprints by their lines, and then of

@@ -53,6 +53,3 @@ pub fn replay_log(
         Err(Stopped::Memory) => Err(Halt::Memory),
     }
 }
-
-#[cfg(test)]
-mod tests;

@@ -155,6 +155,3 @@ pub fn read_rules(
     let book = Rulebook::new(alloc, rules)?;
     checked(alloc, book)
 }
-
-#[cfg(test)]
-mod tests;

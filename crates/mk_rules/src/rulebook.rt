@@ -311,6 +311,3 @@ pub(crate) fn may_be_goal(name: &Name) -> bool
 {
     !name.as_bytes().starts_with(b".") || name.as_bytes().contains(&b'/')
 }
-
-#[cfg(test)]
-mod tests;

@@ -45,36 +45,3 @@ impl Event {
         }
     }
 }
-
-#[cfg(test)]
-mod tests {
-    use super::*;
-    use std::test::Fail;
-
-    // The time of a put.
-    fn time_of(event: &Event) -> u64 {
-        match event {
-            Event::Put(_, _, _, time) => *time,
-            _ => 0,
-        }
-    }
-
-    #[test]
-    fn tells_nodes_and_times(rt: HostRuntime) -> Result<(), Fail> {
-        let name = Name::from_bytes(vec![in rt.alloc(); b'a', b'.', b'o']?);
-        let contents = Contents::from_bytes(vec![in rt.alloc(); b'o', b'g']?);
-        let copy = contents.copy(rt.alloc())?;
-        assert_eq!(rt; copy.as_bytes(), b"og".as_slice());
-        let put = Event::Put(3, name, contents, 9).at_time(2);
-        assert_eq!(rt; put.node(), 3);
-        assert_eq!(rt; time_of(&put), 2);
-        for (event, node) in [
-            (Event::Skip(0), 0),
-            (Event::Start(4), 4),
-            (Event::Finish(7), 7),
-        ] {
-            assert_eq!(rt; event.at_time(2).node(), node);
-        }
-        Ok(())
-    }
-}

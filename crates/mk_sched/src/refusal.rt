@@ -73,16 +73,3 @@ impl Refusal {
         }
     }
 }
-
-#[cfg(test)]
-mod tests {
-    use super::*;
-
-    #[test]
-    fn tells_numbers_and_words(rt: HostRuntime) {
-        assert_eq!(rt; Refusal::NotReady.number(), 1);
-        assert_eq!(rt; Refusal::NotNewer.number(), 9);
-        assert_eq!(rt; Refusal::NotNewer.word(), "NotNewer");
-        assert_eq!(rt; Refusal::NoNode.word(), "NoNode");
-    }
-}

@@ -109,6 +109,3 @@ pub fn replay(
     let store = state.store;
     Ok(Replayed { store, complete })
 }
-
-#[cfg(test)]
-mod tests;

@@ -111,6 +111,3 @@ pub fn write_all<O: Outlet>(device: &mut O, bytes: &[u8]) -> Result<(), Broken>
     }
     Ok(())
 }
-
-#[cfg(test)]
-mod tests;

@@ -15,9 +15,6 @@ use crate::words::{are_blanks, past_blanks};
 use mk_name::fault::{Fault, Halt, Kind, Source};
 use std::alloc::Global;
 
-#[cfg(test)]
-mod tests;
-
 /// A makefile's text has at most so many bytes (profile).
 pub const TEXT_LIMIT: usize = 1_048_576;
 

@@ -72,38 +72,3 @@ impl Root {
         self.text.as_slice()
     }
 }
-
-#[cfg(test)]
-mod tests {
-    use super::*;
-    use std::test::Fail;
-
-    #[test]
-    fn roots(rt: HostRuntime) -> Result<(), Fail> {
-        let alloc = rt.alloc();
-        let mut long = vec![in alloc; b'/'; 4096]?;
-        assert!(rt; Root::read(alloc, long.as_slice()).is_ok());
-        long.push(b'a')?;
-        for text in [long.as_slice(), b"w", b"", b"/w\0", b"/w\n"] {
-            assert_eq!(rt; told(Root::read(alloc, text)), Some(text.len()), "{text:?}");
-        }
-        let root = Root::read(alloc, b"/w").ok().ok_or("no root")?;
-        assert_eq!(rt; root.copy(alloc)?.text(), b"/w".as_slice());
-        Ok(())
-    }
-
-    /// How many bytes the name of a refused root has.
-    fn told(answer: Result<Root, Halt>) -> Option<usize> {
-        match answer {
-            Err(halt) => length_told(&halt),
-            Ok(_) => None,
-        }
-    }
-
-    fn length_told(halt: &Halt) -> Option<usize> {
-        match halt {
-            Halt::Fault(fault) => fault.names().first().map(|name| name.as_bytes().len()),
-            Halt::Memory => None,
-        }
-    }
-}

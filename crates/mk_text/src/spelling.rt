@@ -72,6 +72,3 @@ pub fn reduced_by_its_end()
 pub fn reduced_is_plain()
     ensures { (parts : List (List ℕ)) → All spec.IsPlain (spec.reduced parts) }
 {}
-
-#[cfg(test)]
-mod tests;

@@ -1,0 +1,3 @@
+//! Logs that are read and written.
+mod reading;
+mod writing;

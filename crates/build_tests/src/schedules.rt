@@ -1,0 +1,3 @@
+//! Events, and lists of them that are replayed.
+mod events;
+mod replays;

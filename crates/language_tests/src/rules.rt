@@ -1,0 +1,3 @@
+//! Makefiles and entries, and what a book says of them.
+mod books;
+mod reading;
