@@ -1,64 +1,32 @@
 //! Whole runs of the program over files and outputs in memory.
 ghost use Rattle.std.specs.Prelude.{None};
 
-mod allowed_1;
-mod allowed_2;
-mod examples;
-mod not_allowed_1;
-mod not_allowed_2;
-mod not_allowed_3;
-mod ordered_macros_1;
-mod ordered_macros_2;
-mod ordered_macros_3;
-mod ordered_plain;
-mod ordered_rules_1;
-mod ordered_rules_2;
-mod ordered_rules_3;
-mod refused_macros_1;
-mod refused_macros_2;
-mod refused_macros_3;
-mod refused_plain;
-mod refused_replays_1;
-mod refused_replays_2;
-mod refused_replays_3;
-mod refused_rules;
-mod replayed;
 mod replays;
 mod served;
 
 use crate::opener::Opener;
 use crate::program::{Status, race_words};
-use examples::{ORDERED_EXAMPLES, REFUSED_EXAMPLES};
 use mk_text::device::Broken;
 use mk_text::feed::Feed;
 use mk_text::spout::Spout;
-use ordered_macros_1::ORDERED_MACROS_1;
-use ordered_macros_2::ORDERED_MACROS_2;
-use ordered_macros_3::ORDERED_MACROS_3;
-use ordered_plain::ORDERED_PLAIN;
-use ordered_rules_1::ORDERED_RULES_1;
-use ordered_rules_2::ORDERED_RULES_2;
-use ordered_rules_3::ORDERED_RULES_3;
-use refused_macros_1::REFUSED_MACROS_1;
-use refused_macros_2::REFUSED_MACROS_2;
-use refused_macros_3::REFUSED_MACROS_3;
-use refused_plain::REFUSED_PLAIN;
-use refused_rules::REFUSED_RULES;
+use race_cases::case::Case;
+use race_cases::examples::{ORDERED_EXAMPLES, REFUSED_EXAMPLES};
+use race_cases::ordered_macros_1::ORDERED_MACROS_1;
+use race_cases::ordered_macros_2::ORDERED_MACROS_2;
+use race_cases::ordered_macros_3::ORDERED_MACROS_3;
+use race_cases::ordered_plain::ORDERED_PLAIN;
+use race_cases::ordered_rules_1::ORDERED_RULES_1;
+use race_cases::ordered_rules_2::ORDERED_RULES_2;
+use race_cases::ordered_rules_3::ORDERED_RULES_3;
+use race_cases::refused_macros_1::REFUSED_MACROS_1;
+use race_cases::refused_macros_2::REFUSED_MACROS_2;
+use race_cases::refused_macros_3::REFUSED_MACROS_3;
+use race_cases::refused_plain::REFUSED_PLAIN;
+use race_cases::refused_rules::REFUSED_RULES;
 use std::alloc::Global;
 use std::io;
 use std::io::{ErrorKind, Read, Write};
 use std::test::Fail;
-
-/// A run of `order` with these inputs, and what comes out.
-pub struct Case {
-    pub about: &'static str,
-    pub root: &'static str,
-    pub operands: &'static [&'static str],
-    pub base: Option<&'static [u8]>,
-    pub makefile: &'static [u8],
-    pub listing: &'static [u8],
-    pub out: &'static [u8],
-}
 
 /// What reading a file gives: a text, or nothing at all.
 #[derive(Clone, Copy)]
@@ -192,7 +160,7 @@ fn first_wrong(alloc: Global, cases: &[Case], status: Status) -> Result<&'static
             case.makefile,
             case.listing,
         )?;
-        if run.status != status || run.out.as_slice() != case.out || !run.err.is_empty() {
+        if run.status != status || !case.wants(run.out.as_slice()) || !run.err.is_empty() {
             return Ok(case.about);
         }
     }

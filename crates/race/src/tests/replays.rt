@@ -1,32 +1,18 @@
 //! Whole runs of `race replay`.
-use super::allowed_1::ALLOWED_1;
-use super::allowed_2::ALLOWED_2;
-use super::not_allowed_1::NOT_ALLOWED_1;
-use super::not_allowed_2::NOT_ALLOWED_2;
-use super::not_allowed_3::NOT_ALLOWED_3;
-use super::refused_replays_1::REFUSED_REPLAYS_1;
-use super::refused_replays_2::REFUSED_REPLAYS_2;
-use super::refused_replays_3::REFUSED_REPLAYS_3;
-use super::replayed::REPLAYED;
 use super::{Outcome, Page, Shelf, good, run};
 use crate::program::Status;
+use race_cases::allowed_1::ALLOWED_1;
+use race_cases::allowed_2::ALLOWED_2;
+use race_cases::case::ReplayCase;
+use race_cases::not_allowed_1::NOT_ALLOWED_1;
+use race_cases::not_allowed_2::NOT_ALLOWED_2;
+use race_cases::not_allowed_3::NOT_ALLOWED_3;
+use race_cases::refused_replays_1::REFUSED_REPLAYS_1;
+use race_cases::refused_replays_2::REFUSED_REPLAYS_2;
+use race_cases::refused_replays_3::REFUSED_REPLAYS_3;
+use race_cases::replayed::REPLAYED;
 use std::alloc::Global;
 use std::test::Fail;
-
-/// A run of `replay` with these inputs, and what comes out.
-pub struct ReplayCase {
-    pub about: &'static str,
-    pub root: &'static str,
-    pub operands: &'static [&'static str],
-    pub base: Option<&'static [u8]>,
-    pub makefile: &'static [u8],
-    pub listing: &'static [u8],
-    pub footprints: &'static [u8],
-    pub log: &'static [u8],
-    pub limit: Option<&'static str>,
-    pub tie: bool,
-    pub out: &'static [u8],
-}
 
 const REPLAY: [&str; 11] = [
     "race",

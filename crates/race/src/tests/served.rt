@@ -1,12 +1,9 @@
 //! Which source serves a name under the base makefile of the examples. `bench/inference/run.py` asks GNU make the same.
 use super::order;
 use crate::program::Status;
+use race_cases::posix_base::POSIX_BASE;
 use std::alloc::{AllocError, Global};
 use std::test::Fail;
-
-/// The text of `examples/posix-base.mk`.
-pub const POSIX_BASE: &[u8] =
-    b"# The default rules of POSIX.1-2024 make (XCU make, \"Default Rules\"), for `race .. --base examples/posix-base.mk`.\n# The commands are never read by race; they stand here so that a make can run this file too.\n#\n# Left out, since race does not read it: the rules and suffixes of SCCS files (.c~ .y~ .l~ .sh~) with the macros GET,\n# GFLAGS, SCCSFLAGS and SCCSGETFLAGS. Members of archives, lib(member), are not read either: the rule .c.a stands here\n# for plain names alone. POSIX.1-2024 has no Fortran compiler, so there are no rules of .f.\n#\n# Inference takes one step: prog comes from prog.c if that is listed or a target, but not by way of a prog.c that\n# would first be made from prog.y.\n\n# suffixes and macros\n\n.SUFFIXES: .o .c .y .l .a .sh\n\nMAKE=make\nAR=ar\nARFLAGS=-rv\nYACC=yacc\nYFLAGS=\nLEX=lex\nLFLAGS=\nLDFLAGS=\nCC=c17\nCFLAGS=-O 1\n\n# single suffix rules\n\n.c:\n\t$(CC) $(CFLAGS) $(LDFLAGS) -o $@ $<\n\n.sh:\n\tcp $< $@\n\tchmod a+x $@\n\n# double suffix rules\n\n.c.o:\n\t$(CC) $(CFLAGS) -c $<\n\n.y.o:\n\t$(YACC) $(YFLAGS) $<\n\t$(CC) $(CFLAGS) -c y.tab.c\n\trm -f y.tab.c\n\tmv y.tab.o $@\n\n.l.o:\n\t$(LEX) $(LFLAGS) $<\n\t$(CC) $(CFLAGS) -c lex.yy.c\n\trm -f lex.yy.c\n\tmv lex.yy.o $@\n\n.y.c:\n\t$(YACC) $(YFLAGS) $<\n\tmv y.tab.c $@\n\n.l.c:\n\t$(LEX) $(LFLAGS) $<\n\tmv lex.yy.c $@\n\n.c.a:\n\t$(CC) -c $(CFLAGS) $<\n\t$(AR) $(ARFLAGS) $@ $*.o\n\trm -f $*.o\n";
 
 /// The files that are there, a name, and the source that it is inferred from, if it is.
 static SERVED: [(&str, &str, Option<&str>); 21] = [

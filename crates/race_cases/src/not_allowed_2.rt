@@ -1,5 +1,5 @@
 //! Replays in which an event, or the store, is refused.
-use super::replays::ReplayCase;
+use crate::case::ReplayCase;
 
 pub static NOT_ALLOWED_2: [ReplayCase; 13] = [
     ReplayCase {

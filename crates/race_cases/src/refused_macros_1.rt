@@ -1,5 +1,5 @@
 //! Builds that are refused: macros, comments and continued lines.
-use super::Case;
+use crate::case::Case;
 
 pub static REFUSED_MACROS_1: [Case; 26] = [
     Case {

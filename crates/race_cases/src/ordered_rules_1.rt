@@ -1,5 +1,5 @@
 //! Builds whose serial order is printed: inference rules, special targets and a base makefile.
-use super::Case;
+use crate::case::Case;
 
 pub static ORDERED_RULES_1: [Case; 25] = [
     Case {

@@ -1,5 +1,5 @@
 //! Builds whose serial order is printed: target rules without macros.
-use super::Case;
+use crate::case::Case;
 
 pub static ORDERED_PLAIN: [Case; 38] = [
     Case {

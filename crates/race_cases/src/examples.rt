@@ -1,6 +1,6 @@
 //! The examples of the repository.
-use super::Case;
-use super::served::POSIX_BASE;
+use crate::case::Case;
+use crate::posix_base::POSIX_BASE;
 
 pub static ORDERED_EXAMPLES: [Case; 4] = [
     Case {

@@ -1,5 +1,5 @@
 //! The examples of replays, and what the other tables leave out.
-use super::replays::ReplayCase;
+use crate::case::ReplayCase;
 
 pub static REPLAYED: [ReplayCase; 4] = [
     ReplayCase {

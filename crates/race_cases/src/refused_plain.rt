@@ -1,5 +1,5 @@
 //! Builds that are refused: target rules without macros.
-use super::Case;
+use crate::case::Case;
 
 pub static REFUSED_PLAIN: [Case; 46] = [
     Case {

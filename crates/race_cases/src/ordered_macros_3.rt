@@ -1,5 +1,5 @@
 //! Builds whose serial order is printed: macros, comments and continued lines.
-use super::Case;
+use crate::case::Case;
 
 pub static ORDERED_MACROS_3: [Case; 15] = [
     Case {

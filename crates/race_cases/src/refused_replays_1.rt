@@ -1,5 +1,5 @@
 //! Replays whose inputs are refused.
-use super::replays::ReplayCase;
+use crate::case::ReplayCase;
 
 pub static REFUSED_REPLAYS_1: [ReplayCase; 15] = [
     ReplayCase {

@@ -1,5 +1,5 @@
 //! Builds that are refused: inference rules, special targets and a base makefile.
-use super::Case;
+use crate::case::Case;
 
 pub static REFUSED_RULES: [Case; 31] = [
     Case {

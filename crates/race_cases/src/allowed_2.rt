@@ -1,5 +1,5 @@
 //! Replays that are allowed, and what they leave.
-use super::replays::ReplayCase;
+use crate::case::ReplayCase;
 
 pub static ALLOWED_2: [ReplayCase; 12] = [
     ReplayCase {
