@@ -1,7 +1,7 @@
 //! What several tests begin with, and how they show what comes out: names, stores, events, and the jobs of a build below `/w`.
 use crate::made::contents_of;
 use language_tests::made::name_of;
-use mk_foot::jobs::Jobs;
+use mk_jobs::jobs::Jobs;
 use mk_name::fault::Halt;
 use mk_name::name::Name;
 use mk_name::report::refused_report;

@@ -1,7 +1,7 @@
 //! Books of rules, and the plans that they give by hand.
 use language_tests::made::name_of;
-use mk_graph::maker::Maker;
-use mk_graph::plan::Plan;
+use mk_jobs::maker::Maker;
+use mk_jobs::plan::Plan;
 use mk_graph::planning::plan;
 use mk_name::fault::{Fault, Halt, Source};
 use mk_name::name::Name;

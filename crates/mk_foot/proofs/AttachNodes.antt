@@ -16,16 +16,16 @@ use Rattle.mk_name.specs.declared.fault.Kind.TheVariants.{MissingFootprint, Writ
 use Rattle.mk_name.specs.declared.fault.Halt.{Halt}
 use Rattle.mk_name.specs.declared.fault.Halt.TheVariants as halts
 use Rattle.mk_name.proofs.Names.{name_is_exact}
-use Rattle.mk_graph.specs.Numbered.{number_of}
-use Rattle.mk_graph.specs.Plan.{Plan, Node, names_of, NeedsStandBefore}
-use Rattle.mk_graph.proofs.Numberings.{has_at, number_at, number_has, number_none}
+use Rattle.mk_jobs.specs.Numbered.{number_of}
+use Rattle.mk_jobs.specs.Plan.{Plan, Node, names_of, NeedsStandBefore}
+use Rattle.mk_jobs.proofs.Numberings.{has_at, number_at, number_has, number_none}
 use Rattle.mk_foot.specs.Attached.{attached, first_fault, footprint_of, is_taken, jobs_with, node_answer, node_fault, recipe_fault, told}
 use Rattle.mk_foot.specs.Footprints.{Footprint, Footprints, footprint_at, no_footprint}
-use Rattle.mk_foot.specs.Jobs.{Jobs, IsPrerequisite, nobody, node_at, node_count, name_of, is_live, reads_of, writes_of, prerequisites_of, may_write}
-use Rattle.mk_foot.specs.Recipes.{is_live_node}
-use Rattle.mk_foot.specs.Shape.{IsRising, IsWellFormed}
-use Rattle.mk_foot.proofs.Accessors.{live_is, name_there, name_count}
-use Rattle.mk_foot.proofs.JobsLemmas.{live_node}
+use Rattle.mk_jobs.specs.Jobs.{Jobs, IsPrerequisite, nobody, node_at, node_count, name_of, is_live, reads_of, writes_of, prerequisites_of, may_write}
+use Rattle.mk_jobs.specs.Recipes.{is_live_node}
+use Rattle.mk_jobs.specs.Shape.{IsRising, IsWellFormed}
+use Rattle.mk_jobs.proofs.Accessors.{live_is, name_there, name_count}
+use Rattle.mk_jobs.proofs.JobsLemmas.{live_node}
 
 -- a name has a number where it stands in the list
 pub numbered-has : (names : List Name) (x : Name) → is_some (number_of names x) ≡ has same_name names x

@@ -7,10 +7,10 @@ use Rattle.mk_name.specs.Told.{Told}
 use Rattle.mk_name.specs.declared.fault.Kind.{Kind}
 use Rattle.mk_name.specs.declared.fault.Kind.TheVariants.{MissingFootprint, WritesTarget}
 use Rattle.mk_name.specs.declared.fault.Source.TheVariants as sources
-use Rattle.mk_graph.specs.Plan.{Node, Plan, names_of}
+use Rattle.mk_jobs.specs.Plan.{Node, Plan, names_of}
 use Rattle.mk_foot.specs.Footprints.{Footprint, Footprints, footprint_at, no_footprint}
-use Rattle.mk_foot.specs.Jobs.{Jobs}
-use Rattle.mk_foot.specs.Recipes.{is_live_node}
+use Rattle.mk_jobs.specs.Jobs.{Jobs}
+use Rattle.mk_jobs.specs.Recipes.{is_live_node}
 
 -- a fault of the node with a number
 abbrev pub told : Kind → ℕ → List Name → Told

@@ -4,7 +4,7 @@ ghost use Rattle.std.specs.BTreeSet.{insert_key};
 ghost use Rattle.std.specs.Cmp.Lexicographic.{slice_cmp};
 ghost use Rattle.std.specs.Ordering.{nat_cmp};
 ghost use Rattle.mk_foot.specs.Footprints.{AddsLine, Unites, footprint_at};
-ghost use Rattle.mk_foot.specs.Shape.{IsRising};
+ghost use Rattle.mk_jobs.specs.Shape.{IsRising};
 
 use crate::line::Line;
 use mk_name::name::Name;

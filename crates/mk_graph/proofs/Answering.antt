@@ -11,18 +11,18 @@ use Rattle.mk_name.specs.Names.{Name, same_name, IsDistinct}
 use Rattle.mk_name.proofs.Names.{name_is_exact, nat_is_exact, distinct_kept}
 use Rattle.mk_name.specs.Gives.{Answers}
 use Rattle.mk_graph.specs.Answer.{IsLeastUnmade, AllMade, IsTooLarge, Comes, IsAnswer, goals_of, goal_list}
-use Rattle.mk_graph.specs.Plan.{Plan}
+use Rattle.mk_jobs.specs.Plan.{Plan}
 use Rattle.mk_rules.specs.Book.{Book, default_goal}
 use Rattle.mk_graph.specs.Collected.{IsGraph}
 use Rattle.mk_graph.specs.Graph.{IsNode}
 use Rattle.mk_graph.specs.Least.{upto, IsLeastPassing}
 use Rattle.mk_graph.specs.Makers.{is_unmade, needs}
-use Rattle.mk_graph.specs.Numbered.{name_at}
+use Rattle.mk_jobs.specs.Numbered.{name_at}
 use Rattle.mk_graph.specs.Rows.{row, InRange, IsRing}
 use Rattle.mk_graph.specs.Walk.{IsOrder}
 use Rattle.mk_graph.proofs.Bridge.{node_back, node_inside, node_map, distinct_map, has_back}
 use Rattle.mk_graph.proofs.Graphs.{numbers_of}
-use Rattle.mk_graph.proofs.Numberings.{has_at}
+use Rattle.mk_jobs.proofs.Numberings.{has_at}
 use Rattle.mk_graph.proofs.Rowing.{row_past}
 use Rattle.mk_graph.proofs.Steps.{In}
 

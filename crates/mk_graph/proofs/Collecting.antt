@@ -13,9 +13,9 @@ use Rattle.mk_rules.specs.Book.{Book, Entry, places_of, prerequisites_of}
 use Rattle.mk_graph.specs.Collected.{given_at, StandsFor, Reads, Collected, SourceStands}
 use Rattle.mk_graph.specs.Makers.{inferred_source, needs}
 use Rattle.mk_graph.specs.Graph.{IsNode, AreNodes}
-use Rattle.mk_graph.specs.Numbered.{name_at, Stand}
+use Rattle.mk_jobs.specs.Numbered.{name_at, Stand}
 use Rattle.mk_rules.proofs.Indexes.{flat_map-places_of}
-use Rattle.mk_graph.proofs.Numberings.{kept_grows, stand_more, has_at, name_at_push}
+use Rattle.mk_jobs.proofs.Numberings.{kept_grows, stand_more, has_at, name_at_push}
 
 abbrev pub Entries : Type 0
 Entries = List (Option (Vec ℕ Global))

@@ -11,7 +11,7 @@ use Rattle.mk_graph.specs.Makers.{needs}
 use Rattle.mk_graph.specs.Collected.{IsGraph}
 use Rattle.mk_graph.specs.Graph.{IsChain, IsCycle}
 use Rattle.mk_graph.specs.Least.{upto, IsLeastPlace}
-use Rattle.mk_graph.specs.Numbered.{name_at}
+use Rattle.mk_jobs.specs.Numbered.{name_at}
 use Rattle.mk_graph.specs.Rows.{row, IsRing}
 use Rattle.mk_graph.proofs.Bridge.{Numbers, Below, has_back, node_map, node_inside, chain_map, distinct_map}
 use Rattle.mk_graph.proofs.Graphs.{numbers_of}

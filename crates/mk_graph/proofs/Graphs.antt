@@ -12,14 +12,14 @@ use Rattle.mk_name.proofs.Names.{name_is_exact, nat_is_exact, in_head, in_tail, 
 use Rattle.mk_rules.specs.Book.{Book, places_of, prerequisites_of}
 use Rattle.mk_graph.specs.Collected.{given_at, StandsFor, SourceStands, Collected, IsGraph}
 use Rattle.mk_graph.specs.Graph.{count_edges, HasMoreThan}
-use Rattle.mk_graph.specs.Numbered.{name_at, number_of, Stand}
+use Rattle.mk_jobs.specs.Numbered.{name_at, number_of, Stand}
 use Rattle.mk_graph.specs.Rows.{row}
 use Rattle.mk_graph.specs.Makers.{inferred_source, needs}
 use Rattle.mk_graph.specs.Seen.{firsts_of, AllBelow, joined_of, needs_of}
 use Rattle.mk_graph.proofs.Bridge.{Numbers, Below, kept_map, node_back}
 use Rattle.mk_rules.proofs.Indexes.{flat_map-places_of, places_of-within}
 use Rattle.mk_graph.proofs.Rowing.{all_in, firsts_within}
-use Rattle.mk_graph.proofs.Numberings.{has_at, number_at}
+use Rattle.mk_jobs.proofs.Numberings.{has_at, number_at}
 use Rattle.mk_graph.proofs.Steps.{In}
 
 abbrev pub Entries : Type 0

@@ -9,7 +9,7 @@ use Rattle.std.proofs.lemmas.Cmp.{upto as std_upto, tied_itself}
 use Rattle.std.proofs.lemmas.Bool.{both_ways, cases_eq}
 use Rattle.mk_name.specs.Names.{Name}
 use Rattle.mk_graph.specs.Least.{upto, IsLeastPassing, IsLeastPlace}
-use Rattle.mk_graph.specs.Numbered.{name_at}
+use Rattle.mk_jobs.specs.Numbered.{name_at}
 
 le_not_gt : (o : Ordering) → is_le o ≡ true → is_gt o ≡ false
 le_not_gt Less h = refl

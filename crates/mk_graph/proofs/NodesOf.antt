@@ -12,8 +12,8 @@ use Rattle.mk_rules.specs.Book.{Book}
 use Rattle.mk_graph.specs.Makers.{needs}
 use Rattle.mk_graph.specs.Collected.{IsGraph}
 use Rattle.mk_graph.specs.Graph.{IsSerialOrder}
-use Rattle.mk_graph.specs.Numbered.{name_at}
-use Rattle.mk_graph.specs.Plan.{Node, Plan}
+use Rattle.mk_jobs.specs.Numbered.{name_at}
+use Rattle.mk_jobs.specs.Plan.{Node, Plan}
 use Rattle.mk_graph.specs.Rows.{row}
 use Rattle.mk_graph.specs.Walk.{IsOrder}
 use Rattle.mk_graph.proofs.Bridge.{Numbers, serial_order_map, no_cycle_map, node_inside}

@@ -5,7 +5,7 @@ use Rattle.std.specs.List.{flat_map, All}
 use Rattle.std.proofs.lemmas.List.Sums.{sum_by_more}
 use Rattle.mk_name.specs.Names.{Name}
 use Rattle.mk_graph.specs.Graph.{count_edges}
-use Rattle.mk_graph.specs.Numbered.{name_at, Stand}
+use Rattle.mk_jobs.specs.Numbered.{name_at, Stand}
 use Rattle.std.specs.Global.{Global}
 use Rattle.std.proofs.lemmas.Bool.{cases_lt, both_ways, cases_eq}
 use Rattle.std.proofs.lemmas.List.{get_or-set_same, get_or-set_other, length-set, take_more, flat_map_more, length_push, get_or_past, get_or_read, length-map}

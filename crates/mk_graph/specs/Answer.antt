@@ -9,7 +9,7 @@ use Rattle.mk_rules.specs.Book.{Book, default_goal, is_phony}
 use Rattle.mk_graph.specs.Graph.{IsNode, HasNoCycle, IsSerialOrder, IsCycle, HasMoreThan}
 use Rattle.mk_graph.specs.Least.{upto}
 use Rattle.mk_graph.specs.Makers.{maker_of, needs, is_unmade}
-use Rattle.mk_graph.specs.Plan.{Node, Plan}
+use Rattle.mk_jobs.specs.Plan.{Node, Plan}
 
 -- a fault of the graph
 abbrev pub graph_fault : Kind → List Name → Told

@@ -4,8 +4,8 @@ use Rattle.std.specs.Global.{Global}
 use Rattle.mk_name.specs.Names.{Name, same_name, has}
 use Rattle.mk_rules.specs.Book.{Book, is_phony}
 use Rattle.mk_graph.specs.Makers.{maker_of}
-use Rattle.mk_graph.specs.Numbered.{name_at}
-use Rattle.mk_graph.specs.Plan.{Node, Plan}
+use Rattle.mk_jobs.specs.Numbered.{name_at}
+use Rattle.mk_jobs.specs.Plan.{Node, Plan}
 use Rattle.mk_graph.specs.Rows.{row}
 
 -- the node of a name with these prerequisites

@@ -7,7 +7,7 @@ use Rattle.mk_rules.specs.Book.{Book, Entry, places_of}
 use Rattle.mk_graph.specs.Graph.{IsNode}
 use Rattle.mk_graph.specs.Makers.{inferred_source, needs}
 use Rattle.mk_graph.specs.Rows.{row}
-use Rattle.mk_graph.specs.Numbered.{name_at, Stand}
+use Rattle.mk_jobs.specs.Numbered.{name_at, Stand}
 
 -- the prerequisites that the rule at a place gives
 abbrev pub given_at : List Entry → ℕ → List Name

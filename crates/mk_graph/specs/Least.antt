@@ -3,7 +3,7 @@ use Rattle.std.specs.Prelude.{◌≡◌, ℕ, ◌<◌, Bool, true, false, List, 
 use Rattle.std.specs.Ordering.{is_le, nat_cmp}
 use Rattle.std.specs.Cmp.Lexicographic.{slice_cmp}
 use Rattle.mk_name.specs.Names.{Name}
-use Rattle.mk_graph.specs.Numbered.{name_at}
+use Rattle.mk_jobs.specs.Numbered.{name_at}
 
 -- one name comes before another byte by byte, or is the same
 abbrev pub upto : Name → Name → Bool

@@ -4,8 +4,8 @@ use Rattle.std.specs.Option.{option_map, option_to_list}
 use Rattle.mk_name.specs.Names.{Name, same_name, has, kept}
 use Rattle.mk_rules.specs.Book.{Book, has_recipe, has_inference, is_phony, is_target, prerequisites_of}
 use Rattle.mk_graph.specs.Suffix.{suffix_of}
-use Rattle.mk_graph.specs.declared.maker.Maker.{Maker}
-use Rattle.mk_graph.specs.declared.maker.Maker.TheVariants.{Rule, Inferred, Default, Nothing}
+use Rattle.mk_jobs.specs.declared.maker.Maker.{Maker}
+use Rattle.mk_jobs.specs.declared.maker.Maker.TheVariants.{Rule, Inferred, Default, Nothing}
 
 -- a name that exists: the listing has it, or it is a target of a target rule
 abbrev pub is_there : Book → List Name → Name → Bool

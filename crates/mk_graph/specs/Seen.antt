@@ -5,7 +5,7 @@ use Rattle.std.specs.List.{flat_map}
 use Rattle.std.specs.Option.{option_to_list}
 use Rattle.mk_name.specs.Names.{Name, has, firsts, kept}
 use Rattle.mk_rules.specs.Book.{Entry, places_of}
-use Rattle.mk_graph.specs.Numbered.{name_at}
+use Rattle.mk_jobs.specs.Numbered.{name_at}
 use Rattle.mk_graph.specs.Rows.{row}
 
 -- each number is marked where it stands in the row

@@ -6,10 +6,10 @@ ghost use Rattle.mk_name.specs.Names.{Name, kept, same_name};
 ghost use Rattle.mk_graph.specs.Collected.{Collected, Reads, SourceStands};
 ghost use Rattle.mk_graph.specs.Graph.{AreNodes};
 ghost use Rattle.mk_graph.specs.Makers.{inferred_source, needs};
-ghost use Rattle.mk_graph.specs.Numbered.{name_at};
+ghost use Rattle.mk_jobs.specs.Numbered.{name_at};
 
 use crate::inference::inferred_source;
-use crate::numbering::Numbering;
+use mk_jobs::numbering::Numbering;
 use mk_name::name::Name;
 use mk_rules::rulebook::Rulebook;
 use mk_text::listing::Listing;

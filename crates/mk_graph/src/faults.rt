@@ -3,11 +3,11 @@ ghost use Rattle.std.specs.Prelude.{◌≡◌, ◌<◌, ◌+◌, ◌++◌, ◌�
 ghost use Rattle.mk_name.specs.Names.{has};
 ghost use Rattle.mk_graph.specs.Least.{upto, IsLeastPassing, IsLeastPlace};
 ghost use Rattle.mk_graph.specs.Makers.{is_unmade, maker_of};
-ghost use Rattle.mk_graph.specs.Numbered.{name_at};
+ghost use Rattle.mk_jobs.specs.Numbered.{name_at};
 
-use crate::maker::Maker;
+use mk_jobs::maker::Maker;
 use crate::makers::is_unmade;
-use crate::numbering::Numbering;
+use mk_jobs::numbering::Numbering;
 use mk_name::name::Name;
 use mk_rules::rulebook::Rulebook;
 use mk_text::listing::Listing;

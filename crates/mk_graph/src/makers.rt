@@ -1,10 +1,10 @@
 //! What makes the names of a graph.
 ghost use Rattle.std.specs.Prelude.{◌≡◌, ◌<◌, ℕ, length, map, get_or, is_some, None, IfOk};
 ghost use Rattle.mk_graph.specs.Makers.{inferred_source, is_unknown, is_unmade, maker_of};
-ghost use Rattle.mk_graph.specs.Numbered.{name_at};
+ghost use Rattle.mk_jobs.specs.Numbered.{name_at};
 
-use crate::maker::Maker;
-use crate::numbering::Numbering;
+use mk_jobs::maker::Maker;
+use mk_jobs::numbering::Numbering;
 use mk_name::name::Name;
 use mk_rules::rulebook::Rulebook;
 use mk_text::listing::Listing;

@@ -6,7 +6,8 @@ ghost use Rattle.mk_graph.specs.Answer.{Comes, IsAnswer, goals_of, graph_fault};
 
 use crate::faults::{cycle_of, least_unmade};
 use crate::graph::graph_of;
-use crate::plan::{Plan, assemble};
+use crate::assembly::assemble;
+use mk_jobs::plan::Plan;
 use crate::serial::{Walked, serial_order};
 use mk_name::fault::{Fault, Halt, Kind, Source};
 use mk_name::name::Name;

@@ -3,12 +3,12 @@ ghost use Rattle.std.specs.Prelude.{◌≡◌, ◌<◌, ◌≤◌, ◌+◌, List
 ghost use Rattle.std.specs.List.{flat_map, sum_by};
 ghost use Rattle.mk_name.specs.Names.{firsts, has, kept};
 ghost use Rattle.mk_graph.specs.Rows.{row};
-ghost use Rattle.mk_graph.specs.Numbered.{name_at, Stand};
+ghost use Rattle.mk_jobs.specs.Numbered.{name_at, Stand};
 ghost use Rattle.mk_graph.specs.Graph.{count_edges};
 ghost use Rattle.mk_graph.specs.Makers.{needs};
 ghost use Rattle.mk_graph.specs.Seen.{IsSeen, firsts_of, AllBelow, joined_of, needs_of, with_source};
 
-use crate::numbering::Numbering;
+use mk_jobs::numbering::Numbering;
 use mk_rules::rulebook::Rulebook;
 use mk_text::listing::Listing;
 use std::alloc::{AllocError, Global};

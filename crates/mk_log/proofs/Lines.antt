@@ -12,7 +12,7 @@ use Rattle.serde_json.specs.Data.{Data}
 use Rattle.serde_json.specs.Read.{read}
 use Rattle.serde_json.specs.Written.{compact_text}
 use Rattle.mk_name.specs.Names.{Name}
-use Rattle.mk_foot.specs.Jobs.{Jobs}
+use Rattle.mk_jobs.specs.Jobs.{Jobs}
 use Rattle.mk_foot.specs.Json.{value_of}
 use Rattle.mk_sched.specs.Stores.{File}
 use Rattle.mk_sched.specs.Stored.{Files}

@@ -6,7 +6,7 @@ use Rattle.std.proofs.lemmas.List.{drop_all, drop_more, take_more, take_all, get
 use Rattle.std.proofs.lemmas.List.FromFn.{get_or-enumerate_from, length-enumerate_from}
 use Rattle.std.specs.Borrow.{Bor}
 use Rattle.mk_name.specs.Told.{Told}
-use Rattle.mk_foot.specs.Jobs.{Jobs}
+use Rattle.mk_jobs.specs.Jobs.{Jobs}
 use Rattle.mk_log.specs.Reading.{IsLogOf, entries_of, is_good, fault_at, first_fault, told}
 use Rattle.mk_log.specs.Adding.{AddsLine}
 use Rattle.mk_log.specs.declared.log.Log.{Log}

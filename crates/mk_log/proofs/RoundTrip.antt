@@ -15,7 +15,7 @@ use Rattle.serde_json.specs.Data.{Data}
 use Rattle.serde_json.specs.Written.{compact_text}
 use Rattle.mk_name.specs.Names.{Name, same_name}
 use Rattle.mk_name.specs.Told.{Told}
-use Rattle.mk_foot.specs.Jobs.{Jobs}
+use Rattle.mk_jobs.specs.Jobs.{Jobs}
 use Rattle.mk_sched.specs.Stores.{File}
 use Rattle.mk_sched.specs.Stored.{Files, IsInOrder, store_of}
 use Rattle.mk_sched.specs.declared.event.Event.{Event}

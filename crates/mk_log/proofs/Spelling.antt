@@ -8,9 +8,9 @@ use Rattle.hex.proofs.HexLemmas.{decode_of-encode_lower}
 use Rattle.serde_json.specs.Data.{Data, object, Members}
 use Rattle.serde_json.specs.Written.{compact_text}
 use Rattle.mk_name.specs.Names.{Name}
-use Rattle.mk_graph.specs.Numbered.{number_of}
-use Rattle.mk_graph.specs.Plan.{names_of}
-use Rattle.mk_foot.specs.Jobs.{Jobs, name_of}
+use Rattle.mk_jobs.specs.Numbered.{number_of}
+use Rattle.mk_jobs.specs.Plan.{names_of}
+use Rattle.mk_jobs.specs.Jobs.{Jobs, name_of}
 use Rattle.mk_foot.specs.Json.{path_named, value_of}
 use Rattle.mk_sched.specs.Steps.{step_of}
 use Rattle.mk_sched.specs.Stores.{Bytes}

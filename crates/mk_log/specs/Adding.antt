@@ -1,6 +1,6 @@
 -- How a log grows by an entry, and by a physical line.
 use Rattle.std.specs.Prelude.{ℕ, ◌≡◌, Bool, true, List, [], ◌∷◌, ◌++◌}
-use Rattle.mk_foot.specs.Jobs.{Jobs}
+use Rattle.mk_jobs.specs.Jobs.{Jobs}
 use Rattle.mk_log.specs.Reading.{IsLogOf, entries_of, is_good, may_follow}
 use Rattle.mk_log.specs.declared.entry.Entry.{Entry}
 use Rattle.mk_log.specs.declared.log.Log.{Log}

@@ -6,9 +6,9 @@ use Rattle.hex.specs.Hex.{decode_of}
 use Rattle.serde_json.specs.Data.{Data, null, boolean, number, string, array, object}
 use Rattle.serde_json.specs.Find.{get, as_number, as_str, as_u64}
 use Rattle.mk_name.specs.Names.{Name, same_name}
-use Rattle.mk_graph.specs.Numbered.{number_of}
-use Rattle.mk_graph.specs.Plan.{names_of}
-use Rattle.mk_foot.specs.Jobs.{Jobs}
+use Rattle.mk_jobs.specs.Numbered.{number_of}
+use Rattle.mk_jobs.specs.Plan.{names_of}
+use Rattle.mk_jobs.specs.Jobs.{Jobs}
 use Rattle.mk_foot.specs.Json.{is_blank, path_under, value_of}
 use Rattle.mk_sched.specs.Stores.{Bytes}
 use Rattle.mk_sched.specs.declared.event.Event.{Event}

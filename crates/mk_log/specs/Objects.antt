@@ -3,7 +3,7 @@ use Rattle.std.specs.Prelude.{ℕ, List, Option, Some, None, codes}
 use Rattle.hex.specs.Hex.{encode_lower}
 use Rattle.serde_json.specs.Data.{Data, unsigned, null, number, string, object, no_members, member}
 use Rattle.mk_name.specs.Names.{Name}
-use Rattle.mk_foot.specs.Jobs.{Jobs, name_of}
+use Rattle.mk_jobs.specs.Jobs.{Jobs, name_of}
 use Rattle.mk_sched.specs.Stores.{Bytes, File}
 use Rattle.mk_sched.specs.declared.event.Event.{Event}
 use Rattle.mk_sched.specs.declared.event.Event.TheVariants.{Skip, Start, Look, Put, Erase, Finish}

@@ -7,7 +7,7 @@ use Rattle.mk_name.specs.Told.{Told}
 use Rattle.mk_name.specs.declared.fault.Kind.TheVariants.{BadLog}
 use Rattle.mk_name.specs.declared.fault.Source.TheVariants as sources
 use Rattle.mk_text.specs.Listing.{lines}
-use Rattle.mk_foot.specs.Jobs.{Jobs}
+use Rattle.mk_jobs.specs.Jobs.{Jobs}
 use Rattle.mk_sched.specs.Stored.{Files, IsInOrder, store_of}
 use Rattle.mk_sched.specs.declared.event.Event.{Event}
 use Rattle.mk_log.specs.Entries.{entries_in}

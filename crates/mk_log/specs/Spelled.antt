@@ -6,7 +6,7 @@ use Rattle.hex.specs.Hex.{IsBytes}
 use Rattle.serde_json.specs.Data.{Data}
 use Rattle.serde_json.specs.Written.{compact_text}
 use Rattle.mk_name.specs.Names.{Name}
-use Rattle.mk_foot.specs.Jobs.{Jobs}
+use Rattle.mk_jobs.specs.Jobs.{Jobs}
 use Rattle.mk_sched.specs.Stores.{Bytes, File}
 use Rattle.mk_sched.specs.declared.event.Event.{Event}
 use Rattle.mk_sched.specs.declared.event.Event.TheVariants.{Skip, Start, Look, Put, Erase, Finish}

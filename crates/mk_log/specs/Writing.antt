@@ -6,7 +6,7 @@ use Rattle.std.specs.Str.{is_utf8}
 use Rattle.serde_json.specs.Data.{Data}
 use Rattle.serde_json.specs.Written.{compact_text}
 use Rattle.mk_name.specs.Names.{Name}
-use Rattle.mk_foot.specs.Jobs.{Jobs, name_of, node_count}
+use Rattle.mk_jobs.specs.Jobs.{Jobs, name_of, node_count}
 use Rattle.mk_foot.specs.Json.{path_named}
 use Rattle.mk_sched.specs.Steps.{step_of}
 use Rattle.mk_sched.specs.declared.event.Event.{Event}

@@ -7,7 +7,7 @@ use Rattle.mk_name.specs.declared.fault.Halt.TheVariants as halts
 use Rattle.mk_name.specs.Told.{Told}
 use Rattle.mk_text.specs.Listing.{listing_of}
 use Rattle.mk_text.specs.Spelling.{root_of}
-use Rattle.mk_foot.specs.Jobs.{Jobs}
+use Rattle.mk_jobs.specs.Jobs.{Jobs}
 use Rattle.mk_log.specs.Reading.{IsRead}
 use Rattle.mk_log.specs.declared.log.Log.{Log}
 use Rattle.mk_race.specs.Played.{IsOutcome, IsPlayed}

@@ -15,7 +15,7 @@ use Rattle.mk_macro.specs.Operands.{operand_macros}
 use Rattle.mk_rules.specs.Book.{Book}
 use Rattle.mk_graph.specs.Answer.{IsAnswer}
 use Rattle.mk_graph.specs.Answer.{goals_of as goals_or_default}
-use Rattle.mk_graph.specs.Plan.{Plan}
+use Rattle.mk_jobs.specs.Plan.{Plan}
 use Rattle.mk_race.specs.Settings.{goals_of}
 use Rattle.mk_race.specs.Stages.{IsBook, IsPlanned, Texts, told_in, with_plan}
 

@@ -7,7 +7,7 @@ use Rattle.mk_name.specs.declared.fault.Halt.TheVariants as halts
 use Rattle.mk_rules.specs.Book.{targets_of}
 use Rattle.mk_foot.specs.Attached.{attached}
 use Rattle.mk_foot.specs.Footprints.{Footprints, IsRead}
-use Rattle.mk_foot.specs.Jobs.{Jobs}
+use Rattle.mk_jobs.specs.Jobs.{Jobs}
 use Rattle.mk_race.specs.Stages.{IsPlanned, IsPrepared, Texts}
 use Rattle.mk_race.specs.declared.stages.Planned.{Planned}
 

@@ -4,7 +4,7 @@ use Rattle.mk_name.specs.Names.{Name, has, same_name}
 use Rattle.mk_name.specs.Told.{Told}
 use Rattle.mk_text.specs.Listing.{listing_of}
 use Rattle.mk_text.specs.Spelling.{root_of}
-use Rattle.mk_foot.specs.Jobs.{Jobs}
+use Rattle.mk_jobs.specs.Jobs.{Jobs}
 use Rattle.mk_sched.specs.Replayed.{IsEventRefused, IsReplayed, IsStoreRefused}
 use Rattle.mk_sched.specs.Stored.{Files}
 use Rattle.mk_sched.specs.declared.refusal.Refusal.{Refusal}

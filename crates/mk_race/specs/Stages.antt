@@ -14,10 +14,10 @@ use Rattle.mk_rules.specs.Placed.{all_lines}
 use Rattle.mk_rules.specs.Reading.{MakefilesSay}
 use Rattle.mk_graph.specs.Answer.{IsAnswer}
 use Rattle.mk_graph.specs.Answer.{goals_of as goals_or_default}
-use Rattle.mk_graph.specs.Plan.{Plan}
+use Rattle.mk_jobs.specs.Plan.{Plan}
 use Rattle.mk_foot.specs.Attached.{attached}
 use Rattle.mk_foot.specs.Footprints.{IsRead}
-use Rattle.mk_foot.specs.Jobs.{Jobs}
+use Rattle.mk_jobs.specs.Jobs.{Jobs}
 use Rattle.mk_race.specs.Settings.{goals_of}
 use Rattle.mk_race.specs.declared.input.Input.{Input}
 use Rattle.mk_race.specs.declared.stages.Planned.{Planned}

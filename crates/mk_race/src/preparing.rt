@@ -5,7 +5,7 @@ ghost use Rattle.mk_race.specs.Stages.{IsPrepared, texts_of};
 use crate::input::Input;
 use crate::stages::{Planned, plan_of};
 use mk_foot::attaching::attach;
-use mk_foot::jobs::Jobs;
+use mk_jobs::jobs::Jobs;
 use mk_foot::reading::read_footprints;
 use mk_name::fault::Halt;
 use std::alloc::Global;

@@ -7,7 +7,7 @@ ghost use Rattle.mk_race.specs.Stages.{IsPlanned, texts_of, told_in};
 
 use crate::input::Input;
 use crate::settings::goals_of;
-use mk_graph::plan::Plan;
+use mk_jobs::plan::Plan;
 use mk_graph::planning::plan;
 use mk_macro::macros::Macros;
 use mk_name::fault::{Halt, Source};

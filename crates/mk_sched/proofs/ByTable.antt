@@ -4,7 +4,7 @@ use Rattle.std.proofs.Math.Path.{fun_ext}
 use mathlib.Core.List.{reverse_aux}
 use Rattle.std.proofs.lemmas.Bool.{and_parts}
 use Rattle.mk_name.specs.Names.{Name}
-use Rattle.mk_foot.specs.Jobs.{Jobs, has_recipe}
+use Rattle.mk_jobs.specs.Jobs.{Jobs, has_recipe}
 use Rattle.mk_sched.specs.Stores.{Store}
 use Rattle.mk_sched.specs.Events.{Act, Skip, Start, Look, Put, Erase, Finish, Event, Phase, Waiting, Running, Skipped, Ran, phase, is_passed, is_running, written}
 use Rattle.mk_sched.specs.Runs.{May, IsRun}

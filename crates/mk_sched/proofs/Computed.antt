@@ -3,8 +3,8 @@ use Rattle.std.proofs.Common.{ℕ, zero, suc, ◌≡◌, ◌<◌, ◌≤◌, ◌
 use Rattle.std.specs.List.{list_all}
 use Rattle.std.proofs.lemmas.Bool.{false≢true, and_parts}
 use Rattle.mk_name.specs.Names.{Name, same_name}
-use Rattle.mk_foot.specs.Jobs.{Before, edge, further, IsValid, IsRaceFree, IsPrerequisite, node_count, name_of, prerequisites_of, has_recipe, is_phony, is_listed, is_live, reads_of, writes_of, may_read, may_write}
-use Rattle.mk_foot.proofs.JobsLemmas.{clash_live}
+use Rattle.mk_jobs.specs.Jobs.{Before, edge, further, IsValid, IsRaceFree, IsPrerequisite, node_count, name_of, prerequisites_of, has_recipe, is_phony, is_listed, is_live, reads_of, writes_of, may_read, may_write}
+use Rattle.mk_jobs.proofs.JobsLemmas.{clash_live}
 use Rattle.mk_sched.specs.Stores.{Bytes, File, Store}
 use Rattle.mk_sched.specs.Events.{Skip, Start, phase, is_started, history}
 use Rattle.mk_sched.specs.Runs.{IsRun, Agree}

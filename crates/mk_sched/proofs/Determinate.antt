@@ -3,8 +3,8 @@ use Rattle.std.proofs.Common.{ℕ, zero, suc, ◌≡◌, ◌<◌, ◌&&◌, Bool
 use mathlib.Core.List.{reverse_aux, reverse_aux-eq}
 use Rattle.std.proofs.lemmas.List.{reverse-reverse}
 use Rattle.mk_name.specs.Names.{Name}
-use Rattle.mk_foot.specs.Jobs.{Jobs, IsValid, IsRaceFree, Before, node_count, has_recipe}
-use Rattle.mk_foot.proofs.JobsLemmas.{before_less}
+use Rattle.mk_jobs.specs.Jobs.{Jobs, IsValid, IsRaceFree, Before, node_count, has_recipe}
+use Rattle.mk_jobs.proofs.JobsLemmas.{before_less}
 use Rattle.mk_sched.specs.Stores.{Bytes, Store}
 use Rattle.mk_sched.specs.Events.{Act, Skip, Start, Look, Put, Erase, Finish, Event, Entry, Looked, Wrote, entries, is_started, phase, acts_of, history}
 use Rattle.mk_sched.specs.Runs.{AlikeSteps, Agree, IsRun, IsComplete, RecipesAgree}

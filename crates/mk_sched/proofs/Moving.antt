@@ -1,7 +1,7 @@
 -- The number of running nodes.
 use Rattle.std.proofs.Common.{ℕ, zero, suc, ◌≡◌, ◌<◌, ◌==◌, inl, inr, Bool, true, false, List, [], ◌∷◌, refl, sym, ap, ◌∙◌, subst, arith, eq-eqb, ne_eqb, eqb-true}
 use Rattle.std.proofs.lemmas.Bool.{false≢true, cases_eq}
-use Rattle.mk_foot.specs.Jobs.{Jobs, node_count}
+use Rattle.mk_jobs.specs.Jobs.{Jobs, node_count}
 use Rattle.mk_sched.specs.Stores.{Store}
 use Rattle.mk_sched.specs.Events.{Act, Skip, Start, Look, Put, Erase, Finish, Event, acts_of, phase, phase_after, is_running, count_to, running_below}
 use Rattle.mk_sched.specs.Runs.{May, IsRun}

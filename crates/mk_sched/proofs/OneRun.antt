@@ -3,7 +3,7 @@
 use Rattle.std.proofs.Common.{ℕ, ◌≡◌, ◌<◌, ◌==◌, ◌⊎◌, inl, inr, Bool, true, false, List, [], ◌∷◌, ◌++◌, Option, Some, None, refl, sym, ap, ◌∙◌, subst, eqb-true, eq-eqb}
 use Rattle.std.proofs.lemmas.Bool.{false≢true, cases_eq, or_left, or_right, false_from_ne_true}
 use Rattle.mk_name.specs.Names.{Name, same_name}
-use Rattle.mk_foot.specs.Jobs.{Jobs, IsValid, IsRaceFree, IsPrerequisite, Before, edge, further, node_count, name_of, may_write, may_touch}
+use Rattle.mk_jobs.specs.Jobs.{Jobs, IsValid, IsRaceFree, IsPrerequisite, Before, edge, further, node_count, name_of, may_write, may_touch}
 use Rattle.mk_sched.specs.Stores.{Bytes, File, Store, bytes_of, must_run}
 use Rattle.mk_sched.specs.Events.{Act, Skip, Start, Look, Put, Erase, Finish, Event, Running, entries, is_passed, is_started, acts_of, phase, phase_after, history, store_after}
 use Rattle.mk_sched.specs.Runs.{May, IsRun, IsReady}

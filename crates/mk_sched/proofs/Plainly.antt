@@ -1,7 +1,7 @@
 -- Agreeing recipes and idle recipes in plain words.
 use Rattle.std.proofs.Common.{subst, reverse, slice_get, ℕ, zero, suc, ◌≡◌, ◌&&◌, not, Bool, true, false, List, [], ◌∷◌, Option, Some, None, refl, sym, ap, ◌∙◌, take, is_some, is_none}
 use Rattle.std.proofs.lemmas.Bool.{false≢true, and_parts, not-true, false_from_ne_true}
-use Rattle.mk_foot.specs.Jobs.{name_of, prerequisites_of, has_recipe, is_phony, is_listed, is_empty}
+use Rattle.mk_jobs.specs.Jobs.{name_of, prerequisites_of, has_recipe, is_phony, is_listed, is_empty}
 use Rattle.mk_sched.specs.Stores.{File}
 use Rattle.mk_sched.specs.Events.{Entry, Looked, Wrote, history, phase, is_started, store_after}
 use Rattle.mk_sched.specs.Runs.{Agree}

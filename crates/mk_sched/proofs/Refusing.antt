@@ -5,7 +5,7 @@ use Rattle.std.proofs.lemmas.Bool.{false≢true, cases_order, or_parts}
 use Rattle.std.proofs.lemmas.List.Elements.{Contains-get_or}
 use Rattle.std.proofs.lemmas.List.Folds.{list_any_at, list_any_none}
 use Rattle.mk_name.specs.Names.{same_name}
-use Rattle.mk_foot.specs.Jobs.{Jobs, node_count, prerequisites_of, has_recipe, may_read, may_write}
+use Rattle.mk_jobs.specs.Jobs.{Jobs, node_count, prerequisites_of, has_recipe, may_read, may_write}
 use Rattle.mk_sched.specs.Stores.{Bytes, bytes_of, is_stale}
 use Rattle.mk_sched.specs.Events.{Act, Skip, Start, Look, Put, Erase, Finish, count_to}
 use Rattle.mk_sched.specs.Table.{State, IsAllowed, CanBegin}

@@ -1,7 +1,7 @@
 -- The steps of a replay.
 use Rattle.std.proofs.Common.{ℕ, zero, suc, ◌≡◌, ◌<◌, ◌≤◌, ◌+◌, ◌^◌, Bool, true, false, List, [], ◌∷◌, ◌++◌, Option, Some, None, refl, sym, ap, ◌∙◌, subst, arith, length, IsTrue, ◌↔◌, get_or, take, drop, map, reverse}
 use Rattle.std.proofs.lemmas.List.{take_more, map-append, reverse-append, take-append-drop, drop_more}
-use Rattle.mk_foot.specs.Jobs.{Jobs, node_count}
+use Rattle.mk_jobs.specs.Jobs.{Jobs, node_count}
 use Rattle.mk_sched.specs.Counter.{Moves}
 use Rattle.mk_sched.specs.Events.{Act, Skip, Start, Look, Put, Erase, Finish, Event, phase, is_running, count_to, running_below}
 use Rattle.mk_sched.specs.Refusals.{Finds, Holds, asked}

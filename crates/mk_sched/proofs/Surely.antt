@@ -3,7 +3,7 @@ use Rattle.std.proofs.Common.{ℕ, ◌≡◌, ◌<◌, ◌||◌, not, nat_lt, Bo
 use Rattle.std.specs.List.{list_any}
 use Rattle.std.proofs.lemmas.Bool.{or_left, or_right}
 use Rattle.std.proofs.lemmas.List.Elements.{Contains-append_right}
-use Rattle.mk_foot.specs.Jobs.{Jobs, node_count, name_of, prerequisites_of, is_phony, is_listed}
+use Rattle.mk_jobs.specs.Jobs.{Jobs, node_count, name_of, prerequisites_of, is_phony, is_listed}
 use Rattle.mk_sched.specs.Stores.{Bytes, Store, File, AgreesWith, outdates}
 use Rattle.mk_sched.specs.Events.{history, store_after}
 use Rattle.mk_sched.specs.Sure.{HasTimes, SurelyStale}

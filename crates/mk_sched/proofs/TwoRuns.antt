@@ -2,8 +2,8 @@
 use Rattle.std.proofs.Common.{ℕ, ◌≡◌, ◌<◌, ◌⊎◌, inl, inr, Bool, true, false, List, Option, Some, None, refl, sym, ap, ◌∙◌, subst, ◌||◌, arith, lt-ltb, is_none, lt_trans}
 use Rattle.std.proofs.lemmas.Bool.{or_left}
 use Rattle.mk_name.specs.Names.{Name}
-use Rattle.mk_foot.specs.Jobs.{Jobs, IsValid, IsRaceFree, IsPrerequisite, Before, node_count, name_of, prerequisites_of, is_phony, may_read}
-use Rattle.mk_foot.proofs.JobsLemmas.{before_less, writer_live, live_node}
+use Rattle.mk_jobs.specs.Jobs.{Jobs, IsValid, IsRaceFree, IsPrerequisite, Before, node_count, name_of, prerequisites_of, is_phony, may_read}
+use Rattle.mk_jobs.proofs.JobsLemmas.{before_less, writer_live, live_node}
 use Rattle.mk_sched.specs.Stores.{Bytes, File, Store, bytes_of, outdates, is_stale}
 use Rattle.mk_sched.specs.Events.{Event, Running, is_passed, is_started, phase, history, store_after}
 use Rattle.mk_sched.specs.Runs.{IsRun}

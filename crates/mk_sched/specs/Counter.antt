@@ -1,6 +1,6 @@
 -- How the number of running nodes moves.
 use Rattle.std.specs.Prelude.{ℕ, suc, ◌≡◌, Bool, List, ◌∷◌}
-use Rattle.mk_foot.specs.Jobs.{Jobs, node_count}
+use Rattle.mk_jobs.specs.Jobs.{Jobs, node_count}
 use Rattle.mk_sched.specs.Stores.{Store}
 use Rattle.mk_sched.specs.Events.{Act, Skip, Start, Look, Put, Erase, Finish, Event, running_below}
 use Rattle.mk_sched.specs.Runs.{IsRun}

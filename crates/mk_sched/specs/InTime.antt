@@ -1,6 +1,6 @@
 -- Runs told in the order of time, and their beginnings.
 use Rattle.std.specs.Prelude.{ℕ, ◌↔◌, ◌++◌, Bool, List, [], ◌∷◌, reverse}
-use Rattle.mk_foot.specs.Jobs.{Jobs}
+use Rattle.mk_jobs.specs.Jobs.{Jobs}
 use Rattle.mk_sched.specs.Stores.{Store}
 use Rattle.mk_sched.specs.Events.{Event}
 use Rattle.mk_sched.specs.Runs.{IsRun, May}

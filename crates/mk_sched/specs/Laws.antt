@@ -1,7 +1,7 @@
 -- The headline, and the three laws that it stands on.
 use Rattle.std.specs.Prelude.{ℕ, ◌≡◌, ◌<◌, Bool, true, false, List}
 use Rattle.mk_name.specs.Names.{Name}
-use Rattle.mk_foot.specs.Jobs.{Jobs, IsValid, IsRaceFree, IsPrerequisite, Before, node_count, name_of, may_read}
+use Rattle.mk_jobs.specs.Jobs.{Jobs, IsValid, IsRaceFree, IsPrerequisite, Before, node_count, name_of, may_read}
 use Rattle.mk_sched.specs.Stores.{Store, AgreesWith, bytes_of, is_stale}
 use Rattle.mk_sched.specs.Events.{Event, Running, phase, is_started, history, store_after}
 use Rattle.mk_sched.specs.Runs.{IsRun, IsComplete, RecipesAgree}

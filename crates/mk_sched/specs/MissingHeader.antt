@@ -1,9 +1,9 @@
 -- A worked case, computed: a header that the makefile forgets, and the same with the header named.
 use Rattle.std.specs.Prelude.{ℕ, ◌≡◌, true, false, List, [], ◌∷◌, reverse, Some, None, if◌then◌else◌}
 use Rattle.mk_name.specs.Names.{Name, same_name}
-use Rattle.mk_graph.specs.Plan.{Node}
-use Rattle.mk_graph.specs.declared.maker.Maker.TheVariants.{Rule, Nothing}
-use Rattle.mk_foot.specs.Jobs.{Jobs, Before, Clash, IsValid, IsRaceFree}
+use Rattle.mk_jobs.specs.Plan.{Node}
+use Rattle.mk_jobs.specs.declared.maker.Maker.TheVariants.{Rule, Nothing}
+use Rattle.mk_jobs.specs.Jobs.{Jobs, Before, Clash, IsValid, IsRaceFree}
 use Rattle.mk_sched.specs.Stores.{Store, AgreesWith, bytes_of}
 use Rattle.mk_sched.specs.Events.{Act, Skip, Start, Look, Put, Finish, Event, store_after}
 use Rattle.mk_sched.specs.Runs.{IsRun, IsComplete, RecipesAgree}

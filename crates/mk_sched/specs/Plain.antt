@@ -1,7 +1,7 @@
 -- Agreeing recipes, idle recipes and agreement with a listing, in the plainest words.
 use Rattle.std.specs.Prelude.{ℕ, ◌≡◌, ◌<◌, ◌↔◌, Bool, true, false, List, Option, Some, None, take, slice_get}
 use Rattle.mk_name.specs.Names.{Name}
-use Rattle.mk_foot.specs.Jobs.{Jobs, IsValid, node_count, name_of, is_idle, is_listed}
+use Rattle.mk_jobs.specs.Jobs.{Jobs, IsValid, node_count, name_of, is_idle, is_listed}
 use Rattle.mk_sched.specs.Stores.{Store, AgreesWith, AgreesWithListing, is_stale}
 use Rattle.mk_sched.specs.Events.{Event, Entry, phase, is_started, store_after}
 use Rattle.mk_sched.specs.Runs.{AlikeSteps, Agree, IsRun}

@@ -1,6 +1,6 @@
 -- Refusals against what is allowed.
 use Rattle.std.specs.Prelude.{ℕ, ◌↔◌, Bool, List, None}
-use Rattle.mk_foot.specs.Jobs.{Jobs}
+use Rattle.mk_jobs.specs.Jobs.{Jobs}
 use Rattle.mk_sched.specs.Stores.{Store}
 use Rattle.mk_sched.specs.Events.{Act, Event}
 use Rattle.mk_sched.specs.Runs.{IsRun, May}

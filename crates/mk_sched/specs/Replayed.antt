@@ -1,7 +1,7 @@
 -- What a replay answers.
 use Rattle.std.specs.Prelude.{ℕ, ◌≡◌, ◌+◌, ◌↔◌, Bool, List, ◌∷◌, ◌++◌, length, Some, IsTrue}
 use Rattle.mk_name.specs.Names.{Name}
-use Rattle.mk_foot.specs.Jobs.{Jobs}
+use Rattle.mk_jobs.specs.Jobs.{Jobs}
 use Rattle.mk_sched.specs.Stores.{Store, AgreesWithListing}
 use Rattle.mk_sched.specs.Stored.{Files, store_of}
 use Rattle.mk_sched.specs.Events.{store_after}

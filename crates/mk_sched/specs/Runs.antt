@@ -1,7 +1,7 @@
 -- Allowed events, runs, complete runs, and recipes that agree.
 use Rattle.std.specs.Prelude.{ℕ, ◌≡◌, ◌<◌, Bool, true, false, List, [], ◌∷◌, reverse, Option, Some}
 use Rattle.mk_name.specs.Names.{Name}
-use Rattle.mk_foot.specs.Jobs.{Jobs, IsPrerequisite, node_count, may_read, may_write}
+use Rattle.mk_jobs.specs.Jobs.{Jobs, IsPrerequisite, node_count, may_read, may_write}
 use Rattle.mk_sched.specs.Stores.{Bytes, File, Store, bytes_of, must_run}
 use Rattle.mk_sched.specs.Events.{Act, Skip, Start, Look, Put, Erase, Finish, Event, Entry, Looked, Wrote, Running, Waiting, phase, is_passed, is_started, running_below, history, store_after}
 

@@ -1,8 +1,8 @@
 -- Worked cases, computed: files of equal times, and a parallel run put in order.
 use Rattle.std.specs.Prelude.{◌≡◌, true, false, List, [], ◌∷◌, reverse, Some, None, if◌then◌else◌}
 use Rattle.mk_name.specs.Names.{Name, same_name}
-use Rattle.mk_graph.specs.declared.maker.Maker.TheVariants.{Rule}
-use Rattle.mk_foot.specs.Jobs.{Jobs}
+use Rattle.mk_jobs.specs.declared.maker.Maker.TheVariants.{Rule}
+use Rattle.mk_jobs.specs.Jobs.{Jobs}
 use Rattle.mk_sched.specs.Stores.{Store}
 use Rattle.mk_sched.specs.Events.{Skip, Start, Look, Put, Finish, Event}
 use Rattle.mk_sched.specs.Runs.{IsRun}

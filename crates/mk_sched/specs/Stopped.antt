@@ -1,7 +1,7 @@
 -- Why a replay stops.
 use Rattle.std.specs.Prelude.{ℕ, ◌⊎◌, Bool, List}
 use Rattle.mk_name.specs.Names.{Name}
-use Rattle.mk_foot.specs.Jobs.{Jobs}
+use Rattle.mk_jobs.specs.Jobs.{Jobs}
 use Rattle.mk_sched.specs.Stored.{Files}
 use Rattle.mk_sched.specs.Replayed.{IsStoreRefused, IsEventRefused}
 use Rattle.mk_sched.specs.declared.event.Event.{Event as Told}

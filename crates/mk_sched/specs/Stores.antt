@@ -2,7 +2,7 @@
 use Rattle.std.specs.Prelude.{ℕ, ◌≡◌, ◌<◌, ◌&&◌, ◌||◌, ◌==◌, nat_lt, Bool, true, List, Option, Some, None, is_some, is_none}
 use Rattle.std.specs.List.{list_any}
 use Rattle.mk_name.specs.Names.{Name}
-use Rattle.mk_foot.specs.Jobs.{Jobs, node_count, name_of, prerequisites_of, has_recipe, is_phony, is_listed}
+use Rattle.mk_jobs.specs.Jobs.{Jobs, node_count, name_of, prerequisites_of, has_recipe, is_phony, is_listed}
 
 -- what a file holds
 abbrev pub Bytes : Type 0

@@ -1,7 +1,7 @@
 -- Nodes that are stale in every run from an opening of which only the times of the nodes' own files are known.
 use Rattle.std.specs.Prelude.{ℕ, ◌≡◌, ◌<◌, ◌||◌, not, nat_lt, Bool, true, false, List, Some}
 use Rattle.std.specs.List.{list_any}
-use Rattle.mk_foot.specs.Jobs.{Jobs, IsValid, node_count, name_of, prerequisites_of, is_phony, is_listed}
+use Rattle.mk_jobs.specs.Jobs.{Jobs, IsValid, node_count, name_of, prerequisites_of, is_phony, is_listed}
 use Rattle.mk_sched.specs.Stores.{Store, File, AgreesWith, is_stale}
 use Rattle.mk_sched.specs.Events.{Event, phase, is_started, store_after}
 use Rattle.mk_sched.specs.Runs.{IsRun}

@@ -2,7 +2,7 @@
 -- event asks of it and changes.
 use Rattle.std.specs.Prelude.{ℕ, ◌≡◌, ◌<◌, ◌⊎◌, ◌==◌, ◌↔◌, Bool, true, false, List, [], ◌∷◌, reverse, Some, None, if◌then◌else◌}
 use Rattle.mk_name.specs.Names.{Name, same_name}
-use Rattle.mk_foot.specs.Jobs.{Jobs, IsPrerequisite, node_count, has_recipe, may_read, may_write}
+use Rattle.mk_jobs.specs.Jobs.{Jobs, IsPrerequisite, node_count, has_recipe, may_read, may_write}
 use Rattle.mk_sched.specs.Stores.{Store, File, bytes_of, is_stale}
 use Rattle.mk_sched.specs.Events.{Act, Skip, Start, Look, Put, Erase, Finish, Event, phase, is_passed, is_running, count_to, store_after}
 use Rattle.mk_sched.specs.Runs.{IsRun, May}

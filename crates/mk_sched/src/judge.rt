@@ -2,8 +2,8 @@
 ghost use Rattle.std.specs.Prelude.{◌≡◌, ◌<◌, ◌↔◌, ◌||◌, ◌∷◌, [], List, ℕ, Bool, not};
 ghost use Rattle.std.specs.Prelude.{IsTrue, option_map};
 ghost use Rattle.std.specs.List.{list_any};
-ghost use Rattle.mk_foot.specs.Jobs.{node_count, prerequisites_of, may_read, may_write};
-ghost use Rattle.mk_foot.specs.Shape.{IsRising};
+ghost use Rattle.mk_jobs.specs.Jobs.{node_count, prerequisites_of, may_read, may_write};
+ghost use Rattle.mk_jobs.specs.Shape.{IsRising};
 ghost use Rattle.mk_name.specs.Names.{has, same_name};
 ghost use Rattle.mk_sched.specs.Events.{Skip as skip, Start as start, Look as look, Put as put, Erase as erase, Finish as finish};
 ghost use Rattle.mk_sched.specs.Events.{count_to};
@@ -19,7 +19,7 @@ use crate::file::File;
 use crate::refusal::Refusal;
 use crate::stale::{has_recipe, is_stale, must_run};
 use crate::state::State;
-use mk_foot::jobs::Jobs;
+use mk_jobs::jobs::Jobs;
 use mk_name::name::Name;
 
 /// Whether one of these nodes has not passed.

@@ -12,7 +12,7 @@ use crate::refusal::Refusal;
 use crate::stage::Stage;
 use crate::state::State;
 use crate::store::Store;
-use mk_foot::jobs::Jobs;
+use mk_jobs::jobs::Jobs;
 use mk_text::listing::Listing;
 use std::alloc::{AllocError, Global};
 

@@ -1,14 +1,14 @@
 //! Which nodes are stale.
 ghost use Rattle.std.specs.Prelude.{◌≡◌, ◌<◌, ◌||◌, ℕ, length, get_or, option_map};
 ghost use Rattle.std.specs.List.{list_any};
-ghost use Rattle.mk_foot.specs.Jobs.{node_count, name_of, is_phony, has_recipe};
+ghost use Rattle.mk_jobs.specs.Jobs.{node_count, name_of, is_phony, has_recipe};
 ghost use Rattle.mk_sched.specs.Stored.{store_of};
 ghost use Rattle.mk_sched.specs.Stores as stores;
 
 use crate::file::File;
 use crate::store::Store;
-use mk_foot::jobs::Jobs;
-use mk_foot::recipe;
+use mk_jobs::jobs::Jobs;
+use mk_jobs::recipe;
 
 /// Whether the second file makes the first out of date: it is absent, or newer, or with `tie` as old. Where the first is
 /// absent it always does.

@@ -1,6 +1,6 @@
 //! States: where a run has come to.
 ghost use Rattle.std.specs.Prelude.{◌≡◌, ◌<◌, ◌^◌, ℕ, IfOk, OnOk, length, get_or};
-ghost use Rattle.mk_foot.specs.Jobs.{node_count};
+ghost use Rattle.mk_jobs.specs.Jobs.{node_count};
 ghost use Rattle.mk_sched.specs.Counter.{Moves};
 ghost use Rattle.mk_sched.specs.Standing.{held, CanMove};
 ghost use Rattle.mk_sched.specs.Steps.{step_of};
@@ -11,7 +11,7 @@ ghost use Rattle.mk_sched.specs.declared.stage.Stage.TheVariants.{Waiting};
 use crate::event::Event;
 use crate::stage::Stage;
 use crate::store::Store;
-use mk_foot::jobs::Jobs;
+use mk_jobs::jobs::Jobs;
 use std::alloc::{AllocError, Global};
 
 /// Where a run has come to: what stands at the names, how far each node has come, and how many run.

@@ -9,9 +9,9 @@ use Rattle.std.proofs.lemmas.Grind.{flat_map-append}
 use Rattle.std.proofs.lemmas.Option.{get_or_from_slice_get, none-some, same_Some, slice_get-get_or, slice_get_cases}
 use Rattle.mk_name.specs.Names.{Name, has}
 use Rattle.mk_name.specs.Shown.{shown}
-use Rattle.mk_graph.specs.Plan.{Node}
-use Rattle.mk_graph.specs.declared.maker.Maker.{Maker}
-use Rattle.mk_graph.specs.declared.maker.Maker.TheVariants.{Nothing}
+use Rattle.mk_jobs.specs.Plan.{Node}
+use Rattle.mk_jobs.specs.declared.maker.Maker.{Maker}
+use Rattle.mk_jobs.specs.declared.maker.Maker.TheVariants.{Nothing}
 use Rattle.race.specs.OrderText.{behind_space, kind_word, lines_of, name_at, needs, node_line}
 
 -- what is not found stands past the end

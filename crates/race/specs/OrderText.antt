@@ -4,9 +4,9 @@ use Rattle.std.specs.Fmt.{decimal}
 use Rattle.std.specs.List.{enumerate_from, flat_map}
 use Rattle.mk_name.specs.Names.{Name}
 use Rattle.mk_name.specs.Shown.{line, shown}
-use Rattle.mk_graph.specs.Plan.{Node, Plan}
-use Rattle.mk_graph.specs.declared.maker.Maker.{Maker}
-use Rattle.mk_graph.specs.declared.maker.Maker.TheVariants as makers
+use Rattle.mk_jobs.specs.Plan.{Node, Plan}
+use Rattle.mk_jobs.specs.declared.maker.Maker.{Maker}
+use Rattle.mk_jobs.specs.declared.maker.Maker.TheVariants as makers
 
 -- how it is told what makes a node
 abbrev pub kind_word : Maker → List ℕ

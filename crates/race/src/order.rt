@@ -3,8 +3,8 @@ ghost use Rattle.std.specs.Prelude.{◌≡◌, ◌<◌, ◌++◌, IfOk, IsTrue, 
 ghost use Rattle.mk_name.specs.Names.{has};
 ghost use Rattle.race.specs.OrderText as spec;
 
-use mk_graph::maker::Maker;
-use mk_graph::plan::Plan;
+use mk_jobs::maker::Maker;
+use mk_jobs::plan::Plan;
 use mk_name::report::push_shown;
 use std::alloc::{AllocError, Global};
 

@@ -1,9 +1,9 @@
 //! Footprints that are attached to a plan: the live nodes with what they read and write, or the fault.
 use crate::builds::{live_nodes, told_halt};
 use mk_foot::attaching::attach;
-use mk_foot::jobs::Jobs;
+use mk_jobs::jobs::Jobs;
 use mk_foot::reading::read_footprints;
-use mk_graph::plan::Plan;
+use mk_jobs::plan::Plan;
 use mk_graph::planning::plan;
 use mk_macro::macros::Macros;
 use mk_name::fault::Halt;

@@ -1,6 +1,6 @@
 //! What is read of logs.
 use crate::builds::{jobs_of, push_names, told_halt};
-use mk_foot::jobs::Jobs;
+use mk_jobs::jobs::Jobs;
 use mk_log::log::Log;
 use mk_log::reading::read_log;
 use mk_name::fault::Halt;

@@ -1,7 +1,7 @@
 //! What is written of logs.
 use crate::builds::{events_of, jobs_of, put_file, store_of};
 use language_tests::made::name_of;
-use mk_foot::jobs::Jobs;
+use mk_jobs::jobs::Jobs;
 use mk_log::log::Log;
 use mk_log::reading::read_log;
 use mk_log::writing::{LogHalt, are_of_nodes, write_log};

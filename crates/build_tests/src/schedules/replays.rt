@@ -5,7 +5,7 @@ mod stores;
 
 use crate::builds::{events_of, jobs_of, store_of};
 use allowed::ALLOWED;
-use mk_foot::jobs::Jobs;
+use mk_jobs::jobs::Jobs;
 use mk_name::fault::Halt;
 use mk_name::name::Name;
 use mk_sched::file::File;

@@ -2,7 +2,7 @@ use Rattle.std.proofs.Common.{◌≡◌, ap, sym, ◌∙◌, ◌||◌}
 use Rattle.std.specs.Prelude.{is_some}
 use Rattle.std.proofs.lemmas.Bool.{or_left}
 use Rattle.mk_rules.specs.Book.{targets_of}
-use Rattle.mk_graph.specs.Plan.{names_of}
+use Rattle.mk_jobs.specs.Plan.{names_of}
 use Rattle.mk_rules.proofs.Indexes.{has-targets_of}
 use Rattle.mk_name.specs.Names.{has, same_name}
 use Rattle.mk_foot.proofs.AttachNodes.{numbered-has, taken_is}

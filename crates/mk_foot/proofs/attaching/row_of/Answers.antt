@@ -1,5 +1,5 @@
 use Rattle.std.proofs.Common.{sym, subst}
-use Rattle.mk_foot.specs.Shape.{IsRising}
+use Rattle.mk_jobs.specs.Shape.{IsRising}
 use Rattle.mk_foot.proofs.AttachNodes.{rising_nil}
 use Rattle.mk_foot.proofs.attaching.row_of.Goals as goal
 

@@ -1,5 +1,5 @@
 use Rattle.std.proofs.Common.{◌≡◌, ◌++◌, map, take}
-use Rattle.mk_graph.specs.Numbered.{name_at}
+use Rattle.mk_jobs.specs.Numbered.{name_at}
 use Rattle.mk_graph.proofs.faults.add_names.Given as goal
 
 abbrev pub invariant-loop-number : goal.invariant-loop-number

@@ -3,7 +3,7 @@ use Rattle.std.specs.Prelude.{IfSome}
 use Rattle.mk_graph.specs.Collected.{Collected}
 use Rattle.mk_graph.specs.Graph.{count_edges}
 use Rattle.mk_graph.specs.Makers.{inferred_source, needs}
-use Rattle.mk_graph.specs.Numbered.{name_at}
+use Rattle.mk_jobs.specs.Numbered.{name_at}
 use Rattle.mk_graph.specs.Rows.{row}
 use Rattle.mk_graph.specs.Seen.{firsts_of}
 use Rattle.mk_graph.proofs.Graphs.{distinct_below, graph_is, is_small, many_edges, needs_stand, source_within, source_told, if_none_at}

@@ -9,7 +9,7 @@ use Rattle.mk_graph.specs.Answer.{Comes, too_large, no_rule, cycle, planned, gra
 use Rattle.mk_graph.specs.Graph.{IsCycle}
 use Rattle.mk_graph.specs.Least.{upto, IsLeastPassing}
 use Rattle.mk_graph.specs.Makers.{is_unmade, needs}
-use Rattle.mk_graph.specs.Numbered.{name_at}
+use Rattle.mk_jobs.specs.Numbered.{name_at}
 use Rattle.mk_graph.specs.Rows.{row, IsRing}
 use Rattle.mk_graph.specs.Walk.{IsWalked, IsOrder}
 use Rattle.mk_graph.specs.declared.serial.Walked.{Walked}

@@ -5,7 +5,7 @@ use Rattle.std.proofs.lemmas.List.{length_push}
 use Rattle.std.specs.List.{flat_map}
 use Rattle.mk_name.specs.Names.{firsts}
 use Rattle.mk_graph.specs.Makers.{needs}
-use Rattle.mk_graph.specs.Numbered.{name_at, Stand}
+use Rattle.mk_jobs.specs.Numbered.{name_at, Stand}
 use Rattle.mk_graph.specs.Rows.{row}
 use Rattle.mk_graph.specs.Seen.{joined_of, needs_of, with_source}
 use Rattle.mk_graph.proofs.Rowing.{rows_more, all_in, edges_more}

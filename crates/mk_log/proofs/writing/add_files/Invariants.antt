@@ -1,5 +1,5 @@
 use Rattle.std.proofs.Common.{◌≡◌, ◌++◌, map}
-use Rattle.mk_foot.specs.Jobs.{Jobs}
+use Rattle.mk_jobs.specs.Jobs.{Jobs}
 use Rattle.mk_sched.specs.Stored.{Files}
 use Rattle.mk_log.specs.Spelled.{Adds, file_entry}
 use Rattle.mk_log.proofs.writing.add_files.Given as goal

@@ -1,5 +1,5 @@
 use Rattle.std.proofs.Common.{◌∙◌, ◌&&◌, List, sym, ap}
-use Rattle.mk_foot.specs.Jobs.{may_read, reads_of}
+use Rattle.mk_jobs.specs.Jobs.{may_read, reads_of}
 use Rattle.mk_name.specs.Names.{Name, has, same_name}
 use Rattle.mk_sched.proofs.judge.may_read.Goals as goal
 

@@ -1,5 +1,5 @@
 use Rattle.std.proofs.Common.{◌≡◌, ℕ, Bool, Option, sym, ap, subst, inr, arith}
-use Rattle.mk_foot.specs.Jobs.{Jobs}
+use Rattle.mk_jobs.specs.Jobs.{Jobs}
 use Rattle.mk_sched.specs.Refusals.{Finds, Holds, asked}
 use Rattle.mk_sched.specs.Standing.{state_of}
 use Rattle.mk_sched.specs.Steps.{step_of}

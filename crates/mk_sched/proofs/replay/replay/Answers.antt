@@ -1,6 +1,6 @@
 use Rattle.std.proofs.Common.{◌≡◌, ◌<◌, ◌+◌, [], ◌∷◌, ℕ, List, Some, refl, sym, ap, ◌∙◌, subst, arith, length, take, drop, inr}
 use Rattle.std.proofs.lemmas.List.{length-take-le, take_all}
-use Rattle.mk_foot.specs.Jobs.{node_count}
+use Rattle.mk_jobs.specs.Jobs.{node_count}
 use Rattle.mk_sched.specs.Events.{Event, running_below}
 use Rattle.mk_sched.specs.Steps.{step_of, past_of}
 use Rattle.mk_sched.specs.Stored.{store_of}

@@ -1,5 +1,5 @@
 use Rattle.std.proofs.Common.{◌∙◌, ap}
-use Rattle.mk_foot.specs.Jobs.{has_commands, has_recipe, maker_of}
+use Rattle.mk_jobs.specs.Jobs.{has_commands, has_recipe, maker_of}
 use Rattle.mk_sched.proofs.stale.has_recipe.Goals as goal
 
 pub returns : goal.returns

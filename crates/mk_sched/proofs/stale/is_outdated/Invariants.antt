@@ -1,6 +1,6 @@
 use Rattle.std.proofs.Common.{◌≡◌, ◌||◌, drop, option_map}
 use Rattle.std.specs.List.{list_any}
-use Rattle.mk_foot.specs.Jobs.{name_of, is_phony}
+use Rattle.mk_jobs.specs.Jobs.{name_of, is_phony}
 use Rattle.mk_sched.specs.Stored.{store_of}
 use Rattle.mk_sched.specs.Stores as stores
 use Rattle.mk_sched.proofs.stale.is_outdated.Given as goal

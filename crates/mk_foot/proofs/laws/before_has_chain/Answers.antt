@@ -1,5 +1,0 @@
-use Rattle.mk_foot.proofs.ChainLemmas.{before_has_chain}
-use Rattle.mk_foot.proofs.laws.before_has_chain.Goals as goal
-
-pub returns : goal.returns
-returns c = before_has_chain

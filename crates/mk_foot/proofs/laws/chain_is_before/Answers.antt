@@ -1,5 +1,0 @@
-use Rattle.mk_foot.proofs.ChainLemmas.{chain_is_before}
-use Rattle.mk_foot.proofs.laws.chain_is_before.Goals as goal
-
-pub returns : goal.returns
-returns c = chain_is_before

@@ -1,5 +1,0 @@
-use Rattle.mk_foot.proofs.JobsLemmas.{shape_valid}
-use Rattle.mk_foot.proofs.laws.shape_is_valid.Goals as goal
-
-pub returns : goal.returns
-returns c = λ jobs. shape_valid

@@ -1,8 +1,0 @@
-use Rattle.std.proofs.Common.{◌≡◌, map, take, get_or}
-use Rattle.mk_graph.specs.Assembled.{node_of}
-use Rattle.mk_graph.specs.Numbered.{name_at}
-use Rattle.mk_graph.specs.Rows.{row}
-use Rattle.mk_graph.proofs.plan.nodes_of.Given as goal
-
-abbrev pub invariant-loop-number : goal.invariant-loop-number
-invariant-loop-number l = l.nodes.items ≡ map (λ n. node_of l.book l.listing (name_at l.names n) (map (λ p. get_or l.places p 0) (row l.rows n))) (take l.number-index l.order)

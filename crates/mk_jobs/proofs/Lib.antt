@@ -1,0 +1,5 @@
+pub mod Accessors
+pub mod ChainLemmas
+pub mod JobsLemmas
+pub mod NodeNames
+pub mod Numberings

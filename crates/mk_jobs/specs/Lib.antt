@@ -1,0 +1,9 @@
+pub mod Chains
+pub mod Jobs
+pub mod Laws
+pub mod Numbered
+pub mod Numbers
+pub mod Plan
+pub mod Recipes
+pub mod Rows
+pub mod Shape

@@ -1,0 +1,54 @@
+-- What a plan holds: the nodes of the graph in serial order, and how often `.WAIT` was used.
+use Rattle.std.specs.Prelude.{◌≡◌, ◌<◌, ◌≤◌, ℕ, Bool, false, List, [], map, length, get_or, nat_eq, slice_get, unwrap_or, IsTrue}
+use Rattle.std.specs.List.{sum_by}
+use Rattle.mk_name.specs.Names.{Name, has}
+use Rattle.mk_jobs.specs.declared.maker.Maker.{Maker}
+use Rattle.mk_jobs.specs.declared.maker.Maker.TheVariants.{Nothing}
+
+-- a node: its name, the numbers of its prerequisites in the rule's order, what makes it, whether it is phony,
+-- whether the listing has it
+pub record Node : Type 0 where
+  pub name : Name
+  pub prerequisites : List ℕ
+  pub maker : Maker
+  pub phony : Bool
+  pub listed : Bool
+
+-- a node's number is its place
+pub record Plan : Type 0 where
+  pub nodes : List Node
+  pub wait_uses : ℕ
+
+-- what stands past the last node: nothing that could act
+abbrev pub nobody : Node
+nobody = record { name = []; prerequisites = []; maker = Nothing; phony = false; listed = false }
+
+-- the node with a number
+abbrev pub node_at : List Node → ℕ → Node
+node_at nodes n = unwrap_or (slice_get nodes n) nobody
+
+-- the names of the nodes
+abbrev pub names_of : List Node → List Name
+names_of nodes = map (λ (n : Node). n.name) nodes
+
+-- the edges that lead to these nodes
+abbrev pub edge_count : List Node → ℕ
+edge_count nodes = sum_by (λ (n : Node). length n.prerequisites) nodes
+
+-- a graph of more nodes, or of more edges, has no plan
+abbrev pub node_limit : ℕ
+node_limit = 20000
+
+abbrev pub edge_limit : ℕ
+edge_limit = 200000
+
+-- each node stands after what it needs
+abbrev pub NeedsStandBefore : List Node → Type 0
+NeedsStandBefore nodes = (i p : ℕ) (d : Node) → i < length nodes → IsTrue (has nat_eq (get_or nodes i d).prerequisites p) → p < i
+
+-- the nodes and edges are few, the index has the nodes' names, and each node stands after what it needs
+pub record IsOrdered (nodes : List Node) (index : List Name) : Type 0 where
+  pub few : length nodes ≤ node_limit
+  pub few_edges : edge_count nodes ≤ edge_limit
+  pub names : index ≡ names_of nodes
+  pub rising : NeedsStandBefore nodes

@@ -1,0 +1,27 @@
+-- The full shape of the jobs that footprints give.
+use Rattle.std.specs.Prelude.{ℕ, ◌≡◌, ◌<◌, ◌≤◌, true, false, List, [], length}
+use Rattle.std.specs.Ordering.{nat_cmp}
+use Rattle.std.specs.Cmp.Lexicographic.{slice_cmp}
+use Rattle.std.specs.List.Sorted.{IsStrictlySortedBy}
+use Rattle.mk_name.specs.Names.{Name}
+use Rattle.mk_jobs.specs.Plan.{edge_count, edge_limit, node_limit}
+use Rattle.mk_jobs.specs.Jobs.{Jobs, IsPrerequisite, node_count, name_of, is_live, reads_of, writes_of, may_write}
+
+-- each name is smaller than those after it, byte by byte
+abbrev pub IsRising : List Name → Type 0
+IsRising names = IsStrictlySortedBy (slice_cmp nat_cmp) names
+
+-- well-formed: nodes and edges are few; names differ; prerequisites have smaller numbers; each node has its two lists,
+-- rising, and empty unless it is live; and a node's name may be written by a node of that name alone
+pub record IsWellFormed (jobs : Jobs) : Type 0 where
+  pub few : node_count jobs ≤ node_limit
+  pub few_edges : edge_count jobs.plan.nodes ≤ edge_limit
+  pub distinct : (n m : ℕ) → n < node_count jobs → m < node_count jobs → name_of jobs n ≡ name_of jobs m → n ≡ m
+  pub smaller : (n p : ℕ) → IsPrerequisite jobs p n → p < n
+  pub all_reads : length jobs.reads ≡ node_count jobs
+  pub all_writes : length jobs.writes ≡ node_count jobs
+  pub reads_rise : (n : ℕ) → IsRising (reads_of jobs n)
+  pub writes_rise : (n : ℕ) → IsRising (writes_of jobs n)
+  pub no_reads : (n : ℕ) → is_live jobs n ≡ false → reads_of jobs n ≡ []
+  pub no_writes : (n : ℕ) → is_live jobs n ≡ false → writes_of jobs n ≡ []
+  pub own : (n m : ℕ) → m < node_count jobs → may_write jobs n (name_of jobs m) ≡ true → name_of jobs n ≡ name_of jobs m

@@ -1,0 +1,155 @@
+//! Jobs: a plan, and what each of its recipes may read and write.
+ghost use Rattle.std.specs.Prelude.{◌≡◌, ◌<◌, ◌≤◌, Some};
+ghost use Rattle.mk_jobs.specs.Numbered.{number_of};
+ghost use Rattle.mk_jobs.specs.Plan.{names_of, node_limit};
+ghost use Rattle.mk_jobs.specs.Jobs.{IsNumberOf, IsValid, is_listed, is_live, is_phony, maker_of, name_of, node_count, prerequisites_of, reads_of, writes_of};
+ghost use Rattle.mk_jobs.specs.Rows.{with_rows};
+ghost use Rattle.mk_jobs.specs.Shape.{IsRising, IsWellFormed};
+
+use crate::recipe::is_live;
+use crate::maker::Maker;
+use crate::plan::Plan;
+use mk_name::name::Name;
+use std::marker::Model;
+
+/// A plan, and for each node the names that its footprints read and write. A node's number is its place in serial
+/// order.
+#[derive(Debug, Drop)]
+pub struct Jobs {
+    plan: Plan,
+    reads: Vec<Vec<Name>>,
+    writes: Vec<Vec<Name>>,
+}
+
+impl Model for Jobs {
+    ghost use Rattle.std.specs.Prelude.{map};
+    ghost use Rattle.mk_jobs.specs.Jobs as spec;
+    ghost use Rattle.mk_jobs.specs.Shape.{IsWellFormed};
+
+    ghost Value = { spec.Jobs };
+
+    ghost view = { λ a. record {
+      plan = a.plan;
+      reads = map (λ row. row.items) a.reads.items;
+      writes = map (λ row. row.items) a.writes.items;
+    } };
+
+    ghost invariant = { λ a. IsWellFormed (record {
+      plan = a.plan;
+      reads = map (λ row. row.items) a.reads.items;
+      writes = map (λ row. row.items) a.writes.items;
+    }) };
+}
+
+impl Jobs {
+    /// The jobs of a plan with a row of names for each node: what it reads, and what it writes.
+    pub fn from_rows(plan: Plan, reads: Vec<Vec<Name>>, writes: Vec<Vec<Name>>) -> Jobs
+        requires { IsWellFormed (with_rows plan reads.items writes.items) }
+        ensures { result ≡ with_rows plan reads.items writes.items }
+    {
+        Jobs {
+            plan,
+            reads,
+            writes,
+        }
+    }
+
+    /// How many nodes there are, at most 20,000; they have at most 200,000 prerequisites together. Prerequisites have
+    /// smaller numbers than what needs them, and no recipe writes the name of a node but its own.
+    pub fn count(&self) -> u32
+        ensures count { result ≡ node_count self.now }
+        ensures few { result ≤ node_limit }
+        ensures shape { IsWellFormed self.now }
+        ensures valid { IsValid self.now }
+    {
+        self.plan.count()
+    }
+
+    /// The name of a node, whose number it gives back. Its number must be below the count of nodes.
+    pub fn name(&self, n: u32) -> &Name
+        requires { n < node_count self.now }
+        ensures name { result.now ≡ name_of self.now n }
+        ensures number { number_of (names_of self.now.plan.nodes) (name_of self.now n) ≡ Some n }
+    {
+        self.plan.name(n)
+    }
+
+    /// The number of the node with this name, if there is one.
+    pub fn number(&self, name: &Name) -> Option<u32>
+        ensures number { IsNumberOf self.now name.now result }
+        ensures place { result ≡ number_of (names_of self.now.plan.nodes) name.now }
+    {
+        self.plan.number(name)
+    }
+
+    /// The numbers of what a node needs, in the rule's order: each is below the node's own. Its number must be below
+    /// the count of nodes.
+    pub fn prerequisites(&self, n: u32) -> &[u32]
+        requires { n < node_count self.now }
+        ensures { result.now ≡ prerequisites_of self.now n }
+    {
+        self.plan.prerequisites(n)
+    }
+
+    /// What makes a node's name. Its number must be below the count of nodes.
+    pub fn maker(&self, n: u32) -> Maker
+        requires { n < node_count self.now }
+        ensures { result ≡ maker_of self.now n }
+    {
+        self.plan.maker(n)
+    }
+
+    /// Whether a node is phony. Its number must be below the count of nodes.
+    pub fn is_phony(&self, n: u32) -> bool
+        requires { n < node_count self.now }
+        ensures { result ≡ is_phony self.now n }
+    {
+        self.plan.is_phony(n)
+    }
+
+    /// Whether the listing has a node's name. Its number must be below the count of nodes.
+    pub fn is_listed(&self, n: u32) -> bool
+        requires { n < node_count self.now }
+        ensures { result ≡ is_listed self.now n }
+    {
+        self.plan.is_listed(n)
+    }
+
+    /// How often `.WAIT` was used.
+    pub fn wait_uses(&self) -> u64
+        ensures { result ≡ self.now.plan.wait_uses }
+    {
+        self.plan.wait_uses()
+    }
+
+    /// Whether a node has a recipe that can run (profile): something makes it, and it is not idle, which it is where it
+    /// is listed, not phony and needs nothing. Its number must be below the count of nodes.
+    pub fn is_live(&self, n: u32) -> bool
+        requires { n < node_count self.now }
+        ensures { result ≡ is_live self.now n }
+    {
+        is_live(&self.plan, n)
+    }
+
+    /// The names that a node's recipe reads, rising; none where it is not live. Its number must be below the count of
+    /// nodes.
+    pub fn reads(&self, n: u32) -> &[Name]
+        requires { n < node_count self.now }
+        ensures reads { result.now ≡ reads_of self.now n }
+        ensures rising { IsRising result.now }
+    {
+        let row = &self.reads[n as usize];
+        row.as_slice()
+    }
+
+    /// The names that a node's recipe writes, rising; none where it is not live. Its number must be below the count of
+    /// nodes.
+    pub fn writes(&self, n: u32) -> &[Name]
+        requires { n < node_count self.now }
+        ensures writes { result.now ≡ writes_of self.now n }
+        ensures rising { IsRising result.now }
+    {
+        let row = &self.writes[n as usize];
+        row.as_slice()
+    }
+}

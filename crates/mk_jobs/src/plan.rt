@@ -1,0 +1,168 @@
+//! The plan: all that some goals need, in serial order.
+ghost use Rattle.std.specs.Prelude.{◌≡◌, ◌<◌, ◌≤◌, ℕ, length, nat_eq, IsTrue, IfOk};
+ghost use Rattle.mk_name.specs.Names.{has, same_name, IsDistinct};
+ghost use Rattle.mk_jobs.specs.Numbered.{number_of};
+ghost use Rattle.mk_jobs.specs.Plan.{NeedsStandBefore, edge_count, edge_limit, names_of, node_at, node_limit};
+
+use crate::maker::Maker;
+use crate::numbering::Numbering;
+use mk_name::name::Name;
+use std::alloc::{AllocError, Global};
+use std::marker::Model;
+
+/// The most nodes that a plan has (profile).
+pub const NODE_LIMIT: usize = 20_000;
+
+/// The most edges that a plan has (profile): a node has one for each of its prerequisites.
+pub const EDGE_LIMIT: usize = 200_000;
+
+/// A node of the graph.
+#[derive(Debug, Drop)]
+pub struct PlanNode {
+    /// The name that is made, or is there.
+    pub name: Name,
+    /// The numbers of what it needs, in the rule's order, and an inferred source last unless the rules name it.
+    pub prerequisites: Vec<u32>,
+    /// What makes it.
+    pub maker: Maker,
+    /// Whether it is phony.
+    pub phony: bool,
+    /// Whether the listing has it.
+    pub listed: bool,
+}
+
+impl Model for PlanNode {
+    ghost use Rattle.mk_jobs.specs.Plan.{Node};
+
+    ghost Value = { Node };
+
+    ghost view = { λ a. record {
+      name = a.name;
+      prerequisites = a.prerequisites.items;
+      maker = a.maker;
+      phony = a.phony;
+      listed = a.listed;
+    } };
+}
+
+/// All that some goals need, in serial order. A node's number is its place.
+#[derive(Debug, Drop)]
+pub struct Plan {
+    nodes: Vec<PlanNode>,
+    index: Numbering,
+    wait_uses: u64,
+}
+
+impl Model for Plan {
+    ghost use Rattle.mk_jobs.specs.Plan as plans;
+
+    ghost Value = { plans.Plan };
+
+    ghost view = { λ a. record { nodes = a.nodes.items; wait_uses = a.wait_uses } };
+
+    ghost invariant = { λ a. plans.IsOrdered a.nodes.items a.index };
+}
+
+/// The names of some nodes, each by its node's place.
+fn names_of(alloc: Global, nodes: &[PlanNode]) -> Result<Numbering, AllocError>
+    requires { IsDistinct same_name (names_of nodes.now) }
+    ensures { IfOk result (λ names. names ≡ names_of nodes.now) }
+{
+    let mut names = Numbering::new(alloc);
+    for node in nodes {
+        names.put(alloc, &node.name)?;
+    }
+    Ok(names)
+}
+
+impl Plan {
+    /// The plan of these nodes, of which each stands after what it needs. The only error is want of memory.
+    pub fn new(alloc: Global, nodes: Vec<PlanNode>, wait_uses: u64) -> Result<Plan, AllocError>
+        requires few { length nodes.items ≤ node_limit }
+        requires few_edges { edge_count nodes.items ≤ edge_limit }
+        requires distinct { IsDistinct same_name (names_of nodes.items) }
+        requires rising { NeedsStandBefore nodes.items }
+        ensures { IfOk result (λ plan. plan ≡ record { nodes = nodes.items; wait_uses = wait_uses }) }
+    {
+        let index = names_of(alloc, nodes.as_slice())?;
+        Ok(Plan {
+            nodes,
+            index,
+            wait_uses,
+        })
+    }
+
+    /// How many nodes there are, at most `NODE_LIMIT`; they have at most `EDGE_LIMIT` prerequisites together. No name is
+    /// that of two nodes, and each node stands after what it needs.
+    pub fn count(&self) -> u32
+        ensures count { result ≡ length self.now.nodes }
+        ensures few { result ≤ node_limit }
+        ensures few_edges { edge_count self.now.nodes ≤ edge_limit }
+        ensures distinct { IsDistinct same_name (names_of self.now.nodes) }
+        ensures rising { NeedsStandBefore self.now.nodes }
+    {
+        self.index.count() as u32
+    }
+
+    /// The numbers of what a node needs, in the rule's order and the inferred source last, unless the rules name it:
+    /// each is below the node's own. Its number must be below the count of nodes.
+    pub fn prerequisites(&self, n: u32) -> &[u32]
+        requires { n < length self.now.nodes }
+        ensures value { result.now ≡ (node_at self.now.nodes n).prerequisites }
+        ensures smaller { (p : ℕ) → IsTrue (has nat_eq result.now p) → p < n }
+    {
+        let node = &self.nodes[n as usize];
+        node.prerequisites.as_slice()
+    }
+
+    /// The name of a node. Its number must be below the count of nodes.
+    pub fn name(&self, n: u32) -> &Name
+        requires { n < length self.now.nodes }
+        ensures { result.now ≡ (node_at self.now.nodes n).name }
+    {
+        let node = &self.nodes[n as usize];
+        &node.name
+    }
+
+    /// The number of the node with this name, if there is one.
+    pub fn number(&self, name: &Name) -> Option<u32>
+        ensures { result ≡ number_of (names_of self.now.nodes) name.now }
+    {
+        let number = self.index.number(name)?;
+        Some(number as u32)
+    }
+
+    /// What makes a node's name. Its number must be below the count of nodes.
+    pub fn maker(&self, n: u32) -> Maker
+        requires { n < length self.now.nodes }
+        ensures { result ≡ (node_at self.now.nodes n).maker }
+    {
+        let node = &self.nodes[n as usize];
+        node.maker
+    }
+
+    /// Whether a node is phony. Its number must be below the count of nodes.
+    pub fn is_phony(&self, n: u32) -> bool
+        requires { n < length self.now.nodes }
+        ensures { result ≡ (node_at self.now.nodes n).phony }
+    {
+        let node = &self.nodes[n as usize];
+        node.phony
+    }
+
+    /// Whether the listing has a node's name. Its number must be below the count of nodes.
+    pub fn is_listed(&self, n: u32) -> bool
+        requires { n < length self.now.nodes }
+        ensures { result ≡ (node_at self.now.nodes n).listed }
+    {
+        let node = &self.nodes[n as usize];
+        node.listed
+    }
+
+    /// How often `.WAIT` was used.
+    pub fn wait_uses(&self) -> u64
+        ensures { result ≡ self.now.wait_uses }
+    {
+        self.wait_uses
+    }
+}
