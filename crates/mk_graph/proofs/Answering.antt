@@ -1,20 +1,21 @@
 -- What `plan` answers, from what its parts found.
-use Rattle.std.proofs.Common.{◌≡◌, ℕ, ◌<◌, ◌≤◌, Bool, false, List, [], ◌∷◌, length, sym, ap, subst, inl, inr, refl, arith, Some, None, Option}
+use Rattle.std.proofs.Common.{◌≡◌, ℕ, ◌<◌, ◌≤◌, Bool, false, List, [], ◌∷◌, length, sym, ap, ap₂, subst, inl, inr, refl, arith, ◌+◌, ◌∙◌, Some, None, Option}
 use Rattle.std.specs.Prelude.{IsTrue, nat_eq, map, Vec}
-use Rattle.std.specs.List.{flat_map}
+use Rattle.std.specs.List.{flat_map, sum_by}
 use Rattle.std.specs.Prelude.{Result}
 use Rattle.std.specs.Global.{Global}
 use Rattle.mk_name.specs.declared.fault.Halt.{Halt}
 use Rattle.std.proofs.lemmas.Bool.{both_ways, cases_lt}
 use Rattle.std.proofs.lemmas.List.{length-map}
+use Rattle.std.proofs.lemmas.List.Sums.{sum_by-cons}
 use Rattle.mk_name.specs.Names.{Name, same_name, IsDistinct}
-use Rattle.mk_name.proofs.Names.{name_is_exact, nat_is_exact, distinct_kept}
+use Rattle.mk_name.proofs.Names.{name_is_exact, nat_is_exact, distinct_kept, in_head, in_tail}
 use Rattle.mk_name.specs.Gives.{Answers}
 use Rattle.mk_graph.specs.Answer.{IsLeastUnmade, AllMade, IsTooLarge, Comes, IsAnswer, goals_of, goal_list}
-use Rattle.mk_jobs.specs.Plan.{Plan}
+use Rattle.mk_jobs.specs.Plan.{Plan, edge_limit, node_limit}
 use Rattle.mk_rules.specs.Book.{Book, default_goal}
 use Rattle.mk_graph.specs.Collected.{IsGraph}
-use Rattle.mk_graph.specs.Graph.{IsNode}
+use Rattle.mk_graph.specs.Graph.{IsNode, AreNodes, count_edges}
 use Rattle.mk_graph.specs.Least.{upto, IsLeastPassing}
 use Rattle.mk_graph.specs.Makers.{is_unmade, needs}
 use Rattle.mk_jobs.specs.Numbered.{name_at}
@@ -52,19 +53,38 @@ module _ (book : Book) (listing goals names : List Name) (rows : List (Vec ℕ G
   pub order_distinct : (order : List ℕ) → IsOrder (row rows) starts order → IsDistinct nat_eq order
   order_distinct order o = subst (λ (xs : List ℕ). IsDistinct nat_eq xs) (sym o.serial.order_is) (distinct_kept nat_eq nat_is_exact [] (flat_map o.serial.tree starts) tt)
 
-  pub order_few : (order : List ℕ) → IsOrder (row rows) starts order → (IsTooLarge book listing goals → ⊥) → length order ≤ 4294967295
+  -- the names in an order are nodes of the graph
+  order_nodes : (order : List ℕ) → IsOrder (row rows) starts order → AreNodes same_name (needs book listing) goals (map (name_at names) order)
+  order_nodes order o = record {
+    distinct = distinct_map same_name (needs book listing) goals (name_at names) (length names) (row rows) starts (numbers_of book listing goals names rows starts g) order (order_within order o) (order_distinct order o);
+    each = λ x h. let k = has_back same_name name_is_exact (name_at names) order x h in
+        subst (λ (z : Name). IsNode same_name (needs book listing) goals z) k.2 (node_map same_name (needs book listing) goals (name_at names) (length names) (row rows) starts (numbers_of book listing goals names rows starts g) k.0 (o.nodes k.0 k.1));
+  }
+
+  pub order_few : (order : List ℕ) → IsOrder (row rows) starts order → (IsTooLarge book listing goals → ⊥) → length order ≤ node_limit
   order_few order o small =
-      elim (cases_lt 20000 (length order)) [
-        | inl many ↦ absurd (small (
-          map (name_at names) order,
-          record {
-            distinct = distinct_map same_name (needs book listing) goals (name_at names) (length names) (row rows) starts (numbers_of book listing goals names rows starts g) order (order_within order o) (order_distinct order o);
-            each = λ x h. let k = has_back same_name name_is_exact (name_at names) order x h in
-                subst (λ (z : Name). IsNode same_name (needs book listing) goals z) k.2 (node_map same_name (needs book listing) goals (name_at names) (length names) (row rows) starts (numbers_of book listing goals names rows starts g) k.0 (o.nodes k.0 k.1));
-          },
-          inl (let l = length-map order (name_at names) in omega arith),
-        ))
+      elim (cases_lt node_limit (length order)) [
+        | inl many ↦ absurd (small (map (name_at names) order, order_nodes order o, inl (let l = length-map order (name_at names) in omega arith)))
         | inr few ↦ omega arith
+      ]
+
+  -- as many edges by numbers as by names
+  edges_are : (order : List ℕ) → ((n : ℕ) → In order n → n < length names) → sum_by (λ n. length (row rows n)) order ≡ count_edges (needs book listing) (map (name_at names) order)
+  edges_are [] within = refl
+  edges_are (n ∷ order) within =
+      let stand = g.rows_stand n (within n (in_head nat_eq nat_is_exact n order)) in
+      sum_by-cons (λ m. length (row rows m)) n order
+      ∙ ap₂ (λ a b. a + b)
+      (sym (length-map (row rows n) (name_at names)) ∙ ap length stand.names_are)
+      (edges_are order (λ m h. within m (in_tail nat_eq nat_is_exact n m order h)))
+      ∙ sym (sum_by-cons (λ x. length (needs book listing x)) (name_at names n) (map (name_at names) order))
+
+  pub order_few_edges : (order : List ℕ) → IsOrder (row rows) starts order → (IsTooLarge book listing goals → ⊥) → sum_by (λ n. length (row rows n)) order ≤ edge_limit
+  order_few_edges order o small =
+      let same = edges_are order (order_within order o) in
+      elim (cases_lt edge_limit (sum_by (λ n. length (row rows n)) order)) [
+        | inl many ↦ absurd (small (map (name_at names) order, order_nodes order o, inr (subst (λ k. edge_limit < k) same many)))
+        | inr few ↦ few
       ]
 
   pub all_made : IsLeastPassing (is_unmade book listing) names (length names) None → AllMade book listing goals
@@ -88,6 +108,11 @@ passing_none test names n (Some k) h p = absurd (h k refl)
 
 pub graph_at : (book : Book) (listing goals names : List Name) (rows other : List (Vec ℕ Global)) (starts some : List ℕ) → other ≡ rows → some ≡ starts → IsGraph book listing goals names rows starts → IsGraph book listing goals names other some
 graph_at book listing goals names rows other starts some e f g = subst (λ (rs : List (Vec ℕ Global)). IsGraph book listing goals names rs some) (sym e) (subst (λ (ss : List ℕ). IsGraph book listing goals names rows ss) (sym f) g)
+
+-- an order of a graph is one of the same rows and goals
+pub order_at : (rows other : List (Vec ℕ Global)) (starts some order same : List ℕ) → rows ≡ other → starts ≡ some → same ≡ order → IsOrder (row rows) starts order → IsOrder (row other) some same
+order_at rows other starts some order same e f h o =
+    subst (λ (rs : List (Vec ℕ Global)). IsOrder (row rs) some same) e (subst (λ (ss : List ℕ). IsOrder (row rows) ss same) f (subst (λ (ns : List ℕ). IsOrder (row rows) starts ns) (sym h) o))
 
 -- goals that are given are the goals
 pub answer_given : (book : Book) (listing goals : List Name) (r : Result Plan Halt) → 0 < length goals → Answers r (Comes book listing goals) → Answers r (IsAnswer book listing (goals_of book goals))

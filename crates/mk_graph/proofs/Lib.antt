@@ -7,7 +7,6 @@ mod Leasts
 mod Measure
 mod NodeNames
 mod NodesOf
-pub mod Numberings
 mod Rowing
 mod Steps
 mod Suffixes

@@ -1,15 +1,15 @@
 -- The names of a plan's nodes, and the places of what they need.
 use Rattle.std.proofs.Common.{◌≡◌, ℕ, ◌+◌, ◌<◌, false, List, [], ◌∷◌, ◌++◌, length, get_or, take, sym, ◌∙◌, ap, subst, inl, inr, refl, arith, append_assoc, Some}
-use Rattle.std.specs.Prelude.{IsTrue, nat_eq, map, Vec}
+use Rattle.std.specs.Prelude.{IsTrue, nat_eq, map, Vec, IfOk, Result, Ok, Err}
 use Rattle.std.specs.Global.{Global}
 use Rattle.std.proofs.lemmas.Bool.{both_ways, false_from_ne_true}
 use Rattle.std.proofs.lemmas.List.{append-nil, get_or-map, get_or-take, length-map, length-take-le, map_more}
 use Rattle.mk_name.specs.Names.{Name, same_name, has, kept, IsDistinct}
 use Rattle.mk_name.proofs.Names.{name_is_exact, nat_is_exact, in_head, in_tail, in_cons_cases}
-use Rattle.mk_graph.specs.Assembled.{node_of, IsNumbering}
+use Rattle.mk_graph.specs.Assembled.{node_of, IsAssembled, IsNumbering}
 use Rattle.mk_rules.specs.Book.{Book}
 use Rattle.mk_jobs.specs.Numbered.{name_at, number_of}
-use Rattle.mk_jobs.specs.Plan.{Node}
+use Rattle.mk_jobs.specs.Plan.{Node, Plan}
 use Rattle.mk_graph.specs.Rows.{row, IsRising}
 use Rattle.mk_graph.proofs.Bridge.{has_back}
 use Rattle.mk_jobs.proofs.Numberings.{number_at}
@@ -56,3 +56,8 @@ nodes_rising book listing names rows order places nodes at rising is i p d h m =
     let k : i < length order = omega (arith, ap length is, length-map order node_at) in
     placed_before order places at i (row rows (get_or order i 0)) k (λ q j. rising i q k j) p
     (subst (λ (x : Node). In x.prerequisites p) (ap (λ ns. get_or ns i d) is ∙ get_or-map node_at order i 0 d k) m)
+
+-- a plan of the nodes of an order is the plan of the graph
+pub assembled_is : {E : Type 0} (book : Book) (listing names : List Name) (rows : List (Vec ℕ Global)) (order places : List ℕ) (nodes : List Node) (waits : ℕ) (r : Result Plan E) → IsNumbering order places → nodes ≡ map (λ n. node_of book listing (name_at names n) (map (λ p. get_or places p 0) (row rows n))) order → waits ≡ book.wait_uses → IfOk r (λ plan. plan ≡ record { nodes = nodes; wait_uses = waits }) → IfOk r (λ plan. IsAssembled book listing names rows order plan)
+assembled_is book listing names rows order places nodes waits (Ok plan) at is same made = record { places = places; placed = at; nodes = ap (λ (p : Plan). p.nodes) made ∙ is; waits = ap (λ (p : Plan). p.wait_uses) made ∙ same }
+assembled_is book listing names rows order places nodes waits (Err e) at is same made = made

@@ -9,7 +9,7 @@ use Rattle.mk_rules.specs.Book.{Book, default_goal, is_phony}
 use Rattle.mk_graph.specs.Graph.{IsNode, HasNoCycle, IsSerialOrder, IsCycle, HasMoreThan}
 use Rattle.mk_graph.specs.Least.{upto}
 use Rattle.mk_graph.specs.Makers.{maker_of, needs, is_unmade}
-use Rattle.mk_jobs.specs.Plan.{Node, Plan}
+use Rattle.mk_jobs.specs.Plan.{Node, Plan, edge_limit, node_limit}
 
 -- a fault of the graph
 abbrev pub graph_fault : Kind → List Name → Told
@@ -26,7 +26,7 @@ goals_of book (g ∷ gs) = g ∷ gs
 
 -- more than 20,000 names or 200,000 edges
 abbrev pub IsTooLarge : Book → List Name → List Name → Type 0
-IsTooLarge book listing goals = HasMoreThan same_name (needs book listing) goals 20000 200000
+IsTooLarge book listing goals = HasMoreThan same_name (needs book listing) goals node_limit edge_limit
 
 -- the least of the names in the graph that nothing makes
 pub record IsLeastUnmade (book : Book) (listing goals : List Name) (name : Name) : Type 0 where

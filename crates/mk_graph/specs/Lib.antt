@@ -4,9 +4,6 @@ pub mod Collected
 pub mod Graph
 pub mod Least
 pub mod Makers
-pub mod Numbered
-pub mod Numbers
-pub mod Plan
 pub mod Rows
 pub mod Seen
 pub mod Steps

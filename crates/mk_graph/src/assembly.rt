@@ -1,65 +1,24 @@
-//! The plan: all that some goals need, in serial order.
-ghost use Rattle.std.specs.Prelude.{◌≡◌, ◌<◌, ◌≤◌, ◌++◌, List, [], ◌∷◌, ℕ, length, map, get_or, nat_eq, IsTrue, IfOk, Ok, Err};
-ghost use Rattle.mk_name.specs.Names.{has, same_name, IsDistinct};
+//! The plan of a graph by numbers: its nodes in serial order, each with its name, its maker and what it needs.
+ghost use Rattle.std.specs.Prelude.{◌≡◌, ◌<◌, ◌≤◌, ℕ, length, map, get_or, nat_eq, IsTrue, IfOk};
+ghost use Rattle.std.specs.List.{sum_by};
+ghost use Rattle.mk_name.specs.Names.{has, IsDistinct};
+ghost use Rattle.mk_jobs.specs.Numbered.{name_at};
+ghost use Rattle.mk_jobs.specs.Plan.{edge_limit, node_limit};
 ghost use Rattle.mk_graph.specs.Assembled.{node_of, IsAssembled, IsNumbering};
 ghost use Rattle.mk_graph.specs.Makers.{maker_of};
-ghost use Rattle.mk_jobs.specs.Numbered.{name_at, number_of};
-ghost use Rattle.mk_jobs.specs.Plan.{Node, NeedsStandBefore, names_of};
 ghost use Rattle.mk_graph.specs.Rows.{row, IsRising};
 
+use crate::graph::Graph;
 use mk_jobs::maker::Maker;
-use mk_jobs::numbering::Numbering;
+use mk_jobs::plan::{Plan, PlanNode};
 use mk_name::name::Name;
 use mk_rules::rulebook::Rulebook;
 use mk_text::listing::Listing;
 use std::alloc::{AllocError, Global};
-use std::marker::Model;
-
-/// A node of the graph.
-#[derive(Debug, Drop)]
-struct PlanNode {
-    name: Name,
-    prerequisites: Vec<u32>,
-    maker: Maker,
-    phony: bool,
-    listed: bool,
-}
-
-impl Model for PlanNode {
-    ghost use Rattle.mk_jobs.specs.Plan.{Node};
-
-    ghost Value = { Node };
-
-    ghost view = { λ a. record {
-      name = a.name;
-      prerequisites = a.prerequisites.items;
-      maker = a.maker;
-      phony = a.phony;
-      listed = a.listed;
-    } };
-}
-
-/// All that some goals need, in serial order. A node's number is its place.
-#[derive(Debug, Drop)]
-pub struct Plan {
-    nodes: Vec<PlanNode>,
-    index: Numbering,
-    wait_uses: u64,
-}
-
-impl Model for Plan {
-    ghost use Rattle.mk_jobs.specs.Plan as plans;
-
-    ghost Value = { plans.Plan };
-
-    ghost view = { λ a. record { nodes = a.nodes.items; wait_uses = a.wait_uses } };
-
-    ghost invariant = { λ a. plans.IsOrdered a.nodes.items a.index };
-}
 
 /// The place of each number in the order.
 fn places_in(alloc: Global, order: &[usize], count: usize) -> Result<Vec<u32>, AllocError>
-    requires few { length order.now ≤ 4294967295 }
+    requires few { length order.now ≤ node_limit }
     requires within { (n : ℕ) → IsTrue (has nat_eq order.now n) → n < count }
     requires distinct { IsDistinct nat_eq order.now }
     ensures placed { IfOk result (λ places. IsNumbering order.now places.items) }
@@ -106,26 +65,27 @@ fn node(
     })
 }
 
-/// The nodes of the names in an order.
+/// The nodes of a graph in an order.
 fn nodes_of(
     alloc: Global,
     book: &Rulebook,
     listing: &Listing,
-    names: &Numbering,
-    makers: &[Maker],
-    rows: &[Vec<usize>],
+    graph: &Graph,
     places: &[u32],
     order: &[usize],
 ) -> Result<Vec<PlanNode>, AllocError>
-    requires within { (n : ℕ) → IsTrue (has nat_eq order.now n) → n < length names.now }
-    requires makers { makers.now ≡ map (maker_of book.now listing.now) names.now }
-    requires rows { length rows.now ≡ length names.now }
-    requires places { (i n : ℕ) → IsTrue (has nat_eq (row rows.now i) n) → n < length places.now }
+    requires within { (n : ℕ) → IsTrue (has nat_eq order.now n) → n < length graph.now.names }
+    requires makers { graph.now.makers.items ≡ map (maker_of book.now listing.now) graph.now.names }
+    requires rows { length graph.now.rows.items ≡ length graph.now.names }
+    requires places { (i n : ℕ) → IsTrue (has nat_eq (row graph.now.rows.items i) n) → n < length places.now }
     ensures { IfOk result
         (λ nodes. nodes.items ≡ map
-        (λ n. node_of book.now listing.now (name_at names.now n)
-        (map (λ p. get_or places.now p 0) (row rows.now n))) order.now) }
+        (λ n. node_of book.now listing.now (name_at graph.now.names n)
+        (map (λ p. get_or places.now p 0) (row graph.now.rows.items n))) order.now) }
 {
+    let names = &graph.names;
+    let rows = graph.rows.as_slice();
+    let makers = graph.makers.as_slice();
     let mut nodes = Vec::new(alloc);
     for number in order {
         let prerequisites = placed(alloc, rows[*number].as_slice(), places)?;
@@ -136,126 +96,26 @@ fn nodes_of(
     Ok(nodes)
 }
 
-/// The names of some nodes, each by its node's place.
-fn names_of(alloc: Global, nodes: &[PlanNode]) -> Result<Numbering, AllocError>
-    requires { IsDistinct same_name (names_of nodes.now) }
-    ensures { IfOk result (λ names. names ≡ names_of nodes.now) }
-{
-    let mut names = Numbering::new(alloc);
-    for node in nodes {
-        names.put(alloc, &node.name)?;
-    }
-    Ok(names)
-}
-
 /// The plan of a graph whose nodes stand in this order.
-pub(crate) fn assemble(
+pub fn assemble(
     alloc: Global,
     book: &Rulebook,
     listing: &Listing,
-    names: &Numbering,
-    makers: &[Maker],
-    rows: &[Vec<usize>],
+    graph: &Graph,
     order: &[usize],
 ) -> Result<Plan, AllocError>
-    requires few { length order.now ≤ 4294967295 }
-    requires within { (n : ℕ) → IsTrue (has nat_eq order.now n) → n < length names.now }
+    requires few { length order.now ≤ node_limit }
+    requires few_edges { sum_by (λ n. length (row graph.now.rows.items n)) order.now ≤ edge_limit }
+    requires within { (n : ℕ) → IsTrue (has nat_eq order.now n) → n < length graph.now.names }
     requires distinct { IsDistinct nat_eq order.now }
-    requires makers { makers.now ≡ map (maker_of book.now listing.now) names.now }
-    requires rows { length rows.now ≡ length names.now }
-    requires inside { (i n : ℕ) → IsTrue (has nat_eq (row rows.now i) n) → n < length names.now }
-    requires rising { IsRising (row rows.now) order.now }
+    requires makers { graph.now.makers.items ≡ map (maker_of book.now listing.now) graph.now.names }
+    requires rows { length graph.now.rows.items ≡ length graph.now.names }
+    requires inside { (i n : ℕ) → IsTrue (has nat_eq (row graph.now.rows.items i) n) → n < length graph.now.names }
+    requires rising { IsRising (row graph.now.rows.items) order.now }
     ensures { IfOk result
-        (λ plan. IsAssembled book.now listing.now names.now rows.now order.now plan) }
+        (λ plan. IsAssembled book.now listing.now graph.now.names graph.now.rows.items order.now plan) }
 {
-    let places = places_in(alloc, order, names.count())?;
-    let nodes = nodes_of(
-        alloc,
-        book,
-        listing,
-        names,
-        makers,
-        rows,
-        places.as_slice(),
-        order,
-    )?;
-    let index = names_of(alloc, nodes.as_slice())?;
-    Ok(Plan {
-        nodes,
-        index,
-        wait_uses: book.wait_uses(),
-    })
-}
-
-impl Plan {
-    /// How many nodes there are. No name is that of two nodes, and each node stands after what it needs.
-    pub fn count(&self) -> u32
-        ensures count { result ≡ length self.now.nodes }
-        ensures distinct { IsDistinct same_name (names_of self.now.nodes) }
-        ensures rising { NeedsStandBefore self.now.nodes }
-    {
-        self.index.count() as u32
-    }
-
-    /// The numbers of what a node needs, in the rule's order and the inferred source last, unless the rules name it:
-    /// each is below the node's own. Its number must be below the count of nodes.
-    pub fn prerequisites(&self, n: u32) -> &[u32]
-        requires { n < length self.now.nodes }
-        ensures value { (d : Node) → result.now ≡ (get_or self.now.nodes n d).prerequisites }
-        ensures smaller { (p : ℕ) → IsTrue (has nat_eq result.now p) → p < n }
-    {
-        let node = &self.nodes[n as usize];
-        node.prerequisites.as_slice()
-    }
-
-    /// The name of a node. Its number must be below the count of nodes.
-    pub fn name(&self, n: u32) -> &Name
-        requires { n < length self.now.nodes }
-        ensures { (d : Node) → result.now ≡ (get_or self.now.nodes n d).name }
-    {
-        let node = &self.nodes[n as usize];
-        &node.name
-    }
-
-    /// The number of the node with this name, if there is one.
-    pub fn number(&self, name: &Name) -> Option<u32>
-        ensures { result ≡ number_of (names_of self.now.nodes) name.now }
-    {
-        let number = self.index.number(name)?;
-        Some(number as u32)
-    }
-
-    /// What makes a node's name. Its number must be below the count of nodes.
-    pub fn maker(&self, n: u32) -> Maker
-        requires { n < length self.now.nodes }
-        ensures { (d : Node) → result ≡ (get_or self.now.nodes n d).maker }
-    {
-        let node = &self.nodes[n as usize];
-        node.maker
-    }
-
-    /// Whether a node is phony. Its number must be below the count of nodes.
-    pub fn is_phony(&self, n: u32) -> bool
-        requires { n < length self.now.nodes }
-        ensures { (d : Node) → result ≡ (get_or self.now.nodes n d).phony }
-    {
-        let node = &self.nodes[n as usize];
-        node.phony
-    }
-
-    /// Whether the listing has a node's name. Its number must be below the count of nodes.
-    pub fn is_listed(&self, n: u32) -> bool
-        requires { n < length self.now.nodes }
-        ensures { (d : Node) → result ≡ (get_or self.now.nodes n d).listed }
-    {
-        let node = &self.nodes[n as usize];
-        node.listed
-    }
-
-    /// How often `.WAIT` was used.
-    pub fn wait_uses(&self) -> u64
-        ensures { result ≡ self.now.wait_uses }
-    {
-        self.wait_uses
-    }
+    let places = places_in(alloc, order, graph.names.count())?;
+    let nodes = nodes_of(alloc, book, listing, graph, places.as_slice(), order)?;
+    Plan::new(alloc, nodes, book.wait_uses())
 }

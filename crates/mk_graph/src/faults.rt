@@ -5,8 +5,8 @@ ghost use Rattle.mk_graph.specs.Least.{upto, IsLeastPassing, IsLeastPlace};
 ghost use Rattle.mk_graph.specs.Makers.{is_unmade, maker_of};
 ghost use Rattle.mk_jobs.specs.Numbered.{name_at};
 
-use mk_jobs::maker::Maker;
 use crate::makers::is_unmade;
+use mk_jobs::maker::Maker;
 use mk_jobs::numbering::Numbering;
 use mk_name::name::Name;
 use mk_rules::rulebook::Rulebook;

@@ -6,10 +6,10 @@ ghost use Rattle.mk_graph.specs.Graph.{HasMoreThan};
 ghost use Rattle.mk_graph.specs.Makers.{maker_of, needs};
 
 use crate::collect::collect;
-use mk_jobs::maker::Maker;
 use crate::makers::makers_of;
-use mk_jobs::numbering::Numbering;
 use crate::rows::{distinct_entries, rows_of};
+use mk_jobs::maker::Maker;
+use mk_jobs::numbering::Numbering;
 use mk_name::name::Name;
 use mk_rules::rulebook::Rulebook;
 use mk_text::listing::Listing;

@@ -1,14 +1,16 @@
 //! From a book of rules, a listing and some goals to a plan, or to what is wrong with the graph.
-ghost use Rattle.std.specs.Prelude.{◌≡◌};
+ghost use Rattle.std.specs.Prelude.{◌≡◌, map};
 ghost use Rattle.mk_name.specs.Gives.{Answers};
 ghost use Rattle.mk_name.specs.declared.fault.Halt.TheVariants as halts;
-ghost use Rattle.mk_graph.specs.Answer.{Comes, IsAnswer, goals_of, graph_fault};
+ghost use Rattle.mk_graph.specs.Answer.{Comes, IsAnswer, IsTooLarge, goals_of, graph_fault};
+ghost use Rattle.mk_graph.specs.Collected.{IsGraph};
+ghost use Rattle.mk_graph.specs.Makers.{maker_of};
 
-use crate::faults::{cycle_of, least_unmade};
-use crate::graph::graph_of;
 use crate::assembly::assemble;
-use mk_jobs::plan::Plan;
+use crate::faults::{cycle_of, least_unmade};
+use crate::graph::{Graph, graph_of};
 use crate::serial::{Walked, serial_order};
+use mk_jobs::plan::{EDGE_LIMIT, NODE_LIMIT, Plan};
 use mk_name::fault::{Fault, Halt, Kind, Source};
 use mk_name::name::Name;
 use mk_rules::rulebook::Rulebook;
@@ -22,15 +24,21 @@ fn graph_fault(kind: Kind, names: Vec<Name>) -> Halt
     Halt::Fault(Fault::new(kind, Source::Graph, 0, names))
 }
 
-/// The plan for some goals, or what is wrong with their graph.
-fn plan_for(alloc: Global, book: &Rulebook, listing: &Listing, goals: &[Name]) -> Result<Plan, Halt>
+/// The plan of a graph that is not too large, or what is wrong with it: a name that nothing makes, or else a cycle. The
+/// goals are those of the graph, and only the contract speaks of them.
+fn plan_of_graph(
+    alloc: Global,
+    book: &Rulebook,
+    listing: &Listing,
+    goals: &[Name],
+    graph: &Graph,
+) -> Result<Plan, Halt>
+    requires graph { IsGraph book.now listing.now goals.now graph.now.names graph.now.rows.items graph.now.goals.items }
+    requires makers { graph.now.makers.items ≡ map (maker_of book.now listing.now) graph.now.names }
+    requires small { IsTooLarge book.now listing.now goals.now → ⊥ }
     ensures { Answers result (Comes book.now listing.now goals.now) }
 {
-    let Some(graph) = graph_of(alloc, book, listing, goals, 20_000, 200_000)? else {
-        return Err(graph_fault(Kind::GraphTooLarge, Vec::new(alloc)));
-    };
-    let makers = graph.makers.as_slice();
-    if let Some(number) = least_unmade(book, listing, &graph.names, makers) {
+    if let Some(number) = least_unmade(book, listing, &graph.names, graph.makers.as_slice()) {
         let mut names = Vec::new(alloc);
         names.push(graph.names.name(number).copy(alloc)?)?;
         return Err(graph_fault(Kind::NoRule, names));
@@ -40,19 +48,18 @@ fn plan_for(alloc: Global, book: &Rulebook, listing: &Listing, goals: &[Name]) -
             let names = cycle_of(alloc, &graph.names, ring.as_slice())?;
             Err(graph_fault(Kind::Cycle, names))
         }
-        Walked::Order(order) => {
-            let rows = graph.rows.as_slice();
-            Ok(assemble(
-                alloc,
-                book,
-                listing,
-                &graph.names,
-                makers,
-                rows,
-                order.as_slice(),
-            )?)
-        }
+        Walked::Order(order) => Ok(assemble(alloc, book, listing, graph, order.as_slice())?),
     }
+}
+
+/// The plan for some goals, or what is wrong with their graph.
+fn plan_for(alloc: Global, book: &Rulebook, listing: &Listing, goals: &[Name]) -> Result<Plan, Halt>
+    ensures { Answers result (Comes book.now listing.now goals.now) }
+{
+    let Some(graph) = graph_of(alloc, book, listing, goals, NODE_LIMIT, EDGE_LIMIT)? else {
+        return Err(graph_fault(Kind::GraphTooLarge, Vec::new(alloc)));
+    };
+    plan_of_graph(alloc, book, listing, goals, &graph)
 }
 
 /// The plan of all that the goals need; without goals, of what the default goal needs ("Target Rules"). A name needs its

@@ -5,4 +5,4 @@ use Rattle.mk_graph.specs.Rows.{row}
 use Rattle.mk_graph.proofs.assembly.nodes_of.Given as goal
 
 abbrev pub invariant-loop-number : goal.invariant-loop-number
-invariant-loop-number l = l.nodes.items ≡ map (λ n. node_of l.book l.listing (name_at l.names n) (map (λ p. get_or l.places p 0) (row l.rows n))) (take l.number-index l.order)
+invariant-loop-number l = l.nodes.items ≡ map (λ n. node_of l.book l.listing (name_at l.graph.names n) (map (λ p. get_or l.places p 0) (row l.graph.rows.items n))) (take l.number-index l.order)

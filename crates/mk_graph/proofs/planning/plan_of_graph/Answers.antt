@@ -1,0 +1,98 @@
+use Rattle.std.proofs.Common.{◌∙◌, sym, ap, subst, length, List, ℕ, [], ◌∷◌, ◌++◌, Option}
+use Rattle.std.specs.Prelude.{Vec, Err}
+use Rattle.std.specs.Global.{Global}
+use Rattle.mk_name.specs.Names.{Name, same_name}
+use Rattle.mk_name.specs.declared.fault.Halt.{Halt}
+use Rattle.mk_name.specs.declared.fault.Kind.TheVariants as kinds
+use Rattle.mk_name.specs.Gives.{HaltsAmong}
+use Rattle.mk_jobs.specs.Numbered.{name_at}
+use Rattle.mk_graph.specs.Answer.{Comes, no_rule, cycle, planned, graph_fault}
+use Rattle.mk_graph.specs.Collected.{IsGraph}
+use Rattle.mk_graph.specs.Graph.{IsCycle}
+use Rattle.mk_graph.specs.Least.{upto, IsLeastPassing}
+use Rattle.mk_graph.specs.Makers.{is_unmade, needs}
+use Rattle.mk_graph.specs.Rows.{row, IsRing}
+use Rattle.mk_graph.specs.Walk.{IsWalked, IsOrder}
+use Rattle.mk_graph.specs.declared.serial.Walked.{Walked}
+use Rattle.mk_graph.proofs.Answering.{graph_at, passing_none, in_range, row_within, ring_within, order_within, order_distinct, order_at, order_few, order_few_edges, all_made, least_is}
+use Rattle.mk_graph.proofs.Cycles.{cycle_is}
+use Rattle.mk_graph.proofs.NodesOf.{plan_is}
+use Rattle.mk_graph.proofs.planning.plan_of_graph.Goals as goal
+
+pub returns-in-Some : goal.returns-in-Some
+returns-in-Some c =
+    let names = c.args.graph.now.names in
+    let n = c.in-Some.number in
+    let p = subst (λ (o : Option ℕ). IsLeastPassing (is_unmade c.args.book.now c.args.listing.now) names (length names) o) c.in-Some.is c.least_unmade.ensures in
+    let told = c.in_ok-push.ensures.items ∙ ap (λ ns. ns ++ c.in_ok-copy.field-0 ∷ []) c.new-names.ensures.items ∙ ap (λ x. x ∷ []) (c.in_ok-copy.ensures ∙ c.name.ensures) in
+    subst (λ (h : Halt). HaltsAmong h (Comes c.args.book.now c.args.listing.now c.args.goals.now)) (sym c.graph_fault.ensures)
+    (subst (λ (ns : List Name). Comes c.args.book.now c.args.listing.now c.args.goals.now (Err (graph_fault kinds.NoRule ns))) (sym told)
+    (no_rule (name_at names n) c.requires.small (least_is c.args.book.now c.args.listing.now c.args.goals.now names c.args.graph.now.rows.items c.args.graph.now.goals.items c.requires.graph n p)))
+
+pub serial_order-requires-clause-range : goal.serial_order-requires-clause-range
+serial_order-requires-clause-range c =
+    let g = graph_at c.args.book.now c.args.listing.now c.args.goals.now c.args.graph.now.names c.args.graph.now.rows.items c.as_slice-2.result.now c.args.graph.now.goals.items c.as_slice-3.result.now c.as_slice-2.ensures.value c.as_slice-3.ensures.value c.requires.graph in
+    in_range c.args.book.now c.args.listing.now c.args.goals.now c.args.graph.now.names c.as_slice-2.result.now c.as_slice-3.result.now g
+
+pub cycle_of-requires-clause-within : goal.cycle_of-requires-clause-within
+cycle_of-requires-clause-within c =
+    let g = graph_at c.args.book.now c.args.listing.now c.args.goals.now c.args.graph.now.names c.args.graph.now.rows.items c.as_slice-2.result.now c.args.graph.now.goals.items c.as_slice-3.result.now c.as_slice-2.ensures.value c.as_slice-3.ensures.value c.requires.graph in
+    let r = subst (λ (w : Walked). IsWalked (row c.as_slice-2.result.now) c.as_slice-3.result.now w) c.in-Ring.is c.in_ok-ring.ensures in
+    let q = subst (λ (ns : List ℕ). IsRing (row c.as_slice-2.result.now) c.as_slice-3.result.now ns) (sym c.as_slice-in-Ring.ensures.value) r in
+    ring_within c.args.book.now c.args.listing.now c.args.goals.now c.args.graph.now.names c.as_slice-2.result.now c.as_slice-3.result.now g c.as_slice-in-Ring.result.now q
+
+pub returns-in_ok-names-in-Ring : goal.returns-in_ok-names-in-Ring
+returns-in_ok-names-in-Ring c =
+    let g = graph_at c.args.book.now c.args.listing.now c.args.goals.now c.args.graph.now.names c.args.graph.now.rows.items c.as_slice-2.result.now c.args.graph.now.goals.items c.as_slice-3.result.now c.as_slice-2.ensures.value c.as_slice-3.ensures.value c.requires.graph in
+    let r = subst (λ (w : Walked). IsWalked (row c.as_slice-2.result.now) c.as_slice-3.result.now w) c.in-Ring.is c.in_ok-ring.ensures in
+    let q = subst (λ (ns : List ℕ). IsRing (row c.as_slice-2.result.now) c.as_slice-3.result.now ns) (sym c.as_slice-in-Ring.ensures.value) r in
+    let made = all_made c.args.book.now c.args.listing.now c.args.goals.now c.args.graph.now.names c.args.graph.now.rows.items c.args.graph.now.goals.items c.requires.graph
+    (passing_none (is_unmade c.args.book.now c.args.listing.now) c.args.graph.now.names (length c.args.graph.now.names) c.least_unmade.result c.in_default.not-Some c.least_unmade.ensures) in
+    let found = c.in_ok-names-in-Ring.ensures in
+    subst (λ (h : Halt). HaltsAmong h (Comes c.args.book.now c.args.listing.now c.args.goals.now)) (sym c.graph_fault-in-Ring.ensures)
+    (cycle c.in_ok-names-in-Ring.names.items c.requires.small made
+    (subst (λ (ns : List Name). IsCycle same_name upto (needs c.args.book.now c.args.listing.now) c.args.goals.now ns) (sym found.2)
+    (cycle_is c.args.book.now c.args.listing.now c.args.goals.now c.args.graph.now.names c.as_slice-2.result.now c.as_slice-3.result.now c.as_slice-in-Ring.result.now found.0 g q found.1)))
+
+pub assemble-requires-clause-few : goal.assemble-requires-clause-few
+assemble-requires-clause-few c =
+    let o = subst (λ (w : Walked). IsWalked (row c.as_slice-2.result.now) c.as_slice-3.result.now w) c.in-Order.is c.in_ok-ring.ensures in
+    let p = order_at c.as_slice-2.result.now c.args.graph.now.rows.items c.as_slice-3.result.now c.args.graph.now.goals.items c.in-Order.order.items c.as_slice-in-Order.result.now c.as_slice-2.ensures.value c.as_slice-3.ensures.value c.as_slice-in-Order.ensures.value o in
+    order_few c.args.book.now c.args.listing.now c.args.goals.now c.args.graph.now.names c.args.graph.now.rows.items c.args.graph.now.goals.items c.requires.graph c.as_slice-in-Order.result.now p c.requires.small
+
+pub assemble-requires-clause-few_edges : goal.assemble-requires-clause-few_edges
+assemble-requires-clause-few_edges c =
+    let o = subst (λ (w : Walked). IsWalked (row c.as_slice-2.result.now) c.as_slice-3.result.now w) c.in-Order.is c.in_ok-ring.ensures in
+    let p = order_at c.as_slice-2.result.now c.args.graph.now.rows.items c.as_slice-3.result.now c.args.graph.now.goals.items c.in-Order.order.items c.as_slice-in-Order.result.now c.as_slice-2.ensures.value c.as_slice-3.ensures.value c.as_slice-in-Order.ensures.value o in
+    order_few_edges c.args.book.now c.args.listing.now c.args.goals.now c.args.graph.now.names c.args.graph.now.rows.items c.args.graph.now.goals.items c.requires.graph c.as_slice-in-Order.result.now p c.requires.small
+
+pub assemble-requires-clause-within : goal.assemble-requires-clause-within
+assemble-requires-clause-within c =
+    let o = subst (λ (w : Walked). IsWalked (row c.as_slice-2.result.now) c.as_slice-3.result.now w) c.in-Order.is c.in_ok-ring.ensures in
+    let p = order_at c.as_slice-2.result.now c.args.graph.now.rows.items c.as_slice-3.result.now c.args.graph.now.goals.items c.in-Order.order.items c.as_slice-in-Order.result.now c.as_slice-2.ensures.value c.as_slice-3.ensures.value c.as_slice-in-Order.ensures.value o in
+    order_within c.args.book.now c.args.listing.now c.args.goals.now c.args.graph.now.names c.args.graph.now.rows.items c.args.graph.now.goals.items c.requires.graph c.as_slice-in-Order.result.now p
+
+pub assemble-requires-clause-distinct : goal.assemble-requires-clause-distinct
+assemble-requires-clause-distinct c =
+    let o = subst (λ (w : Walked). IsWalked (row c.as_slice-2.result.now) c.as_slice-3.result.now w) c.in-Order.is c.in_ok-ring.ensures in
+    let p = order_at c.as_slice-2.result.now c.args.graph.now.rows.items c.as_slice-3.result.now c.args.graph.now.goals.items c.in-Order.order.items c.as_slice-in-Order.result.now c.as_slice-2.ensures.value c.as_slice-3.ensures.value c.as_slice-in-Order.ensures.value o in
+    order_distinct c.args.book.now c.args.listing.now c.args.goals.now c.args.graph.now.names c.args.graph.now.rows.items c.args.graph.now.goals.items c.requires.graph c.as_slice-in-Order.result.now p
+
+pub assemble-requires-clause-inside : goal.assemble-requires-clause-inside
+assemble-requires-clause-inside c = row_within c.args.book.now c.args.listing.now c.args.goals.now c.args.graph.now.names c.args.graph.now.rows.items c.args.graph.now.goals.items c.requires.graph
+
+pub assemble-requires-clause-rising : goal.assemble-requires-clause-rising
+assemble-requires-clause-rising c =
+    let o = subst (λ (w : Walked). IsWalked (row c.as_slice-2.result.now) c.as_slice-3.result.now w) c.in-Order.is c.in_ok-ring.ensures in
+    let p = order_at c.as_slice-2.result.now c.args.graph.now.rows.items c.as_slice-3.result.now c.args.graph.now.goals.items c.in-Order.order.items c.as_slice-in-Order.result.now c.as_slice-2.ensures.value c.as_slice-3.ensures.value c.as_slice-in-Order.ensures.value o in
+    p.rising
+
+pub returns-in_ok-assemble-in-Order : goal.returns-in_ok-assemble-in-Order
+returns-in_ok-assemble-in-Order c =
+    let o = subst (λ (w : Walked). IsWalked (row c.as_slice-2.result.now) c.as_slice-3.result.now w) c.in-Order.is c.in_ok-ring.ensures in
+    let p = order_at c.as_slice-2.result.now c.args.graph.now.rows.items c.as_slice-3.result.now c.args.graph.now.goals.items c.in-Order.order.items c.as_slice-in-Order.result.now c.as_slice-2.ensures.value c.as_slice-3.ensures.value c.as_slice-in-Order.ensures.value o in
+    let made = all_made c.args.book.now c.args.listing.now c.args.goals.now c.args.graph.now.names c.args.graph.now.rows.items c.args.graph.now.goals.items c.requires.graph
+    (passing_none (is_unmade c.args.book.now c.args.listing.now) c.args.graph.now.names (length c.args.graph.now.names) c.least_unmade.result c.in_default.not-Some c.least_unmade.ensures) in
+    let a = c.in_ok-assemble-in-Order.ensures in
+    planned c.in_ok-assemble-in-Order.field-0 c.requires.small made
+    (plan_is c.args.book.now c.args.listing.now c.args.goals.now c.args.graph.now.names c.args.graph.now.rows.items c.args.graph.now.goals.items c.as_slice-in-Order.result.now a.places c.requires.graph p a.placed c.in_ok-assemble-in-Order.field-0 a.nodes a.waits)
