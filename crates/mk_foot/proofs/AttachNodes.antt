@@ -17,11 +17,11 @@ use Rattle.mk_name.specs.declared.fault.Halt.{Halt}
 use Rattle.mk_name.specs.declared.fault.Halt.TheVariants as halts
 use Rattle.mk_name.proofs.Names.{name_is_exact}
 use Rattle.mk_jobs.specs.Numbered.{number_of}
-use Rattle.mk_jobs.specs.Plan.{Plan, Node, names_of, NeedsStandBefore}
+use Rattle.mk_jobs.specs.Plan.{Plan, Node, names_of, nobody, NeedsStandBefore, edge_count, edge_limit, node_limit}
 use Rattle.mk_jobs.proofs.Numberings.{has_at, number_at, number_has, number_none}
 use Rattle.mk_foot.specs.Attached.{attached, first_fault, footprint_of, is_taken, jobs_with, node_answer, node_fault, recipe_fault, told}
 use Rattle.mk_foot.specs.Footprints.{Footprint, Footprints, footprint_at, no_footprint}
-use Rattle.mk_jobs.specs.Jobs.{Jobs, IsPrerequisite, nobody, node_at, node_count, name_of, is_live, reads_of, writes_of, prerequisites_of, may_write}
+use Rattle.mk_jobs.specs.Jobs.{Jobs, IsPrerequisite, node_at, node_count, name_of, is_live, reads_of, writes_of, prerequisites_of, may_write}
 use Rattle.mk_jobs.specs.Recipes.{is_live_node}
 use Rattle.mk_jobs.specs.Shape.{IsRising, IsWellFormed}
 use Rattle.mk_jobs.proofs.Accessors.{live_is, name_there, name_count}
@@ -149,6 +149,7 @@ taken_is own node target r e f = sym (ap (λ b. b && (node || target)) e ∙ f)
 
 -- the jobs of nodes that have no fault
 module _ (plan : Plan) (targets : List Name) (footprints : Footprints)
+    (few : length plan.nodes ≤ node_limit) (few_edges : edge_count plan.nodes ≤ edge_limit)
     (distinct : IsDistinct same_name (names_of plan.nodes)) (rising : NeedsStandBefore plan.nodes)
     (good : (k : ℕ) → k < length plan.nodes → node_fault (names_of plan.nodes) targets footprints (k, get_or plan.nodes k nobody) ≡ None)
     (reads_rise : (k : ℕ) → k < length plan.nodes → IsRising (footprint_of footprints (get_or plan.nodes k nobody)).reads)
@@ -279,9 +280,15 @@ module _ (plan : Plan) (targets : List Name) (footprints : Footprints)
   unfolding jobs node_count
   all_rows f = length-map plan.nodes f
 
+  jobs_few : node_count jobs ≤ node_limit
+  unfolding jobs node_count
+  jobs_few = few
+
   shape_is : IsWellFormed jobs
   unfolding jobs
   shape_is = record {
+    few = jobs_few;
+    few_edges = few_edges;
     distinct = same_place;
     smaller = needs_smaller;
     all_reads = all_rows (λ (d : Node). (footprint_of footprints d).reads);
@@ -314,12 +321,12 @@ row_pushed rows new v row e f =
 
 -- behind the last node the rows are well-formed
 pub rows_shape : (plan : Plan) (targets : List Name) (footprints : Footprints) (n : ℕ) (reads writes : List (List Name)) → length plan.nodes ≤ n
-    → IsDistinct same_name (names_of plan.nodes) → NeedsStandBefore plan.nodes
+    → length plan.nodes ≤ node_limit → edge_count plan.nodes ≤ edge_limit → IsDistinct same_name (names_of plan.nodes) → NeedsStandBefore plan.nodes
     → RowsTo plan targets footprints n reads writes → IsWellFormed (record { plan = plan; reads = reads; writes = writes })
 unfolding jobs
-rows_shape plan targets footprints n reads writes past distinct rising rows =
+rows_shape plan targets footprints n reads writes past few few_edges distinct rising rows =
     let whole : IsWellFormed (jobs_with footprints plan) =
-    shape_is plan targets footprints distinct rising
+    shape_is plan targets footprints few few_edges distinct rising
     (λ k below. rows.good k (omega (arith, below, past)))
     (λ k below. rows.reads_rise k (omega (arith, below, past)))
     (λ k below. rows.writes_rise k (omega (arith, below, past))) in

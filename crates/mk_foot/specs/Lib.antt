@@ -1,10 +1,4 @@
 pub mod Attached
-pub mod Chains
 pub mod Footprints
-pub mod Jobs
 pub mod Json
-pub mod Laws
 pub mod Lines
-pub mod Recipes
-pub mod Rows
-pub mod Shape

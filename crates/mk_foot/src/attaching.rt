@@ -4,10 +4,9 @@ ghost use Rattle.std.specs.Option.{option_copied};
 ghost use Rattle.mk_name.specs.Gives.{Gives, Halts};
 ghost use Rattle.mk_name.specs.declared.fault.Halt.TheVariants as halts;
 ghost use Rattle.mk_rules.specs.Book.{targets_of};
-ghost use Rattle.mk_jobs.specs.Plan.{Node, names_of};
+ghost use Rattle.mk_jobs.specs.Plan.{names_of, nobody};
 ghost use Rattle.mk_foot.specs.Attached as spec;
 ghost use Rattle.mk_foot.specs.Footprints.{no_footprint};
-ghost use Rattle.mk_jobs.specs.Jobs.{nobody};
 ghost use Rattle.mk_jobs.specs.Rows.{with_rows};
 ghost use Rattle.mk_jobs.specs.Shape.{IsRising, IsWellFormed};
 

@@ -1,6 +1,7 @@
 use Rattle.std.proofs.Common.{ℕ, ◌+◌, ◌<◌, ◌≤◌, ◌∷◌, [], ◌++◌, map, List, ap, subst}
 use Rattle.std.proofs.lemmas.Result.{err_from_is_err_and}
 use Rattle.mk_name.specs.Names.{Name}
+use Rattle.mk_jobs.specs.Plan.{node_limit}
 use Rattle.mk_rules.specs.Book.{targets_of}
 use Rattle.mk_foot.specs.Footprints.{Footprint}
 use Rattle.mk_foot.proofs.AttachNodes.{RowsTo, fault_first, halts_along, row_pushed, rows_all, rows_more, rows_shape}
@@ -32,4 +33,4 @@ returns-clause-rows c =
 pub returns-clause-shape : goal.returns-clause-shape
 returns-clause-shape c =
     rows_shape c.args.plan.now (targets_of c.args.rulebook.now.rules) c.args.footprints.now c.loop-n.n _ _ (subst (λ k. k ≤ c.loop-n.n) c.count-n-end.ensures.count c.loop-n-test.false)
-    c.count-n-end.ensures.distinct c.count-n-end.ensures.rising c.loop-n.invariant
+    (subst (λ k. k ≤ node_limit) c.count-n-end.ensures.count c.count-n-end.ensures.few) c.count-n-end.ensures.few_edges c.count-n-end.ensures.distinct c.count-n-end.ensures.rising c.loop-n.invariant
