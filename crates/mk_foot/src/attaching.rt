@@ -166,7 +166,7 @@ fn first_taken<'a>(
         .find(|name| is_taken(plan, rulebook, own, name))
 }
 
-/// Whether the name belongs to another than the target: a node or a target of a target rule.
+/// Whether the name is not the target's own but that of some node, or one that the rules name as a target.
 fn is_taken(plan: &Plan, rulebook: &Rulebook, own: &Name, name: &Name) -> bool
     ensures { result ≡ spec.is_taken (names_of plan.now.nodes) (targets_of rulebook.now.rules) own.now name.now }
 {

@@ -19,6 +19,6 @@ abbrev pub from_last_period : List ℕ → List ℕ
 from_last_period [] = []
 from_last_period (b ∷ bs) = if not (list_any is_period bs) && is_period b then b ∷ bs else from_last_period bs
 
--- the text from the last period of the last component, if something stands before that period there; else nothing
+-- the suffix: behind the first byte of the last component, all from the last period on; nothing where no period stands there
 abbrev pub suffix_of : Name → List ℕ
 suffix_of t = from_last_period (drop 1 (last_component t))

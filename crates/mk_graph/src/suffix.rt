@@ -25,8 +25,8 @@ fn from_last_period(text: &[u8]) -> &[u8]
     }
 }
 
-/// The text from the last period of the name's last component, if something stands before that period there; else
-/// nothing ("Inference Rules").
+/// The suffix of a name: behind the first byte of its last component, all from the last period on. It is empty where no
+/// period stands there ("Inference Rules").
 pub fn suffix_of(name: &Name) -> &[u8]
     ensures { result.now ≡ suffix_of name.now }
 {

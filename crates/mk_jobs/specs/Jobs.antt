@@ -89,7 +89,7 @@ may_write jobs n x = is_live jobs n && has same_name (writes_of jobs n) x
 abbrev pub may_touch : Jobs → ℕ → Name → Bool
 may_touch jobs n x = may_read jobs n x || may_write jobs n x
 
--- an edge leads from p to n: p is a prerequisite of n
+-- n needs p at once: an edge goes from p to n
 abbrev pub IsPrerequisite : Jobs → ℕ → ℕ → Type 0
 IsPrerequisite jobs p n = Contains (prerequisites_of jobs n) p
 

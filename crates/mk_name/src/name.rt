@@ -1,4 +1,4 @@
-//! Names of files, in plain spelling.
+//! Names of files.
 ghost use Rattle.std.specs.Prelude.{◌≡◌, ◌++◌, List, ℕ, take, IfOk};
 ghost use Rattle.std.specs.Prelude.{length, nat_eq, Some};
 ghost use Rattle.std.specs.Cmp.{partial_equiv_from_equiv};
@@ -14,7 +14,8 @@ use std::cmp::Ordering;
 use std::hash::{Hash, Hasher};
 use std::marker::Model;
 
-/// The name of a file: bytes in plain spelling. Names are compared and ordered byte by byte.
+/// The name of a file: any bytes. Those that are read from a path are in plain spelling. Names are compared and ordered
+/// byte by byte.
 #[derive(Debug, Drop)]
 pub struct Name {
     bytes: Vec<u8>,

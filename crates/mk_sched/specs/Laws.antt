@@ -13,7 +13,7 @@ OwnFile =
     → IsValid jobs → IsRun jobs tie limit opening past → n < node_count jobs
     → is_started (phase past n) ≡ false → store_after opening past (name_of jobs n) ≡ opening (name_of jobs n)
 
--- a node that has not started is stale at the ends of two runs or at neither, if its prerequisites did the same in both
+-- a node that has started in neither of two runs is stale behind both or behind none, if its prerequisites did the same in both
 abbrev pub StaleAlike : Type 0
 StaleAlike =
     (jobs : Jobs) (tie : Bool) (limit other : ℕ) (opening : Store) (a b : List Event) (n : ℕ)
@@ -31,7 +31,7 @@ LookAlike =
     → history a n ≡ history b n → ((m : ℕ) → Before jobs m n → history a m ≡ history b m)
     → may_read jobs n x ≡ true → bytes_of (store_after opening a x) ≡ bytes_of (store_after opening b x)
 
--- the same outcome: the same nodes started, each did the same, and the same names are present with the same bytes
+-- the same outcome: each node started in both or in neither and did the same, and at each name both left the same bytes or nothing
 pub record SameOutcome (jobs : Jobs) (opening : Store) (a b : List Event) : Type 0 where
   pub starts : (n : ℕ) → n < node_count jobs → is_started (phase a n) ≡ is_started (phase b n)
   pub histories : (n : ℕ) → n < node_count jobs → history a n ≡ history b n

@@ -32,8 +32,8 @@ pub record IsStoreRefused (listed : Name → Bool) (opening files : Files) (plac
   pub differs : AgreesWithListing listed (store_of opening) → ⊥
   pub same : files ≡ opening
 
--- the event at a place from 1 is refused: the store agrees with the listing, the events before it are a run, and these
--- files are what they leave; the event is not allowed, and the refusal is the first that holds of those that are asked of it
+-- an event is refused, and told by its place from 1: the store has the listed files, what stands before the event is a run
+-- that leaves these files, the event is not allowed, and of the refusals that are asked of it this one holds first
 pub record IsEventRefused (jobs : Jobs) (listed : Name → Bool) (tie : Bool) (limit : ℕ) (opening : Files) (events : List Told) (files : Files) (place : ℕ) (refusal : Refusal) : Type 0 where
   pub agrees : AgreesWithListing listed (store_of opening)
   pub before : List Told

@@ -26,7 +26,7 @@ bytes_of (Some file) = Some file.bytes
 abbrev pub AgreesWithListing : (Name → Bool) → Store → Type 0
 AgreesWithListing listed store = (x : Name) → is_some (store x) ≡ listed x
 
--- the store agrees with the jobs: each node is present exactly where it is listed
+-- the store agrees with the jobs: of the nodes just the listed ones are there
 abbrev pub AgreesWith : Jobs → Store → Type 0
 AgreesWith jobs store = (n : ℕ) → n < node_count jobs → is_some (store (name_of jobs n)) ≡ is_listed jobs n
 

@@ -15,7 +15,7 @@ pub fn own_file()
     ensures { OwnFile }
 {}
 
-/// A node is stale at the ends of two runs, or at neither, if its prerequisites did the same.
+/// A node that has started in neither of two runs is stale behind both or behind none, if its prerequisites did the same.
 pub fn stale_alike()
     ensures { StaleAlike }
 {}
@@ -45,7 +45,8 @@ pub fn puts_in_turn()
     ensures { PutsInTurn }
 {}
 
-/// Where jobs are determinate, each complete run has the outcome of a serial one.
+/// Where jobs are determinate, a complete run has the outcome of each complete serial run whose recipes agree with its own.
+/// It does not say that there is one.
 pub fn equals_serial_run()
     ensures { EqualsSerialRun }
 {}

@@ -6,7 +6,7 @@ ghost use Rattle.std.specs.Prelude.{◌≡◌};
 pub enum Refusal {
     /// V1: a prerequisite has not passed.
     NotReady,
-    /// V2: a start of a node that is not stale.
+    /// V2: a start, and the node is up to date.
     NotStale,
     /// V3: a skip of a stale node that has a recipe.
     Stale,

@@ -32,7 +32,7 @@ pub enum Stopped {
     Memory,
     /// An event is not allowed, or the store does not agree with the listing.
     Refused {
-        /// The store as it stood before the refused event.
+        /// The store that the events before the refused one left.
         store: Store,
         /// The place of the refused event from 1, or 0 for the store.
         place: u64,

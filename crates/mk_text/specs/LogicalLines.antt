@@ -133,7 +133,7 @@ is_empty [] = true
 is_empty (line ∷ []) = are_blanks line
 is_empty (line ∷ next ∷ lines) = false
 
--- what a block is that begins with a tab and is not empty: a command line where an entry is open, else a comment or a fault
+-- what a block with a tab in front is, unless it is empty: a command line where an entry is open, else a comment or a fault
 abbrev pub sort_of_command : Bool → List ℕ → Result (Option LineKind) Kind
 sort_of_command below bytes =
     if below then Ok (Some Recipe)

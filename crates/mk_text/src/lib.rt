@@ -1,4 +1,5 @@
-//! What every other crate speaks of: names of files, faults, devices, the listing and logical lines.
+//! Texts and devices: plain spelling, the root, the listing, the logical lines of a makefile, and what bytes come from and
+//! go to. The modules of `mk_name` are passed on.
 #![tactic(auto)]
 
 pub use mk_name::{fault, name, report};
