@@ -1,10 +1,11 @@
 #!/usr/bin/env python3
-"""Which source serves a name under examples/posix-base.mk: this table, GNU make, and race if it is given.
+"""Asks GNU make which source serves a name under share/posix-base.mk, and compares with the cases.
 
-    bench/inference/run.py [PROGRAM]
+    bench/inference/run.py
 
-PROGRAM is a built race that takes --base. GNU make runs in a temporary folder with -r and with each command of the
-base in place of which it only writes its source. Prints each case that differs; the exit status is 1 if one does.
+The cases are those of cases/default-rules: the files that exist are in `listing`, the name is the last word of `cmd`,
+and `stdout` tells the source. GNU make runs in a temporary folder with -r, on the base in which each command only tells
+its source. Prints each name for which the two differ; the exit status is 1 if one does.
 """
 import os
 import pathlib
@@ -14,36 +15,12 @@ import sys
 import tempfile
 
 TOP = pathlib.Path(__file__).resolve().parents[2]
-BASE = TOP / "examples" / "posix-base.mk"
-
-# the files that exist, the name, and the source that an inference rule makes it from, if one does
-CASES = [
-    ("prog.c", "prog", "prog.c"),
-    ("prog.sh", "prog", "prog.sh"),
-    ("prog.c prog.sh", "prog", "prog.c"),
-    ("x.c", "x.o", "x.c"),
-    ("x.y", "x.o", "x.y"),
-    ("x.l", "x.o", "x.l"),
-    ("x.y x.c", "x.o", "x.c"),
-    ("x.l x.y", "x.o", "x.y"),
-    ("x.l x.c x.y", "x.o", "x.c"),
-    ("x.y", "x.c", "x.y"),
-    ("x.l", "x.c", "x.l"),
-    ("x.l x.y", "x.c", "x.y"),
-    ("x.c", "x.a", "x.c"),
-    ("lib.v.c", "lib.v", "lib.v.c"),
-    ("a..c", "a.", "a..c"),
-    ("a.b/c.c", "a.b/c", "a.b/c.c"),
-    ("sub/x.c", "sub/x.o", "sub/x.c"),
-    ("x.o.c", "x.o", None),
-    ("x.y.c", "x.y", None),
-    ("x.sh", "x.o", None),
-    ("y.c", "x.o", None),
-]
+BASE = TOP / "share" / "posix-base.mk"
+CASES = TOP / "cases" / "default-rules"
 
 
 def told_makefile():
-    """The base, each rule of which writes its source alone."""
+    """The base, each rule of which tells its source alone."""
     lines, first = [], False
     for line in BASE.read_text().splitlines():
         if not line.startswith("\t"):
@@ -55,52 +32,33 @@ def told_makefile():
     return "\n".join(lines) + "\n"
 
 
-def source_of_make(folder, name):
-    """The source that GNU make finds."""
+def source_of_make(files, name):
+    """The source that GNU make finds where these files exist, None if it finds none."""
     settings = {key: value for key, value in os.environ.items() if not key.startswith("MAKE")}
-    command = ["make", "-r", "-f", "base.mk", name]
-    done = subprocess.run(command, cwd=folder, env=settings, capture_output=True, text=True)
+    with tempfile.TemporaryDirectory() as where:
+        folder = pathlib.Path(where)
+        for file in files:
+            (folder / file).parent.mkdir(parents=True, exist_ok=True)
+            (folder / file).touch()
+        (folder / "base.mk").write_text(told_makefile())
+        command = ["make", "-r", "-f", "base.mk", name]
+        done = subprocess.run(command, cwd=folder, env=settings, capture_output=True, text=True, check=False)
     found = re.findall(r"^source=(.*)$", done.stdout, re.MULTILINE)
     return found[-1] if found else None
 
 
-def source_of_race(program, folder, name):
-    """The source that race finds."""
-    (folder / "empty.mk").write_text("")
-    command = [program, "order", "--base", str(BASE), "--makefile", str(folder / "empty.mk"),
-               "--listing", str(folder / "listing"), "--root", str(folder), name]
-    done = subprocess.run(command, capture_output=True, text=True)
-    for line in done.stdout.splitlines():
-        parts = line.split(" ")
-        if parts[1:4] == ["inferred", name, ":"]:
-            return parts[-1]
-    return None
-
-
-def make_files(folder, files):
-    """The files of a case, the listing of them, and the base."""
-    for file in files.split():
-        path = folder / file
-        path.parent.mkdir(parents=True, exist_ok=True)
-        path.write_text("")
-    (folder / "listing").write_text("".join(file + "\n" for file in files.split()))
-    (folder / "base.mk").write_text(told_makefile())
-
-
 def main():
     failed = 0
-    for files, name, wanted in CASES:
-        with tempfile.TemporaryDirectory() as where:
-            folder = pathlib.Path(where)
-            make_files(folder, files)
-            answers = {"GNU make": source_of_make(folder, name)}
-            if len(sys.argv) > 1:
-                answers["race"] = source_of_race(sys.argv[1], folder, name)
-        for who, found in answers.items():
-            if found != wanted:
-                print(f"{name} from {files}: {wanted} is wanted, {who} finds {found}")
-                failed = 1
-    print(f"{len(CASES)} cases")
+    cases = sorted(it.parent for it in CASES.glob("*/cmd"))
+    for case in cases:
+        files = (case / "listing").read_text().split()
+        name = (case / "cmd").read_text().split()[-1]
+        told = re.search(rf"(?m)^\d+ inferred {re.escape(name)} : (.*)$", (case / "stdout").read_text())
+        wanted, found = told and told[1], source_of_make(files, name)
+        if found != wanted:
+            print(f"{case.name}: {name} is made from {wanted}, GNU make finds {found}")
+            failed = 1
+    print(f"{len(cases)} cases")
     return failed
 
 

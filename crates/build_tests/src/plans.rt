@@ -355,7 +355,7 @@ fn a_name_of_no_node(rt: HostRuntime) -> Result<(), Fail> {
     Ok(())
 }
 
-/// The suffixes and the inference rules of `examples/posix-base.mk`.
+/// The suffixes and the inference rules of `share/posix-base.mk`.
 const POSIX: &str =
     ".SUFFIXES: .o .c .y .l .a .sh\n.c: ;\n.sh: ;\n.c.o: ;\n.y.o: ;\n.l.o: ;\n.y.c: ;\n.l.c: ;\n.c.a: ;";
 
