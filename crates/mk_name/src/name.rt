@@ -1,4 +1,4 @@
-//! Names of files, in plain spelling.
+//! Names of files.
 ghost use Rattle.std.specs.Prelude.{◌≡◌, ◌++◌, List, ℕ, take, IfOk};
 ghost use Rattle.std.specs.Prelude.{length, nat_eq, Some};
 ghost use Rattle.std.specs.Cmp.{partial_equiv_from_equiv};
@@ -14,7 +14,9 @@ use std::cmp::Ordering;
 use std::hash::{Hash, Hasher};
 use std::marker::Model;
 
-/// The name of a file: bytes in plain spelling. Names are compared and ordered byte by byte.
+/// The name of a file: any bytes. What reads paths and words of makefiles makes names in plain spelling
+/// alone, so that two names stand for one file just where their bytes are the same. Names are compared and
+/// ordered byte by byte.
 #[derive(Debug, Drop)]
 pub struct Name {
     bytes: Vec<u8>,
@@ -27,7 +29,7 @@ impl Model for Name {
 }
 
 impl Name {
-    /// The name with these bytes.
+    /// The name with these bytes, which need not be in plain spelling.
     pub fn from_bytes(bytes: Vec<u8>) -> Name
         ensures { result ≡ bytes.items }
     {
