@@ -1,5 +1,4 @@
 pub mod Items
-pub mod Joining
 pub mod Layers
 pub mod Over
 pub mod Places
