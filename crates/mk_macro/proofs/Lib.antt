@@ -1,5 +1,4 @@
 pub mod Items
-pub mod Joining
 pub mod Layers
 pub mod Over
 pub mod Places
@@ -7,6 +6,7 @@ pub mod Refusals
 pub mod Settling
 pub mod Steps
 pub mod Table
+pub mod Total
 pub mod Unique
 pub mod Walked
 pub mod Weaving

@@ -1,11 +1,11 @@
 -- What an assignment does (POSIX.1-2024 XCU make, "Macros", and the profile).
-use Rattle.std.specs.Prelude.{◌≡◌, ℕ, List, [], ◌∷◌, ◌++◌, Option, None, Some, Result, Ok, take, drop}
+use Rattle.std.specs.Prelude.{◌≡◌, ℕ, List, [], ◌∷◌, ◌++◌, Option, None, Some, Result, Ok}
 use Rattle.std.specs.Result.{result_map_both}
 use Rattle.mk_name.specs.Names.{Name}
 use Rattle.mk_name.specs.Told.{Told}
-use Rattle.mk_text.specs.LogicalLine.{LogicalLine, text_of}
-use Rattle.mk_text.specs.declared.line.LineKind.{LineKind}
-use Rattle.mk_text.specs.declared.line.LineKind.TheVariants.{Assign, Entry, Recipe}
+use Rattle.mk_text.specs.LogicalLine.{LogicalLine, parts_of}
+use Rattle.mk_text.specs.declared.parts.Parts.{Parts}
+use Rattle.mk_text.specs.declared.parts.Parts.TheVariants.{Assign, Entry, Recipe}
 use Rattle.mk_text.specs.declared.line.Operator.{Operator}
 use Rattle.mk_text.specs.declared.line.Operator.TheVariants as operators
 use Rattle.mk_macro.specs.declared.definition.Manner.{Manner}
@@ -67,13 +67,12 @@ LeadsTo macros name (Fixes front text) answer =
 abbrev pub IsAssigned : Macros → Name → Operator → List ℕ → Result Macros Told → Type 0
 IsAssigned macros name operator text answer = LeadsTo macros name (effect (macros name) operator text) answer
 
--- the macros behind a line of this kind and text, or its fault: only an assignment changes any
-abbrev pub IsBehind : LineKind → Macros → List ℕ → Result Macros Told → Type 0
-IsBehind (Assign name_start name_end operator operator_start value_start) macros text answer =
-    IsAssigned macros (drop name_start (take name_end text)) operator (drop value_start text) answer
-IsBehind (Entry colon semicolon) macros text answer = answer ≡ Ok macros
-IsBehind Recipe macros text answer = answer ≡ Ok macros
+-- the macros behind a line of these parts, or its fault: only an assignment changes any
+abbrev pub IsBehind : Parts → Macros → Result Macros Told → Type 0
+IsBehind (Assign parts) macros answer = IsAssigned macros parts.name parts.operator parts.value answer
+IsBehind (Entry parts) macros answer = answer ≡ Ok macros
+IsBehind Recipe macros answer = answer ≡ Ok macros
 
 -- the macros behind a line, or its fault
 abbrev pub IsAssignment : Macros → LogicalLine → Result Macros Told → Type 0
-IsAssignment macros line answer = IsBehind line.kind macros (text_of line) answer
+IsAssignment macros line answer = IsBehind (parts_of line) macros answer

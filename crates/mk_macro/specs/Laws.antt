@@ -6,12 +6,16 @@ use Rattle.mk_macro.specs.declared.item.Item.{Item}
 use Rattle.mk_macro.specs.Expansion.{Expands, IsExpansion, Outcome}
 use Rattle.mk_macro.specs.Macros.{Macros}
 
--- items come to one outcome
+-- items come to no two outcomes
 abbrev pub ItemsComeToOne : Type 0
 ItemsComeToOne = (macros : Macros) (busy : List Name) (items : List Item) (count : ℕ) (one other : Outcome)
     → Expands macros busy items count one → Expands macros busy items count other → one ≡ other
 
--- a text has one expansion
+-- a text has no two expansions
 abbrev pub ExpansionIsUnique : Type 0
 ExpansionIsUnique = (macros : Macros) (text : List ℕ) (one other : Result (List ℕ) Told)
     → IsExpansion macros text one → IsExpansion macros text other → one ≡ other
+
+-- a text has an expansion: a text or a fault
+abbrev pub EachTextExpands : Type 0
+EachTextExpands = (macros : Macros) (text : List ℕ) → (answer : Result (List ℕ) Told) × IsExpansion macros text answer

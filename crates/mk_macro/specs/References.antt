@@ -1,9 +1,9 @@
 -- The items of a text: bytes that stand for themselves, and references (POSIX.1-2024 XCU make, "Macros").
 use Rattle.std.specs.Prelude.{ℕ, zero, suc, ◌+◌, Bool, List, [], ◌∷◌, Option, None, Some, ◌==◌, ◌&&◌, not, if◌then◌else◌}
 use Rattle.std.specs.List.{list_any, before_first, after_first, position_or_len}
-use Rattle.mk_text.specs.LogicalLines.{colon, equals}
+use Rattle.mk_text.specs.LogicalLines.{colon, equals, is_macro_name}
 use Rattle.mk_text.specs.Outside.{dollar}
-use Rattle.mk_macro.specs.Reference.{Change, is_macro_name}
+use Rattle.mk_macro.specs.Reference.{Change}
 use Rattle.mk_macro.specs.declared.item.Item.{Item}
 use Rattle.mk_macro.specs.declared.item.Item.TheVariants.{Plain, Refers, Broken}
 

@@ -1,6 +1,5 @@
 //! What an assignment does (POSIX.1-2024 XCU make, "Macros", and the profile).
-ghost use Rattle.std.specs.Prelude.{◌≡◌, ◌∷◌, ◌++◌, [], take, drop, Some, None, IfOk, OnOk, OnErr, MatchOption, option_map};
-ghost use Rattle.mk_text.specs.LogicalLine.{text_of};
+ghost use Rattle.std.specs.Prelude.{◌≡◌, ◌∷◌, ◌++◌, Some, OnOk, OnErr, MatchOption, option_map};
 ghost use Rattle.mk_macro.specs.Answers.{AnswersLeft};
 ghost use Rattle.mk_macro.specs.Assignments.{IsAssigned, IsAssignment, LeadsTo, delayed, effect, first_effect};
 ghost use Rattle.mk_macro.specs.Macros.{defined, macros_of};
@@ -8,36 +7,9 @@ ghost use Rattle.mk_macro.specs.Macros.{defined, macros_of};
 use crate::definition::{Definition, Manner};
 use crate::macros::Macros;
 use mk_name::fault::Halt;
-use mk_text::line::{Line, LineKind, Operator};
+use mk_text::line::{Line, Operator};
+use mk_text::parts::Parts;
 use std::alloc::{AllocError, Global};
-
-/// The text of a logical line: its pieces with one space between each two.
-fn text_of(alloc: Global, line: &Line) -> Result<Vec<u8>, AllocError>
-    ensures { IfOk result (λ text. text.items ≡ text_of line.now) }
-{
-    let mut text = Vec::new(alloc);
-    for (i, piece) in line.pieces().iter().enumerate() {
-        if i > 0 {
-            text.push(b' ')?;
-        }
-        text.extend_from_slice(piece)?;
-    }
-    Ok(text)
-}
-
-/// The first bytes of a text, all where it has fewer.
-fn front(text: &[u8], count: usize) -> &[u8]
-    ensures { result.now ≡ take count text.now }
-{
-    &text[..count.min(text.len())]
-}
-
-/// What stands behind the first bytes of a text.
-fn behind(text: &[u8], count: usize) -> &[u8]
-    ensures { result.now ≡ drop count text.now }
-{
-    &text[count.min(text.len())..]
-}
 
 impl Macros {
     /// How the macro came by its value, if it is defined.
@@ -171,19 +143,11 @@ impl Macros {
             (IsAssignment (macros_of self.old) line.now) }
         ensures unchanged { OnErr result (macros_of self.new ≡ macros_of self.old) }
     {
-        match line.kind() {
-            LineKind::Assign {
-                name_start,
-                name_end,
-                operator,
-                value_start,
-                ..
-            } => {
-                let text = text_of(alloc, line)?;
-                let name = behind(front(&text, name_end), name_start);
-                self.assign_text(alloc, name, operator, behind(&text, value_start))
+        match line.parts() {
+            Parts::Assign(parts) => {
+                self.assign_text(alloc, parts.name(), parts.operator(), parts.value())
             }
-            LineKind::Entry { .. } | LineKind::Recipe => Ok(()),
+            Parts::Entry(_) | Parts::Recipe => Ok(()),
         }
     }
 }

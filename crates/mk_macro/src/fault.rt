@@ -10,7 +10,7 @@ use std::alloc::{AllocError, Global};
 pub fn unnamed(alloc: Global, kind: Kind) -> Halt
     ensures { result ≡ Halt.Fault (macro_fault kind []) }
 {
-    Halt::Fault(Fault::new(kind, Source::Makefile, 0, Vec::new(alloc)))
+    Halt::Fault(Fault::unnamed(alloc, kind, Source::Makefile, 0))
 }
 
 /// A fault that tells a macro's name. The only error is want of memory.
@@ -18,5 +18,5 @@ pub fn named(alloc: Global, kind: Kind, name: &[u8]) -> Result<Fault, AllocError
     ensures { IfOk result (λ fault. fault ≡ macro_fault kind (name.now ∷ [])) }
 {
     let name = Name::from_bytes(Vec::from_slice(alloc, name)?);
-    Ok(Fault::new(kind, Source::Makefile, 0, vec![in alloc; name]?))
+    Fault::naming(alloc, kind, Source::Makefile, 0, name)
 }

@@ -1,12 +1,11 @@
 //! The items of a text: bytes that stand for themselves, and references (POSIX.1-2024 XCU make,
 //! "Macros").
 ghost use Rattle.std.specs.Prelude.{◌≡◌, ◌<◌, true, false, List, [], ◌∷◌, length, drop, ◌==◌, IfNone, IfSome};
-ghost use Rattle.std.specs.List.{list_all, position};
+ghost use Rattle.std.specs.List.{position};
 ghost use Rattle.std.specs.Option.{option_map_or};
-ghost use Rattle.mk_text.specs.LogicalLines.{is_macro_byte};
-ghost use Rattle.mk_macro.specs.Reference.{is_macro_name};
 ghost use Rattle.mk_macro.specs.References.{before, behind, bracketed, changing, closed_by, dollar_item, dollar_length, holds, items_of, reference_to};
 
+use mk_text::lexical::is_macro_name;
 use std::marker::Model;
 
 /// A substitution: what stands at the end of a word, and what comes in its place.
@@ -86,30 +85,6 @@ pub enum Item<'a> {
     Refers(Reference<'a>),
     /// A reference with a wrong form.
     Broken,
-}
-
-/// Whether the byte may stand in a macro's name.
-fn is_macro_byte(byte: u8) -> bool
-    ensures { result ≡ is_macro_byte byte }
-{
-    !matches!(
-        byte,
-        b' ' | b'\t' | b'$' | b'(' | b')' | b'{' | b'}' | b':' | b'=' | b'#'
-    )
-}
-
-/// Whether the text is a macro's name.
-pub fn is_macro_name(text: &[u8]) -> bool
-    ensures { result ≡ is_macro_name text.now }
-{
-    !text.is_empty() && has_macro_bytes(text)
-}
-
-/// Whether each byte may stand in a macro's name.
-fn has_macro_bytes(text: &[u8]) -> bool
-    ensures { result ≡ list_all is_macro_byte text.now }
-{
-    text.iter().all(|byte| is_macro_byte(*byte))
 }
 
 /// What stands before the first of these bytes, and what stands behind it.

@@ -1,9 +1,10 @@
 //! Laws of expansion.
-ghost use Rattle.mk_macro.specs.Laws.{ExpansionIsUnique, ItemsComeToOne};
+ghost use Rattle.mk_macro.specs.Laws.{EachTextExpands, ExpansionIsUnique, ItemsComeToOne};
 
-/// A law: a text has one expansion under the same macros, and so have the items of a text inside the
-/// same values, behind the same count of references.
+/// A law: under the same macros a text has just one expansion, a text or a fault; and the items of a
+/// text, inside the same values and behind the same count of references, come to no two outcomes.
 pub fn expansion_is_unique()
+    ensures some { EachTextExpands }
     ensures text { ExpansionIsUnique }
     ensures items { ItemsComeToOne }
 {}

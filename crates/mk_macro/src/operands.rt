@@ -7,9 +7,10 @@ ghost use Rattle.mk_macro.specs.Macros.{macros_of};
 ghost use Rattle.mk_macro.specs.Operands.{is_bad, operand_fault, operand_macros, with_operand};
 
 use crate::definition::{Definition, Manner};
-use crate::item::{is_macro_name, split_at_byte};
+use crate::item::split_at_byte;
 use crate::macros::Macros;
 use mk_name::fault::{Fault, Halt, Kind, Source};
+use mk_text::lexical::is_macro_name;
 use std::alloc::{AllocError, Global};
 
 /// Whether the operand defines what is no macro's name.
@@ -33,8 +34,8 @@ fn first_bad(operands: &[&[u8]]) -> Option<usize>
 fn bad_operand(alloc: Global, place: u64) -> Halt
     ensures { result ≡ Halt.Fault (operand_fault place) }
 {
-    let none = Vec::new(alloc);
-    Halt::Fault(Fault::new(Kind::BadAssignment, Source::Settings, place, none))
+    let kind = Kind::BadAssignment;
+    Halt::Fault(Fault::unnamed(alloc, kind, Source::Settings, place))
 }
 
 impl Macros {

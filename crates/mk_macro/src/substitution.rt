@@ -10,13 +10,8 @@ ghost use Rattle.mk_macro.specs.Words.{AreWords, ComesToSame, IsOneWord, reach};
 use crate::fault::unnamed;
 use crate::item::Change;
 use mk_name::fault::{Halt, Kind};
+use mk_text::lexical::is_blank;
 use std::alloc::Global;
-
-fn is_blank(byte: u8) -> bool
-    ensures { result ≡ is_blank byte }
-{
-    byte == b' ' || byte == b'\t'
-}
 
 /// The place of the first blank.
 fn first_blank(text: &[u8]) -> Option<usize>

@@ -189,3 +189,17 @@ module _ {X : Type 0} (same : X → X → Bool) (exact : IsExact same) where
       (λ y i. without p.0 p.1 x y (λ e. both_ways _ d.0 (subst (λ (z : X). In same xs z) (sym e) i)) (subst (λ (zs : List X). In same zs y) p.2 (w y (in_tail x y xs i)))) in
       let whole : sum_by weight ys ≡ sum_by weight (p.0 ++ x ∷ p.1) = ap (sum_by weight) p.2 in
       omega (arith, rest, whole, sum_by-cons weight x xs, sum_by-append weight p.0 p.1, sum_by-append weight p.0 (x ∷ p.1), sum_by-cons weight x p.1)
+
+  -- the same items stand in what is kept of a list
+  pub has-firsts : (xs : List X) (x : X) → has same (firsts same xs) x ≡ has same xs x
+  has-firsts xs x =
+      elim (cases_Bool (has same xs x)) [
+        | inl t ↦ kept_has [] xs x t ∙ sym t
+        | inr f ↦ not_in (firsts same xs) x (λ h. elim (kept_cases [] xs x h) [ inl n ↦ both_ways _ refl n | inr i ↦ both_ways _ f i ]) ∙ sym f
+      ]
+
+  pub firsts_again : (xs : List X) (x : X) → has same xs x ≡ true → firsts same (xs ++ x ∷ []) ≡ firsts same xs
+  firsts_again xs x h = kept-append [] xs (x ∷ []) ∙ kept_old (firsts same xs) x [] (has-firsts xs x ∙ h)
+
+  pub firsts_first : (xs : List X) (x : X) → has same xs x ≡ false → firsts same (xs ++ x ∷ []) ≡ firsts same xs ++ x ∷ []
+  firsts_first xs x h = kept-append [] xs (x ∷ []) ∙ kept_new (firsts same xs) x [] (has-firsts xs x ∙ h)

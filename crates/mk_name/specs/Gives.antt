@@ -1,8 +1,9 @@
 -- What a call says that gives a value, a fault or want of memory.
-use Rattle.std.specs.Prelude.{◌≡◌, Result, Ok, Err}
+use Rattle.std.specs.Prelude.{◌≡◌, ℕ, Result, Ok, Err}
 use Rattle.mk_name.specs.Told.{Told}
 use Rattle.mk_name.specs.declared.fault.Halt.{Halt}
 use Rattle.mk_name.specs.declared.fault.Halt.TheVariants as halts
+use Rattle.mk_name.specs.declared.fault.Source.{Source}
 
 -- want of memory may come in place of any answer; a fault is the answer's own
 abbrev pub Halts : {Y : Type 0} → Halt → Result Y Told → Type 0
@@ -23,3 +24,8 @@ HaltsAmong (halts.Fault fault) answers = answers (Err fault)
 abbrev pub Answers : {Y : Type 0} → Result Y Halt → (Result Y Told → Type 0) → Type 0
 Answers (Ok value) answers = answers (Ok value)
 Answers (Err halt) answers = HaltsAmong halt answers
+
+-- the same halt, where a fault is told in this source, at this place
+abbrev pub halt_at : Source → ℕ → Halt → Halt
+halt_at source place halts.Memory = halts.Memory
+halt_at source place (halts.Fault fault) = halts.Fault (record fault { source = source; place = place })

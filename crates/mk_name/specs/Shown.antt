@@ -90,7 +90,11 @@ word_of kinds.UnknownInclude = codes "UnknownInclude"
 word_of kinds.IncludeTooDeep = codes "IncludeTooDeep"
 word_of kinds.TooManyIncludes = codes "TooManyIncludes"
 
--- how a source is shown; a text that an include line names has its name behind a colon
+-- how the text of this name is shown, which an include line names
+abbrev pub include_text : List ℕ → List ℕ
+include_text name = codes "include:" ++ shown name
+
+-- how a source is shown
 abbrev pub source_text : Source → List ℕ
 source_text sources.Settings = codes "settings"
 source_text sources.Listing = codes "listing"
@@ -102,7 +106,7 @@ source_text sources.Jobs = codes "jobs"
 source_text sources.Log = codes "log"
 source_text sources.Proof = codes "proof"
 source_text sources.Includes = codes "includes"
-source_text (sources.Include name) = codes "include:" ++ shown name
+source_text (sources.Include name) = include_text name
 
 -- the number and the word of a kind
 abbrev pub kind_line : Kind → List ℕ

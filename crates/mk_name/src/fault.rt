@@ -1,5 +1,6 @@
 //! Faults: what is wrong with an input, and where.
 ghost use Rattle.std.specs.Prelude.{◌≡◌, [], ◌∷◌, IfOk};
+ghost use Rattle.mk_name.specs.Gives.{halt_at};
 ghost use Rattle.mk_name.specs.declared.fault.Halt.TheVariants.{Memory};
 
 use crate::name::Name;
@@ -23,6 +24,27 @@ pub enum Source {
     Includes,
     /// The text that an include line names.
     Include(Name),
+}
+
+impl Source {
+    /// An equal source. The only error is want of memory.
+    pub fn copy(&self, alloc: Global) -> Result<Source, AllocError>
+        ensures { IfOk result (λ source. source ≡ self.now) }
+    {
+        Ok(match self {
+            Source::Settings => Source::Settings,
+            Source::Listing => Source::Listing,
+            Source::Base => Source::Base,
+            Source::Makefile => Source::Makefile,
+            Source::Graph => Source::Graph,
+            Source::Footprints => Source::Footprints,
+            Source::Jobs => Source::Jobs,
+            Source::Log => Source::Log,
+            Source::Proof => Source::Proof,
+            Source::Includes => Source::Includes,
+            Source::Include(name) => Source::Include(name.copy(alloc)?),
+        })
+    }
 }
 
 /// What is wrong.
@@ -166,6 +188,27 @@ impl Fault {
         }
     }
 
+    /// The fault of this kind at this place, without names.
+    pub fn unnamed(alloc: Global, kind: Kind, source: Source, place: u64) -> Fault
+        ensures { result ≡ record { kind = kind; source = source; place = place; names = [] } }
+    {
+        Fault::new(kind, source, place, Vec::new(alloc))
+    }
+
+    /// The fault of this kind at this place, which tells one name. The only error is want of memory.
+    pub fn naming(
+        alloc: Global,
+        kind: Kind,
+        source: Source,
+        place: u64,
+        name: Name,
+    ) -> Result<Fault, AllocError>
+        ensures { IfOk result (λ fault. fault
+            ≡ record { kind = kind; source = source; place = place; names = name ∷ [] }) }
+    {
+        Ok(Fault::new(kind, source, place, vec![in alloc; name]?))
+    }
+
     /// The fault of a text that spells no name: `BadName` at place 0, which tells the text.
     /// The only error is want of memory.
     pub fn bad_name(alloc: Global, source: Source, text: &[u8]) -> Result<Fault, AllocError>
@@ -175,12 +218,7 @@ impl Fault {
         ensures names { IfOk result (λ fault. fault.names ≡ text.now ∷ []) }
     {
         let name = Name::from_bytes(Vec::from_slice(alloc, text)?);
-        Ok(Fault {
-            kind: Kind::BadName,
-            source,
-            place: 0,
-            names: vec![in alloc; name]?,
-        })
+        Fault::naming(alloc, Kind::BadName, source, 0, name)
     }
 
     /// What is wrong.
@@ -229,6 +267,18 @@ impl Fault {
 pub enum Halt {
     Memory,
     Fault(Fault),
+}
+
+impl Halt {
+    /// The same halt, where a fault is told in this source, at this place.
+    pub fn at(self, source: Source, place: u64) -> Halt
+        ensures { result ≡ halt_at source place self }
+    {
+        match self {
+            Halt::Memory => Halt::Memory,
+            Halt::Fault(fault) => Halt::Fault(fault.at(source, place)),
+        }
+    }
 }
 
 impl From<AllocError> for Halt {

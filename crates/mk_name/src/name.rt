@@ -14,8 +14,9 @@ use std::cmp::Ordering;
 use std::hash::{Hash, Hasher};
 use std::marker::Model;
 
-/// The name of a file: any bytes. Those that are read from a path are in plain spelling. Names are compared and ordered
-/// byte by byte.
+/// The name of a file: any bytes. What reads paths and words of makefiles makes names in plain spelling
+/// alone, so that two names stand for one file just where their bytes are the same. Names are compared and
+/// ordered byte by byte.
 #[derive(Debug, Drop)]
 pub struct Name {
     bytes: Vec<u8>,
@@ -28,7 +29,7 @@ impl Model for Name {
 }
 
 impl Name {
-    /// The name with these bytes.
+    /// The name with these bytes, which need not be in plain spelling.
     pub fn from_bytes(bytes: Vec<u8>) -> Name
         ensures { result ≡ bytes.items }
     {

@@ -1,5 +1,5 @@
 //! How names and faults are shown.
-ghost use Rattle.std.specs.Prelude.{◌≡◌, ◌++◌, IfOk, OnOk};
+ghost use Rattle.std.specs.Prelude.{◌≡◌, ◌++◌, IfOk, OnErr, OnOk, length, take};
 ghost use Rattle.std.specs.List.{list_all};
 ghost use Rattle.mk_name.specs.Shown as spec;
 
@@ -11,13 +11,27 @@ const HEX_DIGITS: &[u8; 16] = b"0123456789abcdef";
 
 /// Puts the shown form of a name at the end (profile): a visible ASCII byte that is no backslash and
 /// a byte past ASCII stand for themselves, and any other is `\x` and two lower case hexadecimal
-/// digits. The only error is want of memory.
+/// digits. The only error is want of memory, and then nothing is changed.
 pub fn push_shown(out: &mut Vec<u8>, name: &[u8]) -> Result<(), AllocError>
-    ensures { OnOk result (out.new.items ≡ out.old.items ++ spec.shown name.now) }
+    ensures shown { OnOk result (out.new.items ≡ out.old.items ++ spec.shown name.now) }
+    ensures unchanged { OnErr result (out.new.items ≡ out.old.items) }
 {
     if is_all_visible(name) {
         return out.extend_from_slice(name);
     }
+    let length = out.len();
+    let pushed = push_shown_bytes(out, name);
+    if pushed.is_err() {
+        out.truncate(length);
+    }
+    pushed
+}
+
+/// Puts the shown form of a name at the end, or a beginning of it where memory runs out.
+fn push_shown_bytes(out: &mut Vec<u8>, name: &[u8]) -> Result<(), AllocError>
+    ensures shown { OnOk result (out.new.items ≡ out.old.items ++ spec.shown name.now) }
+    ensures behind { OnErr result (take (length out.old.items) out.new.items ≡ out.old.items) }
+{
     for byte in name {
         push_shown_byte(out, *byte)?;
     }
@@ -25,7 +39,8 @@ pub fn push_shown(out: &mut Vec<u8>, name: &[u8]) -> Result<(), AllocError>
 }
 
 fn push_shown_byte(out: &mut Vec<u8>, byte: u8) -> Result<(), AllocError>
-    ensures { OnOk result (out.new.items ≡ out.old.items ++ spec.shown_byte byte) }
+    ensures shown { OnOk result (out.new.items ≡ out.old.items ++ spec.shown_byte byte) }
+    ensures unchanged { OnErr result (out.new.items ≡ out.old.items) }
 {
     if is_visible(byte) {
         out.push(byte)?;
@@ -88,9 +103,11 @@ fn push_place(
 }
 
 /// Puts the shown form of a source at the end: its word, and for the text that an include line names
-/// `include:` and the shown name (profile). The only error is want of memory.
+/// `include:` and the shown name (profile). The only error is want of memory, and then nothing is
+/// changed.
 pub fn push_source(out: &mut Vec<u8>, source: &Source) -> Result<(), AllocError>
-    ensures { OnOk result (out.new.items ≡ out.old.items ++ spec.source_text source.now) }
+    ensures shown { OnOk result (out.new.items ≡ out.old.items ++ spec.source_text source.now) }
+    ensures unchanged { OnErr result (out.new.items ≡ out.old.items) }
 {
     let word = match source {
         Source::Settings => "settings",
@@ -103,12 +120,24 @@ pub fn push_source(out: &mut Vec<u8>, source: &Source) -> Result<(), AllocError>
         Source::Log => "log",
         Source::Proof => "proof",
         Source::Includes => "includes",
-        Source::Include(name) => {
-            out.extend_from_slice(b"include:")?;
-            return push_shown(out, name.as_bytes());
-        }
+        Source::Include(name) => return push_include(out, name),
     };
     out.extend_from_slice(word.as_bytes())
+}
+
+/// Puts `include:` and the shown form of a name at the end. The only error is want of memory, and then
+/// nothing is changed.
+fn push_include(out: &mut Vec<u8>, name: &Name) -> Result<(), AllocError>
+    ensures shown { OnOk result (out.new.items ≡ out.old.items ++ spec.include_text name.now) }
+    ensures unchanged { OnErr result (out.new.items ≡ out.old.items) }
+{
+    let length = out.len();
+    out.extend_from_slice(b"include:")?;
+    let pushed = push_shown(out, name.as_bytes());
+    if pushed.is_err() {
+        out.truncate(length);
+    }
+    pushed
 }
 
 fn push_name_line(out: &mut Vec<u8>, name: &Name) -> Result<(), AllocError>

@@ -3,7 +3,6 @@ pub mod EntryAnswers
 pub mod Firsts
 pub mod Indexes
 pub mod LineAnswers
-pub mod LineText
 mod Notes
 mod Pairs
 pub mod PlacedLines

@@ -1,30 +1,18 @@
 -- What an entry says ("Target Rules", "Special Targets", and the profile).
-use Rattle.std.specs.Prelude.{◌≡◌, ℕ, ◌+◌, Bool, List, [], ◌∷◌, Option, None, Some, Result, Ok, Err, length, take, drop, find, is_some, codes, nat_lt, not, ◌==◌, ◌&&◌, ◌||◌, if◌then◌else◌}
+use Rattle.std.specs.Prelude.{◌≡◌, ℕ, Bool, List, [], ◌∷◌, Option, None, Some, Result, Ok, Err, length, find, codes, nat_lt, not, ◌==◌, ◌&&◌, ◌||◌, if◌then◌else◌}
 use Rattle.std.specs.Option.{option_map_or}
 use Rattle.mk_name.specs.Names.{Name, firsts, has, same_name}
 use Rattle.mk_name.specs.Told.{Told}
 use Rattle.mk_name.specs.declared.fault.Kind.{Kind}
 use Rattle.mk_name.specs.declared.fault.Kind.TheVariants.{MixedSpecial, DefaultPrerequisites}
 use Rattle.mk_name.specs.declared.fault.Source.TheVariants.{Makefile}
-use Rattle.mk_text.specs.LogicalLine.{text_of}
+use Rattle.mk_text.specs.Parts.{EntryParts}
 use Rattle.mk_macro.specs.Macros.{Macros}
 use Rattle.mk_macro.specs.Expansion.{IsExpansion}
 use Rattle.mk_rules.specs.Book.{Entry}
 use Rattle.mk_rules.specs.Placed.{Placed}
 use Rattle.mk_rules.specs.Special.{is_special}
 use Rattle.mk_rules.specs.Words.{names_in}
-
--- what stands before the semicolon, where there is one
-abbrev pub before_semicolon : List ℕ → Option ℕ → List ℕ
-before_semicolon text None = text
-before_semicolon text (Some semicolon) = take semicolon text
-
--- the part up to the colon, and the part between it and the semicolon
-abbrev pub targets_part : List ℕ → ℕ → List ℕ
-targets_part text colon = take colon text
-
-abbrev pub prerequisites_part : List ℕ → ℕ → Option ℕ → List ℕ
-prerequisites_part text colon semicolon = drop (colon + 1) (before_semicolon text semicolon)
 
 -- the names in an expanded text, or the fault of its expansion
 abbrev pub expanded_names : List ℕ → Result (List ℕ) Told → Result (List Name) Told
@@ -58,23 +46,22 @@ checked_entry e = option_map_or (λ fault. Err fault) (entry_fault e) (Ok e)
 
 -- the entry of a line with these targets, each of which counts once, and these prerequisites: it has commands by its
 -- semicolon, or by a command line right below it
-abbrev pub entry_of : Placed → Option ℕ → List Name → List Name → Entry
-entry_of p semicolon targets prerequisites = record {
+abbrev pub entry_of : Placed → Bool → List Name → List Name → Entry
+entry_of p has_command targets prerequisites = record {
   source = p.source;
   line = p.line.first_line;
   targets = firsts same_name targets;
   prerequisites = prerequisites;
-  has_commands = is_some semicolon || p.command_below;
+  has_commands = has_command || p.command_below;
 }
 
--- what the line of an entry says, with its colon and its semicolon at these places: the fault of its targets, else that of its
--- prerequisites, else its own, or the entry
-pub data EntrySays (root : List ℕ) (macros : Macros) (p : Placed) (colon : ℕ) (semicolon : Option ℕ) (answer : Result Entry Told) : Type 0 where
-  bad_targets : (fault : Told) → PartSays root macros (targets_part (text_of p.line) colon) (Err fault)
-      → answer ≡ Err fault → EntrySays root macros p colon semicolon answer
-  bad_prerequisites : (targets : List Name) (fault : Told) → PartSays root macros (targets_part (text_of p.line) colon) (Ok targets)
-      → PartSays root macros (prerequisites_part (text_of p.line) colon semicolon) (Err fault)
-      → answer ≡ Err fault → EntrySays root macros p colon semicolon answer
-  good_names : (targets prerequisites : List Name) → PartSays root macros (targets_part (text_of p.line) colon) (Ok targets)
-      → PartSays root macros (prerequisites_part (text_of p.line) colon semicolon) (Ok prerequisites)
-      → answer ≡ checked_entry (entry_of p semicolon targets prerequisites) → EntrySays root macros p colon semicolon answer
+-- what the line of an entry with these parts says: the fault of its targets, else that of its prerequisites, else its own, or the entry
+pub data EntrySays (root : List ℕ) (macros : Macros) (p : Placed) (parts : EntryParts) (answer : Result Entry Told) : Type 0 where
+  bad_targets : (fault : Told) → PartSays root macros parts.targets (Err fault)
+      → answer ≡ Err fault → EntrySays root macros p parts answer
+  bad_prerequisites : (targets : List Name) (fault : Told) → PartSays root macros parts.targets (Ok targets)
+      → PartSays root macros parts.prerequisites (Err fault)
+      → answer ≡ Err fault → EntrySays root macros p parts answer
+  good_names : (targets prerequisites : List Name) → PartSays root macros parts.targets (Ok targets)
+      → PartSays root macros parts.prerequisites (Ok prerequisites)
+      → answer ≡ checked_entry (entry_of p parts.has_command targets prerequisites) → EntrySays root macros p parts answer

@@ -8,8 +8,9 @@ use Rattle.mk_name.specs.Names.{Name}
 use Rattle.mk_name.specs.Told.{Told}
 use Rattle.mk_name.specs.declared.fault.Halt.{Halt}
 use Rattle.mk_name.specs.declared.fault.Kind.TheVariants.{TwoRecipes}
-use Rattle.mk_text.specs.declared.line.LineKind.{LineKind}
-use Rattle.mk_text.specs.declared.line.LineKind.TheVariants.{Assign, Entry, Recipe}
+use Rattle.mk_text.specs.LogicalLine.{parts_of}
+use Rattle.mk_text.specs.declared.parts.Parts.{Parts}
+use Rattle.mk_text.specs.declared.parts.Parts.TheVariants.{Assign, Entry, Recipe}
 use Rattle.mk_macro.specs.Macros.{Macros}
 use Rattle.mk_macro.specs.Assignments.{IsAssignment}
 use Rattle.mk_rules.specs.Book as books
@@ -21,20 +22,20 @@ pub record Left : Type 0 where
   pub macros : Macros
   pub entries : List books.Entry
 
--- what a line of this kind says, with these macros before it: what it leaves, or its fault
-abbrev pub SaysBy : LineKind → List ℕ → Macros → Placed → Result Left Told → Type 0
-SaysBy (Assign name_start name_end operator operator_start value_start) root macros p answer =
+-- what a line of these parts says, with these macros before it: what it leaves, or its fault
+abbrev pub SaysBy : Parts → List ℕ → Macros → Placed → Result Left Told → Type 0
+SaysBy (Assign parts) root macros p answer =
     (behind : Result Macros Told) × IsAssignment macros p.line behind
     × (answer ≡ result_map_both (λ m. record { macros = m; entries = [] }) (λ fault. fault) behind)
-SaysBy (Entry colon semicolon) root macros p answer =
-    (entry : Result books.Entry Told) × EntrySays root macros p colon semicolon entry
+SaysBy (Entry parts) root macros p answer =
+    (entry : Result books.Entry Told) × EntrySays root macros p parts entry
     × (answer ≡ result_map_both (λ e. record { macros = macros; entries = e ∷ [] }) (λ fault. fault) entry)
 SaysBy Recipe root macros p answer = answer ≡ Ok (record { macros = macros; entries = [] })
 
 -- what a line says: a fault is told at it
 abbrev pub LineSays : List ℕ → Macros → Placed → Result Left Told → Type 0
 LineSays root macros p answer =
-    (said : Result Left Told) × SaysBy p.line.kind root macros p said × (answer ≡ result_map_both (λ left. left) (told_at p) said)
+    (said : Result Left Told) × SaysBy (parts_of p.line) root macros p said × (answer ≡ result_map_both (λ left. left) (told_at p) said)
 
 -- from these macros on, the lines are read without a fault: these are their entries, and these the macros behind them
 abbrev pub Reads : List ℕ → Macros → List Placed → List books.Entry → Macros → Type 0

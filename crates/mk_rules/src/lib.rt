@@ -1,4 +1,12 @@
-//! Rules: the book of target rules, inference rules and special targets.
+//! The rules of a build: what the lines of its makefiles say of each name.
+//!
+//! - [`reading::read_rules`] takes the logical lines of a base makefile and a makefile, the macros of the
+//!   command line and the root; it gives the [`rulebook::Rulebook`], or the first fault, and leaves the
+//!   macros behind the lines. `specs/Reading.antt` says what lines say, one after another;
+//!   `specs/Entries.antt` what an entry says; `specs/Placed.antt` where a fault is told.
+//! - The rulebook answers what the target rules, the inference rules and the special targets say of a name
+//!   (POSIX.1-2024 XCU make, "Target Rules", "Inference Rules", "Special Targets"), all read off the list
+//!   of entries: `specs/Book.antt`, and `specs/Special.antt` for names with a meaning of their own.
 #![tactic(auto)]
 
 mod entries;
@@ -13,3 +21,5 @@ pub mod rule;
 pub mod rulebook;
 mod special;
 mod words;
+
+pub use reading::read_rules;

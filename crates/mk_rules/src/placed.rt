@@ -1,5 +1,5 @@
 //! A logical line, and the text where it stands.
-ghost use Rattle.std.specs.Prelude.{◌≡◌, IfOk};
+ghost use Rattle.std.specs.Prelude.{◌≡◌};
 ghost use Rattle.mk_rules.specs.Placed.{IsToldAt, begins_with_command};
 
 use mk_name::fault::{Halt, Source};
@@ -37,35 +37,14 @@ pub(crate) fn begins_with_command(lines: &[Line]) -> bool
     }
 }
 
-/// An equal source.
-pub(crate) fn copy_source(alloc: Global, source: &Source) -> Result<Source, AllocError>
-    ensures { IfOk result (λ copy. copy ≡ source.now) }
-{
-    Ok(match source {
-        Source::Settings => Source::Settings,
-        Source::Listing => Source::Listing,
-        Source::Base => Source::Base,
-        Source::Makefile => Source::Makefile,
-        Source::Graph => Source::Graph,
-        Source::Footprints => Source::Footprints,
-        Source::Jobs => Source::Jobs,
-        Source::Log => Source::Log,
-        Source::Proof => Source::Proof,
-        Source::Includes => Source::Includes,
-        Source::Include(name) => Source::Include(name.copy(alloc)?),
-    })
-}
-
 impl<'a, 'text> Placed<'a, 'text> {
     /// The halt, where a fault is told at the line.
     pub(crate) fn tell(&self, alloc: Global, halt: Halt) -> Halt
         ensures { IsToldAt self.now halt result }
     {
-        match (halt, copy_source(alloc, self.source)) {
-            (Halt::Fault(fault), Ok(source)) => {
-                Halt::Fault(fault.at(source, self.line.first_line()))
-            }
-            _ => Halt::Memory,
+        match self.source.copy(alloc) {
+            Ok(source) => halt.at(source, self.line.first_line()),
+            Err(AllocError) => Halt::Memory,
         }
     }
 }

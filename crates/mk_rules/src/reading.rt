@@ -2,17 +2,20 @@
 ghost use Rattle.std.specs.Prelude.{◌≡◌, ◌++◌, OnErr, OnOk};
 ghost use Rattle.std.specs.Option.{option_to_list};
 ghost use Rattle.mk_name.specs.Gives.{Answers};
+ghost use Rattle.mk_text.specs.LogicalLine.{parts_of};
 ghost use Rattle.mk_macro.specs.Macros.{macros_of};
+ghost use Rattle.mk_macro.specs.Answers.{AnswersLeft};
 ghost use Rattle.mk_rules.specs.Placed.{all_lines, placed};
 ghost use Rattle.mk_rules.specs.Reading.{AnswersEntries, AnswersLine, BookSays, LineSays, LinesSay, MakefilesSay, ReadsSome, SaysBy};
 
 use crate::entry::read_entry;
-use crate::placed::{Placed, begins_with_command, copy_source};
+use crate::placed::{Placed, begins_with_command};
 use crate::rule::Rule;
 use crate::rulebook::Rulebook;
 use mk_macro::macros::Macros;
 use mk_name::fault::{Fault, Halt, Kind, Source};
-use mk_text::line::{Line, LineKind};
+use mk_text::line::Line;
+use mk_text::parts::Parts;
 use mk_text::root::Root;
 use std::alloc::{AllocError, Global};
 
@@ -26,19 +29,19 @@ fn read_kind(
     root: &Root,
 ) -> Result<Option<Rule>, Halt>
     ensures says { AnswersLine result (macros_of macros.new)
-        (SaysBy placed.now.line.kind root.now (macros_of macros.old) placed.now) }
+        (SaysBy (parts_of placed.now.line) root.now (macros_of macros.old) placed.now) }
     ensures unchanged { OnErr result (macros_of macros.new ≡ macros_of macros.old) }
 {
-    match placed.line.kind() {
-        LineKind::Assign { .. } => {
+    match placed.line.parts() {
+        Parts::Assign(_) => {
             macros.assign(alloc, placed.line)?;
             Ok(None)
         }
-        LineKind::Entry { colon, semicolon } => {
-            let rule = read_entry(alloc, placed, colon, semicolon, macros, root)?;
+        Parts::Entry(parts) => {
+            let rule = read_entry(alloc, placed, &parts, macros, root)?;
             Ok(Some(rule))
         }
-        LineKind::Recipe => Ok(None),
+        Parts::Recipe => Ok(None),
     }
 }
 
@@ -113,16 +116,24 @@ fn read_texts(
     Ok(rules)
 }
 
+/// Refuses a book in which a target gets commands a second time.
+fn refuse_second(alloc: Global, book: &Rulebook) -> Result<(), Halt>
+    ensures { AnswersLeft result book.now (BookSays book.now) }
+{
+    if let Some((place, name)) = book.second_recipe() {
+        let source = book.rule_source(place).copy(alloc)?;
+        let (line, name) = (book.rule_line(place), name.copy(alloc)?);
+        let fault = Fault::naming(alloc, Kind::TwoRecipes, source, line, name)?;
+        return Err(Halt::Fault(fault));
+    }
+    Ok(())
+}
+
 /// The book, unless a target gets commands a second time.
 fn checked(alloc: Global, book: Rulebook) -> Result<Rulebook, Halt>
     ensures { Answers result (BookSays book) }
 {
-    if let Some((place, name)) = book.second_recipe() {
-        let names = vec![in alloc; name.copy(alloc)?]?;
-        let source = copy_source(alloc, book.rule_source(place))?;
-        let fault = Fault::new(Kind::TwoRecipes, source, book.rule_line(place), names);
-        return Err(Halt::Fault(fault));
-    }
+    refuse_second(alloc, &book)?;
     Ok(book)
 }
 

@@ -178,7 +178,7 @@ impl Rulebook {
         self.recipe_place(name).is_some()
     }
 
-    /// The prerequisites of the rule at a place, as its line gives them but without `.WAIT`.
+    /// The prerequisites of the rule at a place, as its line gives them, without `.WAIT`.
     pub fn rule_prerequisites(&self, place: usize) -> &[Name]
         requires { place < length self.now.rules }
         ensures { slice_get (map (λ e. e.prerequisites) self.now.rules) place ≡ Some result.now }

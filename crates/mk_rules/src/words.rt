@@ -1,19 +1,13 @@
 //! The words of a text, and the names that they spell.
 ghost use Rattle.std.specs.Prelude.{◌≡◌, map, IfOk};
-ghost use Rattle.mk_text.specs.Blocks.{is_blank};
 ghost use Rattle.mk_rules.specs.Words.{GivesNames, names_in, words_of};
 
 use mk_name::fault::Halt;
 use mk_name::name::Name;
+use mk_text::lexical::is_blank;
 use mk_text::root::Root;
 use mk_text::spelling::plain_word;
 use std::alloc::{AllocError, Global};
-
-fn is_blank(byte: u8) -> bool
-    ensures { result ≡ is_blank byte }
-{
-    byte == b' ' || byte == b'\t'
-}
 
 /// The words of a text: what stands between its blanks.
 fn words(alloc: Global, text: &[u8]) -> Result<Vec<&[u8]>, AllocError>

@@ -5,6 +5,7 @@ pub mod Listing
 pub mod LogicalLine
 pub mod LogicalLines
 pub mod Outside
+pub mod Parts
 pub mod Pieces
 pub mod Slices
 pub mod Spelling

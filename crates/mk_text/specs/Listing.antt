@@ -2,15 +2,15 @@
 use Rattle.std.specs.Prelude.{ℕ, ◌+◌, ◌-◌, ◌^◌, List, [], ◌∷◌, ◌++◌, Result, Ok, Err, length, fold, min, ◌==◌, if◌then◌else◌}
 use Rattle.std.specs.BTreeSet.{insert_key}
 use Rattle.std.specs.Cmp.Lexicographic.{slice_cmp}
-use Rattle.std.specs.List.{slice_split}
 use Rattle.std.specs.Ordering.{nat_cmp}
+use Rattle.mk_text.specs.Blocks.{physical_lines}
 use Rattle.mk_text.specs.Spelling.{path_name}
 use Rattle.mk_name.specs.Told.{Told}
 use Rattle.mk_name.specs.declared.fault.Source.TheVariants.{Listing}
 
--- what stands between the newlines of a text
+-- the physical lines of a text
 abbrev pub lines : List ℕ → List (List ℕ)
-lines text = slice_split (λ b. b == 10) text
+lines text = physical_lines text
 
 -- the place after this one; what would pass the greatest place stays there
 abbrev pub next_place : ℕ → ℕ

@@ -34,6 +34,10 @@ abbrev pub is_macro_byte : ℕ → Bool
 is_macro_byte b =
     not (is_blank b || b == 36 || b == 40 || b == 41 || b == 123 || b == 125 || b == colon || b == equals || b == number_sign)
 
+-- a macro's name is one or more bytes that may stand in it
+abbrev pub is_macro_name : List ℕ → Bool
+is_macro_name name = nat_lt 0 (length name) && list_all is_macro_byte name
+
 -- the first word of a text, and what stands from its second word on
 abbrev pub first_word : List ℕ → List ℕ
 first_word text = before_first is_blank (past_blanks text)
@@ -59,7 +63,7 @@ assignment text operator start end =
     let before = take start text in
     let name_start = prefix_len is_blank before in
     let name = first_word before in
-    if nat_lt 0 (length name) && list_all is_macro_byte name && length (later_words before) == 0
+    if is_macro_name name && length (later_words before) == 0
     then Ok (Some (Assign name_start (name_start + length name) operator start (end + prefix_len is_blank (drop end text))))
     else Err BadAssignment
 

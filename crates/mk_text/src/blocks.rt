@@ -5,21 +5,10 @@ ghost use Rattle.std.specs.Option.{option_map_or};
 ghost use Rattle.mk_text.specs.Blocks.{blocks_of, ends_in_backslash, newline, physical_lines, space};
 ghost use Rattle.mk_text.specs.LogicalLines.{number_sign, pieces_of, without_backslashes, without_comment};
 
+use crate::lexical::split_line;
 use crate::words::past_blanks;
 use memchr::memchr;
 use std::alloc::{AllocError, Global};
-
-/// The first physical line, and what stands behind its newline where it has one.
-fn split_line(text: &[u8]) -> (&[u8], Option<&[u8]>)
-    ensures lines { physical_lines text.now ≡ result.0.now
-        ∷ option_map_or (λ rest. physical_lines rest.now) result.1 [] }
-    ensures less { IfSome result.1 (λ rest. length rest.now < length text.now) }
-{
-    match memchr(b'\n', text) {
-        Some(end) => (&text[..end], Some(&text[end + 1..])),
-        None => (text, None),
-    }
-}
 
 fn ends_in_backslash(line: &[u8]) -> bool
     ensures { result ≡ ends_in_backslash line.now }

@@ -84,6 +84,7 @@ impl From<Broken> for ReadStop {
 pub fn read_all<I: Intake>(alloc: Global, device: &mut I) -> Result<Vec<u8>, ReadStop>
     requires { I.has_failed device.old ≡ false }
     ensures bytes { IfOk result (λ all. IfSome (I.left device.old) (λ bytes. all.items ≡ bytes)) }
+    ensures consumed { IfOk result (λ all. Consumes (I.left device.old) (I.left device.new) all.items) }
     ensures end { OnOk result (IsAtEnd (I.left device.new)) }
     ensures broken { IsErrOf result ReadStop.Broken ↔ (I.has_failed device.new ≡ true) }
 {

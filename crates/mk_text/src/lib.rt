@@ -1,5 +1,18 @@
-//! Texts and devices: plain spelling, the root, the listing, the logical lines of a makefile, and what bytes come from and
-//! go to. The modules of `mk_name` are passed on.
+//! What stands in texts: physical and logical lines, the plain spelling of names, the listing; and the
+//! devices that texts come from and go to.
+//!
+//! - [`lines::lines`] cuts the text of a makefile into its logical lines ([`line::Line`]), or gives the
+//!   first fault. `specs/Blocks.antt` and `specs/LogicalLines.antt` define them; a line tells its kind, its
+//!   first physical line, its text and the parts of that ([`parts::Parts`], `specs/LogicalLine.antt`).
+//! - [`Root`](root::Root) is the directory that relative paths start from; [`plain_word`] and [`plain_path`]
+//!   give the plain name of a word of a makefile and of a path: `specs/Spelling.antt`.
+//! - [`Listing`](listing::Listing) holds the names of the files that exist: `specs/Listing.antt`.
+//! - [`lexical`] has what other readers cut texts by: blanks, macros' names, physical lines.
+//! - [`Intake`] and [`Outlet`] are devices that give and take bytes; [`read_all`] and [`write_all`] use them
+//!   up; [`Feed`](feed::Feed) and [`Spout`](spout::Spout) make them of std's readers and writers:
+//!   `specs/Device.antt`.
+//!
+//! The modules of faults, names and the report are those of `mk_name`, passed on.
 #![tactic(auto)]
 
 pub use mk_name::{fault, name, report};
@@ -8,13 +21,21 @@ mod blocks;
 mod components;
 pub mod device;
 pub mod feed;
+pub mod lexical;
 mod limits;
 pub mod line;
 pub mod lines;
 pub mod listing;
+pub mod parts;
 mod references;
 pub mod root;
 mod sort;
 pub mod spelling;
 pub mod spout;
 mod words;
+
+pub use device::{Broken, Intake, Outlet, ReadStop, read_all, write_all};
+pub use line::{LineKind, Operator};
+pub use lines::TEXT_LIMIT;
+pub use parts::{Assignment, EntryParts};
+pub use spelling::{plain_path, plain_word};

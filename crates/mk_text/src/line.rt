@@ -1,6 +1,9 @@
-//! A logical line of a makefile: its kind, where it begins, and the parts of the text that make it up.
-ghost use Rattle.std.specs.Prelude.{◌≡◌, ◌∷◌, [], map};
+//! A logical line of a makefile: its kind, where it begins, its text, and the parts of that.
+ghost use Rattle.std.specs.Prelude.{◌≡◌, ◌∷◌, [], length, map};
+ghost use Rattle.std.specs.List.{join_with_byte};
+ghost use Rattle.mk_text.specs.LogicalLine.{LiesIn, parts_of, text_of};
 
+use crate::parts::{Parts, parted};
 use std::marker::Model;
 use std::slice;
 
@@ -46,7 +49,8 @@ pub enum LineKind {
 #[derive(Debug, Drop)]
 enum Pieces<'a> {
     One(&'a [u8]),
-    Several(Vec<&'a [u8]>),
+    /// Several pieces, and the text that they make up.
+    Several(Vec<&'a [u8]>, Vec<u8>),
 }
 
 /// A logical line of the text that lives for `'a`.
@@ -59,7 +63,7 @@ pub struct Line<'a> {
 
 impl<'a> Model for Line<'a> {
     ghost use Rattle.mk_text.specs.LogicalLine.{LogicalLine};
-    ghost use Rattle.mk_text.specs.Pieces.{pieces_in};
+    ghost use Rattle.mk_text.specs.Pieces.{IsParted, pieces_in};
 
     ghost Value = { LogicalLine };
 
@@ -68,11 +72,14 @@ impl<'a> Model for Line<'a> {
       first_line = a.first_line;
       pieces = pieces_in a.pieces;
     } };
+
+    ghost invariant = { λ a. IsParted a.kind a.pieces };
 }
 
 impl<'a> Line<'a> {
     /// The line of one piece.
     pub(crate) fn of_piece(kind: LineKind, first_line: u64, piece: &'a [u8]) -> Line<'a>
+        requires { LiesIn kind (length piece.now) }
         ensures { result ≡ record {
           kind = kind;
           first_line = first_line;
@@ -86,8 +93,15 @@ impl<'a> Line<'a> {
         }
     }
 
-    /// The line of these pieces.
-    pub(crate) fn of_pieces(kind: LineKind, first_line: u64, pieces: Vec<&'a [u8]>) -> Line<'a>
+    /// The line of these pieces, which make up this text.
+    pub(crate) fn of_pieces(
+        kind: LineKind,
+        first_line: u64,
+        pieces: Vec<&'a [u8]>,
+        text: Vec<u8>,
+    ) -> Line<'a>
+        requires joined { text.items ≡ join_with_byte 32 (map (λ piece. piece.now) pieces.items) }
+        requires within { LiesIn kind (length text.items) }
         ensures { result ≡ record {
           kind = kind;
           first_line = first_line;
@@ -97,13 +111,14 @@ impl<'a> Line<'a> {
         Line {
             kind,
             first_line,
-            pieces: Pieces::Several(pieces),
+            pieces: Pieces::Several(pieces, text),
         }
     }
 
     /// The line's kind, with the places in its text that part it.
     pub fn kind(&self) -> LineKind
-        ensures { result ≡ self.now.kind }
+        ensures kind { result ≡ self.now.kind }
+        ensures within { LiesIn result (length (text_of self.now)) }
     {
         self.kind
     }
@@ -122,7 +137,24 @@ impl<'a> Line<'a> {
     {
         match &self.pieces {
             Pieces::One(piece) => slice::from_ref(piece),
-            Pieces::Several(pieces) => pieces.as_slice(),
+            Pieces::Several(pieces, _) => pieces.as_slice(),
         }
+    }
+
+    /// The line's text: its pieces with one space between each two.
+    pub fn text(&self) -> &[u8]
+        ensures { result.now ≡ text_of self.now }
+    {
+        match &self.pieces {
+            Pieces::One(piece) => piece,
+            Pieces::Several(_, text) => text.as_slice(),
+        }
+    }
+
+    /// The parts of the line's text.
+    pub fn parts(&self) -> Parts<'_>
+        ensures { result ≡ parts_of self.now }
+    {
+        parted(self.kind(), self.text())
     }
 }

@@ -4,6 +4,7 @@ ghost use Rattle.std.specs.List.{flat_map, join_with_byte};
 ghost use Rattle.std.specs.Option.{unwrap_or};
 ghost use Rattle.mk_name.specs.Gives.{Gives};
 ghost use Rattle.mk_text.specs.Blocks.{physical_lines, space, tab};
+ghost use Rattle.mk_text.specs.LogicalLine.{IfLine, LiesIn};
 ghost use Rattle.mk_text.specs.LogicalLines.{fault_at, line_at, line_pieces, logical_lines, opening, pieces_of, sort_of, sort_of_command, sort_of_text};
 ghost use Rattle.mk_text.specs.GivesLines.{GivesLines};
 ghost use Rattle.mk_text.specs.Slices.{StandIn};
@@ -26,7 +27,8 @@ fn begins_with_tab(block: &[u8]) -> bool
 
 /// What a block is that begins with a tab and is not blank.
 fn sort_of_command(below: bool, block: &[u8]) -> Result<Option<LineKind>, Kind>
-    ensures { result ≡ sort_of_command below block.now }
+    ensures sort { result ≡ sort_of_command below block.now }
+    ensures within { (n : ℕ) → IfLine result (λ kind. LiesIn kind n) }
 {
     if below {
         return Ok(Some(LineKind::Recipe));
@@ -52,7 +54,7 @@ fn opens(below: bool, kind: LineKind) -> bool
 fn fault_at(alloc: Global, kind: Kind, place: u64) -> Halt
     ensures { result ≡ Halt.Fault (fault_at kind place) }
 {
-    Halt::Fault(Fault::new(kind, Source::Makefile, place, Vec::new(alloc)))
+    Halt::Fault(Fault::unnamed(alloc, kind, Source::Makefile, place))
 }
 
 /// The line that a block is which begins with a tab and is not blank.
@@ -100,7 +102,7 @@ fn line_of_pieces<'a>(
     match sort_of_text(&text) {
         Err(kind) => Err(fault_at(alloc, kind, number)),
         Ok(None) => Ok(None),
-        Ok(Some(kind)) => Ok(Some(Line::of_pieces(kind, number, pieces))),
+        Ok(Some(kind)) => Ok(Some(Line::of_pieces(kind, number, pieces, text))),
     }
 }
 

@@ -1,17 +1,16 @@
 //! The listing: the files that exist, one path a line.
-ghost use Rattle.std.specs.Prelude.{◌≡◌, ◌<◌, ◌∷◌, [], List, ℕ, length};
-ghost use Rattle.std.specs.Prelude.{◌↔◌, Ok, OnOk, IfErr, IfNone, IfSome, IsSome, IsTrue};
+ghost use Rattle.std.specs.Prelude.{◌≡◌, ◌↔◌, List, ℕ, Ok, OnOk, IfErr, IsSome, IsTrue};
 ghost use Rattle.std.specs.BTreeMap.{get};
 ghost use Rattle.std.specs.List.{All};
 ghost use Rattle.std.specs.Cmp.Lexicographic.{slice_cmp};
 ghost use Rattle.std.specs.Ordering.{nat_cmp};
 ghost use Rattle.mk_name.specs.Gives.{Gives, Halts};
-ghost use Rattle.mk_text.specs.Listing.{in_order, listing_of, line_names, lines, with_names};
+ghost use Rattle.mk_text.specs.Listing.{in_order, listing_of, line_names, with_names};
 ghost use Rattle.mk_name.specs.Names.{has, same_name};
 
+use crate::lexical::split_line;
 use crate::root::Root;
 use crate::spelling::plain_path;
-use memchr::memchr;
 use mk_name::fault::{Halt, Source};
 use mk_name::name::Name;
 use std::alloc::Global;
@@ -41,13 +40,13 @@ impl Listing {
     {
         let mut names = BTreeSet::new(alloc);
         let mut place = 1;
-        let mut rest = text;
-        'lines: while let Some((line, others)) = first_line(rest) {
+        let mut rest = Some(text);
+        'lines: while let Some(text) = rest {
+            let (line, later) = split_line(text);
             add_line(&mut names, alloc, line, place, root)?;
             place = place.saturating_add(1);
-            rest = others;
+            rest = later;
         }
-        add_line(&mut names, alloc, rest, place, root)?;
         Ok(Listing { names })
     }
 
@@ -71,16 +70,6 @@ impl Listing {
     }
 }
 
-/// The first line, without its newline, and what follows it, where a newline ends it.
-fn first_line(text: &[u8]) -> Option<(&[u8], &[u8])>
-    ensures last { IfNone result (lines text.now ≡ text.now ∷ []) }
-    ensures more { IfSome result (λ cut. lines text.now ≡ cut.0.now ∷ lines cut.1.now) }
-    ensures shorter { IfSome result (λ cut. length cut.1.now < length text.now) }
-{
-    let end = memchr(b'\n', text)?;
-    Some((&text[..end], &text[end + 1..]))
-}
-
 /// Puts the name of a line among the others.
 fn add_line(
     names: &mut BTreeSet<Name>,
@@ -101,8 +90,7 @@ fn add_line(
             names.insert(name)?;
             Ok(())
         }
-        Err(Halt::Fault(fault)) => Err(Halt::Fault(fault.at(Source::Listing, place))),
-        Err(Halt::Memory) => Err(Halt::Memory),
+        Err(halt) => Err(halt.at(Source::Listing, place)),
     }
 }
 

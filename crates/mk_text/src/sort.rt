@@ -1,12 +1,13 @@
 //! What the text of a logical line is that is no command line (POSIX.1-2024 XCU make, "Makefile
 //! Syntax" and "Macros").
-ghost use Rattle.std.specs.Prelude.{◌≡◌, ◌<◌, ◌≤◌, ◌+◌, ◌&&◌, ◌==◌, Ok, Some, length, nat_lt, slice_index};
-ghost use Rattle.std.specs.List.{list_all};
-ghost use Rattle.mk_text.specs.LogicalLines.{assignment, at_colon, at_equals, begins_with_operator, entry, equals, is_include, is_macro_byte, sort_of_text};
+ghost use Rattle.std.specs.Prelude.{◌≡◌, ◌<◌, ◌≤◌, ◌+◌, ◌==◌, Ok, Some, length, slice_index};
+ghost use Rattle.mk_text.specs.LogicalLine.{IfLine, LiesIn};
+ghost use Rattle.mk_text.specs.LogicalLines.{assignment, at_colon, at_equals, begins_with_operator, entry, equals, is_include, sort_of_text};
 
+use crate::lexical::is_macro_name;
 use crate::line::{LineKind, Operator};
 use crate::references::place_outside;
-use crate::words::{are_blanks, count_blanks, is_blank, split_word};
+use crate::words::{are_blanks, count_blanks, split_word};
 use mk_name::fault::Kind;
 
 /// Whether a text is that of an include line.
@@ -34,26 +35,6 @@ fn byte_at(text: &[u8], place: usize) -> u8
     text.get(place).copied().unwrap_or(0)
 }
 
-/// Whether a byte may stand in a macro's name.
-fn is_macro_byte(byte: u8) -> bool
-    ensures { result ≡ is_macro_byte byte }
-{
-    !is_blank(byte) && !matches!(byte, b'$' | b'(' | b')' | b'{' | b'}' | b':' | b'=' | b'#')
-}
-
-fn are_macro_bytes(word: &[u8]) -> bool
-    ensures { result ≡ list_all is_macro_byte word.now }
-{
-    word.iter().all(|byte| is_macro_byte(*byte))
-}
-
-/// Whether a word may be a macro's name.
-fn is_macro_name(word: &[u8]) -> bool
-    ensures { result ≡ (nat_lt 0 (length word.now) && list_all is_macro_byte word.now) }
-{
-    !word.is_empty() && are_macro_bytes(word)
-}
-
 /// An assignment whose operator begins and ends at these places.
 fn assignment(
     text: &[u8],
@@ -63,7 +44,8 @@ fn assignment(
 ) -> Result<Option<LineKind>, Kind>
     requires order { start ≤ end }
     requires within { end ≤ length text.now }
-    ensures { result ≡ assignment text.now operator start end }
+    ensures sort { result ≡ assignment text.now operator start end }
+    ensures within { IfLine result (λ kind. LiesIn kind (length text.now)) }
 {
     let before = &text[..start];
     let name_start = count_blanks(before);
@@ -83,7 +65,8 @@ fn assignment(
 /// What a line is whose first sign is this equals sign.
 fn at_equals(text: &[u8], at: usize) -> Result<Option<LineKind>, Kind>
     requires { at < length text.now }
-    ensures { result ≡ at_equals text.now at }
+    ensures sort { result ≡ at_equals text.now at }
+    ensures within { IfLine result (λ kind. LiesIn kind (length text.now)) }
 {
     let before = if at == 0 { 0 } else { text[at - 1] };
     match before {
@@ -97,7 +80,8 @@ fn at_equals(text: &[u8], at: usize) -> Result<Option<LineKind>, Kind>
 /// The entry with its colon at this place.
 fn entry(text: &[u8], at: usize) -> LineKind
     requires { at < length text.now }
-    ensures { Ok (Some result) ≡ entry text.now at }
+    ensures sort { Ok (Some result) ≡ entry text.now at }
+    ensures within { LiesIn result (length text.now) }
 {
     LineKind::Entry {
         colon: at,
@@ -108,7 +92,8 @@ fn entry(text: &[u8], at: usize) -> LineKind
 /// What a line is whose first sign is this colon.
 fn at_colon(text: &[u8], at: usize) -> Result<Option<LineKind>, Kind>
     requires { at < length text.now }
-    ensures { result ≡ at_colon text.now at }
+    ensures sort { result ≡ at_colon text.now at }
+    ensures within { IfLine result (λ kind. LiesIn kind (length text.now)) }
 {
     let behind = &text[at + 1..];
     match (byte_at(behind, 0), byte_at(behind, 1), byte_at(behind, 2)) {
@@ -122,7 +107,8 @@ fn at_colon(text: &[u8], at: usize) -> Result<Option<LineKind>, Kind>
 
 /// What a text is: nothing, the text of a line of this kind, or a fault.
 pub fn sort_of_text(text: &[u8]) -> Result<Option<LineKind>, Kind>
-    ensures { result ≡ sort_of_text text.now }
+    ensures sort { result ≡ sort_of_text text.now }
+    ensures within { IfLine result (λ kind. LiesIn kind (length text.now)) }
 {
     if are_blanks(text) {
         return Ok(None);

@@ -33,8 +33,7 @@ pub fn plain_path(alloc: Global, path: &[u8], root: &Root) -> Result<Name, Halt>
     ensures { Gives result (spec.path_name root.now path.now) }
 {
     if !is_path(path) {
-        let names = Vec::new(alloc);
-        let fault = Fault::new(Kind::BadName, Source::Makefile, 0, names);
+        let fault = Fault::unnamed(alloc, Kind::BadName, Source::Makefile, 0);
         return Err(Halt::Fault(fault));
     }
     Ok(plain_name(alloc, path, root)?)

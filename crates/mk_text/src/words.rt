@@ -4,12 +4,7 @@ ghost use Rattle.std.specs.List.{prefix_len};
 ghost use Rattle.mk_text.specs.Blocks.{is_blank, are_blanks, past_blanks};
 ghost use Rattle.mk_text.specs.LogicalLines.{first_word, later_words};
 
-/// Whether the byte is a space or a tab.
-pub fn is_blank(byte: u8) -> bool
-    ensures { result ≡ is_blank byte }
-{
-    byte == b' ' || byte == b'\t'
-}
+use crate::lexical::is_blank;
 
 /// Whether nothing but blanks stands in the text.
 pub fn are_blanks(text: &[u8]) -> bool

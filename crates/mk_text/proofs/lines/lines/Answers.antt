@@ -34,7 +34,7 @@ blocks-2-preserved c =
           record {
             whole =
                 more_line _ c.blocks-2.found.items c.blocks-2.below n _ _ _ whole c.split_block-block.ensures.blocks line _ _ block.line_count
-                gives pushed (w.below-is ∙ w.opens-below.ensures ∙ ap (λ kind. unwrap_or (opening kind) c.blocks-2.below) w.kind.ensures)
+                gives pushed (w.below-is ∙ w.opens-below.ensures ∙ ap (λ kind. unwrap_or (opening kind) c.blocks-2.below) w.kind.ensures.kind)
                 c.split_block-block.ensures.count;
             bound = omega arith;
             stands =

@@ -1,6 +1,6 @@
 use Rattle.std.proofs.Common.{◌≡◌, ◌++◌, take}
 use Rattle.mk_name.specs.Shown as spec
-use Rattle.mk_name.proofs.report.push_shown.Given as goal
+use Rattle.mk_name.proofs.report.push_shown_bytes.Given as goal
 
 -- the bytes so far are shown
 abbrev pub invariant-loop-byte : goal.invariant-loop-byte

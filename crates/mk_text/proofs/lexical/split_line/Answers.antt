@@ -2,7 +2,7 @@ use Rattle.std.proofs.Common.{◌==◌, ◌+◌, ◌∙◌, ◌∷◌, sym, ap, 
 use Rattle.std.proofs.lemmas.List.{take_rest}
 use Rattle.mk_text.specs.Blocks.{newline, physical_lines}
 use Rattle.mk_text.proofs.Searches.{split_found, split_whole}
-use Rattle.mk_text.proofs.blocks.split_line.Goals as goal
+use Rattle.mk_text.proofs.lexical.split_line.Goals as goal
 
 pub returns-in-Some-clause-lines : goal.returns-in-Some-clause-lines
 returns-in-Some-clause-lines c =

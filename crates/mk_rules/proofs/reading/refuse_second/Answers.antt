@@ -5,21 +5,21 @@ use Rattle.mk_name.specs.declared.fault.Kind.TheVariants.{TwoRecipes}
 use Rattle.mk_name.specs.declared.fault.Source.{Source}
 use Rattle.mk_rules.specs.Reading.{BookSays}
 use Rattle.mk_rules.proofs.SecondRecipes.{recipe_told, second_within}
-use Rattle.mk_rules.proofs.reading.checked.Goals as goal
+use Rattle.mk_rules.proofs.reading.refuse_second.Goals as goal
 
 pub rule_source-requires : goal.rule_source-requires
-rule_source-requires c = second_within c.args.book.rules c.in-Some.place c.in-Some.name.now c.in-Some.ensures
+rule_source-requires c = second_within c.args.book.now.rules c.in-Some.place c.in-Some.name.now c.in-Some.ensures
 
-pub rule_line-requires : goal.rule_line-requires
-rule_line-requires c = second_within c.args.book.rules c.in-Some.place c.in-Some.name.now c.in-Some.ensures
+pub rule_line-line-requires : goal.rule_line-line-requires
+rule_line-line-requires c = second_within c.args.book.now.rules c.in-Some.place c.in-Some.name.now c.in-Some.ensures
 
 pub returns-in-Some : goal.returns-in-Some
 returns-in-Some c =
-    let book = c.args.book in
-    let line = c.rule_line.result in
-    let told = recipe_told book c.in-Some.place c.in-Some.name.now c.rule_source.result.now line c.in-Some.ensures c.rule_source.ensures c.rule_line.ensures in
-    let names = c.in_ok-names.ensures.items ∙ ap (λ (n : Name). n ∷ []) c.in_ok-copy.ensures in
+    let book = c.args.book.now in
+    let line = c.rule_line-line.result in
+    let told = recipe_told book c.in-Some.place c.in-Some.name.now c.rule_source.result.now line c.in-Some.ensures c.rule_source.ensures c.rule_line-line.ensures in
+    let names = ap (λ (n : Name). n ∷ []) c.in_ok-name.ensures in
     let ByNames : List Name → Type 0 = λ ns. BookSays book (Err (record { kind = TwoRecipes; source = c.in_ok-source.source; place = line; names = ns })) in
     let BySource : Source → Type 0 = λ s. BookSays book (Err (record { kind = TwoRecipes; source = s; place = line; names = c.in-Some.name.now ∷ [] })) in
     let Says : Told → Type 0 = λ f. BookSays book (Err f) in
-    subst Says (sym c.new-fault.ensures) (subst ByNames (sym names) (subst BySource (sym c.in_ok-source.ensures) told))
+    subst Says (sym c.in_ok-fault.ensures) (subst ByNames (sym names) (subst BySource (sym c.in_ok-source.ensures) told))

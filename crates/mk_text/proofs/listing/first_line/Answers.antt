@@ -1,8 +1,0 @@
-use Rattle.mk_text.proofs.ListingLines.{lines_none, lines_at}
-use Rattle.mk_text.proofs.listing.first_line.Goals as goal
-
-pub returns-in_err-end-clause-last : goal.returns-in_err-end-clause-last
-returns-in_err-end-clause-last c = rw c.from_residual.ensures (lines_none c.args.text.now c.in_err-end.ensures)
-
-pub returns-clause-more : goal.returns-clause-more
-returns-clause-more c = lines_at c.args.text.now c.in_ok-end.end c.in_ok-end.ensures.0 c.in_ok-end.ensures.1
