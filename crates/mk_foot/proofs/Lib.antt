@@ -3,5 +3,7 @@ pub mod AttachNodes
 pub mod ChainLemmas
 pub mod JobsLemmas
 pub mod LineLemmas
+pub mod OneList
 pub mod ReadLines
+pub mod ReadOnce
 pub mod Uniting

@@ -5,6 +5,7 @@ pub mod Jobs
 pub mod Json
 pub mod Laws
 pub mod Lines
+pub mod Once
 pub mod Recipes
 pub mod Rows
 pub mod Shape

@@ -8,4 +8,5 @@ pub mod json;
 pub mod laws;
 mod line;
 pub mod reading;
+pub mod reading_laws;
 pub mod recipe;
