@@ -1,4 +1,6 @@
 pub mod AttachNodes
 pub mod LineLemmas
+pub mod OneList
 pub mod ReadLines
+pub mod ReadOnce
 pub mod Uniting

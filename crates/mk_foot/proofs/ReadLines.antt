@@ -14,7 +14,7 @@ use Rattle.mk_name.specs.declared.fault.Halt.{Halt}
 use Rattle.mk_name.specs.declared.fault.Halt.TheVariants as halts
 use Rattle.mk_name.specs.declared.fault.Kind.TheVariants.{BadFootprint, FootprintsTooLarge}
 use Rattle.mk_foot.specs.Lines.{Line, lines_in}
-use Rattle.mk_foot.specs.Footprints.{Footprints, footprint_on, Unites, fault_at, fault_by, first_fault, lines_of, path_count, path_limit, told}
+use Rattle.mk_foot.specs.Footprints.{Footprints, Unites, fault_at, fault_by, first_fault, lines_of, path_count, path_limit, told}
 
 -- what is known before the physical line of a number: the first fault is among those that are left, and the footprints, and
 -- the count of paths, are those of the lines so far
@@ -90,7 +90,7 @@ module _ (root : List ℕ) (texts : List (List ℕ)) (number : ℕ) (text : List
               ∙ before.first;
           count = count ∙ sym (counted said e);
           few = few;
-          united = λ target. united target ∙ ap (λ ls. footprint_on ls target) (sym (lines_more said e));
+          united = subst (λ (ls : List Line). Unites footprints' ls) (sym (lines_more said e)) united;
         }
 
 -- the text of a physical line
@@ -122,5 +122,5 @@ pub reads_all : (root : List ℕ) (texts : List (List ℕ)) (number paths : ℕ)
     → ReadsTo root texts number paths footprints → (first_fault root texts ≡ None) × Unites footprints (lines_of root texts)
 reads_all root texts number paths footprints past all = (
   sym all.first ∙ ap (λ l. slice_get (filter_map (fault_at root texts) l) 0) (drop_all number (enumerate_from 1 texts) (omega (arith, past, length-enumerate_from 1 texts))),
-  λ target. all.united target ∙ ap (λ ts. footprint_on (lines_of root ts) target) (take_all number texts past),
+  subst (λ (ts : List (List ℕ)). Unites footprints (lines_of root ts)) (take_all number texts past) all.united,
 )

@@ -14,7 +14,7 @@ use Rattle.mk_name.specs.Names.{Name, same_name}
 use Rattle.mk_name.proofs.Names.{name_is_exact}
 use Rattle.mk_text.specs.Listing.{in_order}
 use Rattle.mk_foot.specs.Lines.{Line}
-use Rattle.mk_foot.specs.Footprints.{Footprint, Footprints, footprint_at, footprint_on, lines_on, no_footprint, together, union_of, Unites}
+use Rattle.mk_foot.specs.Footprints.{Footprint, Footprints, footprint_at, footprint_on, IsInOrder, lines_on, no_footprint, together, union_of, Unites}
 
 -- names put among those that are there
 abbrev pub with_more : List Name → List Name → List Name
@@ -68,20 +68,23 @@ module _ (line : Line) (lines : List Line) where
       → after.reads ≡ with_more before.reads line.reads → after.writes ≡ with_more before.writes line.writes
       → ((q : Name) → footprint_at removed q ≡ cond (is_eq (slice_cmp nat_cmp line.target q)) None (footprint_at old q))
       → ((q : Name) → footprint_at new q ≡ cond (is_eq (slice_cmp nat_cmp line.target q)) (Some after) (footprint_at removed q))
-      → Unites old lines → Unites new (lines ++ line ∷ [])
-  unites_more old removed new before after was reads writes out put united target =
-      put target
-      ∙ ap (λ b. cond b (Some after) (footprint_at removed target)) (sym (texts_ties line.target target))
-      ∙ elim (cases_Bool (same_name line.target target)) [
-        | inl own ↦
-            cond-true (same_name line.target target) (Some after) (footprint_at removed target) own
-            ∙ footprint_more target before after own
-            (ap (λ o. unwrap_or o no_footprint) (sym (united target) ∙ ap (footprint_at old) (sym (name_is_exact.equal line.target target own))) ∙ was) reads writes
-        | inr other ↦
-            cond-false (same_name line.target target) (Some after) (footprint_at removed target) other
-            ∙ out target
-            ∙ ap (λ b. cond b None (footprint_at old target)) (sym (texts_ties line.target target))
-            ∙ cond-false (same_name line.target target) None (footprint_at old target) other
-            ∙ united target
-            ∙ ap together (sym (on_other target other))
-      ]
+      → IsInOrder new → Unites old lines → Unites new (lines ++ line ∷ [])
+  unites_more old removed new before after was reads writes out put in_order all = record {
+    united = λ target.
+        put target
+        ∙ ap (λ b. cond b (Some after) (footprint_at removed target)) (sym (texts_ties line.target target))
+        ∙ elim (cases_Bool (same_name line.target target)) [
+          | inl own ↦
+              cond-true (same_name line.target target) (Some after) (footprint_at removed target) own
+              ∙ footprint_more target before after own
+              (ap (λ o. unwrap_or o no_footprint) (sym (all.united target) ∙ ap (footprint_at old) (sym (name_is_exact.equal line.target target own))) ∙ was) reads writes
+          | inr other ↦
+              cond-false (same_name line.target target) (Some after) (footprint_at removed target) other
+              ∙ out target
+              ∙ ap (λ b. cond b None (footprint_at old target)) (sym (texts_ties line.target target))
+              ∙ cond-false (same_name line.target target) None (footprint_at old target) other
+              ∙ all.united target
+              ∙ ap together (sym (on_other target other))
+        ];
+    in_order = in_order;
+  }

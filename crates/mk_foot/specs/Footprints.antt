@@ -3,7 +3,8 @@ use Rattle.std.specs.Prelude.{◌≡◌, ℕ, ◌+◌, List, [], ◌∷◌, ◌+
 use Rattle.std.specs.List.{enumerate_from, filter_map, flat_map, sum_by}
 use Rattle.std.specs.Cmp.Lexicographic.{slice_cmp}
 use Rattle.std.specs.Ordering.{is_eq, nat_cmp}
-use Rattle.std.specs.Map.{lookup}
+use Rattle.std.specs.List.Sorted.{IsStrictlySortedBy}
+use Rattle.std.specs.Map.{keys_of, lookup}
 use Rattle.mk_name.specs.Names.{Name, same_name}
 use Rattle.mk_name.specs.Told.{Told}
 use Rattle.mk_name.specs.declared.fault.Kind.{Kind}
@@ -48,9 +49,14 @@ Footprints = List (Name × Footprint)
 abbrev pub footprint_at : Footprints → Name → Option Footprint
 footprint_at footprints target = lookup (λ name. is_eq (slice_cmp nat_cmp target name)) footprints
 
--- for each target they have what the lines on it say together
-abbrev pub Unites : Footprints → List Line → Type 0
-Unites footprints lines = (target : Name) → footprint_at footprints target ≡ footprint_on lines target
+-- each target stands once, in the byte order of their names
+abbrev pub IsInOrder : Footprints → Type 0
+IsInOrder footprints = IsStrictlySortedBy (slice_cmp nat_cmp) (keys_of footprints)
+
+-- for each target they have what the lines on it say together, and targets stand in order
+pub record Unites (footprints : Footprints) (lines : List Line) : Type 0 where
+  pub united : (target : Name) → footprint_at footprints target ≡ footprint_on lines target
+  pub in_order : IsInOrder footprints
 
 -- the lines that physical lines say; a bad one says nothing
 abbrev pub lines_of : List ℕ → List (List ℕ) → List Line

@@ -69,19 +69,19 @@ impl Footprints {
                 writes: BTreeSet::new(alloc),
             },
         };
-        add_names(alloc, &mut footprint.reads, line.reads.as_slice())?;
-        add_names(alloc, &mut footprint.writes, line.writes.as_slice())?;
+        add_names(&mut footprint.reads, line.reads)?;
+        add_names(&mut footprint.writes, line.writes)?;
         self.by_target.insert(line.target, footprint)?;
         Ok(())
     }
 }
 
 /// Adds the names that are not there yet.
-fn add_names(alloc: Global, names: &mut BTreeSet<Name>, more: &[Name]) -> Result<(), AllocError>
-    ensures { OnOk result (names.new.keys ≡ fold (insert_key (slice_cmp nat_cmp)) names.old.keys more.now) }
+fn add_names(names: &mut BTreeSet<Name>, more: Vec<Name>) -> Result<(), AllocError>
+    ensures { OnOk result (names.new.keys ≡ fold (insert_key (slice_cmp nat_cmp)) names.old.keys more.items) }
 {
     for name in more {
-        names.insert(name.copy(alloc)?)?;
+        names.insert(name)?;
     }
     Ok(())
 }
@@ -91,9 +91,8 @@ pub(crate) fn in_order(alloc: Global, names: &BTreeSet<Name>) -> Result<Vec<Name
     ensures names { IfOk result (λ list. list.items ≡ names.now.keys) }
     ensures rising { IfOk result (λ list. IsRising list.items) }
 {
-    let shared: Vec<&Name> = names.iter().collect(alloc)?;
-    let mut list = Vec::with_capacity(alloc, shared.len())?;
-    for name in &shared {
+    let mut list = Vec::with_capacity(alloc, names.len())?;
+    for name in names {
         list.push(name.copy(alloc)?)?;
     }
     Ok(list)

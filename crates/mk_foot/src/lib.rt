@@ -1,9 +1,17 @@
 //! What each recipe may read and write: footprints from their text, and the jobs of a plan with them.
 //!
-//! `reading::read_footprints` answers the footprints that a text of JSON Lines says, or its first bad line;
-//! `attaching::attach` puts them to a plan and answers its jobs, or the first node at fault. `specs/Lines.antt` and
-//! `specs/Footprints.antt` say what a text says, `specs/Attached.antt` what is answered. The jobs themselves stand in
-//! `mk_jobs`. `json` has what footprints and logs share.
+//! [`read_footprints`] takes the bytes of footprints, a line of JSON for each that was recorded, and gives [`Footprints`]:
+//! for each target what its lines say together, each name once. [`attach`] takes a plan, the rulebook that it was made
+//! from and footprints, and gives [`Jobs`]: the plan, and for each node the names that its recipe reads and writes. Either
+//! gives the first fault of its input instead, or that memory ran out.
+//!
+//! What comes out is defined in `specs/`:
+//!
+//! - `Lines.antt`: what one line says. `Footprints.antt`: what all lines say together, and the first line at fault.
+//! - `Attached.antt`: the jobs of a plan and footprints, and the first node at fault.
+//!
+//! Jobs themselves stand in `mk_jobs`, whose modules are passed on. `reading_laws` holds what is proved of footprints
+//! beside the calls. `json` has what the lines of footprints and those of logs share.
 #![tactic(auto)]
 
 pub use mk_jobs::{jobs, laws, recipe};
@@ -13,3 +21,9 @@ pub mod footprints;
 pub mod json;
 mod line;
 pub mod reading;
+pub mod reading_laws;
+
+pub use crate::attaching::attach;
+pub use crate::footprints::Footprints;
+pub use crate::reading::read_footprints;
+pub use mk_jobs::jobs::Jobs;

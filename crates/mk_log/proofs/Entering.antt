@@ -10,7 +10,7 @@ use Rattle.mk_sched.specs.Stored.{IsInOrder, store_of, with_file}
 use Rattle.mk_log.specs.Reading.{IsLogOf, may_follow, is_event, is_at, files_of, events_of, file_of, event_of}
 use Rattle.mk_log.specs.declared.entry.Entry.{Entry}
 use Rattle.mk_log.specs.declared.entry.Entry.TheVariants.{Holds, Happens}
-use Rattle.mk_log.specs.declared.log.Log.{Log}
+use Rattle.mk_log.specs.Logs.{Log}
 use Rattle.mk_log.proofs.Putting.{in_order_with, store_last}
 
 files_more : (before : List Entry) (entry : Entry) → files_of (before ++ entry ∷ []) ≡ files_of before ++ file_of entry
@@ -38,10 +38,10 @@ any_file (Happens event ∷ entries) x = any_file entries x
 
 -- a file may follow where the log has no event, and no file at its name
 pub may_hold : (before : List Entry) (log : Log) (path : Name) (bytes : List ℕ) (time : ℕ) → IsLogOf before log
-    → may_follow before (Holds path bytes time) ≡ ((length log.events.items == 0) && not (is_some (store_of log.store path)))
+    → may_follow before (Holds path bytes time) ≡ ((length log.events == 0) && not (is_some (store_of log.store path)))
 may_hold before log path bytes time is =
     ap (λ b. b && not (list_any (is_at path) before)) (no_event before ∙ ap (λ es. length es == 0) (sym is.events))
-    ∙ ap (λ b. (length log.events.items == 0) && not b) (any_file before path ∙ ap is_some (sym (is.files path)))
+    ∙ ap (λ b. (length log.events == 0) && not b) (any_file before path ∙ ap is_some (sym (is.files path)))
 
 opposite : (b : Bool) → b ≡ not (not b)
 opposite true = refl
@@ -66,7 +66,7 @@ free before path follows = by (store_of (files_of before) path) (sym (any_file b
 -- the log with a file more
 pub holds_more : (before : List Entry) (old new : Log) (path : Name) (bytes : List ℕ) (time : ℕ) → IsLogOf before old → may_follow before (Holds path bytes time) ≡ true
     → ((x : Name) → store_of new.store x ≡ cond (same_name path x) (Some (record { bytes = bytes; time = time })) (store_of old.store x))
-    → new.store ≡ with_file old.store path (record { bytes = bytes; time = time }) → new.events.items ≡ old.events.items
+    → new.store ≡ with_file old.store path (record { bytes = bytes; time = time }) → new.events ≡ old.events
     → IsLogOf (before ++ Holds path bytes time ∷ []) new
 holds_more before old new path bytes time is follows files all events =
     let file : File = record { bytes = bytes; time = time } in

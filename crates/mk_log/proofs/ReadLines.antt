@@ -9,7 +9,7 @@ use Rattle.mk_name.specs.Told.{Told}
 use Rattle.mk_jobs.specs.Jobs.{Jobs}
 use Rattle.mk_log.specs.Reading.{IsLogOf, entries_of, is_good, fault_at, first_fault, told}
 use Rattle.mk_log.specs.Adding.{AddsLine}
-use Rattle.mk_log.specs.declared.log.Log.{Log}
+use Rattle.mk_log.specs.Logs.{Log}
 
 -- what is known before the physical line of a number: the first fault is among those that are left, and the log is that of the
 -- lines so far

@@ -25,7 +25,7 @@ use Rattle.mk_log.specs.Objects.{event_object, file_object}
 use Rattle.mk_log.specs.Reading.{IsLogOf, IsRead, entries_of, events_of, fault_at, files_of, first_fault, is_at, is_event, is_good, may_follow}
 use Rattle.mk_log.specs.Spelled.{IsOneLine, IsSpelled, entries_told, file_entry, names_told, object_of}
 use Rattle.mk_log.specs.Writing.{NamesItself, ReadBack, line_of, log_text, names_in, names_of}
-use Rattle.mk_log.specs.declared.log.Log.{Log}
+use Rattle.mk_log.specs.Logs.{Log}
 use Rattle.mk_log.specs.declared.entry.Entry.{Entry}
 use Rattle.mk_log.specs.declared.entry.Entry.TheVariants.{Happens}
 
@@ -209,22 +209,22 @@ read_back jobs log root spelled in_order named =
     let texts = map (text_of jobs) entries ++ [] ∷ [] in
     let cut : lines (flat_map line_of (map (object_of jobs) entries)) ≡ texts =
     lines_cut (map (object_of jobs) entries) (one_lines jobs entries spelled) ∙ ap (λ (xs : List (List ℕ)). xs ++ [] ∷ []) (map_twice jobs entries) in
-    let back = are_back jobs root entries spelled (subst (All (NamesItself root)) (sym (names_kept jobs log.store log.events.items)) named) in
-    let good = are_good jobs root [] [] entries refl back (files_turn [] log.store log.events.items in_order) in
+    let back = are_back jobs root entries spelled (subst (All (NamesItself root)) (sym (names_kept jobs log.store log.events)) named) in
+    let good = are_good jobs root [] [] entries refl back (files_turn [] log.store log.events in_order) in
     let said = all_entries jobs root entries back in
     subst (λ (xs : List (List ℕ)). LinesRead jobs root xs log) (sym cut) (
       ap (λ (faults : List Told). slice_get faults 0) (none_at_fault jobs root texts [] texts refl good),
       record {
-        files = λ x. ap (λ (files : Files). store_of files x) (sym (ap files_of said ∙ files_kept log.store log.events.items));
+        files = λ x. ap (λ (files : Files). store_of files x) (sym (ap files_of said ∙ files_kept log.store log.events));
         in_order = in_order;
-        events = sym (ap events_of said ∙ events_kept log.store log.events.items);
+        events = sym (ap events_of said ∙ events_kept log.store log.events);
       },
     )
 
 -- the text of a log is the lines of its entries
 pub log_lines : (jobs : Jobs) (log : Log) → flat_map line_of (map (object_of jobs) (entries_told log)) ≡ log_text jobs log
-log_lines jobs log = ap (flat_map line_of) (objects_kept jobs log.store log.events.items)
+log_lines jobs log = ap (flat_map line_of) (objects_kept jobs log.store log.events)
 
 -- and its names are those that the entries tell
 pub log_names : (jobs : Jobs) (log : Log) → flat_map (names_told jobs) (entries_told log) ≡ names_of jobs log
-log_names jobs log = names_kept jobs log.store log.events.items
+log_names jobs log = names_kept jobs log.store log.events

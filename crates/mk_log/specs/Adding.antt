@@ -3,7 +3,7 @@ use Rattle.std.specs.Prelude.{ℕ, ◌≡◌, Bool, true, List, [], ◌∷◌, �
 use Rattle.mk_jobs.specs.Jobs.{Jobs}
 use Rattle.mk_log.specs.Reading.{IsLogOf, entries_of, is_good, may_follow}
 use Rattle.mk_log.specs.declared.entry.Entry.{Entry}
-use Rattle.mk_log.specs.declared.log.Log.{Log}
+use Rattle.mk_log.specs.Logs.{Log}
 
 -- the log of some entries becomes that of the same and one more, if it may follow them
 abbrev pub AddsEntry : Log → Entry → Bool → Log → Type 0

@@ -1,5 +1,5 @@
 -- What `read_log` answers: the log that all lines say, or the first line at fault.
-use Rattle.std.specs.Prelude.{ℕ, ◌≡◌, ◌+◌, ◌&&◌, not, Bool, true, false, List, [], ◌∷◌, Option, None, Some, Result, Ok, Err, slice_get, take, unwrap_or, if◌then◌else◌}
+use Rattle.std.specs.Prelude.{ℕ, ◌≡◌, ◌+◌, ◌&&◌, ◌↔◌, not, Bool, true, false, List, [], ◌∷◌, Option, None, Some, Result, Ok, Err, slice_get, take, unwrap_or, if◌then◌else◌}
 use Rattle.std.specs.List.{enumerate_from, filter_map, flat_map, list_all, list_any}
 use Rattle.std.specs.Option.{option_map_or}
 use Rattle.mk_name.specs.Names.{Name, same_name}
@@ -13,7 +13,7 @@ use Rattle.mk_sched.specs.declared.event.Event.{Event}
 use Rattle.mk_log.specs.Entries.{entries_in}
 use Rattle.mk_log.specs.declared.entry.Entry.{Entry}
 use Rattle.mk_log.specs.declared.entry.Entry.TheVariants.{Holds, Happens}
-use Rattle.mk_log.specs.declared.log.Log.{Log}
+use Rattle.mk_log.specs.Logs.{Log}
 
 -- the entries of physical lines; a bad line has none
 abbrev pub entries_of : Jobs → List ℕ → List (List ℕ) → List Entry
@@ -68,9 +68,13 @@ first_fault jobs root texts = slice_get (filter_map (fault_at jobs root texts) (
 pub record IsLogOf (entries : List Entry) (log : Log) : Type 0 where
   pub files : (x : Name) → store_of log.store x ≡ store_of (files_of entries) x
   pub in_order : IsInOrder log.store
-  pub events : log.events.items ≡ events_of entries
+  pub events : log.events ≡ events_of entries
 
 -- what `read_log` answers
 abbrev pub IsRead : Jobs → List ℕ → List ℕ → Result Log Told → Type 0
 IsRead jobs root text (Ok log) = (first_fault jobs root (lines text) ≡ None) × IsLogOf (entries_of jobs root (lines text)) log
 IsRead jobs root text (Err fault) = first_fault jobs root (lines text) ≡ Some fault
+
+-- a text reads as a log: it may have that log for an answer, and no other answer
+abbrev pub IsReadAs : Jobs → List ℕ → List ℕ → Log → Type 0
+IsReadAs jobs root text log = (answer : Result Log Told) → IsRead jobs root text answer ↔ (answer ≡ Ok log)

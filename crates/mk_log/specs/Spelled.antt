@@ -15,7 +15,7 @@ use Rattle.mk_log.specs.Objects.{event_object, file_object}
 use Rattle.mk_log.specs.Writing.{NamesItself, line_of, names_in}
 use Rattle.mk_log.specs.declared.entry.Entry.{Entry}
 use Rattle.mk_log.specs.declared.entry.Entry.TheVariants.{Holds, Happens}
-use Rattle.mk_log.specs.declared.log.Log.{Log}
+use Rattle.mk_log.specs.Logs.{Log}
 
 -- the entry of a file
 abbrev pub file_entry : Name × File → Entry
@@ -23,7 +23,7 @@ file_entry placed = Holds placed.0 placed.1.bytes placed.1.time
 
 -- the entries of a log: its files, and then its events
 abbrev pub entries_told : Log → List Entry
-entries_told log = map file_entry log.store ++ map (λ event. Happens event) log.events.items
+entries_told log = map file_entry log.store ++ map (λ event. Happens event) log.events
 
 -- the object of an entry
 abbrev pub object_of : Jobs → Entry → Data

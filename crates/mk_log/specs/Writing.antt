@@ -12,11 +12,11 @@ use Rattle.mk_sched.specs.Steps.{step_of}
 use Rattle.mk_sched.specs.declared.event.Event.{Event}
 use Rattle.mk_sched.specs.declared.event.Event.TheVariants.{Skip, Start, Look, Put, Erase, Finish}
 use Rattle.mk_log.specs.Objects.{event_object, file_object}
-use Rattle.mk_log.specs.declared.log.Log.{Log}
+use Rattle.mk_log.specs.Logs.{Log}
 
 -- the objects of a log: its files in byte order of their names, and then its events
 abbrev pub objects_of : Jobs → Log → List Data
-objects_of jobs log = map (λ entry. file_object entry.0 entry.1) log.store ++ map (event_object jobs) log.events.items
+objects_of jobs log = map (λ entry. file_object entry.0 entry.1) log.store ++ map (event_object jobs) log.events
 
 -- the line of an object, in JSON without spaces
 abbrev pub line_of : Data → List ℕ
@@ -41,7 +41,7 @@ names_in jobs event = name_of jobs (step_of event).node ∷ path_in event
 
 -- the names in a log
 abbrev pub names_of : Jobs → Log → List Name
-names_of jobs log = keys_of log.store ++ flat_map (names_in jobs) log.events.items
+names_of jobs log = keys_of log.store ++ flat_map (names_in jobs) log.events
 
 -- each name in a log is UTF-8
 abbrev pub is_text : Jobs → Log → Bool

@@ -12,7 +12,7 @@ ghost use Rattle.mk_jobs.specs.Jobs.{node_count};
 ghost use Rattle.mk_foot.specs.Json.{value_of};
 ghost use Rattle.mk_sched.specs.Steps.{step_of};
 ghost use Rattle.mk_sched.specs.Stored.{IsInOrder};
-ghost use Rattle.mk_log.specs.Reading.{IsRead};
+ghost use Rattle.mk_log.specs.Reading.{IsReadAs};
 ghost use Rattle.mk_log.specs.Spelled.{Adds, file_entry};
 ghost use Rattle.mk_log.specs.Writing.{AreOfNodes, ReadBack, is_text, line_of, log_text, names_in};
 ghost use Rattle.mk_log.specs.declared.entry.Entry.TheVariants.{Happens};
@@ -49,14 +49,15 @@ impl From<AllocError> for LogHalt {
 /// keys in byte order, and a newline (profile). The events must be of nodes of these jobs.
 ///
 /// The error is `NotText` where a name in the log, a file's, a node's or a path, is not UTF-8; else it is want of memory.
-/// What is written, `read_log` reads back as the same log, below a root where each name in it is a path that names itself.
+/// Below a root where each name in the log is a path that names itself, `read_log` answers this log for what is written,
+/// and can answer nothing else.
 pub fn write_log(alloc: Global, jobs: &Jobs, log: &Log) -> Result<Vec<u8>, LogHalt>
-    requires { AreOfNodes jobs.now log.now.events.items }
+    requires { AreOfNodes jobs.now log.now.events }
     ensures text { IfOk result (λ text. text.items ≡ log_text jobs.now log.now) }
     ensures is_text { IfOk result (λ text. is_text jobs.now log.now ≡ true) }
     ensures not_text { IfErr result (λ halt. halt ≡ LogHalt.NotText → is_text jobs.now log.now ≡ false) }
     ensures reads_back { IfOk result (λ text. (root : List ℕ)
-        → ReadBack jobs.now root log.now → IsRead jobs.now root text.items (Ok log.now)) }
+        → ReadBack jobs.now root log.now → IsReadAs jobs.now root text.items log.now) }
 {
     let mut text = Vec::new(alloc);
     add_files(alloc, &mut text, &log.store)?;

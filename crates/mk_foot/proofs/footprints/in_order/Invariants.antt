@@ -1,6 +1,6 @@
-use Rattle.std.proofs.Common.{◌≡◌, map, take}
+use Rattle.std.proofs.Common.{◌≡◌, ◌++◌}
 use Rattle.mk_foot.proofs.footprints.in_order.Given as goal
 
--- the names so far are copied
+-- what is copied, and then what is left
 abbrev pub invariant-loop-name : goal.invariant-loop-name
-invariant-loop-name l = l.list.items ≡ map (λ name. name.now) (take l.name-index l.name-items)
+invariant-loop-name l = l.list.items ++ l.name-iterator ≡ l.names.keys

@@ -19,12 +19,12 @@ returns c =
           ap (λ o. unwrap_or o no_footprint) (sym c.remove.ensures.value ∙ w.in-None.is)
           ∙ empty (sym w.new.ensures.empty) (sym w.new-in-None.ensures.empty) ∙ sym w.footprint-is
     ] in
-    let reads : after.reads ≡ with_more before.reads line.reads = c.in_ok-add_names.ensures ∙ ap (with_more before.reads) c.as_slice.ensures.value in
-    let writes : after.writes ≡ with_more before.writes line.writes = c.in_ok-add_names-2.ensures ∙ ap (with_more before.writes) c.as_slice-2.ensures.value in
+    let reads : after.reads ≡ with_more before.reads line.reads = c.in_ok-add_names.ensures in
+    let writes : after.writes ≡ with_more before.writes line.writes = c.in_ok-add_names-2.ensures in
     λ lines united.
     subst (λ (l : Line). Unites c.insert.new.self.entries (lines ++ l ∷ [])) c.line.view_is
     (unites_more line lines old c.remove.new.self.entries c.insert.new.self.entries before after (was ∙ sym c.footprint.view_is) reads writes
-    c.remove.ensures.updates.0 c.in_ok-insert.ensures.updates.0 (subst (λ (f : Footprints). Unites f lines) (sym c.self.view_is) united))
+    c.remove.ensures.updates.0 c.in_ok-insert.ensures.updates.0 c.insert.ensures.ordered (subst (λ (f : Footprints). Unites f lines) (sym c.self.view_is) united))
   where
     empty : {f g : Footprint} → f.reads ≡ g.reads → f.writes ≡ g.writes → f ≡ g
     empty r w = λ i. record { reads = r i; writes = w i }
