@@ -4,6 +4,7 @@ pub mod ByTable
 pub mod Computed
 pub mod Deciding
 pub mod Determinate
+pub mod Gathering
 pub mod InOrder
 pub mod Listing
 pub mod Moving
@@ -11,6 +12,7 @@ pub mod OneRun
 pub mod Plainly
 pub mod Refusing
 pub mod Replaying
+pub mod SerialList
 pub mod Storing
 pub mod Surely
 pub mod TwoRuns

@@ -1,6 +1,7 @@
 pub mod Controls
 pub mod Counter
 pub mod Events
+pub mod Grouped
 pub mod InTime
 pub mod Laws
 pub mod MissingHeader
@@ -11,6 +12,7 @@ pub mod Refused
 pub mod Replayed
 pub mod Runs
 pub mod Serial
+pub mod Serialising
 pub mod Shown
 pub mod SmallCases
 pub mod Standing

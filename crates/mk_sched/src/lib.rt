@@ -4,10 +4,12 @@
 pub mod contents;
 pub mod event;
 pub mod file;
+mod grouping;
 mod judge;
 pub mod laws;
 pub mod refusal;
 pub mod replay;
+pub mod serialising;
 mod stage;
 mod stale;
 mod state;
