@@ -10,3 +10,4 @@ mod NodesOf
 mod Rowing
 mod Steps
 mod Suffixes
+mod SuffixRules

@@ -8,4 +8,5 @@ pub mod Rows
 pub mod Seen
 pub mod Steps
 pub mod Suffix
+pub mod SuffixRule
 pub mod Walk

@@ -12,6 +12,7 @@ mod collect;
 mod faults;
 mod graph;
 mod inference;
+pub mod laws;
 mod makers;
 pub mod planning;
 mod rows;
