@@ -1,14 +1,14 @@
 -- Each text has an expansion: a reference counts one, and no more than the limit count, so that values are expanded only so deep.
-use Rattle.std.proofs.Common.{◌≡◌, ℕ, zero, suc, ◌+◌, ◌<◌, ◌≤◌, Bool, true, false, List, [], ◌∷◌, ◌++◌, length, Option, Some, None, Result, Ok, Err, refl, sym, ◌∙◌, ap, subst, arith, append_assoc}
+use Rattle.std.proofs.Common.{◌≡◌, ℕ, zero, suc, ◌+◌, ◌<◌, ◌≤◌, Bool, true, false, List, [], ◌∷◌, ◌++◌, length, Option, Some, None, Result, Ok, Err, refl, sym, subst, arith, append_assoc}
 use Rattle.std.specs.Prelude.{if◌then◌else◌, nat_le, nat_lt}
-use Rattle.std.proofs.lemmas.Bool.{cases_Bool, leb-false}
+use Rattle.std.proofs.lemmas.Bool.{leb-false}
 use Rattle.std.proofs.lemmas.List.{append-nil}
 use Rattle.mk_name.specs.Names.{Name, has, same_name}
 use Rattle.mk_name.specs.Told.{Told}
 use Rattle.mk_name.specs.declared.fault.Kind.TheVariants.{ExpansionTooLarge, InternalMacro, MacroLoop}
 use Rattle.mk_macro.specs.declared.item.Item.{Item}
 use Rattle.mk_macro.specs.declared.item.Item.TheVariants.{Plain, Refers, Broken}
-use Rattle.mk_macro.specs.Expansion.{Expanded, Expands, Gives, IsExpansion, Outcome, byte_limit, is_internal, is_late, joined, macro_fault, reference_limit, referred, refusal, text_of}
+use Rattle.mk_macro.specs.Expansion.{Expands, Gives, IsExpansion, Outcome, byte_limit, is_internal, is_late, joined, macro_fault, reference_limit, referred, refusal, text_of}
 use Rattle.mk_macro.specs.Expansion.{nothing, failed, one_more, byte, broken, refused, undefined, itself, late}
 use Rattle.mk_macro.specs.Macros.{Definition, Macros}
 use Rattle.mk_macro.specs.Reference.{Reference}

@@ -1,10 +1,9 @@
 -- Lists in which each item stands once, by a test of equality.
-use Rattle.std.proofs.Common.{◌≡◌, ℕ, suc, ◌+◌, ◌<◌, ◌≤◌, Bool, true, false, List, [], ◌∷◌, ◌++◌, length, get_or, sym, ◌∙◌, ap, subst, inl, inr, refl, arith, append_assoc, length-append}
-use Rattle.std.specs.Prelude.{◌⊎◌, IsTrue, nat_eq, if◌then◌else◌, map}
-use Rattle.std.specs.List.{flat_map, list_any, sum_by}
+use Rattle.std.proofs.Common.{◌≡◌, ℕ, ◌≤◌, Bool, true, false, List, [], ◌∷◌, ◌++◌, sym, ◌∙◌, ap, subst, inl, inr, refl, arith}
+use Rattle.std.specs.Prelude.{◌⊎◌, IsTrue, nat_eq, if◌then◌else◌}
+use Rattle.std.specs.List.{flat_map, sum_by}
 use Rattle.std.specs.Cmp.Lexicographic.{nat_list_eq_equiv}
-use Rattle.std.proofs.lemmas.Bool.{or_cases, or_left, or_right, or_parts, or_from, false_from_ne_true, eqb-true, eq-eqb, cases_Bool, both_ways, and_parts}
-use Rattle.std.proofs.lemmas.List.{append-nil}
+use Rattle.std.proofs.lemmas.Bool.{or_cases, or_left, or_right, or_parts, false_from_ne_true, eqb-true, eq-eqb, cases_Bool, both_ways, and_parts}
 use Rattle.std.proofs.lemmas.List.Sums.{sum_by-cons, sum_by-append}
 use Rattle.std.proofs.lemmas.List.Folds.{list_any-append}
 use Rattle.mk_name.specs.Names.{Name, same_name, has, kept, firsts, IsDistinct}

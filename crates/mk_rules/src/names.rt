@@ -27,7 +27,9 @@ pub(crate) fn distinct(alloc: Global, names: Vec<Name>) -> Result<Vec<Name>, All
         return Ok(names);
     }
     let mut seen = IndexSet::with_hasher(alloc, NameHasher::of_names(&names));
-    join(alloc, &mut seen, &names)?;
+    for name in names {
+        seen.insert(name)?;
+    }
     into_names(alloc, seen)
 }
 

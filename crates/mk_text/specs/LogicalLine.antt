@@ -1,14 +1,12 @@
 -- A logical line of a makefile.
-use Rattle.std.specs.Prelude.{ℕ, ◌+◌, ◌<◌, ◌≤◌, Bool, List, Option, None, Some, Result, Ok, Err, IfSome, take, drop}
+use Rattle.std.specs.Prelude.{ℕ, ◌+◌, ◌<◌, ◌≤◌, List, Option, None, Some, Result, Ok, Err, IfSome, take, drop}
 use Rattle.std.specs.List.{join_with_byte}
 use Rattle.std.specs.Option.{is_some}
 use Rattle.mk_name.specs.declared.fault.Kind.{Kind}
 use Rattle.mk_text.specs.declared.line.LineKind.{LineKind}
 use Rattle.mk_text.specs.declared.line.LineKind.TheVariants.{Assign, Entry, Recipe}
-use Rattle.mk_text.specs.declared.line.Operator.{Operator}
 use Rattle.mk_text.specs.declared.parts.Parts.{Parts}
 use Rattle.mk_text.specs.declared.parts.Parts.TheVariants as parts
-use Rattle.mk_text.specs.Parts.{AssignmentParts, EntryParts}
 
 -- a logical line: its kind, the number of its first physical line, and the parts of the makefile that make it up
 pub record LogicalLine : Type 0 where

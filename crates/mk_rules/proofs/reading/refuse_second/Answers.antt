@@ -1,4 +1,4 @@
-use Rattle.std.proofs.Common.{List, Err, subst, sym, ap, ◌∙◌, ◌∷◌, []}
+use Rattle.std.proofs.Common.{List, Err, subst, sym, ap, ◌∷◌, []}
 use Rattle.mk_name.specs.Names.{Name}
 use Rattle.mk_name.specs.Told.{Told}
 use Rattle.mk_name.specs.declared.fault.Kind.TheVariants.{TwoRecipes}
