@@ -1,0 +1,4 @@
+//! Which node comes before which, and chains of edges that show it.
+#![tactic(auto)]
+
+pub mod words;
