@@ -1,4 +1,6 @@
 //! Which node comes before which, and chains of edges that show it.
 #![tactic(auto)]
 
+pub mod before;
+pub mod walk;
 pub mod words;
