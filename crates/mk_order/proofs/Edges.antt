@@ -18,8 +18,9 @@ pub before_from : (jobs : Jobs) (a p x : ℕ) → IsPrerequisite jobs p x → Is
 before_from jobs a p x step (inl same) = edge (subst (λ n. IsPrerequisite jobs n x) same step)
 before_from jobs a p x step (inr before) = further before step
 
--- the prerequisites of a node of the jobs are below it
+-- the prerequisites of a node are below it
+pub all_smaller : (jobs : Jobs) (x : ℕ) → IsValid jobs → All (λ p. p < x) (prerequisites_of jobs x)
+all_smaller jobs x valid = λ k d at. valid.smaller x (get_or (prerequisites_of jobs x) k d) (Contains-get_or (prerequisites_of jobs x) k d at)
+
 pub all_below : (jobs : Jobs) (x end : ℕ) → IsValid jobs → x < end → All (λ p. p < end) (prerequisites_of jobs x)
-all_below jobs x end valid below = λ k d at.
-    let smaller = valid.smaller x (get_or (prerequisites_of jobs x) k d) (Contains-get_or (prerequisites_of jobs x) k d at) in
-    omega (arith, smaller, below)
+all_below jobs x end valid below = λ k d at. omega (arith, all_smaller jobs x valid k d at, below)

@@ -2,5 +2,8 @@
 #![tactic(auto)]
 
 pub mod before;
+pub mod chains;
+pub mod laws;
+pub mod rows;
 pub mod walk;
 pub mod words;
