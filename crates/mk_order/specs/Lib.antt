@@ -1,0 +1,4 @@
+pub mod Bits
+pub mod Chosen
+pub mod Marks
+pub mod Paths

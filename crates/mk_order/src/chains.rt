@@ -1,0 +1,78 @@
+//! Chains of edges from one node to another.
+ghost use Rattle.std.specs.Prelude.{◌≡◌, ◌<◌, ◌↔◌, IfNone, IfOk, IfSome, IsSome, IsTrue};
+ghost use Rattle.mk_jobs.specs.Jobs as spec;
+ghost use Rattle.mk_jobs.specs.Jobs.{IsValid, node_count};
+ghost use Rattle.mk_order.specs.Chosen.{IsChosen, IsLeastFrom};
+ghost use Rattle.mk_order.specs.Paths.{IsFrom};
+
+use crate::before::Before;
+use mk_jobs::jobs::Jobs;
+use std::alloc::{AllocError, Global};
+
+/// The chain that shows that a is before b, if it is: from a to b edge by edge, where in front of each node but a stands the
+/// least of its prerequisites that is a or has a before it. Both numbers must be below the count of nodes, and `before`
+/// must speak of the same jobs. The only error is want of memory.
+pub fn chain<B: Before>(
+    alloc: Global,
+    jobs: &Jobs,
+    before: &mut B,
+    a: u32,
+    b: u32,
+) -> Result<Option<Vec<u32>>, AllocError>
+    requires same { B.jobs before.old ≡ jobs.now }
+    requires first { a < node_count jobs.now }
+    requires last { b < node_count jobs.now }
+    ensures found { IfOk result (λ chain. IsSome chain ↔ spec.Before jobs.now a b) }
+    ensures chosen { IfOk result (λ chain. IfSome chain (λ nodes. IsChosen jobs.now a b nodes.items)) }
+    ensures keeps { B.jobs before.new ≡ B.jobs before.old }
+{
+    let count = jobs.count();
+    prove!(a < count && b < count);
+    if !before.before(a, b) {
+        return Ok(None);
+    }
+    let mut nodes = vec![in alloc; b]?;
+    let mut front = b;
+    while let Some(p) = least_from(jobs, before, a, front) {
+        nodes.push(p)?;
+        front = p;
+    }
+    nodes.reverse();
+    Ok(Some(nodes))
+}
+
+/// The least prerequisite of x that is a or has a before it, if there is one.
+fn least_from<B: Before>(jobs: &Jobs, before: &mut B, a: u32, x: u32) -> Option<u32>
+    requires valid { IsValid jobs.now }
+    requires same { B.jobs before.old ≡ jobs.now }
+    requires first { a < node_count jobs.now }
+    requires last { x < node_count jobs.now }
+    ensures some { IfSome result (λ p. IsLeastFrom jobs.now a p x) }
+    ensures none { IfNone result (¬ spec.Before jobs.now a x) }
+    ensures keeps { B.jobs before.new ≡ B.jobs before.old }
+{
+    let mut least = None;
+    for &p in jobs.prerequisites(x) {
+        if is_less(p, least) && is_from(before, a, p) {
+            least = Some(p);
+        }
+    }
+    least
+}
+
+/// Whether a number is less than the other, if there is another.
+fn is_less(p: u32, other: Option<u32>) -> bool
+    ensures { IsTrue result ↔ IfSome other (λ q. p < q) }
+{
+    other.is_none_or(|q| p < q)
+}
+
+/// Whether x is a or has a before it.
+fn is_from<B: Before>(before: &mut B, a: u32, x: u32) -> bool
+    requires first { a < node_count (B.jobs before.old) }
+    requires second { x < node_count (B.jobs before.old) }
+    ensures exact { IsTrue result ↔ IsFrom (B.jobs before.old) a x }
+    ensures keeps { B.jobs before.new ≡ B.jobs before.old }
+{
+    x == a || before.before(a, x)
+}
