@@ -1,4 +1,3 @@
 mod GoalsLemmas
-mod Playing
-mod StageLemmas
+mod Listed
 mod Staging

@@ -1,34 +1,63 @@
 -- One stage after another.
-use Rattle.std.proofs.Common.{◌≡◌, ℕ, List, Ok, Err, Result, refl, sym}
+use Rattle.std.proofs.Common.{◌≡◌, ℕ, Bool, List, Ok, Err, Result, refl, sym, subst}
+use Rattle.mk_name.specs.Names.{Name}
 use Rattle.mk_name.specs.Told.{Told}
-use Rattle.mk_name.specs.Gives.{HaltsAmong, Halts}
+use Rattle.mk_name.specs.Gives.{Halts, HaltsAmong}
 use Rattle.mk_name.specs.declared.fault.Halt.{Halt}
 use Rattle.mk_name.specs.declared.fault.Halt.TheVariants as halts
-use Rattle.mk_rules.specs.Book.{targets_of}
+use Rattle.mk_macro.specs.Macros.{Macros}
+use Rattle.mk_rules.specs.Book.{Book, targets_of}
+use Rattle.mk_graph.specs.Answer.{IsAnswer}
+use Rattle.mk_graph.specs.Answer.{goals_of as goals_or_default}
+use Rattle.mk_jobs.specs.Plan.{Plan}
 use Rattle.mk_foot.specs.Attached.{attached}
 use Rattle.mk_foot.specs.Footprints.{Footprints, IsRead}
 use Rattle.mk_jobs.specs.Jobs.{Jobs}
-use Rattle.mk_race.specs.Stages.{IsPlanned, IsPrepared, Texts}
-use Rattle.mk_race.specs.declared.stages.Planned.{Planned}
+use Rattle.mk_log.specs.Logs.{Log}
+use Rattle.mk_log.specs.Reading.{IsRead as IsReadLog}
+use Rattle.mk_race.specs.Played.{IsOutcome, IsPlayedOn}
+use Rattle.mk_race.specs.Stages.{IsBookOf, IsGraphed, IsJobs, IsPlanned, IsPrepared, Texts}
+use Rattle.mk_race.specs.declared.planning.Planned.{Planned}
+use Rattle.mk_race.specs.declared.preparing.Prepared.{Prepared}
+use Rattle.mk_race.specs.declared.replaying.Played.{Played}
 
-module _ (texts : Texts) (footprints : List ℕ) where
-  -- a halt of the plan is one of the whole
-  pub unplanned : (halt : Halt) → HaltsAmong halt (IsPlanned texts) → HaltsAmong halt (IsPrepared texts footprints)
-  unplanned halts.Memory h = tt
-  unplanned (halts.Fault told) h = (Err told, h, refl)
+-- a halt of the plan is one of the book and the plan
+pub not_planned : (texts : Texts) (root : List ℕ) (goals : List Name) (macros : Macros) (listed : List Name) (book : Book) (halt : Halt)
+    → IsBookOf texts root macros (Ok book) → HaltsAmong halt (IsAnswer book listed (goals_or_default book goals))
+    → HaltsAmong halt (IsGraphed texts root goals macros listed)
+not_planned texts root goals macros listed book halts.Memory is h = tt
+not_planned texts root goals macros listed book (halts.Fault told) is h = (Ok book, is, (Err told, h, refl))
 
-  module _ (planned : Planned) (is : IsPlanned texts (Ok planned)) where
-    -- so is one of the footprints
-    pub unread : (halt : Halt) → HaltsAmong halt (IsRead planned.root footprints) → HaltsAmong halt (IsPrepared texts footprints)
-    unread halts.Memory h = tt
-    unread (halts.Fault told) h = (Ok planned, is, (Err told, h, refl))
+module _ (root : List ℕ) (book : Book) (plan : Plan) (footprints : List ℕ) where
+  -- a halt of the footprints is one of the jobs
+  pub unread : (halt : Halt) → HaltsAmong halt (IsRead root footprints) → HaltsAmong halt (IsJobs root book plan footprints)
+  unread halts.Memory h = tt
+  unread (halts.Fault told) h = (Err told, h, refl)
 
-    -- what comes of both together is what comes of the whole
-    pub prepared : (read : Footprints) (answer : Result Jobs Told) → IsRead planned.root footprints (Ok read)
-        → attached planned.plan (targets_of planned.book.rules) read ≡ answer → IsPrepared texts footprints answer
-    prepared read answer r e = (Ok planned, is, (Ok read, r, sym e))
+  -- what comes of a plan and footprints is what comes of both texts
+  pub attaches : (read : Footprints) (answer : Result Jobs Told) → IsRead root footprints (Ok read)
+      → attached plan (targets_of book.rules) read ≡ answer → IsJobs root book plan footprints answer
+  attaches read answer r e = (Ok read, r, sym e)
 
-    pub unattached : (read : Footprints) (halt : Halt) → IsRead planned.root footprints (Ok read)
-        → Halts halt (attached planned.plan (targets_of planned.book.rules) read) → HaltsAmong halt (IsPrepared texts footprints)
-    unattached read halts.Memory r h = tt
-    unattached read (halts.Fault told) r h = prepared read (Err told) r h
+  pub unattached : (read : Footprints) (halt : Halt) → IsRead root footprints (Ok read)
+      → Halts halt (attached plan (targets_of book.rules) read) → HaltsAmong halt (IsJobs root book plan footprints)
+  unattached read halts.Memory r h = tt
+  unattached read (halts.Fault told) r h = attaches read (Err told) r h
+
+-- a halt of the jobs is one of the whole
+pub not_prepared : (texts : Texts) (footprints : List ℕ) (planned : Planned) (halt : Halt) → IsPlanned texts (Ok planned)
+    → HaltsAmong halt (IsJobs planned.root planned.book planned.plan footprints) → HaltsAmong halt (IsPrepared texts footprints)
+not_prepared texts footprints planned halts.Memory is h = tt
+not_prepared texts footprints planned (halts.Fault told) is h = (Ok planned, is, (Err told, h, refl))
+
+module _ (prepared : Prepared) (log : List ℕ) (limit : ℕ) (tie : Bool) where
+  -- a halt of the log is one of the whole
+  pub log_unread : (halt : Halt) → HaltsAmong halt (IsReadLog prepared.jobs prepared.root log) → HaltsAmong halt (IsPlayedOn prepared log limit tie)
+  log_unread halts.Memory h = tt
+  log_unread (halts.Fault told) h = (Err told, h, refl)
+
+  -- what the events come to is what comes of the whole
+  pub played : (inside read : Log) (answer : Result Played Told) → inside ≡ read → IsReadLog prepared.jobs prepared.root log (Ok read)
+      → IsOutcome prepared.jobs prepared.listing limit tie inside answer → IsPlayedOn prepared log limit tie answer
+  played inside read answer same r h =
+      (Ok read, r, subst (λ (l : Log). IsOutcome prepared.jobs prepared.listing limit tie l answer) same h)

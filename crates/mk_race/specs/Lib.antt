@@ -1,3 +1,4 @@
+pub mod Laws
 pub mod Played
 pub mod Settings
 pub mod Stages

@@ -1,5 +1,6 @@
 -- What comes of the texts of a build: the first fault of their stages, or what the graph gives.
 use Rattle.std.specs.Prelude.{◌≡◌, ℕ, List, map, Result, Ok, Err}
+use Rattle.mk_name.specs.Names.{Name}
 use Rattle.mk_name.specs.Told.{Told}
 use Rattle.mk_name.specs.declared.fault.Source.{Source}
 use Rattle.mk_name.specs.declared.fault.Source.TheVariants as sources
@@ -20,7 +21,9 @@ use Rattle.mk_foot.specs.Footprints.{IsRead}
 use Rattle.mk_jobs.specs.Jobs.{Jobs}
 use Rattle.mk_race.specs.Settings.{goals_of}
 use Rattle.mk_race.specs.declared.input.Input.{Input}
-use Rattle.mk_race.specs.declared.stages.Planned.{Planned}
+use Rattle.mk_race.specs.declared.planning.Graphed.{Graphed}
+use Rattle.mk_race.specs.declared.planning.Planned.{Planned}
+use Rattle.mk_race.specs.declared.preparing.Prepared.{Prepared}
 
 -- a fault ends the stages; a value goes on to the next
 abbrev pub Then : {X Y : Type 0} → Result X Told → (X → Result Y Told → Type 0) → Result Y Told → Type 0
@@ -40,10 +43,6 @@ told_in source (Err told) = Err (record told { source = source })
 abbrev pub IsBook : List ℕ → Macros → List LogicalLine → List LogicalLine → Result Book Told → Type 0
 IsBook root macros base makefile answer = (after : Macros) × MakefilesSay root macros (all_lines base makefile) answer after
 
--- with the plan go the root and the book that it was made from
-abbrev pub with_plan : List ℕ → Book → Plan → Planned
-with_plan root book plan = record { root = root; book = book; plan = plan }
-
 -- the texts that a build is planned from
 pub record Texts : Type 0 where
   pub root : List ℕ
@@ -61,18 +60,39 @@ texts_of input = record {
   listing = input.listing.now;
 }
 
--- the root, the operands, the listing, the lines of the base and of the makefile, their rules, and then the graph
+-- the book of the base and of the makefile, with these macros before them
+abbrev pub IsBookOf : Texts → List ℕ → Macros → Result Book Told → Type 0
+IsBookOf texts root macros =
+    Then (told_in sources.Base (logical_lines texts.base)) (λ base.
+    Then (told_in sources.Makefile (logical_lines texts.makefile)) (λ makefile. IsBook root macros base makefile))
+
+-- the book, and then the plan of what the goals need
+abbrev pub IsGraphed : Texts → List ℕ → List Name → Macros → List Name → Result Graphed Told → Type 0
+IsGraphed texts root goals macros listed =
+    ThenAny (IsBookOf texts root macros) (λ book. ThenAny (IsAnswer book listed (goals_or_default book goals)) (λ plan answer.
+    answer ≡ Ok (record { book = book; plan = plan })))
+
+-- with the plan go the root, the listing and the book that it was made from
+abbrev pub with_graph : List ℕ → List Name → Graphed → Planned
+with_graph root listed graphed = record { root = root; listing = listed; book = graphed.book; plan = graphed.plan }
+
+-- the root, the operands, the listing, and then the book and the plan
 abbrev pub IsPlanned : Texts → Result Planned Told → Type 0
 IsPlanned texts =
     Then (root_of texts.root) (λ root. Then (goals_of root texts.operands) (λ goals. Then (operand_macros texts.operands) (λ macros.
     Then (listing_of root texts.listing) (λ listed.
-    Then (told_in sources.Base (logical_lines texts.base)) (λ base.
-    Then (told_in sources.Makefile (logical_lines texts.makefile)) (λ makefile.
-    ThenAny (IsBook root macros base makefile) (λ book.
-    ThenAny (IsAnswer book listed (goals_or_default book goals)) (λ plan answer. answer ≡ Ok (with_plan root book plan)))))))))
+    ThenAny (IsGraphed texts root goals macros listed) (λ graphed answer. answer ≡ Ok (with_graph root listed graphed))))))
 
--- the jobs: the plan, the footprints, and then both together
-abbrev pub IsPrepared : Texts → List ℕ → Result Jobs Told → Type 0
+-- the footprints, and then the jobs of them and a plan
+abbrev pub IsJobs : List ℕ → Book → Plan → List ℕ → Result Jobs Told → Type 0
+IsJobs root book plan footprints = ThenAny (IsRead root footprints) (λ read answer. answer ≡ attached plan (targets_of book.rules) read)
+
+-- with the jobs go the root and the listing
+abbrev pub with_jobs : Planned → Jobs → Prepared
+with_jobs planned jobs = record { root = planned.root; listing = planned.listing; jobs = jobs }
+
+-- the plan, and then the jobs
+abbrev pub IsPrepared : Texts → List ℕ → Result Prepared Told → Type 0
 IsPrepared texts footprints =
-    ThenAny (IsPlanned texts) (λ planned. ThenAny (IsRead planned.root footprints) (λ read answer.
-    answer ≡ attached planned.plan (targets_of planned.book.rules) read))
+    ThenAny (IsPlanned texts) (λ planned. ThenAny (IsJobs planned.root planned.book planned.plan footprints) (λ jobs answer.
+    answer ≡ Ok (with_jobs planned jobs)))

@@ -2,7 +2,8 @@
 #![tactic(auto)]
 
 pub mod input;
+pub mod laws;
+pub mod planning;
 pub mod preparing;
 pub mod replaying;
 pub mod settings;
-pub mod stages;

@@ -1,25 +1,59 @@
 //! From the texts of a build to its jobs.
 ghost use Rattle.mk_name.specs.Gives.{Answers};
-ghost use Rattle.mk_race.specs.Stages.{IsPrepared, texts_of};
+ghost use Rattle.mk_race.specs.Stages.{IsJobs, IsPrepared, texts_of};
 
 use crate::input::Input;
-use crate::stages::{Planned, plan_of};
+use crate::planning::{Planned, plan_of};
 use mk_foot::attaching::attach;
 use mk_jobs::jobs::Jobs;
 use mk_foot::reading::read_footprints;
+use mk_jobs::plan::Plan;
 use mk_name::fault::Halt;
+use mk_rules::rulebook::Rulebook;
+use mk_text::listing::Listing;
+use mk_text::root::Root;
 use std::alloc::Global;
+
+/// The jobs of a build, with what was read for them that its logs are read and judged by.
+#[derive(Debug, Drop)]
+pub struct Prepared {
+    /// The folder that relative paths start from.
+    pub root: Root,
+    /// The files that are there.
+    pub listing: Listing,
+    /// The plan, with what each recipe reads and writes.
+    pub jobs: Jobs,
+}
 
 /// The jobs of a build.
 ///
 /// The first fault is answered: those of the plan (see [`plan_of`]), then of the footprints by their lines, and then of
 /// the nodes with their footprints. The only other error is want of memory.
-pub fn prepare(alloc: Global, input: &Input<'_>) -> Result<Jobs, Halt>
+pub fn prepare(alloc: Global, input: &Input<'_>) -> Result<Prepared, Halt>
     ensures { Answers result (IsPrepared (texts_of input.now) input.now.footprints.now) }
 {
-    let Planned { root, book, plan } = plan_of(alloc, input)?;
-    let footprints = read_footprints(alloc, input.footprints, &root)?;
-    match attach(alloc, plan, &book, &footprints) {
+    let planned = plan_of(alloc, input)?;
+    let Planned { root, listing, book, plan } = planned;
+    let jobs = jobs_of(alloc, &root, &book, plan, input.footprints)?;
+    Ok(Prepared {
+        root,
+        listing,
+        jobs,
+    })
+}
+
+/// The jobs of a plan, whose book this is, with the footprints of a text.
+fn jobs_of(
+    alloc: Global,
+    root: &Root,
+    book: &Rulebook,
+    plan: Plan,
+    footprints: &[u8],
+) -> Result<Jobs, Halt>
+    ensures { Answers result (IsJobs root.now book.now plan footprints.now) }
+{
+    let footprints = read_footprints(alloc, footprints, root)?;
+    match attach(alloc, plan, book, &footprints) {
         Ok(jobs) => Ok(jobs),
         Err((_plan, halt)) => Err(halt),
     }

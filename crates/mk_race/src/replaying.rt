@@ -1,17 +1,14 @@
 //! From the texts of a build and of a log to whether the log is a run of the build.
 ghost use Rattle.mk_name.specs.Gives.{Answers};
-ghost use Rattle.mk_race.specs.Played.{IsPlayed};
+ghost use Rattle.mk_race.specs.Played.{IsPlayed, IsPlayedOn};
 ghost use Rattle.mk_race.specs.Stages.{texts_of};
 
 use crate::input::Input;
-use crate::preparing::prepare;
-use mk_log::log::Log;
+use crate::preparing::{Prepared, prepare};
 use mk_log::reading::read_log;
 use mk_name::fault::Halt;
 use mk_sched::refusal::Refusal;
 use mk_sched::replay::{Replayed, Stopped, replay};
-use mk_text::listing::Listing;
-use mk_text::root::Root;
 use std::alloc::Global;
 
 /// What a log is to a build.
@@ -43,11 +40,23 @@ pub fn replay_log(
     ensures { Answers result
         (IsPlayed (texts_of input.now) input.now.footprints.now log.now limit tie) }
 {
-    let jobs = prepare(alloc, input)?;
-    let root = Root::read(alloc, input.root)?;
-    let listing = Listing::read(alloc, input.listing, &root)?;
-    let Log { store, events } = read_log(alloc, log, &jobs, &root)?;
-    match replay(alloc, &jobs, &listing, store, limit, tie, events.as_slice()) {
+    let prepared = prepare(alloc, input)?;
+    replay_on(alloc, &prepared, log, limit, tie)
+}
+
+/// Replays a log on the jobs of a build.
+fn replay_on(
+    alloc: Global,
+    prepared: &Prepared,
+    log: &[u8],
+    limit: u32,
+    tie: bool,
+) -> Result<Played, Halt>
+    ensures { Answers result (IsPlayedOn prepared.now log.now limit tie) }
+{
+    let Prepared { root, listing, jobs } = prepared;
+    let log = read_log(alloc, log, jobs, root)?;
+    match replay(alloc, jobs, listing, log.store, limit, tie, log.events.as_slice()) {
         Ok(replayed) => Ok(Played::Allowed(replayed)),
         Err(Stopped::Refused { place, refusal, .. }) => Ok(Played::NotAllowed { place, refusal }),
         Err(Stopped::Memory) => Err(Halt::Memory),

@@ -1,9 +1,10 @@
 //! From the texts of a build to its plan: what is read in which order, so that the first fault is answered.
 ghost use Rattle.std.specs.Prelude.{◌≡◌};
+ghost use Rattle.mk_macro.specs.Macros.{macros_of};
 ghost use Rattle.mk_name.specs.Gives.{Answers};
 ghost use Rattle.mk_text.specs.GivesLines.{GivesLines};
 ghost use Rattle.mk_text.specs.LogicalLines.{logical_lines};
-ghost use Rattle.mk_race.specs.Stages.{IsPlanned, texts_of, told_in};
+ghost use Rattle.mk_race.specs.Stages.{IsBookOf, IsGraphed, IsPlanned, texts_of, told_in};
 
 use crate::input::Input;
 use crate::settings::goals_of;
@@ -11,6 +12,7 @@ use mk_jobs::plan::Plan;
 use mk_graph::planning::plan;
 use mk_macro::macros::Macros;
 use mk_name::fault::{Halt, Source};
+use mk_name::name::Name;
 use mk_rules::reading::read_rules;
 use mk_rules::rulebook::Rulebook;
 use mk_text::line::Line;
@@ -22,9 +24,21 @@ use std::alloc::Global;
 /// The plan of a build, with what it was made from.
 #[derive(Debug, Drop)]
 pub struct Planned {
+    /// The folder that relative paths start from.
     pub root: Root,
+    /// The files that are there.
+    pub listing: Listing,
+    /// The rules of the base makefile and of the makefile.
     pub book: Rulebook,
+    /// The plan of what the goals need.
     pub plan: Plan,
+}
+
+/// The rules of a build, and their plan.
+#[derive(Debug, Drop)]
+struct Graphed {
+    book: Rulebook,
+    plan: Plan,
 }
 
 /// The plan of what the goals of a build need. Footprints are not read.
@@ -39,17 +53,44 @@ pub fn plan_of(alloc: Global, input: &Input<'_>) -> Result<Planned, Halt>
     let goals = goals_of(alloc, input.operands, &root)?;
     let mut macros = Macros::new(alloc, input.operands)?;
     let listing = Listing::read(alloc, input.listing, &root)?;
+    let graphed = graph_of(alloc, input, &root, goals.as_slice(), &mut macros, &listing)?;
+    Ok(Planned {
+        root,
+        listing,
+        book: graphed.book,
+        plan: graphed.plan,
+    })
+}
+
+/// The rules of a build, and the plan of what these goals need.
+fn graph_of(
+    alloc: Global,
+    input: &Input<'_>,
+    root: &Root,
+    goals: &[Name],
+    macros: &mut Macros,
+    listing: &Listing,
+) -> Result<Graphed, Halt>
+    ensures { Answers result
+        (IsGraphed (texts_of input.now) root.now goals.now (macros_of macros.old) listing.now) }
+{
+    let book = book_of(alloc, input, root, macros)?;
+    let plan = plan(alloc, &book, listing, goals)?;
+    Ok(Graphed { book, plan })
+}
+
+/// The rules of a build's base makefile and of its makefile.
+fn book_of(
+    alloc: Global,
+    input: &Input<'_>,
+    root: &Root,
+    macros: &mut Macros,
+) -> Result<Rulebook, Halt>
+    ensures { Answers result (IsBookOf (texts_of input.now) root.now (macros_of macros.old)) }
+{
     let base = lines_in(alloc, Source::Base, input.base)?;
     let makefile = lines_in(alloc, Source::Makefile, input.makefile)?;
-    let book = read_rules(
-        alloc,
-        base.as_slice(),
-        makefile.as_slice(),
-        &mut macros,
-        &root,
-    )?;
-    let plan = plan(alloc, &book, &listing, goals.as_slice())?;
-    Ok(Planned { root, book, plan })
+    read_rules(alloc, base.as_slice(), makefile.as_slice(), macros, root)
 }
 
 /// The logical lines of a text, whose faults are told in this source.

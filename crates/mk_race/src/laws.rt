@@ -1,0 +1,12 @@
+//! Laws of builds. Each function's contract is a law, and its body is empty.
+ghost use Rattle.mk_race.specs.Laws.{JobsAreListed, StoreAgrees};
+
+/// The jobs of a build are listed exactly where its listing has their names.
+pub fn jobs_are_listed()
+    ensures { JobsAreListed }
+{}
+
+/// A store that agrees with the listing of a build agrees with its jobs.
+pub fn store_agrees()
+    ensures { StoreAgrees }
+{}
