@@ -11,7 +11,7 @@ use Rattle.std.specs.List.Sorted.{IsStrictlySortedBy}
 use Rattle.std.specs.Map.{keys_of}
 use Rattle.std.specs.Ordering.{is_lt, is_some_and, nat_cmp, ordering_then, partial_ordering_then}
 use Rattle.std.specs.declared.cmp.Ordering.{Ordering}
-use Rattle.mk_foot.specs.Chains.{last_of}
+use Rattle.mk_jobs.specs.Chains.{last_of}
 use Rattle.mk_cert.specs.Drafts.{IsShort}
 use Rattle.mk_cert.specs.Shapes.{AreShapedChains, IsShapedChain, ends_of, greatest_node, most_chains, pair_cmp}
 

@@ -5,7 +5,7 @@ use Rattle.std.specs.List.Sorted.{IsStrictlySortedBy}
 use Rattle.std.specs.Map.{keys_of}
 use Rattle.std.specs.Ordering.{nat_cmp, then_cmp}
 use Rattle.std.specs.declared.cmp.Ordering.{Ordering}
-use Rattle.mk_foot.specs.Chains.{last_of}
+use Rattle.mk_jobs.specs.Chains.{last_of}
 use Rattle.mk_cert.specs.declared.step.Step.{Step}
 use Rattle.mk_cert.specs.declared.step.Step.TheVariants.{Skip, Start, Finish}
 
