@@ -1,4 +1,17 @@
-//! From the texts of a build to its plan and its jobs.
+//! From the texts of a build to its plan, its jobs and the replay of a log.
+//!
+//! An [`Input`] holds the bytes of a build's texts, its root and the operands of the command line. The stages read them, one
+//! behind another, and each hands on what was read, so that nothing is read twice:
+//!
+//! - [`plan_of`] gives [`Planned`]: the root, the listing, the rules of both makefiles and the plan of what the goals need.
+//! - [`prepare`] reads footprints too, and gives [`Prepared`]: the root, the listing and the jobs.
+//! - [`replay_log`] reads a log too, and says whether its events are a run of the jobs, and what they leave ([`Played`]).
+//!
+//! Each gives the first fault of its texts instead, in the order in which the stages read them, or that memory ran out.
+//!
+//! What comes out is defined in `specs/`: `Stages.antt` has the order of the stages and the answers of the first two,
+//! `Settings.antt` what operands say, and `Played.antt` the answer to a log. The module `laws` says what the jobs of a
+//! build have to do with its listing (`Laws.antt`).
 #![tactic(auto)]
 
 pub mod input;
@@ -7,3 +20,8 @@ pub mod planning;
 pub mod preparing;
 pub mod replaying;
 pub mod settings;
+
+pub use crate::input::Input;
+pub use crate::planning::{Planned, plan_of};
+pub use crate::preparing::{Prepared, prepare};
+pub use crate::replaying::{Played, replay_log};
