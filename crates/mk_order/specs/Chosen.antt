@@ -4,7 +4,7 @@ use Rattle.mk_jobs.specs.Jobs.{Jobs, IsPrerequisite, IsValid}
 use Rattle.mk_jobs.specs.Chains.{last_of, ChainTo}
 use Rattle.mk_order.specs.Paths.{IsFrom}
 
--- p is the least prerequisite of x that is a or has a before it
+-- p is the least of the prerequisites of x to which a itself, or a chain from a, leads
 pub record IsLeastFrom (jobs : Jobs) (a p x : ℕ) : Type 0 where
   pub edge : IsPrerequisite jobs p x
   pub from : IsFrom jobs a p

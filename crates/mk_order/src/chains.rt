@@ -41,7 +41,7 @@ pub fn chain<B: Before>(
     Ok(Some(nodes))
 }
 
-/// The least prerequisite of x that is a or has a before it, if there is one.
+/// The least of the prerequisites of x to which a itself, or a chain from a, leads, if there is one.
 fn least_from<B: Before>(jobs: &Jobs, before: &mut B, a: u32, x: u32) -> Option<u32>
     requires valid { IsValid jobs.now }
     requires same { B.jobs before.old ≡ jobs.now }
