@@ -48,6 +48,10 @@ pub record Trace : Type 0 where
   pub times : List (ℕ × ℕ)
   pub steps : List Step
 
+-- the trace of these parts
+abbrev pub trace_of : ℕ → ℕ → List ℕ → List (ℕ × ℕ) → List Step → Trace
+trace_of first second path times steps = record { first = first; second = second; path = path; times = times; steps = steps }
+
 -- the node of a step
 abbrev pub node_of : Step → ℕ
 node_of (Skip n) = n

@@ -29,26 +29,15 @@ impl Model for Trace {
 
     ghost Value = { spec.Trace };
 
-    ghost view = { λ a. record {
-      first = a.first;
-      second = a.second;
-      path = a.path.items;
-      times = a.times.items;
-      steps = a.steps.items;
-    } };
+    ghost view = { λ a. spec.trace_of a.first a.second a.path.items a.times.items a.steps.items };
 
-    ghost invariant = { λ a. IsBytes a.path.items × spec.IsShapedTrace (record {
-      first = a.first;
-      second = a.second;
-      path = a.path.items;
-      times = a.times.items;
-      steps = a.steps.items;
-    }) };
+    ghost invariant = { λ a. IsBytes a.path.items
+        × spec.IsShapedTrace (spec.trace_of a.first a.second a.path.items a.times.items a.steps.items) };
 }
 
 impl Trace {
     ghost use Rattle.hex.specs.Hex.{IsBytes};
-    ghost use Rattle.mk_cert.specs.Shapes.{AreShapedTimes, IsShapedTrace, greatest_node, node_of};
+    ghost use Rattle.mk_cert.specs.Shapes.{AreShapedTimes, IsShapedTrace, greatest_node, node_of, trace_of};
 
     /// The trace of these parts.
     pub fn new(
@@ -58,20 +47,8 @@ impl Trace {
         times: Vec<(u32, u32)>,
         steps: Vec<Step>,
     ) -> Trace
-        requires { IsShapedTrace (record {
-          first = first;
-          second = second;
-          path = path.items;
-          times = times.items;
-          steps = steps.items;
-        }) }
-        ensures { result ≡ record {
-          first = first;
-          second = second;
-          path = path.items;
-          times = times.items;
-          steps = steps.items;
-        } }
+        requires { IsShapedTrace (trace_of first second path.items times.items steps.items) }
+        ensures { result ≡ trace_of first second path.items times.items steps.items }
     {
         Trace {
             first,
