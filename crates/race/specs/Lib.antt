@@ -1,4 +1,1 @@
-pub mod Answered
-pub mod CommandLine
-pub mod OrderText
-pub mod ReplayText
+pub mod Arguments

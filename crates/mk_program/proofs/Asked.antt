@@ -1,0 +1,51 @@
+-- Lemmas on the subcommand that the words name.
+use Rattle.std.proofs.Common.{◌≡◌, ◌∙◌, ◌⊎◌, inl, inr, Bool, true, false, List, [], ◌∷◌, codes, Option, Some, None, option_map, sym, ap, ap₂, subst, refl, cond}
+use Rattle.std.proofs.lemmas.Option.{none-some, same_Some}
+use Rattle.clap.specs.Words.{Row, Text, built, subcommand_name_of, subcommand_of, subcommand_rows_of}
+use Rattle.clap.specs.declared.parser.matches.ArgMatches.{ArgMatches}
+use Rattle.clap.specs.declared.parser.matches.ArgMatches.TheViews.{out-ArgMatches}
+use Rattle.clap.specs.Walk.{answers_to, stop_after}
+use Rattle.clap.specs.Simple.{App, Shape, argument_words, built_leaf, entered, inherited, label_of, marked_built, names_of, rows_at, with_leaf_noted}
+use Rattle.mk_program.specs.CommandLine as spec
+use Rattle.mk_program.specs.declared.requests.Request.{Request}
+
+-- a parse that enters one of two subcommands enters the first or the second
+entered_name : (a : App) (s t : Shape) (stop : Option (Text × List Text)) (found : Text × List Row)
+    → a.subs ≡ s ∷ (t ∷ []) → entered a stop ≡ Some found → (found.0 ≡ s.name) ⊎ (found.0 ≡ t.name)
+entered_name a s t None found both e = absurd (none-some found e)
+entered_name a s t (Some p) found both e =
+    go (answers_to p.0 (label_of s)) (answers_to p.0 (label_of t)) (ap (λ (subs : List Shape). entered (record a { subs = subs }) (Some p)) (sym both) ∙ e)
+  where
+    go : (b d : Bool) → option_map (λ (x : Shape). rows_at x p.1) (cond b (Some s) (cond d (Some t) None)) ≡ Some found → (found.0 ≡ s.name) ⊎ (found.0 ≡ t.name)
+    go true d e = inl (ap (λ (x : Text × List Row). x.0) (sym (same_Some _ _ e)))
+    go false true e = inr (ap (λ (x : Text × List Row). x.0) (sym (same_Some _ _ e)))
+    go false false e = absurd (none-some found e)
+
+-- the subcommand that the words name is one of the program's
+pub one_named : (words : List Text) (found : Text × List Row) → subcommand_of spec.race_app words ≡ Some found
+    → (found.0 ≡ codes "order") ⊎ (found.0 ≡ codes "replay")
+one_named words found e =
+    let top = with_leaf_noted (marked_built spec.race_app.top) in
+    let stop = stop_after (built spec.race_app).top.rules (names_of (built spec.race_app)) (argument_words spec.race_app words) in
+    entered_name (built spec.race_app) (built_leaf (inherited top spec.order_app.top)) (built_leaf (inherited top spec.replay_app.top)) stop found refl e
+
+map_map : {X Y Z : Type 0} (f : Y → Z) (g : X → Y) (o : Option X) → option_map f (option_map g o) ≡ option_map (λ (x : X). f (g x)) o
+map_map f g None = refl
+map_map f g (Some x) = refl
+
+-- the parts of what was found
+found_parts : (o : Option (Text × List Row)) (name : Text) (rows : List Row) → option_map (λ (p : Text × List Row). p.0) o ≡ Some name
+    → option_map (λ (p : Text × List Row). p.1) o ≡ Some rows → o ≡ Some (name, rows)
+found_parts None name rows n r = absurd (none-some name n)
+found_parts (Some found) name rows n r = ap Some (ap₂ (λ (x : Text) (y : List Row). (x, y)) (same_Some _ _ n) (same_Some _ _ r))
+
+-- what the matches tell of their subcommand is what the words name
+pub found_is : (m : ArgMatches) (o : Option (Text × List Row)) (name : Text) (rows : List Row) → subcommand_rows_of m ≡ o → Some name ≡ subcommand_name_of m
+    → Some rows ≡ option_map (λ (p : Text × List Row). p.1) (subcommand_rows_of m) → o ≡ Some (name, rows)
+found_is m o name rows same n r =
+    let named : option_map (λ (p : Text × List Row). p.0) (subcommand_rows_of m) ≡ subcommand_name_of m = map_map (λ (p : Text × List Row). p.0) _ (out-ArgMatches m).subcommand in
+    found_parts o name rows (ap (option_map (λ (p : Text × List Row). p.0)) (sym same) ∙ named ∙ sym n) (ap (option_map (λ (p : Text × List Row). p.1)) (sym same) ∙ sym r)
+
+-- what was asked is what was found
+pub asks : (request : Request) (o : Option (Text × List Row)) (name : Text) (rows : List Row) → o ≡ Some (name, rows) → spec.IsFor request name rows → spec.Asks request o
+asks request o name rows e is = subst (spec.Asks request) (sym e) is

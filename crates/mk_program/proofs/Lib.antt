@@ -1,0 +1,9 @@
+mod Answering
+mod Asked
+mod Failing
+mod Locals
+mod OutcomeLines
+mod PlanLines
+mod Reading
+mod Told
+mod Values

@@ -1,0 +1,12 @@
+-- What holds of a result that is passed on.
+use Rattle.std.proofs.Common.{Result, Ok, Err, IfErr, IfOk}
+
+-- two facts of a value give a third
+pub both_ok : {X E : Type 0} (P Q R : X → Type 0) (r : Result X E) → ((x : X) → P x → Q x → R x) → IfOk r P → IfOk r Q → IfOk r R
+both_ok P Q R (Ok x) more p q = more x p q
+both_ok P Q R (Err e) more p q = tt
+
+-- a fact of an error gives another
+pub err_more : {X E : Type 0} (P Q : E → Type 0) (r : Result X E) → ((e : E) → P e → Q e) → IfErr r P → IfErr r Q
+err_more P Q (Ok x) more p = tt
+err_more P Q (Err e) more p = more e p

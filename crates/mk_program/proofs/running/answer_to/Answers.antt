@@ -1,0 +1,38 @@
+use Rattle.std.proofs.lemmas.Result.{IfOk-weaker}
+use Rattle.mk_program.proofs.Failing.{called, input_failure, not_written, not_written_either, right_words, usage_failure}
+use Rattle.mk_program.proofs.Told.{err_more}
+use Rattle.mk_program.proofs.running.answer_to.Goals as goal
+
+pub returns-in-Ok-clause-answer : goal.returns-in-Ok-clause-answer
+returns-in-Ok-clause-answer g c =
+    λ right. IfOk-weaker c.answer_of.result _ _ (λ answer h. (c.in-Ok.request, c.in-Ok.ensures.values, h)) c.answer_of.ensures.answer
+
+pub returns-in-Ok-clause-refused : goal.returns-in-Ok-clause-refused
+returns-in-Ok-clause-refused g c =
+    IfOk-weaker c.answer_of.result _ _ (λ answer h is. (c.in-Ok.request, c.in-Ok.ensures.values, h)) c.answer_of.ensures.answer
+
+pub returns-in-Ok-clause-not_allowed : goal.returns-in-Ok-clause-not_allowed
+returns-in-Ok-clause-not_allowed g c =
+    IfOk-weaker c.answer_of.result _ _ (λ answer h is. (c.in-Ok.request, c.in-Ok.ensures.values, h)) c.answer_of.ensures.answer
+
+pub returns-in-Ok-clause-write : goal.returns-in-Ok-clause-write
+returns-in-Ok-clause-write g c = err_more _ _ c.answer_of.result (λ failure. not_written (g.P.Opener.opens c.args.opener.now) _ failure) c.answer_of.ensures.failure
+
+pub returns-in-Ok-clause-failure : goal.returns-in-Ok-clause-failure
+returns-in-Ok-clause-failure g c =
+    err_more _ _ c.answer_of.result (λ failure. input_failure c.args.words.now (g.P.Opener.opens c.args.opener.now) c.in-Ok.request failure c.in-Ok.ensures.values)
+    c.answer_of.ensures.failure
+
+pub returns-in-Err-clause-answer : goal.returns-in-Err-clause-answer
+returns-in-Err-clause-answer g c = right_words _ c.args.words.now c.in-Err.error c.called_for.result _ c.in-Err.ensures.kinds c.called_for.ensures.memory
+
+pub returns-in-Err-clause-usage : goal.returns-in-Err-clause-usage
+returns-in-Err-clause-usage g c = called c.args.words.now c.in-Err.error c.called_for.result _ c.in-Err.ensures.kinds c.called_for.ensures.memory c.called_for.ensures.call
+
+pub returns-in-Err-clause-write : goal.returns-in-Err-clause-write
+returns-in-Err-clause-write g c = err_more _ _ c.called_for.result (λ failure. not_written_either _ failure) c.called_for.ensures.failure
+
+pub returns-in-Err-clause-failure : goal.returns-in-Err-clause-failure
+returns-in-Err-clause-failure g c =
+    err_more _ _ c.called_for.result (λ failure. usage_failure c.args.words.now (g.P.Opener.opens c.args.opener.now) c.in-Err.error failure c.in-Err.ensures.kinds)
+    c.called_for.ensures.failure

@@ -1,0 +1,21 @@
+use Rattle.std.proofs.Common.{ap₂, refl, ◌∙◌}
+use Rattle.std.proofs.lemmas.Result.{IfOk-weaker}
+use Rattle.clap.specs.Words.{with_rule}
+use Rattle.mk_program.proofs.Locals.{stays}
+use Rattle.mk_program.proofs.words.with_build.Goals as goal
+
+pub returns-clause-app : goal.returns-clause-app
+returns-clause-app c =
+    let first = c.in_ok-arg.ensures.shape c.option.ensures.local ∙ ap₂ with_rule refl c.option.ensures.rule in
+    let second = c.in_ok-arg-2.ensures.shape c.option-2.ensures.local ∙ ap₂ with_rule first c.option-2.ensures.rule in
+    let third = c.in_ok-arg-3.ensures.shape c.option-3.ensures.local ∙ ap₂ with_rule second c.option-3.ensures.rule in
+    let fourth = c.in_ok-arg-4.ensures.shape c.base.ensures.local ∙ ap₂ with_rule third c.base.ensures.rule in
+    IfOk-weaker c.arg-5.result _ _ (λ new h. h.shape c.operands.ensures.local ∙ ap₂ with_rule fourth c.operands.ensures.rule) c.arg-5.ensures
+
+pub returns-clause-local : goal.returns-clause-local
+returns-clause-local c =
+    let first = stays _ _ _ c.in_ok-arg.ensures.globals c.option.ensures.local in
+    let second = stays _ _ _ c.in_ok-arg-2.ensures.globals c.option-2.ensures.local in
+    let third = stays _ _ _ c.in_ok-arg-3.ensures.globals c.option-3.ensures.local in
+    let fourth = stays _ _ _ c.in_ok-arg-4.ensures.globals c.base.ensures.local in
+    IfOk-weaker c.arg-5.result _ _ (λ new h. stays _ _ _ h.globals c.operands.ensures.local ∙ fourth ∙ third ∙ second ∙ first) c.arg-5.ensures

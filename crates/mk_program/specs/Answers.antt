@@ -1,0 +1,91 @@
+-- What the program answers to a request, over what the files hold, and what it writes of that.
+use Rattle.std.specs.Prelude.{◌≡◌, ℕ, Bool, List, Ok, Err, Option, map}
+use Rattle.std.specs.Borrow.{Bor}
+use Rattle.std.specs.Io.KnownBytes.{Appends}
+use Rattle.clap.specs.Words.{Text}
+use Rattle.mk_name.specs.Shown.{refused_text}
+use Rattle.mk_name.specs.Told.{Told}
+use Rattle.mk_text.specs.Device.{AppendsBeginning}
+use Rattle.mk_race.specs.Played.{IsPlayed}
+use Rattle.mk_race.specs.Stages.{IsPlanned, Texts}
+use Rattle.mk_race.specs.declared.replaying.Played.{Played}
+use Rattle.mk_race.specs.declared.replaying.Played.TheVariants.{Allowed, NotAllowed}
+use Rattle.mk_race.specs.declared.stages.Planned.{Planned}
+use Rattle.mk_sched.specs.declared.refusal.Refusal.{Refusal}
+use Rattle.mk_sched.specs.declared.replay.Replayed.{Replayed}
+use Rattle.mk_program.specs.CommandLine.{Asks, HasMistake, asked, wrong}
+use Rattle.mk_program.specs.Inputs.{Hold, IsInputFailure}
+use Rattle.mk_program.specs.OutcomeText.{IsOutcomeText}
+use Rattle.mk_program.specs.PlanText.{plan_text}
+use Rattle.mk_program.specs.Requests.{inputs_of}
+use Rattle.mk_program.specs.declared.failures.Failure.{Failure}
+use Rattle.mk_program.specs.declared.failures.Failure.TheVariants as failures
+use Rattle.mk_program.specs.declared.failures.InputFile.{InputFile}
+use Rattle.mk_program.specs.declared.failures.InputFile.TheVariants as inputs
+use Rattle.mk_program.specs.declared.requests.BuildArgs.{BuildArgs}
+use Rattle.mk_program.specs.declared.requests.Request.{Request}
+use Rattle.mk_program.specs.declared.requests.Request.TheVariants as requests
+use Rattle.mk_program.specs.declared.statuses.Status.{Status}
+use Rattle.mk_program.specs.declared.statuses.Status.TheVariants as statuses
+
+-- the text of the plan, or the report of the fault that refuses the texts
+abbrev pub IsOrderAnswer : Texts → Status → List ℕ → Type 0
+IsOrderAnswer texts statuses.Done text = (planned : Planned) × IsPlanned texts (Ok planned) × (text ≡ plan_text planned.plan)
+IsOrderAnswer texts statuses.NotAllowed text = ⊥
+IsOrderAnswer texts statuses.Refused text = (told : Told) × IsPlanned texts (Err told) × (text ≡ refused_text told)
+IsOrderAnswer texts statuses.Failed text = ⊥
+
+-- the text of the run, or of the refusal of an event or of the files, or the report of the fault that refuses the texts
+abbrev pub IsReplayAnswer : Texts → List ℕ → List ℕ → ℕ → Bool → Status → List ℕ → Type 0
+IsReplayAnswer texts footprints log limit tie statuses.Done text =
+    (replayed : Replayed) × IsPlayed texts footprints log limit tie (Ok (Allowed replayed)) × IsOutcomeText (Allowed replayed) text
+IsReplayAnswer texts footprints log limit tie statuses.NotAllowed text =
+    (place : ℕ) × (refusal : Refusal) × IsPlayed texts footprints log limit tie (Ok (NotAllowed place refusal)) × IsOutcomeText (NotAllowed place refusal) text
+IsReplayAnswer texts footprints log limit tie statuses.Refused text =
+    (told : Told) × IsPlayed texts footprints log limit tie (Err told) × (text ≡ refused_text told)
+IsReplayAnswer texts footprints log limit tie statuses.Failed text = ⊥
+
+-- how the program ends after a replay
+abbrev pub status_of : Played → Status
+status_of (Allowed replayed) = statuses.Done
+status_of (NotAllowed place refusal) = statuses.NotAllowed
+
+-- the texts that a build is planned from
+abbrev pub texts_for : BuildArgs → (InputFile → List ℕ) → Texts
+texts_for build text = record {
+  root = build.root.now;
+  operands = map (λ operand. operand.now) build.operands.items;
+  base = text inputs.Base;
+  makefile = text inputs.Makefile;
+  listing = text inputs.Listing;
+}
+
+-- the answer to a request, over the texts of its inputs
+abbrev pub IsAnswerOver : Request → (InputFile → List ℕ) → Status → List ℕ → Type 0
+IsAnswerOver (requests.Order build) text status answer = IsOrderAnswer (texts_for build text) status answer
+IsAnswerOver (requests.Replay replay) text status answer =
+    IsReplayAnswer (texts_for replay.build text) (text inputs.Footprints) (text inputs.Log) replay.limit replay.tie status answer
+
+-- the answer to a request, over what its files hold
+abbrev pub IsAnswer : Request → (List ℕ → Option (List ℕ)) → Status → List ℕ → Type 0
+IsAnswer request files status answer = (text : InputFile → List ℕ) → Hold files (inputs_of request) text → IsAnswerOver request text status answer
+
+-- the answer to what these words ask
+abbrev pub IsAnswerTo : List (Bor Text) → (List ℕ → Option (List ℕ)) → Status → List ℕ → Type 0
+IsAnswerTo words files status answer = (request : Request) × Asks request (asked words) × IsAnswer request files status answer
+
+-- it was written behind what stood there
+abbrev pub WritesAnswer : List (Bor Text) → (List ℕ → Option (List ℕ)) → Status → Option (List ℕ) → Option (List ℕ) → Type 0
+WritesAnswer words files status old new = (text : List ℕ) × Appends old new text × IsAnswerTo words files status text
+
+-- a beginning of it was written there, and nothing else
+abbrev pub WritesBeginning : List (Bor Text) → (List ℕ → Option (List ℕ)) → Option (List ℕ) → Option (List ℕ) → Type 0
+WritesBeginning words files old new = (status : Status) × (text : List ℕ) × AppendsBeginning old new text × IsAnswerTo words files status text
+
+-- the failure may come of these words, where some files may be shut
+abbrev pub IsFailureOf : List (Bor Text) → (List ℕ → Option Bool) → Failure → Type 0
+IsFailureOf words opens (failures.Read input) =
+    (request : Request) × Asks request (asked words) × IsInputFailure opens (inputs_of request) (failures.Read input)
+IsFailureOf words opens failures.Write = Unit {0}
+IsFailureOf words opens failures.Memory = Unit {0}
+IsFailureOf words opens (failures.Usage text) = HasMistake (wrong words)

@@ -1,0 +1,118 @@
+-- What the program is asked by its words, as `clap` reads them.
+use Rattle.std.specs.Prelude.{ℕ, ◌≡◌, ◌⊎◌, Bool, true, List, [], map, Option, Some, None, codes, false, option_map, unwrap_or}
+use Rattle.std.specs.Str.{bytes_eq}
+use Rattle.std.specs.Str.Parse.{digits_value, without_leading_plus}
+use Rattle.std.specs.Borrow.{Bor}
+use Rattle.clap.specs.Words.{App, IsAmong, IsUnsignedIn, Kinds, Row, Rule, Text, all_of, fault_of, first_of, new_app, new_rule, subcommand_of, with_rule, with_subcommand}
+use Rattle.clap.specs.declared.builder.action.ArgAction.TheVariants.{Append, Set, SetTrue}
+use Rattle.clap.specs.declared.builder.value_parser.ValueParser.TheVariants.{Unsigned}
+use Rattle.clap.specs.declared.error.kind.ErrorKind.{ErrorKind}
+use Rattle.clap.specs.declared.error.kind.ErrorKind.TheVariants.{DisplayHelp, DisplayVersion}
+use Rattle.mk_program.specs.declared.requests.BuildArgs.{BuildArgs}
+use Rattle.mk_program.specs.declared.requests.ReplayArgs.{ReplayArgs}
+use Rattle.mk_program.specs.declared.requests.Request.{Request}
+use Rattle.mk_program.specs.declared.requests.Request.TheVariants as requests
+
+-- an option that must be given, with one value
+abbrev pub option : Text → Rule
+option id = record (new_rule id) { long = Some id; action = Some Set; value_names = 1; required = true }
+
+-- the option that names a base makefile, which may be left out
+abbrev pub base : Rule
+base = record (option (codes "base")) { required = false }
+
+-- the operands: any number of words
+abbrev pub operands : Rule
+operands = record (new_rule (codes "operands")) { action = Some Append; value_names = 1 }
+
+-- a command with the options and operands that every subcommand takes
+abbrev pub with_build : App → App
+with_build app =
+    with_rule (with_rule (with_rule (with_rule (with_rule app
+    (option (codes "makefile"))) (option (codes "listing"))) (option (codes "root"))) base) operands
+
+abbrev pub order_app : App
+order_app = with_build (new_app (codes "order"))
+
+-- how many recipes may run at once
+abbrev pub limit : Rule
+limit = record (option (codes "limit")) { required = false; parser = Some (Unsigned 1 65535) }
+
+-- a flag: files of equal times count as newer
+abbrev pub tie : Rule
+tie = record (new_rule (codes "tie")) { long = Some (codes "tie"); action = Some SetTrue }
+
+abbrev pub replay_app : App
+replay_app =
+    with_rule (with_rule (with_rule (with_rule (with_build (new_app (codes "replay")))
+    (option (codes "footprints"))) (option (codes "log"))) limit) tie
+
+-- the program: it must be given one of its subcommands, or be asked for its version
+abbrev pub race_app : App
+race_app =
+    let top = record (new_app (codes "race")).top { has_version = true; disable_help_subcommand = true; subcommand_required = true } in
+    with_subcommand (with_subcommand (record { top = top; subs = [] }) order_app.top) replay_app.top
+
+-- what these words ask: the subcommand that they name, with the values that were found
+abbrev pub asked : List (Bor Text) → Option (Text × List Row)
+asked words = subcommand_of race_app (map (λ word. word.now) words)
+
+-- what is wrong with these words; that they call for help or the version is told so too
+abbrev pub wrong : List (Bor Text) → Kinds
+wrong words = fault_of race_app (map (λ word. word.now) words)
+
+-- the value of an option, which is empty where there is none
+abbrev pub value_of : Text → List Row → Text
+value_of id rows = unwrap_or (first_of id rows) []
+
+-- the operands, in their order
+abbrev pub operands_of : List Row → List Text
+operands_of rows = unwrap_or (all_of (codes "operands") rows) []
+
+-- the build has the values that were found
+pub record HasValues (build : BuildArgs) (rows : List Row) : Type 0 where
+  pub base : option_map (λ word. word.now) build.base ≡ first_of (codes "base") rows
+  pub makefile : build.makefile.now ≡ value_of (codes "makefile") rows
+  pub listing : build.listing.now ≡ value_of (codes "listing") rows
+  pub root : build.root.now ≡ value_of (codes "root") rows
+  pub operands : map (λ word. word.now) build.operands.items ≡ operands_of rows
+
+-- the limit that a value writes, a number from 1 to 65,535; without a value it is 1
+abbrev pub IsLimit : Option Text → ℕ → Type 0
+IsLimit None limit = limit ≡ 1
+IsLimit (Some text) limit = IsUnsignedIn 1 65535 text × (limit ≡ digits_value 10 (without_leading_plus text))
+
+-- the flag is set
+abbrev pub is_true : Option Text → Bool
+is_true None = false
+is_true (Some text) = bytes_eq text (codes "true")
+
+-- the replay has the values that were found
+pub record HasReplay (replay : ReplayArgs) (rows : List Row) : Type 0 where
+  pub build : HasValues replay.build rows
+  pub footprints : replay.footprints.now ≡ value_of (codes "footprints") rows
+  pub log : replay.log.now ≡ value_of (codes "log") rows
+  pub limit : (limit : ℕ) → IsLimit (first_of (codes "limit") rows) limit → replay.limit ≡ limit
+  pub tie : replay.tie ≡ is_true (first_of (codes "tie") rows)
+
+-- the request is for the subcommand of this name, with the values that were found
+abbrev pub IsFor : Request → Text → List Row → Type 0
+IsFor (requests.Order build) name rows = (name ≡ codes "order") × HasValues build rows
+IsFor (requests.Replay replay) name rows = (name ≡ codes "replay") × HasReplay replay rows
+
+-- the request is for the subcommand that was found
+abbrev pub Asks : Request → Option (Text × List Row) → Type 0
+Asks request None = ⊥
+Asks request (Some found) = IsFor request found.0 found.1
+
+-- the words call for help or the version, and are no mistake
+abbrev pub IsCall : ErrorKind → Type 0
+IsCall kind = (kind ≡ DisplayHelp) ⊎ (kind ≡ DisplayVersion)
+
+-- the words can be answered: nothing is wrong with them, or they call for help or the version
+abbrev pub IsAnswerable : Kinds → Type 0
+IsAnswerable wrong = (wrong ≡ []) ⊎ ((kind : ErrorKind) × IsCall kind × IsAmong kind wrong)
+
+-- they hold a mistake
+abbrev pub HasMistake : Kinds → Type 0
+HasMistake wrong = (kind : ErrorKind) × ¬ IsCall kind × IsAmong kind wrong

@@ -1,0 +1,28 @@
+-- How a failure is told.
+use Rattle.std.specs.Prelude.{ℕ, ◌⊎◌, List, ◌++◌, Option, codes, string_bytes}
+use Rattle.std.specs.Io.KnownBytes.{Appends}
+use Rattle.mk_name.specs.Shown.{line}
+use Rattle.mk_program.specs.declared.failures.Failure.{Failure}
+use Rattle.mk_program.specs.declared.failures.Failure.TheVariants as failures
+use Rattle.mk_program.specs.declared.failures.InputFile.{InputFile}
+use Rattle.mk_program.specs.declared.failures.InputFile.TheVariants as inputs
+
+-- how an input is told
+abbrev pub word_of : InputFile → List ℕ
+word_of inputs.Base = codes "base"
+word_of inputs.Makefile = codes "makefile"
+word_of inputs.Listing = codes "listing"
+word_of inputs.Footprints = codes "footprints"
+word_of inputs.Log = codes "log"
+
+-- the text of a failure
+abbrev pub failure_text : Failure → List ℕ
+failure_text (failures.Read input) = codes "race: read failed: " ++ word_of input
+failure_text failures.Write = codes "race: write failed"
+failure_text failures.Memory = codes "race: out of memory"
+failure_text (failures.Usage text) = string_bytes text
+
+-- the line of the failure was written behind what stood there; or that of memory, where it is too short to tell another
+abbrev pub TellsFailure : Failure → Option (List ℕ) → Option (List ℕ) → Type 0
+TellsFailure failure old new =
+    Appends old new (line (failure_text failure)) ⊎ Appends old new (line (failure_text failures.Memory))

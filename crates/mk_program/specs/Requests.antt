@@ -1,0 +1,27 @@
+-- The inputs of a request, in the order in which they are opened and read.
+use Rattle.std.specs.Prelude.{ℕ, List, [], ◌∷◌, ◌++◌, Option, Some, None}
+use Rattle.std.specs.Borrow.{Bor}
+use Rattle.mk_program.specs.declared.failures.InputFile.{InputFile}
+use Rattle.mk_program.specs.declared.failures.InputFile.TheVariants as inputs
+use Rattle.mk_program.specs.declared.inputs.InputPath.{InputPath}
+use Rattle.mk_program.specs.declared.requests.BuildArgs.{BuildArgs}
+use Rattle.mk_program.specs.declared.requests.Request.{Request}
+use Rattle.mk_program.specs.declared.requests.Request.TheVariants as requests
+
+-- an input whose file has this path
+abbrev pub input_at : InputFile → Bor (List ℕ) → List InputPath
+input_at input path = record { input = input; path = path } ∷ []
+
+-- the base makefile, where one is given
+abbrev pub base_input : Option (Bor (List ℕ)) → List InputPath
+base_input None = []
+base_input (Some path) = input_at inputs.Base path
+
+-- what every subcommand reads
+abbrev pub build_inputs : BuildArgs → List InputPath
+build_inputs build = base_input build.base ++ input_at inputs.Makefile build.makefile ++ input_at inputs.Listing build.listing
+
+abbrev pub inputs_of : Request → List InputPath
+inputs_of (requests.Order build) = build_inputs build
+inputs_of (requests.Replay replay) =
+    build_inputs replay.build ++ input_at inputs.Footprints replay.footprints ++ input_at inputs.Log replay.log

@@ -1,0 +1,204 @@
+//! The answers to requests.
+ghost use Rattle.std.specs.Prelude.{◌≡◌, ◌≢◌, IfErr, IfOk, List, map, ℕ};
+ghost use Rattle.mk_name.specs.Shown.{refused_text};
+ghost use Rattle.mk_race.specs.Stages.{texts_of};
+ghost use Rattle.mk_program.specs.Answers as spec;
+ghost use Rattle.mk_program.specs.Inputs.{AreTexts, IsInputFailure};
+ghost use Rattle.mk_program.specs.OutcomeText.{IsOutcomeText};
+ghost use Rattle.mk_program.specs.PlanText.{plan_text as text_of_plan};
+ghost use Rattle.mk_program.specs.Requests.{inputs_of as inputs_for};
+
+use crate::failures::{Failure, InputFile};
+use crate::inputs::{InputText, read_inputs, text_of};
+use crate::openers::Opener;
+use crate::outcome_lines::outcome_text;
+use crate::plan_lines::plan_text;
+use crate::requests::{BuildArgs, ReplayArgs, Request, inputs_of};
+use crate::statuses::Status;
+use mk_jobs::plan::Plan;
+use mk_name::fault::{Fault, Halt};
+use mk_name::report::refused_report;
+use mk_race::input::Input;
+use mk_race::replaying::{Played, replay_log};
+use mk_race::stages::plan_of;
+use std::alloc::{AllocError, Global};
+
+/// What the program says, and how it ends where that is written.
+#[derive(Debug, Drop)]
+pub struct Answer {
+    pub status: Status,
+    pub text: Vec<u8>,
+}
+
+/// The answer to a request. All files are opened before any is read, and read before anything is said.
+pub fn answer_of<P: Opener>(
+    alloc: Global,
+    request: &Request<'_>,
+    opener: &mut P,
+) -> Result<Answer, Failure>
+    ensures status { IfOk result (λ answer. answer.status ≢ Status.Failed) }
+    ensures failure { IfErr result (IsInputFailure (P.opens opener.old) (inputs_for request.now)) }
+    ensures answer { IfOk result (λ answer.
+        spec.IsAnswer request.now (P.text opener.old) answer.status answer.text.items) }
+{
+    let inputs = inputs_of(alloc, request)?;
+    let texts = read_inputs(alloc, opener, inputs.as_slice())?;
+    Ok(answer_over(alloc, request, texts.as_slice())?)
+}
+
+/// The answer to a request over the texts of its inputs. The only error is want of memory.
+fn answer_over(
+    alloc: Global,
+    request: &Request<'_>,
+    texts: &[InputText],
+) -> Result<Answer, AllocError>
+    ensures status { IfOk result (λ answer. answer.status ≢ Status.Failed) }
+    ensures answer { IfOk result (λ answer. (text : InputFile → List ℕ) → AreTexts texts.now text
+        → spec.IsAnswerOver request.now text answer.status answer.text.items) }
+{
+    match request {
+        Request::Order(build) => order_answer(alloc, build, texts),
+        Request::Replay(replay) => replay_answer(alloc, replay, texts),
+    }
+}
+
+/// The serial order of a build, or why it is refused.
+fn order_answer(
+    alloc: Global,
+    build: &BuildArgs<'_>,
+    texts: &[InputText],
+) -> Result<Answer, AllocError>
+    ensures status { IfOk result (λ answer. answer.status ≢ Status.Failed) }
+    ensures answer { IfOk result (λ answer. (text : InputFile → List ℕ) → AreTexts texts.now text
+        → spec.IsOrderAnswer (spec.texts_for build.now text) answer.status answer.text.items) }
+{
+    let operands = bytes_of(alloc, build.operands.as_slice())?;
+    order_over(alloc, &input_of(build, operands.as_slice(), texts))
+}
+
+/// Whether a log is a run of a build, or why the inputs are refused.
+fn replay_answer(
+    alloc: Global,
+    replay: &ReplayArgs<'_>,
+    texts: &[InputText],
+) -> Result<Answer, AllocError>
+    ensures status { IfOk result (λ answer. answer.status ≢ Status.Failed) }
+    ensures answer { IfOk result (λ answer. (text : InputFile → List ℕ) → AreTexts texts.now text
+        → spec.IsReplayAnswer (spec.texts_for replay.now.build text) (text InputFile.Footprints)
+        (text InputFile.Log) replay.now.limit replay.now.tie answer.status answer.text.items) }
+{
+    let build = &replay.build;
+    let operands = bytes_of(alloc, build.operands.as_slice())?;
+    let input = input_of(build, operands.as_slice(), texts);
+    let log = text_of(texts, InputFile::Log);
+    replay_over(alloc, &input, log, replay.limit, replay.tie)
+}
+
+/// What a build is judged by: its root and operands as they were given, and the texts that were read.
+fn input_of<'a>(
+    build: &BuildArgs<'a>,
+    operands: &'a [&'a [u8]],
+    texts: &'a [InputText],
+) -> Input<'a>
+    ensures texts { (text : InputFile → List ℕ) → AreTexts texts.entry.now text
+        → map (λ operand. operand.now) operands.entry.now ≡ map (λ operand. operand.now) build.now.operands.items
+        → texts_of result ≡ spec.texts_for build.now text }
+    ensures footprints { (text : InputFile → List ℕ) → AreTexts texts.entry.now text
+        → result.footprints.now ≡ text InputFile.Footprints }
+{
+    Input {
+        base: text_of(texts, InputFile::Base),
+        makefile: text_of(texts, InputFile::Makefile),
+        listing: text_of(texts, InputFile::Listing),
+        footprints: text_of(texts, InputFile::Footprints),
+        root: build.root.as_bytes(),
+        operands,
+    }
+}
+
+/// The text of a build's plan, or the report of its first fault.
+fn order_over(alloc: Global, input: &Input<'_>) -> Result<Answer, AllocError>
+    ensures status { IfOk result (λ answer. answer.status ≢ Status.Failed) }
+    ensures answer { IfOk result (λ answer.
+        spec.IsOrderAnswer (texts_of input.now) answer.status answer.text.items) }
+{
+    match plan_of(alloc, input) {
+        Ok(planned) => plan_answer(alloc, &planned.plan),
+        Err(Halt::Fault(fault)) => refused(alloc, &fault),
+        Err(Halt::Memory) => Err(AllocError),
+    }
+}
+
+/// What a log is to a build, or the report of the first fault of both.
+fn replay_over(
+    alloc: Global,
+    input: &Input<'_>,
+    log: &[u8],
+    limit: u16,
+    tie: bool,
+) -> Result<Answer, AllocError>
+    ensures status { IfOk result (λ answer. answer.status ≢ Status.Failed) }
+    ensures answer { IfOk result (λ answer. spec.IsReplayAnswer (texts_of input.now)
+        input.now.footprints.now log.now limit tie answer.status answer.text.items) }
+{
+    match replay_log(alloc, input, log, u32::from(limit), tie) {
+        Ok(played) => outcome_answer(alloc, &played),
+        Err(Halt::Fault(fault)) => refused(alloc, &fault),
+        Err(Halt::Memory) => Err(AllocError),
+    }
+}
+
+/// A plan, told.
+fn plan_answer(alloc: Global, plan: &Plan) -> Result<Answer, AllocError>
+    ensures { IfOk result (λ answer. (answer.status ≡ Status.Done)
+        × (answer.text.items ≡ text_of_plan plan.now)) }
+{
+    Ok(Answer {
+        status: Status::Done,
+        text: plan_text(alloc, plan)?,
+    })
+}
+
+/// What a log is to a build, told.
+fn outcome_answer(alloc: Global, played: &Played) -> Result<Answer, AllocError>
+    ensures { IfOk result (λ answer. (answer.status ≡ spec.status_of played.now)
+        × IsOutcomeText played.now answer.text.items) }
+{
+    Ok(Answer {
+        status: status_of(played),
+        text: outcome_text(alloc, played)?,
+    })
+}
+
+/// The report of a fault.
+fn refused(alloc: Global, fault: &Fault) -> Result<Answer, AllocError>
+    ensures { IfOk result (λ answer. (answer.status ≡ Status.Refused)
+        × (answer.text.items ≡ refused_text fault.now)) }
+{
+    Ok(Answer {
+        status: Status::Refused,
+        text: refused_report(alloc, fault)?,
+    })
+}
+
+/// How the program ends after a replay.
+fn status_of(played: &Played) -> Status
+    ensures { result ≡ spec.status_of played.now }
+{
+    match played {
+        Played::Allowed(_) => Status::Done,
+        Played::NotAllowed { .. } => Status::NotAllowed,
+    }
+}
+
+/// The bytes of some texts. The only error is want of memory.
+fn bytes_of<'a>(alloc: Global, texts: &[&'a str]) -> Result<Vec<&'a [u8]>, AllocError>
+    ensures { IfOk result (λ list. map (λ bytes. bytes.now) list.items
+        ≡ map (λ text. text.now) texts.now) }
+{
+    let mut list = Vec::new(alloc);
+    for text in texts {
+        list.push(text.as_bytes())?;
+    }
+    Ok(list)
+}

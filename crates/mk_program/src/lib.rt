@@ -1,0 +1,38 @@
+//! The program `race` but for its `main`: from the words of the command line to what is written, and how it ends.
+//!
+//! [`race_words`] is the program. It reads its words by `clap`, opens every file that they name through an [`Opener`], in the
+//! order base, makefile, listing, footprints, log, then reads each to its end in the same order, and then writes one text to
+//! its standard output: the answer, the help or the version. Where it cannot, it writes nothing there, or what the device
+//! took before it failed, and tells the [`Failure`] by a line on its standard error. The [`Status`] says how it ends, and
+//! [`ExitCode::from`](std::process::ExitCode) gives its number. [`fail`] tells a failure that comes before: words that are no
+//! text.
+//!
+//! What its clauses say stands in `specs/`:
+//!
+//! - `CommandLine.antt`: what the words ask (`asked`), and what is wrong with them (`wrong`), as `clap` reads them;
+//! - `Requests.antt`: the inputs that a request reads, in their order (`inputs_of`);
+//! - `Inputs.antt`: that the files hold the texts of the inputs (`Hold`), and which input fails (`IsInputFailure`): the first
+//!   that cannot be opened, or one that cannot be read though all were opened;
+//! - `Answers.antt`: the answer to a request over what its files hold (`IsAnswer`), and that it was written (`WritesAnswer`);
+//! - `PlanText.antt` and `OutcomeText.antt`: the texts of `race order` and of `race replay`;
+//! - `Failures.antt` and `Statuses.antt`: the line of a failure, and the statuses as numbers.
+//!
+//! A subcommand more is a variant of `requests::Request` with its inputs in `requests::inputs_of`, its words in `words`,
+//! and its answer over the texts in `answers::answer_over`; the files are opened and read in one place, `inputs::read_inputs`.
+#![tactic(auto)]
+
+mod answers;
+mod failures;
+mod inputs;
+mod openers;
+mod outcome_lines;
+mod plan_lines;
+mod requests;
+mod running;
+mod statuses;
+mod words;
+
+pub use failures::{Failure, InputFile};
+pub use openers::Opener;
+pub use running::{fail, race_words};
+pub use statuses::Status;

@@ -1,0 +1,75 @@
+//! What the words of the command line ask for.
+ghost use Rattle.std.specs.Prelude.{◌≡◌, ◌++◌, IfOk, OnOk};
+ghost use Rattle.mk_program.specs.Requests as spec;
+
+use crate::failures::InputFile;
+use crate::inputs::InputPath;
+use std::alloc::{AllocError, Global};
+
+/// What a build is read from: the paths of files, the base makefile's where one is given, the root and the operands, as
+/// they were given.
+#[derive(Debug, Drop)]
+pub struct BuildArgs<'a> {
+    pub base: Option<&'a str>,
+    pub makefile: &'a str,
+    pub listing: &'a str,
+    pub root: &'a str,
+    pub operands: Vec<&'a str>,
+}
+
+/// What a log is judged by: a build, the paths of its footprints and of the log, how many recipes may run at once, and
+/// whether files of equal times count as newer.
+#[derive(Debug, Drop)]
+pub struct ReplayArgs<'a> {
+    pub build: BuildArgs<'a>,
+    pub footprints: &'a str,
+    pub log: &'a str,
+    pub limit: u16,
+    pub tie: bool,
+}
+
+/// A subcommand, with its values.
+#[derive(Debug, Drop)]
+pub enum Request<'a> {
+    Order(BuildArgs<'a>),
+    Replay(ReplayArgs<'a>),
+}
+
+/// The inputs of a request with the paths of their files, in the order in which they are opened and read. The only error
+/// is want of memory.
+pub fn inputs_of<'a>(alloc: Global, request: &Request<'a>) -> Result<Vec<InputPath<'a>>, AllocError>
+    ensures { IfOk result (λ inputs. inputs.items ≡ spec.inputs_of request.now) }
+{
+    let mut inputs = Vec::new(alloc);
+    match request {
+        Request::Order(build) => push_build(&mut inputs, build)?,
+        Request::Replay(replay) => {
+            push_build(&mut inputs, &replay.build)?;
+            push_input(&mut inputs, InputFile::Footprints, replay.footprints)?;
+            push_input(&mut inputs, InputFile::Log, replay.log)?;
+        }
+    }
+    Ok(inputs)
+}
+
+/// Puts the inputs that every subcommand reads at the end.
+fn push_build<'a>(inputs: &mut Vec<InputPath<'a>>, build: &BuildArgs<'a>) -> Result<(), AllocError>
+    ensures { OnOk result (inputs.new.items ≡ inputs.old.items ++ spec.build_inputs build.now) }
+{
+    if let Some(base) = build.base {
+        push_input(inputs, InputFile::Base, base)?;
+    }
+    push_input(inputs, InputFile::Makefile, build.makefile)?;
+    push_input(inputs, InputFile::Listing, build.listing)
+}
+
+fn push_input<'a>(
+    inputs: &mut Vec<InputPath<'a>>,
+    input: InputFile,
+    path: &'a str,
+) -> Result<(), AllocError>
+    ensures { OnOk result (inputs.new.items ≡ inputs.old.items ++ spec.input_at input path.entry) }
+{
+    inputs.push(InputPath { input, path })?;
+    Ok(())
+}

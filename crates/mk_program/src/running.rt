@@ -1,0 +1,153 @@
+//! The program: from the words of the command line to what is written.
+ghost use Rattle.std.specs.Prelude.{◌≡◌, ◌≢◌, ◌↔◌, ◌⊎◌, [], IfErr, IfOk, IsErrOf, OnErr, OnOk, String, false, true};
+ghost use Rattle.std.specs.Global.{Global};
+ghost use Rattle.clap.specs.Words.{kind_of};
+ghost use Rattle.mk_name.specs.Shown.{line};
+ghost use Rattle.mk_program.specs.Answers as spec;
+ghost use Rattle.mk_program.specs.CommandLine.{IsAnswerable, IsCall, wrong};
+ghost use Rattle.mk_program.specs.Failures.{TellsFailure, failure_text};
+
+use crate::answers::{Answer, answer_of};
+use crate::failures::Failure;
+use crate::openers::Opener;
+use crate::statuses::Status;
+use crate::words::read_words;
+use clap::error::ErrorKind;
+use mk_text::device::{Outlet, write_all};
+use std::alloc::{AllocError, Global};
+
+/// Runs the program on the words of the command line, of which the first is its own name. The answer, the help or the
+/// version goes to `out`; what is wrong with the words, a device or memory to `err`, whose own failure is passed over.
+/// Every file is opened, and then read to its end, before anything is written.
+pub fn race_words<'a, P: Opener, O: Outlet, E: Outlet>(
+    alloc: Global,
+    words: &'a [&'a str],
+    opener: &mut P,
+    out: &mut O,
+    err: &mut E,
+) -> Status
+    requires out_works { O.has_failed out.old ≡ false }
+    requires err_works { E.has_failed err.old ≡ false }
+    // Words that are right get their answer, and words that are wrong get none.
+    ensures answer { wrong words.entry.now ≡ [] → result ≢ Status.Failed → spec.WritesAnswer
+        words.entry.now (P.text opener.old) result (O.written out.old) (O.written out.new) }
+    ensures refused { result ≡ Status.Refused → spec.WritesAnswer
+        words.entry.now (P.text opener.old) result (O.written out.old) (O.written out.new) }
+    ensures not_allowed { result ≡ Status.NotAllowed → spec.WritesAnswer
+        words.entry.now (P.text opener.old) result (O.written out.old) (O.written out.new) }
+    ensures usage { result ≢ Status.Failed → IsAnswerable (wrong words.entry.now) }
+    // What is not the whole answer is nothing, or what a device took before it failed.
+    ensures nothing { result ≡ Status.Failed → O.has_failed out.new ≡ false → out.new ≡ out.old }
+    ensures beginning { wrong words.entry.now ≡ [] → O.has_failed out.new ≡ true
+        → spec.WritesBeginning words.entry.now (P.text opener.old) (O.written out.old) (O.written out.new) }
+    // A failure is told by its line, where the device takes one, and nothing else is.
+    ensures failed { O.has_failed out.new ≡ true → result ≡ Status.Failed }
+    ensures told { result ≡ Status.Failed → E.has_failed err.new ≡ false → (failure : Failure)
+        × spec.IsFailureOf words.entry.now (P.opens opener.old) failure
+        × ((failure ≡ Failure.Write) ↔ (O.has_failed out.new ≡ true))
+        × TellsFailure failure (E.written err.old) (E.written err.new) }
+    ensures silent { result ≢ Status.Failed → err.new ≡ err.old }
+{
+    match answer_written(alloc, words, opener, out) {
+        Ok(status) => status,
+        Err(failure) => fail(alloc, &failure, err),
+    }
+}
+
+/// Tells a failure by a line on the standard error, whose own failure is passed over, and says how the program ends.
+pub fn fail<E: Outlet>(alloc: Global, failure: &Failure, err: &mut E) -> Status
+    requires { E.has_failed err.old ≡ false }
+    ensures status { result ≡ Status.Failed }
+    ensures told { E.has_failed err.new ≡ false
+        → TellsFailure failure.now (E.written err.old) (E.written err.new) }
+{
+    let told = match line_of(alloc, failure) {
+        Ok(line) => write_all(err, line.as_bytes()),
+        Err(_) => write_all(err, b"race: out of memory\n"),
+    };
+    let _ = told;
+    Status::Failed
+}
+
+/// The line that tells a failure. The only error is want of memory.
+fn line_of(alloc: Global, failure: &Failure) -> Result<String, AllocError>
+    ensures { IfOk result (λ told. told.bytes.items ≡ line (failure_text failure.now)) }
+{
+    let mut line = failure.to_string(alloc)?;
+    line.push('\n')?;
+    Ok(line)
+}
+
+/// Writes the answer, the help or the version.
+fn answer_written<'a, P: Opener, O: Outlet>(
+    alloc: Global,
+    words: &'a [&'a str],
+    opener: &mut P,
+    out: &mut O,
+) -> Result<Status, Failure>
+    requires { O.has_failed out.old ≡ false }
+    ensures status { IfOk result (λ status. status ≢ Status.Failed) }
+    ensures answer { wrong words.entry.now ≡ [] → IfOk result (λ status. spec.WritesAnswer
+        words.entry.now (P.text opener.old) status (O.written out.old) (O.written out.new)) }
+    ensures refused { IfOk result (λ status. status ≡ Status.Refused → spec.WritesAnswer
+        words.entry.now (P.text opener.old) status (O.written out.old) (O.written out.new)) }
+    ensures not_allowed { IfOk result (λ status. status ≡ Status.NotAllowed → spec.WritesAnswer
+        words.entry.now (P.text opener.old) status (O.written out.old) (O.written out.new)) }
+    ensures usage { OnOk result (IsAnswerable (wrong words.entry.now)) }
+    ensures nothing { OnErr result (O.has_failed out.new ≡ false → out.new ≡ out.old) }
+    ensures beginning { wrong words.entry.now ≡ [] → O.has_failed out.new ≡ true
+        → spec.WritesBeginning words.entry.now (P.text opener.old) (O.written out.old) (O.written out.new) }
+    ensures write { IsErrOf result Failure.Write ↔ (O.has_failed out.new ≡ true) }
+    ensures failure { IfErr result (spec.IsFailureOf words.entry.now (P.opens opener.old)) }
+{
+    let answer = answer_to(alloc, words, opener)?;
+    match write_all(out, answer.text.as_slice()) {
+        Ok(()) => Ok(answer.status),
+        Err(_) => Err(Failure::Write),
+    }
+}
+
+/// The answer to what the words ask, or the help or the version.
+fn answer_to<'a, P: Opener>(
+    alloc: Global,
+    words: &'a [&'a str],
+    opener: &mut P,
+) -> Result<Answer, Failure>
+    ensures status { IfOk result (λ answer. answer.status ≢ Status.Failed) }
+    ensures answer { wrong words.entry.now ≡ [] → IfOk result (λ answer. spec.IsAnswerTo
+        words.entry.now (P.text opener.old) answer.status answer.text.items) }
+    ensures refused { IfOk result (λ answer. answer.status ≡ Status.Refused → spec.IsAnswerTo
+        words.entry.now (P.text opener.old) answer.status answer.text.items) }
+    ensures not_allowed { IfOk result (λ answer. answer.status ≡ Status.NotAllowed → spec.IsAnswerTo
+        words.entry.now (P.text opener.old) answer.status answer.text.items) }
+    ensures usage { OnOk result (IsAnswerable (wrong words.entry.now)) }
+    ensures write { IfErr result (λ failure. failure ≢ Failure.Write) }
+    ensures failure { IfErr result (spec.IsFailureOf words.entry.now (P.opens opener.old)) }
+{
+    match read_words(alloc, words) {
+        Ok(request) => answer_of(alloc, &request, opener),
+        Err(error) => called_for(alloc, &error),
+    }
+}
+
+/// The help or the version, where the words call for it.
+fn called_for(alloc: Global, error: &clap::Error) -> Result<Answer, Failure>
+    ensures status { IfOk result (λ answer. answer.status ≡ Status.Done) }
+    ensures call { OnOk result (IsCall (kind_of error.now)) }
+    ensures failure { IfErr result (λ failure. (failure ≡ Failure.Memory)
+        ⊎ ((text : String Global) × (failure ≡ Failure.Usage text) × ¬ IsCall (kind_of error.now)
+        × (kind_of error.now ≢ ErrorKind.OutOfMemory))) }
+    ensures memory { kind_of error.now ≡ ErrorKind.OutOfMemory → IsErrOf result Failure.Memory }
+{
+    if error.kind() == ErrorKind::OutOfMemory {
+        return Err(Failure::Memory);
+    }
+    let text = error.to_string(alloc)?;
+    if error.use_stderr() {
+        return Err(Failure::Usage(String::from_str(alloc, text.trim_end())?));
+    }
+    Ok(Answer {
+        status: Status::Done,
+        text: text.into_bytes(),
+    })
+}

@@ -1,0 +1,125 @@
+//! The words of the command line.
+ghost use Rattle.std.specs.Prelude.{◌≡◌, ◌⊎◌, IfOk, codes, false};
+ghost use Rattle.clap.specs.Words.{FailsBy, app_of, found_of, rows_of, rule_of};
+ghost use Rattle.clap.specs.declared.builder.command.Command.TheViews.{out-Command as fields_of};
+ghost use Rattle.mk_program.specs.CommandLine as spec;
+
+mod help;
+mod replay_words;
+
+use crate::requests::{BuildArgs, Request};
+use clap::{Arg, ArgAction, ArgMatches, Command, Error};
+use replay_words::{replay_args, replay_command};
+use std::alloc::{AllocError, Global};
+
+/// Reads the words of the command line, of which the first is the program's name. A fault of the words and a call for
+/// help or the version are errors, which have their text.
+pub fn read_words<'a>(alloc: Global, words: &'a [&'a str]) -> Result<Request<'a>, Error>
+    ensures values { IfOk result (λ request. spec.Asks request (spec.asked words.entry.now)) }
+    ensures kinds { FailsBy (spec.wrong words.entry.now) result }
+{
+    let matches = race_command(alloc)?.try_get_matches_from(words)?;
+    match matches.subcommand() {
+        Some((name, found)) => Ok(request_of(alloc, name, found)?),
+        None => unreachable!(),
+    }
+}
+
+/// What the matches of the subcommand with this name ask for. The only error is want of memory.
+fn request_of<'a>(
+    alloc: Global,
+    name: &str,
+    found: &ArgMatches<'a>,
+) -> Result<Request<'a>, AllocError>
+    requires { (name.now ≡ codes "order") ⊎ (name.now ≡ codes "replay") }
+    ensures { IfOk result (λ request.
+        spec.IsFor request name.now (rows_of (found_of found.now))) }
+{
+    if name == "order" {
+        return Ok(Request::Order(build_args(alloc, found)?));
+    }
+    Ok(Request::Replay(replay_args(alloc, found)?))
+}
+
+/// The program, with its subcommands.
+fn race_command<'a>(alloc: Global) -> Result<Command<'a>, AllocError>
+    ensures app { IfOk result (λ command. app_of command ≡ spec.race_app) }
+    ensures local { IfOk result (λ command. (fields_of command).has_globals ≡ false) }
+{
+    Command::new(alloc, "race")
+        .about(help::ABOUT)
+        .after_help(help::DETAILS)
+        .version(help::VERSION)
+        .disable_help_subcommand(true)
+        .subcommand_required(true)
+        .subcommand(order_command(alloc)?)?
+        .subcommand(replay_command(alloc)?)
+}
+
+fn order_command<'a>(alloc: Global) -> Result<Command<'a>, AllocError>
+    ensures app { IfOk result (λ command. app_of command ≡ spec.order_app) }
+    ensures local { IfOk result (λ command. (fields_of command).has_globals ≡ false) }
+{
+    let command = Command::new(alloc, "order")
+        .about(help::ORDER_ABOUT)
+        .after_help(help::ORDER_DETAILS);
+    with_build(alloc, command)
+}
+
+/// The command with the options and operands that every subcommand takes.
+fn with_build<'a>(alloc: Global, command: Command<'a>) -> Result<Command<'a>, AllocError>
+    ensures app { IfOk result (λ new. app_of new ≡ spec.with_build (app_of command.entry)) }
+    ensures local { IfOk result (λ new.
+        (fields_of new).has_globals ≡ (fields_of command.entry).has_globals) }
+{
+    command
+        .arg(option(alloc, "makefile", "MAKEFILE", help::MAKEFILE))?
+        .arg(option(alloc, "listing", "LISTING", help::LISTING))?
+        .arg(option(alloc, "root", "DIR", help::ROOT))?
+        .arg(base(alloc))?
+        .arg(operands(alloc))
+}
+
+fn operands<'a>(alloc: Global) -> Arg<'a>
+    ensures rule { rule_of result ≡ spec.operands }
+    ensures local { result.global ≡ false }
+{
+    Arg::new(alloc, "operands")
+        .action(ArgAction::Append)
+        .value_name("OPERAND")
+        .help(help::OPERANDS)
+}
+
+/// An option that must be given, with one value.
+fn option<'a>(alloc: Global, name: &'a str, value: &'a str, about: &'a str) -> Arg<'a>
+    ensures rule { rule_of result ≡ spec.option name.entry.now }
+    ensures local { result.global ≡ false }
+{
+    Arg::new(alloc, name)
+        .long(name)
+        .action(ArgAction::Set)
+        .value_name(value)
+        .required(true)
+        .help(about)
+}
+
+/// The option that names a base makefile, which may be left out.
+fn base<'a>(alloc: Global) -> Arg<'a>
+    ensures rule { rule_of result ≡ spec.base }
+    ensures local { result.global ≡ false }
+{
+    option(alloc, "base", "BASE", help::BASE).required(false)
+}
+
+/// The build that these matches of a subcommand ask for. The only error is want of memory.
+fn build_args<'a>(alloc: Global, found: &ArgMatches<'a>) -> Result<BuildArgs<'a>, AllocError>
+    ensures { IfOk result (λ build. spec.HasValues build (rows_of (found_of found.now))) }
+{
+    Ok(BuildArgs {
+        base: found.get_str("base"),
+        makefile: found.get_str("makefile").unwrap_or(""),
+        listing: found.get_str("listing").unwrap_or(""),
+        root: found.get_str("root").unwrap_or(""),
+        operands: Vec::from_slice(alloc, found.get_strs("operands").unwrap_or(&[]))?,
+    })
+}

@@ -1,0 +1,104 @@
+//! What the help says.
+
+pub const VERSION: &str = "0.1.0";
+
+pub const ABOUT: &str = "\
+Reads a makefile as POSIX `make` does, and says what a build of it does, with a view to `make -j`.";
+
+pub const DETAILS: &str = "\
+`race order` prints the serial order of a build. `race replay` says whether a log of a build is a run that `make -j` may
+make. Neither says yet whether every run leaves the same files: both end with 0 on a build whose recipes race.
+
+Statuses:
+  0  order: the order is printed; replay: the log is a run, complete or not; the help or the version is printed
+  1  replay: the log is no run
+  2  the inputs are refused: the report says where and why
+  3  a file cannot be read or written, memory is short, or the words are wrong: a line on the standard error says which";
+
+pub const MAKEFILE: &str = "The makefile";
+
+pub const LISTING: &str = "The paths that are there before the build, one a line";
+
+pub const ROOT: &str =
+    "The folder that other paths are below, as an absolute path: --root \"$PWD\"";
+
+pub const BASE: &str = "A makefile with the rules and macros that come before those of MAKEFILE";
+
+pub const OPERANDS: &str = "A goal, which is to be built, or NAME=VALUE, which defines a macro";
+
+pub const ORDER_ABOUT: &str =
+    "Prints the serial order of a build: each file after all that it needs.";
+
+pub const ORDER_DETAILS: &str = "\
+MAKEFILE is the path of a makefile, and BASE of one that is read before it. LISTING is the path of a file that names the
+files that are there before the build, one path a line. Paths that are not absolute are below DIR, which has to be
+absolute: --root \"$PWD\". An OPERAND that holds `=` defines a macro; any other is a goal. Without a goal the first target of
+BASE and then of MAKEFILE is built whose name does not begin with a period, or holds a slash.
+
+Each line that comes out is `NUMBER KIND NAME`, and ` : NAME ..` where the file needs others. KIND is `recipe` (a rule
+with commands makes it), `inferred` (an inference rule does), `default` (the commands of .DEFAULT do) or `plain` (it is
+there, or nothing is run for it). Inputs that are refused give `refused`, the fault, its place and names.
+
+Example:
+  $ printf 'prog: a.o\\n\\tcc -o prog a.o\\na.o: a.c\\n\\tcc -c a.c\\n' > makefile
+  $ echo a.c > listing
+  $ race order --makefile makefile --listing listing --root \"$PWD\"
+  0 plain a.c
+  1 recipe a.o : a.c
+  2 recipe prog : a.o
+
+Statuses:
+  0  the order is printed, whether or not the recipes race
+  2  the makefile, the base, the listing, the root or an operand is refused
+  3  a file cannot be read or written, memory is short, or the words are wrong
+";
+
+pub const REPLAY_ABOUT: &str =
+    "Says whether a log of a build is a run that `make -j` may make, and what it leaves.";
+
+pub const REPLAY_DETAILS: &str = "\
+MAKEFILE, BASE, LISTING, DIR and the operands are those of `race order`. FOOTPRINTS is the path of a file that has for each
+recipe that may run an object of JSON on a line of its own: its target, and the paths that it reads and writes. LOG is the
+path of a file that has first an object for each file that is there, and these are the files of LISTING, and then one for
+each event, in the order in which they happened. PATH and NODE are paths, NODE that of a file of the build; HEX is what a
+file holds, in lower case hexadecimal; TIME is a whole number.
+  {\"do\":\"file\",\"path\":PATH,\"bytes\":HEX,\"time\":TIME}              a file that is there, written at that time
+  {\"do\":\"skip\",\"node\":NODE}                                      NODE stays as it is; start and finish: of its recipe
+  {\"do\":\"look\",\"node\":NODE,\"path\":PATH,\"bytes\":HEX}              the recipe reads PATH; null where nothing is there
+  {\"do\":\"put\",\"node\":NODE,\"path\":PATH,\"bytes\":HEX,\"time\":TIME}   the recipe writes PATH, at a time after all others
+  {\"do\":\"erase\",\"node\":NODE,\"path\":PATH}                         the recipe removes PATH
+
+What comes out is `allowed complete`, or `allowed incomplete` where some NODE was neither skipped nor finished, and for
+each file that is then there a line `file NAME TIME HEX`, where HEX is `-` for a file without bytes. A log that is no run
+gives `not allowed NUMBER WORD at PLACE`: why, and which event, counted from 1, or 0 where the files are not those of
+LISTING. Inputs that are refused give `refused`, the fault, its place and names.
+
+Example:
+  $ printf 'a.o: a.c\\n\\tcc -c a.c\\n' > makefile
+  $ echo a.c > listing
+  $ echo '{\"target\":\"a.o\",\"reads\":[\"a.c\"],\"writes\":[\"a.o\"]}' > footprints
+  $ echo '{\"do\":\"file\",\"path\":\"a.c\",\"bytes\":\"61\",\"time\":1}' > log
+  $ echo '{\"do\":\"skip\",\"node\":\"a.c\"}' >> log
+  $ echo '{\"do\":\"start\",\"node\":\"a.o\"}' >> log
+  $ echo '{\"do\":\"look\",\"node\":\"a.o\",\"path\":\"a.c\",\"bytes\":\"61\"}' >> log
+  $ echo '{\"do\":\"put\",\"node\":\"a.o\",\"path\":\"a.o\",\"bytes\":\"6f67\",\"time\":2}' >> log
+  $ echo '{\"do\":\"finish\",\"node\":\"a.o\"}' >> log
+  $ race replay --makefile makefile --listing listing --root \"$PWD\" --footprints footprints --log log
+  allowed complete
+  file a.c 1 61
+  file a.o 2 6f67
+
+Statuses:
+  0  the log is a run, complete or not, whether or not the recipes race
+  1  it is not
+  2  the makefile, the base, the listing, the root, an operand, the footprints or the log is refused
+  3  a file cannot be read or written, memory is short, or the words are wrong
+";
+
+pub const FOOTPRINTS: &str = "What the recipes read and write, one object of JSON a line";
+
+pub const LOG: &str = "The files that are there and what happened, one object of JSON a line";
+
+pub const LIMIT: &str = "How many recipes may run at once, from 1 to 65535; without it 1";
+
+pub const TIE: &str = "Files of equal times count as newer";

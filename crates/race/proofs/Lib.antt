@@ -1,7 +1,0 @@
-mod Answering
-mod Asked
-mod Locals
-mod OrderLines
-mod ReplayLines
-mod Told
-mod Values

@@ -1,7 +1,0 @@
-use Rattle.std.proofs.Common.{◌≡◌, ◌++◌}
-use Rattle.race.specs.ReplayText.{allowed_text, file_lines}
-use Rattle.race.proofs.replay.allowed_text.Given as goal
-
--- what is there, and then the lines of the files that are left
-abbrev pub invariant-loop-name : goal.invariant-loop-name
-invariant-loop-name l = l.out.items ++ file_lines l.name-iterator ≡ allowed_text l.replayed

@@ -1,0 +1,11 @@
+-- Why the words of the process cannot be read.
+use Rattle.std.specs.Prelude.{ℕ, ◌≡◌, List, string_bytes}
+use Rattle.mk_program.specs.declared.failures.Failure.{Failure}
+use Rattle.mk_program.specs.declared.failures.Failure.TheVariants as failures
+
+-- the words are wrong, and this text says how
+abbrev pub IsNotText : Failure → List ℕ → Type 0
+IsNotText (failures.Read input) told = ⊥
+IsNotText failures.Write told = ⊥
+IsNotText failures.Memory told = ⊥
+IsNotText (failures.Usage text) told = string_bytes text ≡ told

@@ -1,0 +1,27 @@
+//! The files of the system that the program runs on.
+ghost use Rattle.std.specs.Prelude.{None};
+
+use mk_program::Opener;
+use mk_text::device::Broken;
+use mk_text::feed::Feed;
+use std::fs;
+use std::fs::File;
+
+/// The files of the system. What they hold, and whether they can be opened, is not told.
+#[derive(Drop)]
+pub struct Disk<'a>(pub &'a HostRuntime);
+
+impl Opener for Disk<'_> {
+    type File = Feed<File>;
+
+    ghost text = { λ _ _. None };
+
+    ghost opens = { λ _ _. None };
+
+    fn open(&mut self, path: &str) -> Result<Feed<File>, Broken> {
+        match fs::open(self.0, path) {
+            Ok(file) => Ok(Feed::new(file)),
+            Err(_) => Err(Broken),
+        }
+    }
+}
