@@ -1,14 +1,14 @@
 -- The least of a list of nodes that is a or has a before it, and a chain that is built from its end.
-use Rattle.std.proofs.Common.{ℕ, ◌≡◌, ◌<◌, ◌≤◌, ◌+◌, ◌⊎◌, List, [], ◌∷◌, ◌++◌, length, take, get_or, reverse, Option, Some, None, Bool, true, false, MatchOption, IfSome, IfNone, Contains, refl, sym, ap, subst, ◌∙◌, inl, inr, arith}
+use Rattle.std.proofs.Common.{ℕ, ◌≡◌, ◌<◌, ◌≤◌, List, [], ◌∷◌, ◌++◌, reverse, Option, Some, None, MatchOption, IfSome, IfNone, Contains, refl, sym, ap, subst, ◌∙◌, inl, inr, arith}
 use Rattle.std.proofs.lemmas.Bool.{cases_lt}
-use Rattle.std.proofs.lemmas.List.{reverse-append, take_more}
+use Rattle.std.proofs.lemmas.List.{reverse-append}
 use Rattle.std.proofs.lemmas.List.Elements.{Contains-append_left, Contains-push, Contains-push_cases}
-use Rattle.mk_jobs.specs.Jobs.{Jobs, Before, IsPrerequisite, IsValid, node_count, prerequisites_of}
+use Rattle.mk_jobs.specs.Jobs.{Jobs, Before, IsValid, node_count, prerequisites_of}
 use Rattle.mk_jobs.specs.Chains.{last_of}
 use Rattle.mk_jobs.proofs.JobsLemmas.{before_less}
 use Rattle.mk_order.specs.Chosen.{IsLeastFrom, AreLeastFrom, IsChosen}
 use Rattle.mk_order.specs.Paths.{IsFrom}
-use Rattle.mk_order.proofs.Edges.{PrerequisiteFrom, prerequisite_from}
+use Rattle.mk_order.proofs.Edges.{prerequisite_from}
 
 -- p is the least of these nodes that is a or has a before it
 pub record LeastOf (jobs : Jobs) (a : ℕ) (nodes : List ℕ) (p : ℕ) : Type 0 where

@@ -1,5 +1,5 @@
 -- What is before a node is one of its prerequisites, or before one of them.
-use Rattle.std.proofs.Common.{ℕ, ◌≡◌, ◌<◌, ◌⊎◌, length, get_or, refl, sym, subst, inl, inr, arith, All, Contains}
+use Rattle.std.proofs.Common.{ℕ, ◌<◌, get_or, refl, subst, inl, inr, arith, All}
 use Rattle.std.proofs.lemmas.List.Elements.{Contains-get_or}
 use Rattle.mk_jobs.specs.Jobs.{Jobs, Before, edge, further, IsPrerequisite, IsValid, prerequisites_of}
 use Rattle.mk_order.specs.Paths.{IsFrom}

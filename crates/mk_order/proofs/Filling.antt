@@ -1,12 +1,12 @@
 -- The table of rows, filled in rising number.
-use Rattle.std.proofs.Common.{ℕ, zero, suc, ◌≡◌, ◌<◌, ◌≤◌, ◌+◌, ◌-◌, ◌*◌, ◌/◌, ◌%◌, ◌↔◌, ◌⊎◌, List, [], ◌∷◌, ◌++◌, length, take, drop, get_or, All, Contains, refl, sym, ap, subst, ◌∙◌, inl, inr, arith, add-one, suc-mul, eqb, bit_and, true, ◌^◌}
+use Rattle.std.proofs.Common.{ℕ, suc, ◌≡◌, ◌<◌, ◌≤◌, ◌+◌, ◌*◌, ◌/◌, ◌%◌, ◌↔◌, ◌⊎◌, List, ◌++◌, length, take, drop, get_or, All, sym, ap, subst, ◌∙◌, inl, inr, arith, add-one, suc-mul, eqb, bit_and, true, ◌^◌}
 use Rattle.std.specs.Int.{bit_at}
 use Rattle.std.proofs.lemmas.Bool.{cases_order, eqb-true, eq-eqb}
 use Rattle.std.proofs.lemmas.List.{take_at, drop_at, take-append-le, drop-append-le, drop-drop, get_or_read, length-drop, get_or-take, get_or-drop}
 use Rattle.std.proofs.lemmas.Nat.{mul-le}
 use Rattle.std.proofs.lemmas.Nat.Bits.{shr_and_one}
-use Rattle.mk_jobs.specs.Jobs.{Jobs, Before, IsPrerequisite, IsValid, prerequisites_of, node_count}
-use Rattle.mk_order.specs.Bits.{HasBit, IsReached, Gains, AreRows, IsFilled, row_at}
+use Rattle.mk_jobs.specs.Jobs.{Jobs, Before, IsValid, prerequisites_of, node_count}
+use Rattle.mk_order.specs.Bits.{HasBit, Gains, AreRows, IsFilled, row_at}
 use Rattle.mk_order.proofs.Edges.{prerequisite_from, before_from}
 use Rattle.mk_order.proofs.RowBits.{clear_bits}
 
@@ -29,25 +29,26 @@ row_here width b done row tail long wide = ap (take width) (drop_at done (row ++
 row_is : (jobs : Jobs) (width b n : ℕ) (done rest clear row : List ℕ) → IsValid jobs → length done ≡ b * width → AreRows jobs width (done ++ rest) b
     → All (λ word. word ≡ 0) clear → Gains width done (prerequisites_of jobs b) clear row → HasBit row n ↔ Before jobs n b
 row_is jobs width b n done rest clear row valid long rows none gains =
-    let same : (p : ℕ) → p < b → row_at width (done ++ rest) p ≡ row_at width done p = λ p below. row-append width p b done rest long below in
-    (λ has. elim ((gains n).0 has) [
-      | inl old ↦ absurd (clear_bits clear n none old)
-      | inr reached ↦
-        let below = valid.smaller b reached.node reached.there in
-        elim reached.bit [
-          | inl one ↦ before_from jobs n reached.node b reached.there (inl (sym one))
-          | inr bit ↦ before_from jobs n reached.node b reached.there
-              (inr ((rows reached.node below n).0 (subst (λ (ws : List ℕ). HasBit ws n) (sym (same reached.node below)) bit)))
-        ]
-    ],
-    λ before.
-        let last = prerequisite_from jobs n b before in
-        let below = valid.smaller b last.node last.edge in
-        let bit : (n ≡ last.node) ⊎ HasBit (row_at width done last.node) n = elim last.from [
-          | inl one ↦ inl (sym one)
-          | inr before' ↦ inr (subst (λ (ws : List ℕ). HasBit ws n) (same last.node below) ((rows last.node below n).1 before'))
-        ] in
-        (gains n).1 (inr (record { node = last.node; there = last.edge; bit = bit })))
+    let same : (p : ℕ) → p < b → row_at width (done ++ rest) p ≡ row_at width done p = λ p below. row-append width p b done rest long below in (
+      λ has. elim ((gains n).0 has) [
+        | inl old ↦ absurd (clear_bits clear n none old)
+        | inr reached ↦
+            let below = valid.smaller b reached.node reached.there in
+            elim reached.bit [
+              | inl one ↦ before_from jobs n reached.node b reached.there (inl (sym one))
+              | inr bit ↦ before_from jobs n reached.node b reached.there
+                  (inr ((rows reached.node below n).0 (subst (λ (ws : List ℕ). HasBit ws n) (sym (same reached.node below)) bit)))
+            ]
+      ],
+      λ before.
+          let last = prerequisite_from jobs n b before in
+          let below = valid.smaller b last.node last.edge in
+          let bit : (n ≡ last.node) ⊎ HasBit (row_at width done last.node) n = elim last.from [
+            | inl one ↦ inl (sym one)
+            | inr before' ↦ inr (subst (λ (ws : List ℕ). HasBit ws n) (same last.node below) ((rows last.node below n).1 before'))
+          ] in
+          (gains n).1 (inr (record { node = last.node; there = last.edge; bit = bit })),
+    )
 
 -- one row more
 pub rows_more : (jobs : Jobs) (width b : ℕ) (done rest clear row tail : List ℕ) → IsValid jobs → length done ≡ b * width → length row ≡ width
@@ -75,8 +76,8 @@ row_answers jobs width words a b word filled first second read =
     let here : a / 64 < width = omega (arith, first, filled.wide) in
     let there : b * width + a / 64 < length words = omega (arith, row_ends b (node_count jobs) width second, filled.long, here) in
     let is : word ≡ get_or (row_at width words b) (a / 64) 0 =
-        get_or_read words (b * width + a / 64) word there read 0
-        ∙ sym (get_or-take width (drop (b * width) words) (a / 64) 0 here ∙ get_or-drop (b * width) words (a / 64) 0) in
+    get_or_read words (b * width + a / 64) word there read 0
+    ∙ sym (get_or-take width (drop (b * width) words) (a / 64) 0 here ∙ get_or-drop (b * width) words (a / 64) 0) in
     let bit : bit_and (word / 2 ^ (a % 64)) 1 ≡ bit_at (get_or (row_at width words b) (a / 64) 0) (a % 64) =
-        shr_and_one word (a % 64) ∙ ap (λ w. bit_at w (a % 64)) is in
+    shr_and_one word (a % 64) ∙ ap (λ w. bit_at w (a % 64)) is in
     (λ yes. (filled.rows b second a).0 (sym bit ∙ eqb-true _ 1 yes), λ before. eq-eqb _ 1 (bit ∙ (filled.rows b second a).1 before))

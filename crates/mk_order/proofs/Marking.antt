@@ -1,5 +1,5 @@
 -- Marks, filled in rising number.
-use Rattle.std.proofs.Common.{ℕ, ◌≡◌, ◌<◌, ◌+◌, ◌||◌, ◌==◌, ◌↔◌, ◌⊎◌, Bool, true, false, List, length, get_or, set, refl, sym, ap, subst, ◌∙◌, inl, inr, arith, Contains}
+use Rattle.std.proofs.Common.{ℕ, ◌≡◌, ◌<◌, ◌+◌, ◌||◌, ◌==◌, ◌↔◌, Bool, true, false, List, length, get_or, set, sym, subst, inl, inr, arith}
 use Rattle.std.specs.List.{list_any, Any}
 use Rattle.std.proofs.lemmas.Bool.{eqb-true, eq-eqb, or_cases, or_left, or_right, cases_order}
 use Rattle.std.proofs.lemmas.List.{get_or-set_same, get_or-set_other}
@@ -27,15 +27,16 @@ from_is_marked jobs a x p marks marked below (inr before) = or_right (p == a) (g
 pub has_from : (jobs : Jobs) (a x : ℕ) (marks : List Bool) → IsValid jobs → AreMarked jobs a marks x
     → (list_any (is_from a marks) (prerequisites_of jobs x) ≡ true) ↔ Before jobs a x
 has_from jobs a x marks valid marked =
-    let nodes = prerequisites_of jobs x in
-    (λ found.
-        let any : Any (λ p. is_from a marks p ≡ true) nodes = Any-from_list_any (is_from a marks) nodes found in
-        let step : IsPrerequisite jobs any.1 x = (any.0, any.2, any.3) in
-        before_from jobs a any.1 x step (marked_is_from jobs a x any.1 marks marked (valid.smaller x any.1 step) any.4),
-    λ before.
-        let last = prerequisite_from jobs a x before in
-        let test = from_is_marked jobs a x last.node marks marked (valid.smaller x last.node last.edge) last.from in
-        list_any-from_Any (is_from a marks) nodes (last.edge.0, last.node, last.edge.1, last.edge.2, test))
+    let nodes = prerequisites_of jobs x in (
+      λ found.
+          let any : Any (λ p. is_from a marks p ≡ true) nodes = Any-from_list_any (is_from a marks) nodes found in
+          let step : IsPrerequisite jobs any.1 x = (any.0, any.2, any.3) in
+          before_from jobs a any.1 x step (marked_is_from jobs a x any.1 marks marked (valid.smaller x any.1 step) any.4),
+      λ before.
+          let last = prerequisite_from jobs a x before in
+          let test = from_is_marked jobs a x last.node marks marked (valid.smaller x last.node last.edge) last.from in
+          list_any-from_Any (is_from a marks) nodes (last.edge.0, last.node, last.edge.1, last.edge.2, test),
+    )
 
 -- one node more
 pub marked_more : (jobs : Jobs) (a x : ℕ) (marks : List Bool) (mark : Bool) → x < length marks → AreMarked jobs a marks x

@@ -1,9 +1,9 @@
 -- Two chosen chains between the same nodes are one.
-use Rattle.std.proofs.Common.{ℕ, ◌≡◌, ◌<◌, ◌≤◌, ◌⊎◌, List, [], ◌∷◌, length, refl, sym, ap, ap₂, subst, ◌∙◌, inl, inr, arith}
+use Rattle.std.proofs.Common.{ℕ, ◌≡◌, ◌<◌, List, [], ◌∷◌, length, refl, sym, ap, ap₂, subst, ◌∙◌, inl, inr, arith}
 use Rattle.std.proofs.lemmas.Bool.{cases_order, cases_lt}
 use Rattle.mk_jobs.specs.Jobs.{Jobs, IsValid}
-use Rattle.mk_jobs.specs.Chains.{last_of, IsEdgeByEdge, ChainTo}
-use Rattle.mk_order.specs.Chosen.{IsLeastFrom, AreLeastFrom, IsChosen, ChosenIsOne, ChosenIsChain}
+use Rattle.mk_jobs.specs.Chains.{last_of, IsEdgeByEdge}
+use Rattle.mk_order.specs.Chosen.{IsLeastFrom, AreLeastFrom, ChosenIsOne, ChosenIsChain}
 
 edges_of : (jobs : Jobs) (a p : ℕ) (nodes : List ℕ) → AreLeastFrom jobs a p nodes → IsEdgeByEdge jobs p nodes
 edges_of jobs a p [] least = tt

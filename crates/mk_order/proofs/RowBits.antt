@@ -1,9 +1,9 @@
 -- Bits of rows: merged, set, and found again in the table of rows.
-use Rattle.std.proofs.Common.{ℕ, zero, suc, ◌≡◌, ◌<◌, ◌≤◌, ◌+◌, ◌-◌, ◌*◌, ◌/◌, ◌%◌, ◌^◌, ◌↔◌, ◌⊎◌, List, [], ◌∷◌, ◌++◌, length, take, drop, set, get_or, max, bit_or, All, Contains, refl, sym, ap, ap₂, subst, ◌∙◌, inl, inr, arith, w64}
+use Rattle.std.proofs.Common.{ℕ, ◌≡◌, ◌<◌, ◌≤◌, ◌*◌, ◌/◌, ◌%◌, ◌^◌, ◌↔◌, ◌⊎◌, List, [], ◌∷◌, ◌++◌, length, set, get_or, max, bit_or, All, sym, ap, ap₂, subst, ◌∙◌, inl, inr, arith, w64}
 use Rattle.std.specs.Int.{bit_at}
 use Rattle.std.specs.Simd.Lanes.{zip2}
 use Rattle.std.proofs.lemmas.Bool.{cases_lt, cases_eq}
-use Rattle.std.proofs.lemmas.List.{get_or_past, get_or-set_same, get_or-set_other, get_or-take, get_or-drop, length-append}
+use Rattle.std.proofs.lemmas.List.{get_or_past, get_or-set_same, get_or-set_other}
 use Rattle.std.proofs.lemmas.List.Elements.{Contains-append_left, Contains-push, Contains-push_cases}
 use Rattle.std.proofs.lemmas.Nat.Bits.{bit_at_or, bit_at-lt, bit_at-zero, bit_at_set_same, bit_at_set_other}
 use Rattle.std.proofs.lemmas.Simd.{get_or-zip2, length-zip2}
@@ -23,18 +23,20 @@ either_one x y small less is = elim (cases_eq x 1) [ inl one ↦ inl one | inr o
 pub merged_bits : (xs ys : List ℕ) (n : ℕ) → length xs ≡ length ys → HasBit (zip2 bit_or xs ys) n ↔ (HasBit xs n ⊎ HasBit ys n)
 merged_bits xs ys n same = elim (cases_lt (n / 64) (length xs)) [
   | inl here ↦
-    let x = get_or xs (n / 64) 0 in
-    let y = get_or ys (n / 64) 0 in
-    let word : get_or (zip2 bit_or xs ys) (n / 64) 0 ≡ bit_or x y = get_or-zip2 bit_or xs ys (n / 64) 0 0 0 here (omega (arith, here, same)) in
-    let bit : bit_at (get_or (zip2 bit_or xs ys) (n / 64) 0) (n % 64) ≡ max (bit_at x (n % 64)) (bit_at y (n % 64)) =
-        ap (λ w. bit_at w (n % 64)) word ∙ bit_at_or x y (n % 64) in
-    let small = bit_at-lt x (n % 64) in
-    let less = bit_at-lt y (n % 64) in
-    (λ has. either_one (bit_at x (n % 64)) (bit_at y (n % 64)) small less (sym bit ∙ has),
-    λ has. elim has [ inl left ↦ bit ∙ omega (arith, left, less) | inr right ↦ bit ∙ omega (arith, right, small) ])
-  | inr past ↦
-    (λ has. absurd (no_bit (zip2 bit_or xs ys) n (omega (arith, past, length-zip2 bit_or xs ys same)) has),
-    λ has. elim has [ inl left ↦ absurd (no_bit xs n past left) | inr right ↦ absurd (no_bit ys n (omega (arith, past, same)) right) ])
+      let x = get_or xs (n / 64) 0 in
+      let y = get_or ys (n / 64) 0 in
+      let word : get_or (zip2 bit_or xs ys) (n / 64) 0 ≡ bit_or x y = get_or-zip2 bit_or xs ys (n / 64) 0 0 0 here (omega (arith, here, same)) in
+      let bit : bit_at (get_or (zip2 bit_or xs ys) (n / 64) 0) (n % 64) ≡ max (bit_at x (n % 64)) (bit_at y (n % 64)) =
+      ap (λ w. bit_at w (n % 64)) word ∙ bit_at_or x y (n % 64) in
+      let small = bit_at-lt x (n % 64) in
+      let less = bit_at-lt y (n % 64) in (
+        λ has. either_one (bit_at x (n % 64)) (bit_at y (n % 64)) small less (sym bit ∙ has),
+        λ has. elim has [ inl left ↦ bit ∙ omega (arith, left, less) | inr right ↦ bit ∙ omega (arith, right, small) ],
+      )
+  | inr past ↦ (
+    λ has. absurd (no_bit (zip2 bit_or xs ys) n (omega (arith, past, length-zip2 bit_or xs ys same)) has),
+    λ has. elim has [ inl left ↦ absurd (no_bit xs n past left) | inr right ↦ absurd (no_bit ys n (omega (arith, past, same)) right) ],
+  )
 ]
 
 -- the bits of a row in which one is set
@@ -47,29 +49,29 @@ set_bits row n k here =
     let low : n % 64 < 64 = omega arith in
     elim (cases_eq (k / 64) (n / 64)) [
       | inl same ↦
-        let at : get_or new (k / 64) 0 ≡ word = ap (λ i. get_or new i 0) same ∙ get_or-set_same row (n / 64) word 0 here in
-        elim (cases_eq (k % 64) (n % 64)) [
-          | inl low_same ↦
-            let bit : bit_at (get_or new (k / 64) 0) (k % 64) ≡ 1 = ap₂ bit_at at low_same ∙ bit_at_set_same w64 old (n % 64) low in
-            let one : k ≡ n = omega (arith, same, low_same) in
-            (λ has. inr one, λ has. bit)
-          | inr other ↦
-            let kept : bit_at (get_or new (k / 64) 0) (k % 64) ≡ bit_at (get_or row (k / 64) 0) (k % 64) =
+          let at : get_or new (k / 64) 0 ≡ word = ap (λ i. get_or new i 0) same ∙ get_or-set_same row (n / 64) word 0 here in
+          elim (cases_eq (k % 64) (n % 64)) [
+            | inl low_same ↦
+                let bit : bit_at (get_or new (k / 64) 0) (k % 64) ≡ 1 = ap₂ bit_at at low_same ∙ bit_at_set_same w64 old (n % 64) low in
+                let one : k ≡ n = omega (arith, same, low_same) in
+                (λ has. inr one, λ has. bit)
+            | inr other ↦
+                let kept : bit_at (get_or new (k / 64) 0) (k % 64) ≡ bit_at (get_or row (k / 64) 0) (k % 64) =
                 ap (λ w. bit_at w (k % 64)) at ∙ bit_at_set_other w64 old (n % 64) low (k % 64) other ∙ ap (λ i. bit_at (get_or row i 0) (k % 64)) (sym same) in
-            (λ has. inl (sym kept ∙ has), λ has. elim has [ inl before ↦ kept ∙ before | inr one ↦ absurd (other (ap (λ m. m % 64) one)) ])
-        ]
+                (λ has. inl (sym kept ∙ has), λ has. elim has [ inl before ↦ kept ∙ before | inr one ↦ absurd (other (ap (λ m. m % 64) one)) ])
+          ]
       | inr apart ↦
-        let kept : bit_at (get_or new (k / 64) 0) (k % 64) ≡ bit_at (get_or row (k / 64) 0) (k % 64) =
-            ap (λ w. bit_at w (k % 64)) (get_or-set_other row (n / 64) (k / 64) word 0 apart) in
-        (λ has. inl (sym kept ∙ has), λ has. elim has [ inl before ↦ kept ∙ before | inr one ↦ absurd (apart (ap (λ m. m / 64) one)) ])
+          let kept : bit_at (get_or new (k / 64) 0) (k % 64) ≡ bit_at (get_or row (k / 64) 0) (k % 64) =
+          ap (λ w. bit_at w (k % 64)) (get_or-set_other row (n / 64) (k / 64) word 0 apart) in
+          (λ has. inl (sym kept ∙ has), λ has. elim has [ inl before ↦ kept ∙ before | inr one ↦ absurd (apart (ap (λ m. m / 64) one)) ])
     ]
 
 -- a row of no bits
 pub clear_bits : (row : List ℕ) (n : ℕ) → All (λ word. word ≡ 0) row → HasBit row n → ⊥
 clear_bits row n clear has = elim (cases_lt (n / 64) (length row)) [
   | inl here ↦
-    let none : 0 ≡ 1 = sym (bit_at-zero (n % 64)) ∙ ap (λ word. bit_at word (n % 64)) (sym (clear (n / 64) 0 here)) ∙ has in
-    absurd (omega (arith, none))
+      let none : 0 ≡ 1 = sym (bit_at-zero (n % 64)) ∙ ap (λ word. bit_at word (n % 64)) (sym (clear (n / 64) 0 here)) ∙ has in
+      absurd (omega (arith, none))
   | inr past ↦ no_bit row n past has
 ]
 
@@ -86,21 +88,22 @@ pub gains_more : (width : ℕ) (done nodes old row merged new : List ℕ) (p : �
     → length row ≡ length (row_at width done p) → ((n : ℕ) → HasBit new n ↔ (HasBit merged n ⊎ (n ≡ p))) → Gains width done (nodes ++ p ∷ []) old new
 gains_more width done nodes old row merged new p gains is same set = λ n.
     let both : HasBit merged n ↔ (HasBit row n ⊎ HasBit (row_at width done p) n) =
-        subst (λ (ws : List ℕ). HasBit ws n ↔ (HasBit row n ⊎ HasBit (row_at width done p) n)) (sym is) (merged_bits row (row_at width done p) n same) in
-    (λ has. elim ((set n).0 has) [
-      | inl there ↦ elim (both.0 there) [
-        | inl before ↦ elim ((gains n).0 before) [ inl first ↦ inl first | inr reached ↦ inr (reached_before width done nodes p n reached) ]
-        | inr bit ↦ inr (record { node = p; there = Contains-push nodes p; bit = inr bit })
-      ]
-      | inr one ↦ inr (record { node = p; there = Contains-push nodes p; bit = inl one })
-    ],
-    λ has. elim has [
-      | inl first ↦ (set n).1 (inl (both.1 (inl ((gains n).1 (inl first)))))
-      | inr reached ↦ elim (Contains-push_cases nodes p reached.node reached.there) [
-        | inl before ↦ (set n).1 (inl (both.1 (inl ((gains n).1 (inr (record { node = reached.node; there = before; bit = reached.bit }))))))
-        | inr last ↦ elim reached.bit [
-          | inl one ↦ (set n).1 (inr (one ∙ sym last))
-          | inr bit ↦ (set n).1 (inl (both.1 (inr (subst (λ x. HasBit (row_at width done x) n) (sym last) bit))))
+    subst (λ (ws : List ℕ). HasBit ws n ↔ (HasBit row n ⊎ HasBit (row_at width done p) n)) (sym is) (merged_bits row (row_at width done p) n same) in (
+      λ has. elim ((set n).0 has) [
+        | inl there ↦ elim (both.0 there) [
+          | inl before ↦ elim ((gains n).0 before) [ inl first ↦ inl first | inr reached ↦ inr (reached_before width done nodes p n reached) ]
+          | inr bit ↦ inr (record { node = p; there = Contains-push nodes p; bit = inr bit })
         ]
-      ]
-    ])
+        | inr one ↦ inr (record { node = p; there = Contains-push nodes p; bit = inl one })
+      ],
+      λ has. elim has [
+        | inl first ↦ (set n).1 (inl (both.1 (inl ((gains n).1 (inl first)))))
+        | inr reached ↦ elim (Contains-push_cases nodes p reached.node reached.there) [
+          | inl before ↦ (set n).1 (inl (both.1 (inl ((gains n).1 (inr (record { node = reached.node; there = before; bit = reached.bit }))))))
+          | inr last ↦ elim reached.bit [
+            | inl one ↦ (set n).1 (inr (one ∙ sym last))
+            | inr bit ↦ (set n).1 (inl (both.1 (inr (subst (λ x. HasBit (row_at width done x) n) (sym last) bit))))
+          ]
+        ]
+      ],
+    )

@@ -1,5 +1,5 @@
 -- Rows of bits, kept in words of 64: what the table of rows holds inside.
-use Rattle.std.specs.Prelude.{ℕ, ◌≡◌, ◌<◌, ◌≤◌, ◌↔◌, ◌⊎◌, ◌+◌, ◌*◌, ◌/◌, ◌%◌, List, length, take, drop, get_or, Contains}
+use Rattle.std.specs.Prelude.{ℕ, ◌≡◌, ◌<◌, ◌≤◌, ◌↔◌, ◌⊎◌, ◌*◌, ◌/◌, ◌%◌, List, length, take, drop, get_or, Contains}
 use Rattle.std.specs.Int.{bit_at}
 use Rattle.mk_jobs.specs.Jobs.{Jobs, Before, node_count}
 

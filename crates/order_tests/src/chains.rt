@@ -18,8 +18,14 @@ fn takes_the_least_way(rt: HostRuntime) -> Result<(), Halt> {
     let alloc = rt.alloc();
     let jobs = jobs_of(alloc, TWO_WAYS, b"s", b"all")?;
     assert_eq!(rt; jobs.count(), 5);
-    assert_eq!(rt; walked(alloc, &jobs, 0, 4)?.as_slice(), [0, 1, 3, 4].as_slice());
-    assert_eq!(rt; looked_up(alloc, &jobs, 0, 4)?.as_slice(), [0, 1, 3, 4].as_slice());
+    assert_eq!(rt;
+        walked(alloc, &jobs, 0, 4)?.as_slice(),
+        [0, 1, 3, 4].as_slice()
+    );
+    assert_eq!(rt;
+        looked_up(alloc, &jobs, 0, 4)?.as_slice(),
+        [0, 1, 3, 4].as_slice()
+    );
     assert_eq!(rt; walked(alloc, &jobs, 1, 2)?.as_slice(), [].as_slice());
     assert_eq!(rt; looked_up(alloc, &jobs, 1, 2)?.as_slice(), [].as_slice());
     assert_eq!(rt; looked_up(alloc, &jobs, 0, 0)?.as_slice(), [].as_slice());

@@ -1,4 +1,4 @@
-use Rattle.std.proofs.Common.{◌≡◌, ◌∙◌, sym, ap, subst}
+use Rattle.std.proofs.Common.{◌∙◌, sym, subst}
 use Rattle.mk_jobs.specs.Jobs.{Jobs, Before}
 use Rattle.mk_order.specs.Chosen.{IsChosen}
 use Rattle.mk_order.proofs.Choosing.{IsBuilt, built_more, built_all}

@@ -1,7 +1,7 @@
-use Rattle.std.proofs.Common.{ℕ, ◌≡◌, ◌<◌, ◌≤◌, ◌+◌, ◌∙◌, ◌∷◌, [], ◌++◌, take, length, get_or, sym, ap, subst, arith, All, List, Option, Some}
+use Rattle.std.proofs.Common.{ℕ, ◌≡◌, ◌<◌, ◌+◌, ◌∙◌, ◌∷◌, [], ◌++◌, take, get_or, sym, ap, subst, All, List, Option, Some}
 use Rattle.std.proofs.lemmas.Bool.{both_ways}
 use Rattle.std.proofs.lemmas.List.{take_more, take_all}
-use Rattle.mk_jobs.specs.Jobs.{Jobs, node_count, prerequisites_of}
+use Rattle.mk_jobs.specs.Jobs.{Jobs, node_count}
 use Rattle.mk_order.specs.Paths.{IsFrom}
 use Rattle.mk_order.proofs.Edges.{all_below}
 use Rattle.mk_order.proofs.Choosing.{IsLeastOf, least_taken, least_kept, least_of_all, not_less}
@@ -26,21 +26,24 @@ loop-p-preserved g c =
     let same = c.loop-p.invariant.1 in
     let more = take_more nodes i 0 c.loop-p-test.true in
     let step : (o : Option ℕ) → c.if-is_less.least ≡ o → IsLeastOf jobs a (take i nodes ++ p ∷ []) o → IsLeastOf jobs a (take (i + 1) nodes) c.if-is_less.least =
-        λ o is found. subst (IsLeastOf jobs a (take (i + 1) nodes)) (sym is) (subst (λ (ns : List ℕ). IsLeastOf jobs a ns o) (sym more) found) in
+    λ o is found. subst (IsLeastOf jobs a (take (i + 1) nodes)) (sym is) (subst (λ (ns : List ℕ). IsLeastOf jobs a ns o) (sym more) found) in
     elim c.if-is_less.branch [
       | then-is_less+then-is_from w ↦
-        let from = subst (λ (j : Jobs). IsFrom j a p) same (w.is_from.ensures.exact.0 w.if-is_from.true) in
-        (step (Some p) w.least-is (least_taken jobs a p (take i nodes) least so_far from (c.is_less.ensures.0 w.if-is_less.true)),
-        ap g.B.Before.jobs w.before-is ∙ w.is_from.ensures.keeps ∙ same)
+          let from = subst (λ (j : Jobs). IsFrom j a p) same (w.is_from.ensures.exact.0 w.if-is_from.true) in (
+            step (Some p) w.least-is (least_taken jobs a p (take i nodes) least so_far from (c.is_less.ensures.0 w.if-is_less.true)),
+            ap g.B.Before.jobs w.before-is ∙ w.is_from.ensures.keeps ∙ same,
+          )
       | else-is_less w ↦ elim w.else-is_less.branch [
         | else-is_less-via-then-is_less+else-is_from w' ↦
-          let not_from = λ (from : IsFrom jobs a p). both_ways w'.is_from.result w'.if-is_from.false (w'.is_from.ensures.exact.1 (subst (λ (j : Jobs). IsFrom j a p) (sym same) from)) in
-          (step least w.least-is (least_kept jobs a p (take i nodes) least so_far (λ from. absurd (not_from from))),
-          ap g.B.Before.jobs (w.before-is ∙ w'.before-is) ∙ w'.is_from.ensures.keeps ∙ same)
+            let not_from = λ (from : IsFrom jobs a p). both_ways w'.is_from.result w'.if-is_from.false (w'.is_from.ensures.exact.1 (subst (λ (j : Jobs). IsFrom j a p) (sym same) from)) in (
+              step least w.least-is (least_kept jobs a p (take i nodes) least so_far (λ from. absurd (not_from from))),
+              ap g.B.Before.jobs (w.before-is ∙ w'.before-is) ∙ w'.is_from.ensures.keeps ∙ same,
+            )
         | else-is_less-via-else-is_less w' ↦
-          let other = not_less p least (λ less. both_ways c.is_less.result w'.if-is_less.false (c.is_less.ensures.1 less)) in
-          (step least w.least-is (least_kept jobs a p (take i nodes) least so_far (λ from. other)),
-          ap g.B.Before.jobs (w.before-is ∙ w'.before-is) ∙ same)
+            let other = not_less p least (λ less. both_ways c.is_less.result w'.if-is_less.false (c.is_less.ensures.1 less)) in (
+              step least w.least-is (least_kept jobs a p (take i nodes) least so_far (λ from. other)),
+              ap g.B.Before.jobs (w.before-is ∙ w'.before-is) ∙ same,
+            )
       ]
     ]
 

@@ -20,7 +20,7 @@ loop-p-preserved c =
     let part : take (start + width - start) (drop start done) ≡ row_at width done p = ap (λ k. take k (drop start done)) (omega arith) in
     let long : length (row_at width done p) ≡ width = length-take-le width (drop start done) (omega (arith, ends, length-drop start done)) in
     let gains = gains_more width done (take i nodes) c.args.row.now c.loop-p.row c.merge.new.into c.set_bit.new.row p c.loop-p.invariant
-        (c.merge.ensures ∙ ap (zip2 bit_or c.loop-p.row) part) (omega (arith, long)) c.set_bit.ensures in
+    (c.merge.ensures ∙ ap (zip2 bit_or c.loop-p.row) part) (omega (arith, long)) c.set_bit.ensures in
     subst (λ (ns : List ℕ). Gains width done ns c.args.row.now c.set_bit.new.row) (sym (take_more nodes i 0 c.loop-p-test.true)) gains
 
 pub returns : goal.returns

@@ -23,6 +23,6 @@ returns c =
     let whole : length ys / 8 * 8 ≡ 8 * m = ap (λ k. k * 8) (sym c.as_chunks.ensures.front_len) ∙ mul_comm m 8 in
     let rest = rest_at (8 * m) (length c.loop-i.into) _ ys c.as_chunks.result.1.now c.as_chunks.ensures.back whole (omega arith) in
     let on = merged_on (8 * m) n n (8 * m + n) xs ys c.loop-i.into c.merge_words.new.into (omega arith) (omega arith)
-        (c.loop-i.invariant ∙ ap (λ k. merged (8 * k) xs ys) here) (omega (arith, c.as_chunks.ensures.front_len)) (omega arith)
-        (c.merge_words.ensures ∙ ap (zip2 bit_or (mid_of (8 * m) n c.loop-i.into)) rest) in
+    (c.loop-i.invariant ∙ ap (λ k. merged (8 * k) xs ys) here) (omega (arith, c.as_chunks.ensures.front_len)) (omega arith)
+    (c.merge_words.ensures ∙ ap (zip2 bit_or (mid_of (8 * m) n c.loop-i.into)) rest) in
     merged_end (8 * m + n) xs ys _ on (omega (arith, c.as_chunks.ensures.front_len)) (omega arith)
