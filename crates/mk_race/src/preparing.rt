@@ -33,7 +33,12 @@ pub fn prepare(alloc: Global, input: &Input<'_>) -> Result<Prepared, Halt>
     ensures { Answers result (IsPrepared (texts_of input.now) input.now.footprints.now) }
 {
     let planned = plan_of(alloc, input)?;
-    let Planned { root, listing, book, plan } = planned;
+    let Planned {
+        root,
+        listing,
+        book,
+        plan,
+    } = planned;
     let jobs = jobs_of(alloc, &root, &book, plan, input.footprints)?;
     Ok(Prepared {
         root,

@@ -54,9 +54,21 @@ fn replay_on(
 ) -> Result<Played, Halt>
     ensures { Answers result (IsPlayedOn prepared.now log.now limit tie) }
 {
-    let Prepared { root, listing, jobs } = prepared;
+    let Prepared {
+        root,
+        listing,
+        jobs,
+    } = prepared;
     let log = read_log(alloc, log, jobs, root)?;
-    match replay(alloc, jobs, listing, log.store, limit, tie, log.events.as_slice()) {
+    match replay(
+        alloc,
+        jobs,
+        listing,
+        log.store,
+        limit,
+        tie,
+        log.events.as_slice(),
+    ) {
         Ok(replayed) => Ok(Played::Allowed(replayed)),
         Err(Stopped::Refused { place, refusal, .. }) => Ok(Played::NotAllowed { place, refusal }),
         Err(Stopped::Memory) => Err(Halt::Memory),
