@@ -10,10 +10,10 @@ use Rattle.mk_text.specs.Spelling.{root_of}
 use Rattle.mk_macro.specs.Operands.{operand_macros}
 use Rattle.mk_rules.specs.Book.{Book, targets_of}
 use Rattle.mk_graph.specs.Answer.{Comes, IsAnswer, too_large, no_rule, cycle, planned}
-use Rattle.mk_jobs.specs.Plan.{Node, Plan}
+use Rattle.mk_jobs.specs.Plan.{Node, Plan, nobody}
 use Rattle.mk_foot.specs.Attached.{attached, first_fault, jobs_with}
 use Rattle.mk_foot.specs.Footprints.{Footprints}
-use Rattle.mk_jobs.specs.Jobs.{Jobs, is_listed, name_of, node_count, nobody}
+use Rattle.mk_jobs.specs.Jobs.{Jobs, is_listed, name_of, node_count}
 use Rattle.mk_race.specs.Laws.{JobsAreListed, StoreAgrees}
 use Rattle.mk_race.specs.Settings.{goals_of}
 use Rattle.mk_race.specs.Stages.{IsPlanned, Texts, Then, ThenAny, with_graph, with_jobs}
