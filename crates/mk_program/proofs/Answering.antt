@@ -1,5 +1,5 @@
 -- Lemmas on answers over texts that are the same.
-use Rattle.std.proofs.Common.{◌≡◌, ℕ, Bool, List, Err, subst}
+use Rattle.std.proofs.Common.{◌≡◌, ℕ, Bool, List, Ok, Err, subst}
 use Rattle.mk_name.specs.Gives.{HaltsAmong}
 use Rattle.mk_name.specs.Shown.{refused_text}
 use Rattle.mk_name.specs.Told.{Told}
@@ -7,7 +7,10 @@ use Rattle.mk_name.specs.declared.fault.Halt.{Halt}
 use Rattle.mk_name.specs.declared.fault.Halt.TheVariants.{Fault}
 use Rattle.mk_race.specs.Played.{IsPlayed}
 use Rattle.mk_race.specs.Stages.{Texts}
-use Rattle.mk_program.specs.Answers.{IsReplayAnswer}
+use Rattle.mk_race.specs.declared.replaying.Played.{Played}
+use Rattle.mk_race.specs.declared.replaying.Played.TheVariants.{Allowed, NotAllowed}
+use Rattle.mk_program.specs.Answers.{IsReplayAnswer, status_of}
+use Rattle.mk_program.specs.OutcomeText.{IsOutcomeText}
 use Rattle.mk_program.specs.declared.statuses.Status.{Status}
 use Rattle.mk_program.specs.declared.statuses.Status.TheVariants.{Refused}
 
@@ -34,3 +37,12 @@ pub refused_is : (texts : Texts) (footprints log : List ℕ) (limit limit' : ℕ
 refused_is texts footprints log limit limit' tie halt fault status text played is same ends told =
     let at : HaltsAmong (Fault fault) (IsPlayed texts footprints log limit' tie) = subst (λ (h : Halt). HaltsAmong h (IsPlayed texts footprints log limit' tie)) is played in
     rw ends (fault, subst (λ (n : ℕ). IsPlayed texts footprints log n tie (Err fault)) same at, told)
+
+-- what is told of a log that was played is its answer
+pub outcome_is : (texts : Texts) (footprints log : List ℕ) (limit limit' : ℕ) (tie : Bool) (played : Played) (status : Status) (text : List ℕ)
+    → IsPlayed texts footprints log limit' tie (Ok played) → limit' ≡ limit → status ≡ status_of played → IsOutcomeText played text
+    → IsReplayAnswer texts footprints log limit tie status text
+outcome_is texts footprints log limit limit' tie (Allowed replayed) status text played same ends told =
+    rw ends (replayed, subst (λ (n : ℕ). IsPlayed texts footprints log n tie (Ok (Allowed replayed))) same played, told)
+outcome_is texts footprints log limit limit' tie (NotAllowed place refusal) status text played same ends told =
+    rw ends (place, refusal, subst (λ (n : ℕ). IsPlayed texts footprints log n tie (Ok (NotAllowed place refusal))) same played, told)

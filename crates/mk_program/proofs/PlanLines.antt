@@ -6,12 +6,11 @@ use Rattle.std.specs.List.{enumerate_from, flat_map}
 use Rattle.std.proofs.lemmas.Bool.{or_right}
 use Rattle.std.proofs.lemmas.List.{take_more}
 use Rattle.std.proofs.lemmas.Grind.{flat_map-append}
-use Rattle.std.proofs.lemmas.Option.{get_or_from_slice_get, none-some, same_Some, slice_get-get_or, slice_get_cases}
+use Rattle.std.proofs.lemmas.Option.{none-some, same_Some, slice_get-get_or, slice_get_cases}
 use Rattle.mk_name.specs.Names.{Name, has}
 use Rattle.mk_name.specs.Shown.{shown}
-use Rattle.mk_jobs.specs.Plan.{Node}
+use Rattle.mk_jobs.specs.Plan.{Node, node_at, nobody}
 use Rattle.mk_jobs.specs.declared.maker.Maker.{Maker}
-use Rattle.mk_jobs.specs.declared.maker.Maker.TheVariants.{Nothing}
 use Rattle.mk_program.specs.PlanText.{behind_space, kind_word, lines_of, name_at, needs, node_line}
 
 -- what is not found stands past the end
@@ -46,13 +45,9 @@ lines_step nodes i before after within so_far line = go (slice_get nodes i) refl
     go None none line = absurd (omega (arith, none_past nodes i none))
     go (Some node) is line = line ∙ ap (λ l. l ++ node_line nodes i node) so_far ∙ sym (lines_more nodes i node is)
 
--- some node, to name what stands past the end
-abbrev pub no_node : Node
-no_node = record { name = []; prerequisites = []; maker = Nothing; phony = false; listed = false }
-
 -- a line that is told in parts is the node's
 pub line_told : (nodes : List Node) (i : ℕ) (maker : Maker) (name : Name) (prerequisites : List ℕ) (old head new : List ℕ)
-    → ((d : Node) → maker ≡ (get_or nodes i d).maker) → ((d : Node) → name ≡ (get_or nodes i d).name) → ((d : Node) → prerequisites ≡ (get_or nodes i d).prerequisites)
+    → maker ≡ (node_at nodes i).maker → name ≡ (node_at nodes i).name → prerequisites ≡ (node_at nodes i).prerequisites
     → head ≡ decimal i ++ (32 ∷ (kind_word maker ++ 32 ∷ []))
     → new ≡ (((old ++ head) ++ shown name) ++ needs nodes prerequisites) ++ 10 ∷ []
     → IfSome (slice_get nodes i) (λ node. new ≡ old ++ node_line nodes i node)
@@ -61,16 +56,18 @@ line_told nodes i maker name prerequisites old head new m n p h e = go (slice_ge
     go : (o : Option Node) → slice_get nodes i ≡ o → IfSome o (λ node. new ≡ old ++ node_line nodes i node)
     go None is = tt
     go (Some node) is =
-        let at : get_or nodes i node ≡ node = get_or_from_slice_get nodes i node node is in
-        let maker_is : maker ≡ node.maker = m node ∙ ap (λ (x : Node). x.maker) at in
-        let name_is : name ≡ node.name = n node ∙ ap (λ (x : Node). x.name) at in
-        let prerequisites_is : prerequisites ≡ node.prerequisites = p node ∙ ap (λ (x : Node). x.prerequisites) at in
+        let at : node_at nodes i ≡ node = ap (λ (o : Option Node). unwrap_or o nobody) is in
+        let maker_is : maker ≡ node.maker = m ∙ ap (λ (x : Node). x.maker) at in
+        let name_is : name ≡ node.name = n ∙ ap (λ (x : Node). x.name) at in
+        let prerequisites_is : prerequisites ≡ node.prerequisites = p ∙ ap (λ (x : Node). x.prerequisites) at in
         rw (e, h, maker_is, name_is, prerequisites_is) (simp append_assoc)
 
 -- the name of a node is the one at its number
-pub name_at_is : (nodes : List Node) (n : ℕ) (name : Name) → n < length nodes → ((d : Node) → name ≡ (get_or nodes n d).name) → name_at nodes n ≡ name
+pub name_at_is : (nodes : List Node) (n : ℕ) (name : Name) → n < length nodes → name ≡ (node_at nodes n).name → name_at nodes n ≡ name
 name_at_is nodes n name within is =
-    ap (λ (o : Option Node). unwrap_or (option_map (λ node. node.name) o) []) (slice_get-get_or nodes n no_node within) ∙ sym (is no_node)
+    let there = slice_get-get_or nodes n nobody within in
+    ap (λ (o : Option Node). unwrap_or (option_map (λ node. node.name) o) []) there
+    ∙ sym (is ∙ ap (λ (o : Option Node). (unwrap_or o nobody).name) there)
 
 -- what stands at a place stands in the list
 pub in_at : (xs : List ℕ) (i d : ℕ) → i < length xs → has nat_eq xs (get_or xs i d) ≡ true

@@ -10,7 +10,7 @@ use Rattle.mk_race.specs.Played.{IsPlayed}
 use Rattle.mk_race.specs.Stages.{IsPlanned, Texts}
 use Rattle.mk_race.specs.declared.replaying.Played.{Played}
 use Rattle.mk_race.specs.declared.replaying.Played.TheVariants.{Allowed, NotAllowed}
-use Rattle.mk_race.specs.declared.stages.Planned.{Planned}
+use Rattle.mk_race.specs.declared.planning.Planned.{Planned}
 use Rattle.mk_sched.specs.declared.refusal.Refusal.{Refusal}
 use Rattle.mk_sched.specs.declared.replay.Replayed.{Replayed}
 use Rattle.mk_program.specs.CommandLine.{Asks, HasMistake, asked, wrong}

@@ -12,7 +12,7 @@ pub returns : goal.returns
 returns c =
     let nodes = c.args.plan.now.nodes in
     let head = c.in_ok-extend_from_slice.ensures.items in
-    let named = c.in_ok-push_shown.ensures ∙ ap (λ (l : List ℕ). l ++ shown c.as_bytes-2.result.now) head
+    let named = c.in_ok-push_shown.ensures.shown ∙ ap (λ (l : List ℕ). l ++ shown c.as_bytes-2.result.now) head
     ∙ ap (λ (name : List ℕ). (c.args.out.now.items ++ c.as_bytes.result.now) ++ shown name) c.as_bytes-2.ensures in
     let needed = c.in_ok-push_needs.ensures ∙ ap (λ (l : List ℕ). l ++ needs nodes c.prerequisites.result.now) named in
     let told = c.as_bytes.ensures.value ∙ c.in_ok-head.ensures.ok ∙ ap (λ (word : List ℕ). decimal c.args.number ++ 32 ∷ (word ++ 32 ∷ [])) c.kind_word-kind.ensures in
