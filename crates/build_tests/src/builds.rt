@@ -1,4 +1,7 @@
 //! What several tests begin with, and how they show what comes out: names, stores, events, and the jobs of a build below `/w`.
+ghost use Rattle.std.specs.Prelude.{◌<◌};
+ghost use Rattle.mk_jobs.specs.Jobs.{node_count};
+
 use crate::made::contents_of;
 use language_tests::made::name_of;
 use mk_jobs::jobs::Jobs;
@@ -8,6 +11,8 @@ use mk_name::report::refused_report;
 use mk_race::input::Input;
 use mk_race::preparing::prepare;
 use mk_sched::event::Event;
+use mk_sched::file::File;
+use mk_sched::replay::Replayed;
 use mk_sched::store::Store;
 use std::alloc::{AllocError, Global};
 
@@ -26,7 +31,8 @@ pub(crate) fn jobs_of(
         listing,
         footprints,
     };
-    prepare(alloc, &input)
+    let prepared = prepare(alloc, &input)?;
+    Ok(prepared.jobs)
 }
 
 /// Puts a file into a store.
@@ -98,7 +104,8 @@ fn look_of(alloc: Global, node: u32, path: &[u8], bytes: &[u8]) -> Result<Event,
     Ok(Event::Look(node, path, Some(contents)))
 }
 
-fn put_of(
+/// The put of a file.
+pub(crate) fn put_of(
     alloc: Global,
     node: u32,
     path: &[u8],
@@ -122,19 +129,60 @@ pub(crate) fn told_halt(alloc: Global, halt: &Halt) -> Result<Vec<u8>, AllocErro
 pub(crate) fn live_nodes(alloc: Global, jobs: &Jobs) -> Result<Vec<u8>, AllocError> {
     let mut out = Vec::new(alloc);
     for n in 0..jobs.count() {
-        if !jobs.is_live(n) {
-            continue;
+        if jobs.is_live(n) {
+            push_node(alloc, &mut out, jobs, n)?;
         }
-        let number = format!(in alloc; "{n} ")?;
-        out.extend_from_slice(number.as_bytes())?;
-        out.extend_from_slice(jobs.name(n).as_bytes())?;
-        out.extend_from_slice(b" reads")?;
-        push_names(&mut out, jobs.reads(n))?;
-        out.extend_from_slice(b" writes")?;
-        push_names(&mut out, jobs.writes(n))?;
-        out.push(b'\n')?;
     }
     Ok(out)
+}
+
+/// Adds the line of a node, whose number is below the count of nodes.
+fn push_node(alloc: Global, out: &mut Vec<u8>, jobs: &Jobs, n: u32) -> Result<(), AllocError>
+    requires { n < node_count jobs.now }
+{
+    push_number(alloc, out, u64::from(n))?;
+    out.push(b' ')?;
+    out.extend_from_slice(jobs.name(n).as_bytes())?;
+    out.extend_from_slice(b" reads")?;
+    push_names(out, jobs.reads(n))?;
+    out.extend_from_slice(b" writes")?;
+    push_names(out, jobs.writes(n))?;
+    out.push(b'\n')?;
+    Ok(())
+}
+
+/// What a run leaves: whether it is complete, and its files.
+pub(crate) fn told_run(alloc: Global, replayed: &Replayed) -> Result<Vec<u8>, AllocError> {
+    let word = if replayed.complete {
+        b"complete".as_slice()
+    } else {
+        b"incomplete".as_slice()
+    };
+    told_files(alloc, word, &replayed.store)
+}
+
+/// A word, and the files of a store.
+pub(crate) fn told_files(alloc: Global, word: &[u8], store: &Store) -> Result<Vec<u8>, AllocError> {
+    let mut out = Vec::from_slice(alloc, word)?;
+    for (name, file) in store.files() {
+        push_file(alloc, &mut out, name, file)?;
+    }
+    Ok(out)
+}
+
+fn push_file(alloc: Global, out: &mut Vec<u8>, name: &Name, file: &File) -> Result<(), AllocError> {
+    out.extend_from_slice(b"; ")?;
+    out.extend_from_slice(name.as_bytes())?;
+    out.push(b' ')?;
+    push_number(alloc, out, file.time())?;
+    out.push(b' ')?;
+    out.extend_from_slice(file.contents().as_bytes())
+}
+
+/// Adds a number in decimal.
+pub(crate) fn push_number(alloc: Global, out: &mut Vec<u8>, number: u64) -> Result<(), AllocError> {
+    let text = format!(in alloc; "{number}")?;
+    out.extend_from_slice(text.as_bytes())
 }
 
 /// Adds names, each behind a blank.

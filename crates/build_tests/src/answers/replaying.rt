@@ -1,10 +1,9 @@
 //! Logs that are replayed on a build.
-use crate::builds::told_halt;
+use crate::builds::{told_halt, told_run};
 use mk_name::fault::Halt;
 use mk_race::input::Input;
 use mk_race::replaying::{Played, replay_log};
 use std::alloc::{AllocError, Global};
-use std::test::Fail;
 
 const MAKEFILE: &str = "a.o: a.c\n\tcc\n";
 
@@ -20,48 +19,44 @@ const ENDED: &str =
 /// What is said of a log.
 fn said_of(alloc: Global, played: Result<Played, Halt>) -> Result<Vec<u8>, AllocError> {
     match played {
-        Ok(Played::Allowed(replayed)) => {
-            let complete = replayed.complete;
-            let mut said = format!(in alloc; "complete {complete}\n")?;
-            for (_name, file) in replayed.store.files() {
-                let time = file.time();
-                said.push_str(format!(in alloc; "{time}\n")?.as_str())?;
-            }
-            Ok(said.into_bytes())
-        }
-        Ok(Played::NotAllowed { place, refusal }) => {
-            let word = refusal.word();
-            Ok(format!(in alloc; "{word} at {place}\n")?.into_bytes())
-        }
+        Ok(played) => told_play(alloc, &played),
         Err(halt) => told_halt(alloc, &halt),
     }
 }
 
-#[test]
-fn replays_logs(rt: HostRuntime) -> Result<(), Fail> {
-    let alloc = rt.alloc();
-    for (events, limit, tie, want) in [
-        ([BEGUN, ENDED], 1, false, "complete true\n1\n2\n"),
-        ([BEGUN, ""], 1, false, "complete false\n1\n"),
-        ([BEGUN, ""], 0, false, "TooManyJobs at 2\n"),
-        ([ENDED, ""], 1, true, "NotRunning at 1\n"),
-        ([BEGUN, "{\n"], 1, true, "refused\nF24 BadLog\nat log 4\n"),
-    ] {
-        let mut log = Vec::from_slice(alloc, OPENING.as_bytes())?;
-        for part in events {
-            log.extend_from_slice(part.as_bytes())?;
+fn told_play(alloc: Global, played: &Played) -> Result<Vec<u8>, AllocError> {
+    match played {
+        Played::Allowed(replayed) => told_run(alloc, replayed),
+        Played::NotAllowed { place, refusal } => {
+            let word = refusal.word();
+            Ok(format!(in alloc; "{word} at {place}")?.into_bytes())
         }
-        let input = Input {
-            base: &[],
-            makefile: MAKEFILE.as_bytes(),
-            listing: b"a.c\n",
-            footprints: FOOTPRINTS.as_bytes(),
-            root: b"/w",
-            operands: &[],
-        };
-        let played = replay_log(alloc, &input, log.as_slice(), limit, tie);
-        let said = said_of(alloc, played)?;
+    }
+}
+
+#[test]
+fn replays_logs(rt: HostRuntime) -> Result<(), AllocError> {
+    for (events, want) in [
+        (ENDED, "complete; a.c 1 a; a.o 2 o"),
+        ("", "incomplete; a.c 1 a"),
+        ("{\"do\":\"start\",\"node\":\"a.o\"}\n", "TwicePassed at 3"),
+        ("{\n", "refused\nF24 BadLog\nat log 4\n"),
+    ] {
+        let log = format!(in rt.alloc(); "{OPENING}{BEGUN}{events}")?;
+        let said = said_of_log(rt.alloc(), log.as_bytes())?;
         assert_eq!(rt; said.as_slice(), want.as_bytes());
     }
     Ok(())
+}
+
+fn said_of_log(alloc: Global, log: &[u8]) -> Result<Vec<u8>, AllocError> {
+    let input = Input {
+        base: &[],
+        makefile: MAKEFILE.as_bytes(),
+        listing: b"a.c\n",
+        footprints: FOOTPRINTS.as_bytes(),
+        root: b"/w",
+        operands: &[],
+    };
+    said_of(alloc, replay_log(alloc, &input, log, 1, false))
 }

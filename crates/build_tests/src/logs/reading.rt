@@ -1,5 +1,5 @@
 //! What is read of logs.
-use crate::builds::{jobs_of, push_names, told_halt};
+use crate::builds::{jobs_of, push_number, told_halt};
 use mk_jobs::jobs::Jobs;
 use mk_log::log::Log;
 use mk_log::reading::read_log;
@@ -219,6 +219,7 @@ fn told_log(alloc: Global, log: &Log) -> Result<Vec<u8>, AllocError> {
 fn push_file(alloc: Global, out: &mut Vec<u8>, name: &Name, file: &File) -> Result<(), AllocError> {
     out.extend_from_slice(b"file ")?;
     out.extend_from_slice(name.as_bytes())?;
+    out.push(b' ')?;
     push_number(alloc, out, file.time())?;
     push_contents(out, file.contents())?;
     out.push(b'\n')?;
@@ -227,6 +228,7 @@ fn push_file(alloc: Global, out: &mut Vec<u8>, name: &Name, file: &File) -> Resu
 
 fn push_event(alloc: Global, out: &mut Vec<u8>, event: &Event) -> Result<(), AllocError> {
     out.extend_from_slice(word_of(event).as_bytes())?;
+    out.push(b' ')?;
     push_number(alloc, out, u64::from(event.node()))?;
     match event {
         Event::Look(_, path, seen) => {
@@ -237,6 +239,7 @@ fn push_event(alloc: Global, out: &mut Vec<u8>, event: &Event) -> Result<(), All
         }
         Event::Put(_, path, contents, time) => {
             push_name(out, path)?;
+            out.push(b' ')?;
             push_number(alloc, out, *time)?;
             push_contents(out, contents)?;
         }
@@ -261,11 +264,6 @@ fn word_of(event: &Event) -> &'static str {
 fn push_name(out: &mut Vec<u8>, name: &Name) -> Result<(), AllocError> {
     out.push(b' ')?;
     out.extend_from_slice(name.as_bytes())
-}
-
-fn push_number(alloc: Global, out: &mut Vec<u8>, number: u64) -> Result<(), AllocError> {
-    let text = format!(in alloc; " {number}")?;
-    out.extend_from_slice(text.as_bytes())
 }
 
 /// What a file holds, with a period at the end.

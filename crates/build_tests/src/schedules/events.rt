@@ -1,9 +1,10 @@
 //! Events, what files hold, and refusals.
+use crate::builds::put_of;
 use crate::made::contents_of;
-use language_tests::made::name_of;
+use mk_sched::contents::Contents;
 use mk_sched::event::Event;
 use mk_sched::refusal::Refusal;
-use std::test::Fail;
+use std::alloc::{AllocError, Global};
 
 /// The time of a put.
 fn time_of(event: &Event) -> u64 {
@@ -13,22 +14,35 @@ fn time_of(event: &Event) -> u64 {
     }
 }
 
+/// The node of an event that is given another time.
+fn node_later(event: Event) -> u32 {
+    event.at_time(2).node()
+}
+
 #[test]
-fn tells_nodes_and_times(rt: HostRuntime) -> Result<(), Fail> {
-    let name = name_of(rt.alloc(), b"a.o")?;
-    let contents = contents_of(rt.alloc(), b"og")?;
-    let copy = contents.copy(rt.alloc())?;
-    assert_eq!(rt; copy.as_bytes(), b"og".as_slice());
-    let put = Event::Put(3, name, contents, 9).at_time(2);
+fn tells_nodes(rt: HostRuntime) {
+    assert_eq!(rt; node_later(Event::Skip(0)), 0);
+    assert_eq!(rt; node_later(Event::Start(4)), 4);
+    assert_eq!(rt; node_later(Event::Finish(7)), 7);
+}
+
+#[test]
+fn tells_times_of_puts(rt: HostRuntime) -> Result<(), AllocError> {
+    let put = put_of(rt.alloc(), 3, b"a.o", b"og", 9)?.at_time(2);
     assert_eq!(rt; put.node(), 3);
     assert_eq!(rt; time_of(&put), 2);
-    for (event, node) in [
-        (Event::Skip(0), 0),
-        (Event::Start(4), 4),
-        (Event::Finish(7), 7),
-    ] {
-        assert_eq!(rt; event.at_time(2).node(), node);
-    }
+    Ok(())
+}
+
+fn copied(alloc: Global, text: &[u8]) -> Result<Contents, AllocError> {
+    let contents = contents_of(alloc, text)?;
+    contents.copy(alloc)
+}
+
+#[test]
+fn copies_contents(rt: HostRuntime) -> Result<(), AllocError> {
+    let copy = copied(rt.alloc(), b"og")?;
+    assert_eq!(rt; copy.as_bytes(), b"og".as_slice());
     Ok(())
 }
 

@@ -1,107 +1,94 @@
-//! Lists of events, and whether they are a run.
-mod allowed;
-mod refused;
-mod stores;
+//! Lists of events, and whether they are a run. The cases of the program show the rest, but for a number of no node, which
+//! no log can tell.
 
-use crate::builds::{events_of, jobs_of, store_of};
-use allowed::ALLOWED;
+use crate::builds::{events_of, jobs_of, store_of, told_files, told_run};
 use mk_jobs::jobs::Jobs;
 use mk_name::fault::Halt;
-use mk_name::name::Name;
-use mk_sched::file::File;
 use mk_sched::replay::{Replayed, Stopped, replay};
-use mk_sched::store::{Store, copy_store};
+use mk_sched::store::copy_store;
 use mk_text::listing::Listing;
 use mk_text::root::Root;
-use refused::REFUSED;
 use std::alloc::{AllocError, Global};
 
-/// A makefile, a listing and footprints.
-type JobsText = (&'static str, &'static str, &'static str);
-/// Jobs; the store; the limit; whether equal times count; the events; and the answer with the store that is left.
-type Case = (
-    JobsText,
-    &'static str,
-    u32,
-    bool,
-    &'static str,
-    &'static str,
-);
+const MAKEFILE: &[u8] = b"all: gen.h a.o\ngen.h: gen.sh\n\tsh\na.o: a.c\n\tcc\n";
+
+const LISTING: &[u8] = b"gen.sh\na.c\n";
+
+const FOOTPRINTS: &[u8] =
+    b"{\"target\":\"gen.h\",\"reads\":[\"gen.sh\"],\"writes\":[\"gen.h\"]}\n{\"target\":\"a.o\",\"reads\":[\"a.c\",\"gen.h\"],\"writes\":[\"a.o\"]}\n";
+
+const SOURCES: &str = "a.c 1 a\ngen.sh 1 s";
+
+/// The events, and the answer with the store that is left.
+const CASES: &[(&str, &str)] = &[
+    (
+        "skip gen.sh\nskip a.c\nstart gen.h\nput gen.h gen.h g 2\nfinish gen.h\nstart a.o\nlook a.o gen.h g\nput a.o a.o og 3\nfinish a.o\nskip all",
+        "complete; a.c 1 a; a.o 3 og; gen.h 2 g; gen.sh 1 s",
+    ),
+    ("start gen.h", "NotReady at 1; a.c 1 a; gen.sh 1 s"),
+    // A number of no node, whatever the event.
+    ("skip nobody a.c a", "NoNode at 1; a.c 1 a; gen.sh 1 s"),
+    ("start nobody a.c a", "NoNode at 1; a.c 1 a; gen.sh 1 s"),
+    ("finish nobody a.c a", "NoNode at 1; a.c 1 a; gen.sh 1 s"),
+    ("look nobody a.c a", "NoNode at 1; a.c 1 a; gen.sh 1 s"),
+    ("put nobody a.c a 9", "NoNode at 1; a.c 1 a; gen.sh 1 s"),
+    ("erase nobody a.c a", "NoNode at 1; a.c 1 a; gen.sh 1 s"),
+];
 
 #[test]
 fn answers(rt: HostRuntime) -> Result<(), Halt> {
-    for cases in [ALLOWED.as_slice(), REFUSED.as_slice()] {
-        for case in cases {
-            let said = answer_of(rt.alloc(), case)?;
-            assert_eq!(rt; said.as_slice(), case.5.as_bytes());
-        }
+    let alloc = rt.alloc();
+    let listing = listing_below_w(alloc)?;
+    let jobs = jobs_of(alloc, MAKEFILE, LISTING, FOOTPRINTS)?;
+    for (steps, want) in CASES {
+        assert!(rt; is_said(alloc, &jobs, &listing, steps, want), "{steps:?}");
     }
     Ok(())
 }
 
-fn answer_of(alloc: Global, case: &Case) -> Result<Vec<u8>, Halt> {
-    let (makefile, listing, footprints) = case.0;
-    let listing = listing.as_bytes();
-    let jobs = jobs_of(alloc, makefile.as_bytes(), listing, footprints.as_bytes())?;
+fn listing_below_w(alloc: Global) -> Result<Listing, Halt> {
     let root = Root::read(alloc, b"/w")?;
-    let listing = Listing::read(alloc, listing, &root)?;
-    Ok(replayed(alloc, &jobs, &listing, case)?)
+    Listing::read(alloc, LISTING, &root)
+}
+
+/// Whether this is said of a list of events.
+fn is_said(alloc: Global, jobs: &Jobs, listing: &Listing, steps: &str, want: &str) -> bool {
+    match replayed(alloc, jobs, listing, steps) {
+        Ok(said) => said.as_slice() == want.as_bytes(),
+        Err(AllocError) => false,
+    }
 }
 
 fn replayed(
     alloc: Global,
     jobs: &Jobs,
     listing: &Listing,
-    case: &Case,
+    steps: &str,
 ) -> Result<Vec<u8>, AllocError> {
-    let (_, files, limit, tie, steps, _) = case;
     let events = events_of(alloc, jobs, steps)?;
-    let store = store_of(alloc, files)?;
+    let store = store_of(alloc, SOURCES)?;
     let copy = copy_store(alloc, &store)?;
-    let answer = replay(alloc, jobs, listing, copy, *limit, *tie, &events);
+    let answer = replay(alloc, jobs, listing, copy, 1, false, &events);
     said_of(alloc, answer)
 }
 
 fn said_of(alloc: Global, answer: Result<Replayed, Stopped>) -> Result<Vec<u8>, AllocError> {
-    let mut out = Vec::new(alloc);
     match answer {
-        Ok(replayed) => {
-            let word = if replayed.complete {
-                "complete"
-            } else {
-                "incomplete"
-            };
-            out.extend_from_slice(word.as_bytes())?;
-            push_files(alloc, &mut out, &replayed.store)?;
-        }
-        Err(
-            Stopped::Refused {
-                store,
-                place,
-                refusal,
-            },
-        ) => {
+        Ok(replayed) => told_run(alloc, &replayed),
+        Err(stopped) => told_stop(alloc, &stopped),
+    }
+}
+
+fn told_stop(alloc: Global, stopped: &Stopped) -> Result<Vec<u8>, AllocError> {
+    match stopped {
+        Stopped::Refused {
+            store,
+            place,
+            refusal,
+        } => {
             let text = format!(in alloc; "{refusal:?} at {place}")?;
-            out.extend_from_slice(text.as_bytes())?;
-            push_files(alloc, &mut out, &store)?;
+            told_files(alloc, text.as_bytes(), store)
         }
-        Err(Stopped::Memory) => out.extend_from_slice(b"memory")?,
+        Stopped::Memory => Vec::from_slice(alloc, b"memory"),
     }
-    Ok(out)
-}
-
-fn push_files(alloc: Global, out: &mut Vec<u8>, store: &Store) -> Result<(), AllocError> {
-    for (name, file) in store.files() {
-        push_file(alloc, out, name, file)?;
-    }
-    Ok(())
-}
-
-fn push_file(alloc: Global, out: &mut Vec<u8>, name: &Name, file: &File) -> Result<(), AllocError> {
-    out.extend_from_slice(b"; ")?;
-    out.extend_from_slice(name.as_bytes())?;
-    let time = file.time();
-    let time = format!(in alloc; " {time} ")?;
-    out.extend_from_slice(time.as_bytes())?;
-    out.extend_from_slice(file.contents().as_bytes())
 }
