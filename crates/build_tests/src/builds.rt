@@ -14,6 +14,8 @@ use mk_sched::event::Event;
 use mk_sched::file::File;
 use mk_sched::replay::Replayed;
 use mk_sched::store::Store;
+use mk_text::listing::Listing;
+use mk_text::root::Root;
 use std::alloc::{AllocError, Global};
 
 /// The jobs of a build below `/w`, without operands.
@@ -33,6 +35,12 @@ pub(crate) fn jobs_of(
     };
     let prepared = prepare(alloc, &input)?;
     Ok(prepared.jobs)
+}
+
+/// The files of a listing below `/w`.
+pub(crate) fn listing_of(alloc: Global, text: &[u8]) -> Result<Listing, Halt> {
+    let root = Root::read(alloc, b"/w")?;
+    Listing::read(alloc, text, &root)
 }
 
 /// Puts a file into a store.

@@ -1,4 +1,5 @@
 //! Books of rules that are made by hand, and their plans. The cases of the program show what else becomes of makefiles.
+use crate::builds::listing_of;
 use language_tests::made::name_of;
 use mk_jobs::plan::Plan;
 use mk_graph::planning::plan;
@@ -7,7 +8,6 @@ use mk_name::name::Name;
 use mk_rules::rule::Rule;
 use mk_rules::rulebook::Rulebook;
 use mk_text::listing::Listing;
-use mk_text::root::Root;
 use std::alloc::{AllocError, Global};
 use std::fmt::Write;
 use std::str;
@@ -52,11 +52,19 @@ fn book(alloc: Global, lines: &str) -> Result<Rulebook, AllocError> {
 
 /// The plan of some lines, for the default goal or for these.
 fn planned(alloc: Global, lines: &str, listing: &str, goals: &str) -> Result<Plan, Halt> {
-    let root = Root::read(alloc, b"/w")?;
     let book = book(alloc, lines)?;
-    let listing = Listing::read(alloc, listing.as_bytes(), &root)?;
+    let listing = listing_of(alloc, listing.as_bytes())?;
+    planned_for(alloc, &book, &listing, goals)
+}
+
+fn planned_for(
+    alloc: Global,
+    book: &Rulebook,
+    listing: &Listing,
+    goals: &str,
+) -> Result<Plan, Halt> {
     let goals = names(alloc, goals)?;
-    plan(alloc, &book, &listing, &goals)
+    plan(alloc, book, listing, &goals)
 }
 
 fn shown_name(name: &Name) -> &str {

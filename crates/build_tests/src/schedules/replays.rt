@@ -1,13 +1,12 @@
 //! Lists of events, and whether they are a run. The cases of the program show the rest, but for a number of no node, which
 //! no log can tell.
 
-use crate::builds::{events_of, jobs_of, store_of, told_files, told_run};
+use crate::builds::{events_of, jobs_of, listing_of, store_of, told_files, told_run};
 use mk_jobs::jobs::Jobs;
 use mk_name::fault::Halt;
 use mk_sched::replay::{Replayed, Stopped, replay};
 use mk_sched::store::copy_store;
 use mk_text::listing::Listing;
-use mk_text::root::Root;
 use std::alloc::{AllocError, Global};
 
 const MAKEFILE: &[u8] = b"all: gen.h a.o\ngen.h: gen.sh\n\tsh\na.o: a.c\n\tcc\n";
@@ -38,17 +37,12 @@ const CASES: &[(&str, &str)] = &[
 #[test]
 fn answers(rt: HostRuntime) -> Result<(), Halt> {
     let alloc = rt.alloc();
-    let listing = listing_below_w(alloc)?;
+    let listing = listing_of(alloc, LISTING)?;
     let jobs = jobs_of(alloc, MAKEFILE, LISTING, FOOTPRINTS)?;
     for (steps, want) in CASES {
         assert!(rt; is_said(alloc, &jobs, &listing, steps, want), "{steps:?}");
     }
     Ok(())
-}
-
-fn listing_below_w(alloc: Global) -> Result<Listing, Halt> {
-    let root = Root::read(alloc, b"/w")?;
-    Listing::read(alloc, LISTING, &root)
 }
 
 /// Whether this is said of a list of events.
