@@ -1,8 +1,8 @@
 //! Books of rules that are made by hand, and their plans. The cases of the program show what else becomes of makefiles.
 use crate::builds::listing_of;
 use language_tests::made::name_of;
-use mk_jobs::plan::Plan;
 use mk_graph::planning::plan;
+use mk_jobs::plan::Plan;
 use mk_name::fault::{Fault, Halt, Source};
 use mk_name::name::Name;
 use mk_rules::rule::Rule;

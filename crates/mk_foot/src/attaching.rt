@@ -12,8 +12,8 @@ ghost use Rattle.mk_jobs.specs.Shape.{IsRising, IsWellFormed};
 
 use crate::footprints::{Footprint, Footprints, in_order};
 use mk_jobs::jobs::Jobs;
-use mk_jobs::recipe::is_live;
 use mk_jobs::plan::Plan;
+use mk_jobs::recipe::is_live;
 use mk_name::fault::{Fault, Halt, Kind, Source};
 use mk_name::name::Name;
 use mk_rules::rulebook::Rulebook;

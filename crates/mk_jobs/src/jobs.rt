@@ -6,9 +6,9 @@ ghost use Rattle.mk_jobs.specs.Jobs.{IsNumberOf, IsValid, is_listed, is_live, is
 ghost use Rattle.mk_jobs.specs.Rows.{with_rows};
 ghost use Rattle.mk_jobs.specs.Shape.{IsRising, IsWellFormed};
 
-use crate::recipe::is_live;
 use crate::maker::Maker;
 use crate::plan::Plan;
+use crate::recipe::is_live;
 use mk_name::name::Name;
 use std::marker::Model;
 

@@ -6,8 +6,8 @@ ghost use Rattle.mk_foot.specs.Json.{value_of};
 ghost use Rattle.mk_log.specs.Entries as spec;
 
 use hex::FromHexError;
-use mk_jobs::jobs::Jobs;
 use mk_foot::json::{path_under, value_of};
+use mk_jobs::jobs::Jobs;
 use mk_name::name::Name;
 use mk_sched::contents::Contents;
 use mk_sched::event::Event;

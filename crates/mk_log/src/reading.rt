@@ -9,8 +9,8 @@ ghost use Rattle.mk_log.specs.declared.entry.Entry.TheVariants.{Holds};
 
 use crate::entry::{Entry, entry_of};
 use crate::log::Log;
-use mk_jobs::jobs::Jobs;
 use mk_foot::json::{is_blank, physical_lines};
+use mk_jobs::jobs::Jobs;
 use mk_name::fault::{Fault, Halt, Kind, Source};
 use mk_name::name::Name;
 use mk_sched::store::Store;

@@ -19,8 +19,8 @@ use mk_jobs::plan::Plan;
 use mk_name::fault::{Fault, Halt};
 use mk_name::report::refused_report;
 use mk_race::input::Input;
-use mk_race::replaying::{Played, replay_log};
 use mk_race::planning::plan_of;
+use mk_race::replaying::{Played, replay_log};
 use std::alloc::{AllocError, Global};
 
 /// What the program says, and how it ends where that is written.

@@ -1,9 +1,9 @@
 //! The jobs of a makefile of plain rules below `/w`, whose recipes touch nothing.
 use mk_foot::attaching::attach;
-use mk_jobs::jobs::Jobs;
 use mk_foot::reading::read_footprints;
-use mk_jobs::plan::Plan;
 use mk_graph::planning::plan;
+use mk_jobs::jobs::Jobs;
+use mk_jobs::plan::Plan;
 use mk_macro::macros::Macros;
 use mk_name::fault::Halt;
 use mk_name::name::Name;

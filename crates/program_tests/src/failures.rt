@@ -70,16 +70,46 @@ fn refuses_wrong_words(rt: HostRuntime) -> Result<(), Fail> {
 #[test]
 fn tells_the_first_file_that_fails(rt: HostRuntime) -> Result<(), Fail> {
     for (words, told) in [
-        ("race order --root w --base absent --makefile absent --listing absent", "base"),
-        ("race order --root w --base broken --makefile broken --listing absent", "listing"),
-        ("race order --root w --base broken --makefile broken --listing broken", "base"),
-        ("race order --root w --base empty --makefile broken --listing broken", "makefile"),
-        ("race order --root w --listing broken --makefile empty", "listing"),
-        ("race replay --root w --makefile absent --listing absent --footprints absent --log absent", "makefile"),
-        ("race replay --root w --makefile empty --listing broken --footprints absent --log absent", "footprints"),
-        ("race replay --root w --makefile empty --listing broken --footprints broken --log absent", "log"),
-        ("race replay --root w --makefile empty --listing empty --footprints broken --log broken", "footprints"),
-        ("race replay --root w --makefile empty --listing empty --footprints empty --log broken", "log"),
+        (
+            "race order --root w --base absent --makefile absent --listing absent",
+            "base",
+        ),
+        (
+            "race order --root w --base broken --makefile broken --listing absent",
+            "listing",
+        ),
+        (
+            "race order --root w --base broken --makefile broken --listing broken",
+            "base",
+        ),
+        (
+            "race order --root w --base empty --makefile broken --listing broken",
+            "makefile",
+        ),
+        (
+            "race order --root w --listing broken --makefile empty",
+            "listing",
+        ),
+        (
+            "race replay --root w --makefile absent --listing absent --footprints absent --log absent",
+            "makefile",
+        ),
+        (
+            "race replay --root w --makefile empty --listing broken --footprints absent --log absent",
+            "footprints",
+        ),
+        (
+            "race replay --root w --makefile empty --listing broken --footprints broken --log absent",
+            "log",
+        ),
+        (
+            "race replay --root w --makefile empty --listing empty --footprints broken --log broken",
+            "footprints",
+        ),
+        (
+            "race replay --root w --makefile empty --listing empty --footprints empty --log broken",
+            "log",
+        ),
     ] {
         let run = outcome(rt.alloc(), words)?;
         let line = format!(in rt.alloc(); "race: read failed: {told}\n")?;
@@ -107,7 +137,15 @@ impl Write for Full {
 /// The status, and what is told, where the output is full.
 fn full_outcome(alloc: Global, goal: &str) -> (Status, Vec<u8>) {
     let words = [
-        "race", "order", "--makefile", "makefile", "--listing", "empty", "--root", "/w", goal,
+        "race",
+        "order",
+        "--makefile",
+        "makefile",
+        "--listing",
+        "empty",
+        "--root",
+        "/w",
+        goal,
     ];
     let mut err = Spout::new(Vec::new(alloc));
     let mut shelf = Shelf { books: &BOOKS };
@@ -120,7 +158,11 @@ fn tells_a_full_output(rt: HostRuntime) {
     for goal in ["all", "none", "--help"] {
         let (status, told) = full_outcome(rt.alloc(), goal);
         assert_eq!(rt; status, Status::Failed, "{goal}");
-        assert_eq!(rt; told.as_slice(), b"race: write failed\n".as_slice(), "{goal}");
+        assert_eq!(rt;
+            told.as_slice(),
+            b"race: write failed\n".as_slice(),
+            "{goal}"
+        );
     }
 }
 
@@ -129,6 +171,12 @@ fn passes_over_a_full_standard_error(rt: HostRuntime) {
     let mut shelf = Shelf { books: &BOOKS };
     let words = ["race", "order", "--help"];
     let mut err = Spout::new(Full);
-    let status = race_words(rt.alloc(), &words, &mut shelf, &mut Spout::new(Full), &mut err);
+    let status = race_words(
+        rt.alloc(),
+        &words,
+        &mut shelf,
+        &mut Spout::new(Full),
+        &mut err,
+    );
     assert_eq!(rt; status, Status::Failed);
 }
