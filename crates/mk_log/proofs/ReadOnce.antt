@@ -1,6 +1,5 @@
 -- A text has one answer.
 use Rattle.std.proofs.Common.{◌≡◌, ℕ, List, Ok, Err, Option, Some, None, Result, sym, ap, ◌∙◌, subst}
-use Rattle.std.specs.Prelude.{◌↔◌}
 use Rattle.mk_name.specs.Told.{Told}
 use Rattle.mk_jobs.specs.Jobs.{Jobs}
 use Rattle.mk_foot.proofs.OneList.{one_list}

@@ -1,6 +1,5 @@
 -- The jobs of a build are listed where its listing has their names.
 use Rattle.std.proofs.Common.{◌≡◌, ◌<◌, ℕ, List, [], ◌∷◌, Ok, Err, Result, Option, Some, None, length, get_or, refl, sym, ap, ◌∙◌, subst}
-use Rattle.std.specs.Prelude.{slice_get, unwrap_or}
 use Rattle.std.specs.Option.{option_map_or}
 use Rattle.std.proofs.lemmas.Option.{unwrap_or-slice_get}
 use Rattle.mk_name.specs.Names.{Name, has, same_name}
@@ -11,7 +10,7 @@ use Rattle.mk_macro.specs.Operands.{operand_macros}
 use Rattle.mk_rules.specs.Book.{Book, targets_of}
 use Rattle.mk_graph.specs.Answer.{Comes, IsAnswer, too_large, no_rule, cycle, planned}
 use Rattle.mk_jobs.specs.Plan.{Node, Plan, nobody}
-use Rattle.mk_foot.specs.Attached.{attached, first_fault, jobs_with}
+use Rattle.mk_foot.specs.Attached.{first_fault, jobs_with}
 use Rattle.mk_foot.specs.Footprints.{Footprints}
 use Rattle.mk_jobs.specs.Jobs.{Jobs, is_listed, name_of, node_count}
 use Rattle.mk_race.specs.Laws.{JobsAreListed, StoreAgrees}
