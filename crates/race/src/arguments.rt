@@ -15,7 +15,7 @@ For more information, try '--help'.";
 /// The words of the process, of which the first is its own name. The failures are want of memory, and `Failure::Usage`
 /// where a word is not UTF-8.
 pub fn arguments(rt: &HostRuntime) -> Result<Vec<String>, Failure>
-    ensures { IfErr result (λ failure. (failure ≡ Failure.Memory) ⊎ IsNotText failure NOT_TEXT) }
+    ensures { IfErr result (λ failure. (failure ≡ Failure.Memory) ⊎ IsNotText failure NOT_TEXT.now) }
 {
     match env::args(rt) {
         Ok(arguments) => Ok(arguments.collect(rt.alloc())?),
@@ -29,8 +29,9 @@ pub fn texts(alloc: Global, arguments: &[String]) -> Result<Vec<&str>, AllocErro
     ensures { IfOk result (λ texts.
         map (λ text. text.now) texts.items ≡ map string_bytes arguments.now) }
 {
-    arguments
-        .iter()
-        .map(|argument| argument.as_str())
-        .collect(alloc)
+    let mut texts = Vec::new(alloc);
+    for argument in arguments {
+        texts.push(argument.as_str())?;
+    }
+    Ok(texts)
 }
