@@ -3,6 +3,7 @@
 
 pub mod certificate;
 mod draft;
+pub mod laws;
 mod line;
 mod number;
 pub mod proof;

@@ -10,12 +10,12 @@ use Rattle.mk_sched.proofs.Basics.{split, is_begun}
 use Rattle.mk_sched.proofs.OneRun.{may_own}
 
 -- tests that agree below n count alike there
-count_to-same : (test other : ℕ → Bool) (n : ℕ) → ((k : ℕ) → k < n → test k ≡ other k) → count_to test n ≡ count_to other n
+pub count_to-same : (test other : ℕ → Bool) (n : ℕ) → ((k : ℕ) → k < n → test k ≡ other k) → count_to test n ≡ count_to other n
 count_to-same test other zero same = refl
 count_to-same test other (suc n) same = rw (same n (omega arith), count_to-same test other n (λ k below. same k (omega arith))) refl
 
 -- a test that passes at one more number below n counts one more
-count_to-more : (test other : ℕ → Bool) (n m : ℕ) → m < n → test m ≡ false → other m ≡ true → ((k : ℕ) → (k ≡ m → ⊥) → test k ≡ other k) → count_to other n ≡ suc (count_to test n)
+pub count_to-more : (test other : ℕ → Bool) (n m : ℕ) → m < n → test m ≡ false → other m ≡ true → ((k : ℕ) → (k ≡ m → ⊥) → test k ≡ other k) → count_to other n ≡ suc (count_to test n)
 count_to-more test other zero m below fails passes same = absurd (omega arith)
 count_to-more test other (suc n) m below fails passes same = elim (cases_eq n m) [
   | inl is ↦

@@ -1,0 +1,81 @@
+-- What a clash on a path, the phases and the steps that pass give.
+use Rattle.std.proofs.Common.{ℕ, ◌≡◌, ◌≢◌, ◌==◌, ◌&&◌, nat_lt, true, false, List, ◌∷◌, refl, sym, ap, ltb-true, eq-eqb, ne_eqb, eqb-true, subst}
+use Rattle.std.specs.List.{list_all}
+use Rattle.std.proofs.lemmas.Bool.{and_parts, false≢true}
+use Rattle.mk_jobs.specs.Jobs.{Jobs, Clash, node_count, prerequisites_of}
+use Rattle.mk_jobs.specs.Laws.{AreLive}
+use Rattle.mk_jobs.proofs.JobsLemmas.{clash_live}
+use Rattle.mk_sched.specs.Events.{Event, Phase, Waiting, Running, Skipped, Ran, phase, is_passed, is_running, running_below}
+use Rattle.mk_sched.specs.Events.Act.{Skip as skip, Start as start, Finish as finish}
+use Rattle.mk_sched.proofs.Basics.{split}
+use Rattle.mk_sched.proofs.Moving.{count_to-same, count_to-more}
+use Rattle.mk_cert.specs.Traces.{ClashesOn}
+use Rattle.mk_cert.specs.Sure.{is_waiting, is_ready, passes}
+use Rattle.mk_cert.specs.Laws.{StepMoves}
+use Rattle.mk_cert.specs.declared.step.Step.TheVariants.{Skip, Start, Finish}
+
+-- ---- a clash on a path
+
+pub a_clash : {jobs : Jobs} {a b : ℕ} {path : List ℕ} → ClashesOn jobs a b path → Clash jobs a b
+a_clash {path = path} clash = (path, clash)
+
+pub both_live : {jobs : Jobs} {a b : ℕ} {path : List ℕ} → ClashesOn jobs a b path → AreLive jobs a b
+both_live clash = clash_live clash
+
+pub apart : {jobs : Jobs} {a b : ℕ} {path : List ℕ} → ClashesOn jobs a b path → a ≢ b
+apart clash = clash.different
+
+-- ---- phases
+
+pub waits_is : (p : Phase) → is_waiting p ≡ true → p ≡ Waiting
+waits_is Waiting is = refl
+waits_is Running is = absurd (false≢true is)
+waits_is Skipped is = absurd (false≢true is)
+waits_is Ran is = absurd (false≢true is)
+
+pub runs_is : (p : Phase) → is_running p ≡ true → p ≡ Running
+runs_is Waiting is = absurd (false≢true is)
+runs_is Running is = refl
+runs_is Skipped is = absurd (false≢true is)
+runs_is Ran is = absurd (false≢true is)
+
+-- ---- who is ready
+
+-- the parts of the test
+pub ready_parts : (jobs : Jobs) (phases : ℕ → Phase) (n : ℕ) → is_ready jobs phases n ≡ true
+    → (nat_lt n (node_count jobs) ≡ true) × (phases n ≡ Waiting) × (list_all (λ p. is_passed (phases p)) (prerequisites_of jobs n) ≡ true)
+ready_parts jobs phases n ready =
+    let front = and_parts (nat_lt n (node_count jobs) && is_waiting (phases n)) (list_all (λ p. is_passed (phases p)) (prerequisites_of jobs n)) ready in
+    let pair = and_parts (nat_lt n (node_count jobs)) (is_waiting (phases n)) front.0 in
+    (pair.0, waits_is (phases n) pair.1, front.1)
+
+-- ---- the number of running nodes
+
+-- a skip of a node that waits
+skip_moves : (jobs : Jobs) (past : List Event) (n : ℕ) → phase past n ≡ Waiting
+    → running_below (record { node = n; act = skip } ∷ past) (node_count jobs) ≡ running_below past (node_count jobs)
+skip_moves jobs past n waits = count_to-same _ _ (node_count jobs) (λ k below. split (n == k)
+    (λ own. rw own (subst (λ m. false ≡ is_running (phase past m)) (eqb-true n k own) (sym (ap is_running waits))))
+    (λ other. rw other refl))
+
+pub start_moves : (jobs : Jobs) (past : List Event) (n : ℕ) → nat_lt n (node_count jobs) ≡ true → phase past n ≡ Waiting
+    → running_below (record { node = n; act = start } ∷ past) (node_count jobs) ≡ ℕ.suc (running_below past (node_count jobs))
+start_moves jobs past n below waits = count_to-more _ _ (node_count jobs) n (ltb-true _ _ below) (ap is_running waits) (rw (eq-eqb n n refl) refl)
+    (λ k different. rw (ne_eqb n k (λ same. different (sym same))) refl)
+
+finish_moves : (jobs : Jobs) (past : List Event) (n : ℕ) → nat_lt n (node_count jobs) ≡ true → is_running (phase past n) ≡ true
+    → ℕ.suc (running_below (record { node = n; act = finish } ∷ past) (node_count jobs)) ≡ running_below past (node_count jobs)
+finish_moves jobs past n below runs = sym (count_to-more _ _ (node_count jobs) n (ltb-true _ _ below) (rw (eq-eqb n n refl) refl) runs
+    (λ k different. rw (ne_eqb n k (λ same. different (sym same))) refl))
+
+pub moves : StepMoves
+moves jobs times past (Skip n) passes =
+    skip_moves jobs past n (ready_parts jobs (phase past) n (and_parts _ _ passes).0).1
+moves jobs times past (Start n) passes =
+    let three = and_parts _ _ passes in
+    let two = and_parts _ _ three.0 in
+    let ready = ready_parts jobs (phase past) n (and_parts _ _ two.0).0 in
+    start_moves jobs past n ready.0 ready.1
+moves jobs times past (Finish n) passes =
+    let two = and_parts (nat_lt n (node_count jobs)) (is_running (phase past n)) passes in
+    finish_moves jobs past n two.0 two.1

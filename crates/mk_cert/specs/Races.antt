@@ -1,0 +1,30 @@
+-- The trace that shows a race.
+use Rattle.std.specs.Prelude.{ℕ, ◌≡◌, ◌⊎◌, ◌↔◌, ◌++◌, Bool, true, List, [], ◌∷◌, if◌then◌else◌}
+use Rattle.mk_jobs.specs.Jobs.{Jobs, Before, node_count, is_live, is_listed}
+use Rattle.mk_cert.specs.Shapes.{Trace, trace_of}
+use Rattle.mk_cert.specs.declared.step.Step.{Step}
+use Rattle.mk_cert.specs.declared.step.Step.TheVariants.{Skip, Start, Finish}
+
+-- the test tells which nodes are before one of the two
+abbrev pub TellsEarly : Jobs → ℕ → ℕ → (ℕ → Bool) → Type 0
+TellsEarly jobs first second early = (n : ℕ) → (early n ≡ true) ↔ (Before jobs n first ⊎ Before jobs n second)
+
+-- how a node passes: a live one starts and finishes, any other is skipped
+abbrev pub passing : Jobs → ℕ → List Step
+passing jobs n = if is_live jobs n then Start n ∷ Finish n ∷ [] else Skip n ∷ []
+
+-- the early nodes below n pass, in rising order
+abbrev pub early_steps : Jobs → (ℕ → Bool) → ℕ → List Step
+early_steps jobs early ℕ.zero = []
+early_steps jobs early (ℕ.suc n) = early_steps jobs early n ++ (if early n then passing jobs n else [])
+
+-- of the `left` nodes from n on the listed ones, each beside the number of nodes that are left there
+abbrev pub falling_times : Jobs → ℕ → ℕ → List (ℕ × ℕ)
+falling_times jobs n ℕ.zero = []
+falling_times jobs n (ℕ.suc left) =
+    if is_listed jobs n then (n, ℕ.suc left) ∷ falling_times jobs (ℕ.suc n) left else falling_times jobs (ℕ.suc n) left
+
+-- the trace of a race: node n of N has the time N - n; all nodes before one of the two pass; then both of these start
+abbrev pub race_trace : Jobs → (ℕ → Bool) → ℕ → ℕ → List ℕ → Trace
+race_trace jobs early first second path =
+    trace_of first second path (falling_times jobs 0 (node_count jobs)) (early_steps jobs early (node_count jobs) ++ Start first ∷ Start second ∷ [])
