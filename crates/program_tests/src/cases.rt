@@ -106,7 +106,7 @@ static CASES: [Case; 28] = [
     },
     Case {
         about: "the first operand at fault",
-        words: "race order --makefile makefile --listing listing --root /w A=x D*=x",
+        words: "race order --makefile makefile --listing listing --root /w A=x =x",
         base: b"",
         makefile: b"prog: a.o b.o\n\tcc\na.o: a.c\n\tcc\nb.o: b.c\n\tcc\n",
         listing: b"a.c\nb.c\n",
