@@ -1,14 +1,5 @@
-pub mod Beginnings
 pub mod Certified
 pub mod Clashing
 pub mod Followed
-pub mod Following
-pub mod Found
 pub mod Racing
-pub mod ReadLines
-pub mod Risen
 pub mod Sound
-pub mod Tabled
-pub mod Texts
-pub mod Words
-pub mod Written
