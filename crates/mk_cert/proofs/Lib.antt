@@ -3,3 +3,5 @@ pub mod Clashing
 pub mod Followed
 pub mod Racing
 pub mod Sound
+pub mod Timing
+pub mod Walking

@@ -1,5 +1,6 @@
 pub mod Certificates
 pub mod Laws
 pub mod Races
+pub mod Standing
 pub mod Sure
 pub mod Traces

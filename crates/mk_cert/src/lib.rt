@@ -4,4 +4,11 @@
 
 pub use mk_proof::{certificate, proof, reading, step, trace, writing};
 
+pub mod accepting;
+mod clash;
 pub mod laws;
+mod stage;
+mod standing;
+mod surely;
+mod times;
+mod walk;
