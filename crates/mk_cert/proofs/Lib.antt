@@ -1,7 +1,9 @@
 pub mod Certified
 pub mod Clashing
+pub mod Edged
 pub mod Followed
 pub mod Racing
+pub mod Searched
 pub mod Sound
 pub mod Timing
 pub mod Walking

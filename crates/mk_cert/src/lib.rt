@@ -6,7 +6,9 @@ pub use mk_proof::{certificate, proof, reading, step, trace, writing};
 
 pub mod accepting;
 mod clash;
+mod edges;
 pub mod laws;
+mod search;
 mod stage;
 mod standing;
 mod surely;
