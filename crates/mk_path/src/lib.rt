@@ -5,3 +5,4 @@
 #![tactic(auto)]
 
 pub mod path;
+pub mod spelling;
