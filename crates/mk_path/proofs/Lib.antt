@@ -1,0 +1,5 @@
+pub mod Folders
+mod Found
+pub mod Halves
+pub mod PathOrder
+pub mod Tests
