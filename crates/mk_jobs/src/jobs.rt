@@ -2,7 +2,7 @@
 ghost use Rattle.std.specs.Prelude.{◌≡◌, ◌<◌, ◌≤◌, IfErr, IfOk, Some};
 ghost use Rattle.mk_jobs.specs.Numbered.{number_of};
 ghost use Rattle.mk_jobs.specs.Plan.{names_of, node_limit};
-ghost use Rattle.mk_jobs.specs.Jobs.{IsNumberOf, IsValid, is_listed, is_live, is_phony, maker_of, name_of, node_count, prerequisites_of, reads_of, writes_of};
+ghost use Rattle.mk_jobs.specs.Jobs.{IsNumberOf, IsValid, is_listed, is_live, is_phony, maker_of, may_read, may_write, name_of, node_count, prerequisites_of, reads_of, writes_of};
 ghost use Rattle.mk_jobs.specs.Rows.{with_rows};
 ghost use Rattle.mk_jobs.specs.Shape.{IsRising, IsWellFormed};
 
@@ -10,6 +10,7 @@ use crate::maker::Maker;
 use crate::plan::Plan;
 use crate::recipe::is_live;
 use mk_name::name::Name;
+use mk_path::covering::is_covered;
 use mk_path::path::Path;
 use mk_text::root::Root;
 use std::alloc::Global;
@@ -173,5 +174,23 @@ impl Jobs {
     {
         let row = &self.writes[n as usize];
         row.as_slice()
+    }
+
+    /// Whether a node may read a name (profile): it is live, and a path that it reads covers the name. Its number must be
+    /// below the count of nodes.
+    pub fn may_read(&self, n: u32, name: &Name) -> bool
+        requires { n < node_count self.now }
+        ensures { result ≡ may_read self.now n name.now }
+    {
+        self.is_live(n) && is_covered(self.root(), self.reads(n), name)
+    }
+
+    /// Whether a node may write a name (profile): it is live, and a path that it writes covers the name. Its number must
+    /// be below the count of nodes.
+    pub fn may_write(&self, n: u32, name: &Name) -> bool
+        requires { n < node_count self.now }
+        ensures { result ≡ may_write self.now n name.now }
+    {
+        self.is_live(n) && is_covered(self.root(), self.writes(n), name)
     }
 }
