@@ -6,6 +6,7 @@ use Rattle.std.proofs.lemmas.Bool.{both_ways}
 use Rattle.std.proofs.lemmas.Option.{unwrap_or-slice_get}
 use Rattle.std.proofs.lemmas.List.{get_or-map, length-map}
 use Rattle.mk_name.specs.Names.{Name, has, same_name}
+use Rattle.mk_path.specs.declared.path.Path.{Path}
 use Rattle.mk_jobs.specs.Plan as plans
 use Rattle.mk_jobs.specs.Plan.{Plan, Node, names_of, nobody}
 use Rattle.mk_jobs.specs.Numbered.{name_at, number_of}
@@ -59,14 +60,14 @@ unfolding has_recipe is_phony is_listed prerequisites_of
 live_is jobs n = refl
 
 -- the names in the row of a number
-pub row_there : (rows : List (Vec Name Global)) (n : ℕ) (row : Vec Name Global) → n < length rows → row ≡ get_or rows n row
-    → row.items ≡ unwrap_or (slice_get (map (λ (r : Vec Name Global). r.items) rows) n) []
+pub row_there : (rows : List (Vec Path Global)) (n : ℕ) (row : Vec Path Global) → n < length rows → row ≡ get_or rows n row
+    → row.items ≡ unwrap_or (slice_get (map (λ (r : Vec Path Global). r.items) rows) n) []
 row_there rows n row below is =
-    ap (λ (r : Vec Name Global). r.items) is
-    ∙ sym (get_or-map (λ (r : Vec Name Global). r.items) rows n row [] below)
-    ∙ sym (unwrap_or-slice_get (map (λ (r : Vec Name Global). r.items) rows) n [])
+    ap (λ (r : Vec Path Global). r.items) is
+    ∙ sym (get_or-map (λ (r : Vec Path Global). r.items) rows n row [] below)
+    ∙ sym (unwrap_or-slice_get (map (λ (r : Vec Path Global). r.items) rows) n [])
 
 -- there is a row for each number
-pub row_has : (rows : List (Vec Name Global)) (jobs : Jobs) (n : ℕ) → length (map (λ (r : Vec Name Global). r.items) rows) ≡ node_count jobs
+pub row_has : (rows : List (Vec Path Global)) (jobs : Jobs) (n : ℕ) → length (map (λ (r : Vec Path Global). r.items) rows) ≡ node_count jobs
     → n < node_count jobs → n < length rows
-row_has rows jobs n all below = omega (arith, all, below, length-map rows (λ (r : Vec Name Global). r.items))
+row_has rows jobs n all below = omega (arith, all, below, length-map rows (λ (r : Vec Path Global). r.items))

@@ -1,16 +1,19 @@
 -- Jobs: a plan, and what each recipe may read and write. Nodes go by their numbers, their places in serial order.
 use Rattle.std.specs.Prelude.{ℕ, ◌≡◌, ◌≢◌, ◌<◌, ◌⊎◌, ◌&&◌, ◌||◌, not, Bool, true, false, List, [], ◌∷◌, length, slice_get, unwrap_or, Contains, Option, Some, None}
-use Rattle.mk_name.specs.Names.{Name, same_name, has}
+use Rattle.mk_name.specs.Names.{Name}
+use Rattle.mk_path.specs.declared.path.Path.{Path}
+use Rattle.mk_path.specs.Paths.{covered}
 use Rattle.mk_jobs.specs.Plan as plans
 use Rattle.mk_jobs.specs.Plan.{Plan, Node}
 use Rattle.mk_jobs.specs.declared.maker.Maker.{Maker}
 use Rattle.mk_jobs.specs.declared.maker.Maker.TheVariants.{Rule, Inferred, Default, Nothing}
 
--- a plan, and for each node the names that its footprints let it read and write
+-- a plan, the root that relative names stand below, and for each node the paths that its footprints let it read and write
 pub record Jobs : Type 0 where
   pub plan : Plan
-  pub reads : List (List Name)
-  pub writes : List (List Name)
+  pub root : List ℕ
+  pub reads : List (List Path)
+  pub writes : List (List Path)
 
 -- how many nodes there are
 unfoldable pub node_count : Jobs → ℕ
@@ -56,12 +59,12 @@ abbrev pub IsNumberOf : Jobs → Name → Option ℕ → Type 0
 IsNumberOf jobs x (Some n) = (n < node_count jobs) × (name_of jobs n ≡ x)
 IsNumberOf jobs x None = (n : ℕ) → n < node_count jobs → name_of jobs n ≢ x
 
--- the names that a node's footprints read
-unfoldable pub reads_of : Jobs → ℕ → List Name
+-- the paths that a node's footprints read
+unfoldable pub reads_of : Jobs → ℕ → List Path
 reads_of jobs n = unwrap_or (slice_get jobs.reads n) []
 
--- the names that a node's footprints write
-unfoldable pub writes_of : Jobs → ℕ → List Name
+-- the paths that a node's footprints write
+unfoldable pub writes_of : Jobs → ℕ → List Path
 writes_of jobs n = unwrap_or (slice_get jobs.writes n) []
 
 -- the list has no element
@@ -77,13 +80,13 @@ is_idle jobs n = has_recipe jobs n && is_listed jobs n && not (is_phony jobs n) 
 abbrev pub is_live : Jobs → ℕ → Bool
 is_live jobs n = has_recipe jobs n && not (is_idle jobs n)
 
--- a node may read a name: it is live, and the name stands among its reads
+-- a node may read a name: it is live, and its reads cover the name
 unfoldable pub may_read : Jobs → ℕ → Name → Bool
-may_read jobs n x = is_live jobs n && has same_name (reads_of jobs n) x
+may_read jobs n x = is_live jobs n && covered jobs.root (reads_of jobs n) x
 
--- a node may write a name: it is live, and the name stands among its writes
+-- a node may write a name: it is live, and its writes cover the name
 unfoldable pub may_write : Jobs → ℕ → Name → Bool
-may_write jobs n x = is_live jobs n && has same_name (writes_of jobs n) x
+may_write jobs n x = is_live jobs n && covered jobs.root (writes_of jobs n) x
 
 -- a node may touch a name: read it or write it
 abbrev pub may_touch : Jobs → ℕ → Name → Bool

@@ -1,15 +1,14 @@
 -- The full shape of the jobs that footprints give.
 use Rattle.std.specs.Prelude.{ℕ, ◌≡◌, ◌<◌, ◌≤◌, true, false, List, [], length}
-use Rattle.std.specs.Ordering.{nat_cmp}
-use Rattle.std.specs.Cmp.Lexicographic.{slice_cmp}
 use Rattle.std.specs.List.Sorted.{IsStrictlySortedBy}
-use Rattle.mk_name.specs.Names.{Name}
+use Rattle.mk_path.specs.declared.path.Path.{Path}
+use Rattle.mk_path.specs.Paths.{path_cmp}
 use Rattle.mk_jobs.specs.Plan.{edge_count, edge_limit, node_limit}
 use Rattle.mk_jobs.specs.Jobs.{Jobs, IsPrerequisite, node_count, name_of, is_live, reads_of, writes_of, may_write}
 
--- each name is smaller than those after it, byte by byte
-abbrev pub IsRising : List Name → Type 0
-IsRising names = IsStrictlySortedBy (slice_cmp nat_cmp) names
+-- each path stands before those after it: by name, byte by byte, and of one name the file before the tree
+abbrev pub IsRising : List Path → Type 0
+IsRising paths = IsStrictlySortedBy path_cmp paths
 
 -- well-formed: nodes and edges are few; names differ; prerequisites have smaller numbers; each node has its two lists,
 -- rising, and empty unless it is live; and a node's name may be written by a node of that name alone

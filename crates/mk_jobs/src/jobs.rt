@@ -1,8 +1,8 @@
 //! Jobs: a plan, and what each of its recipes may read and write.
-ghost use Rattle.std.specs.Prelude.{◌≡◌, ◌<◌, ◌≤◌, Some};
+ghost use Rattle.std.specs.Prelude.{◌≡◌, ◌<◌, ◌≤◌, IfErr, IfOk, Some};
 ghost use Rattle.mk_jobs.specs.Numbered.{number_of};
 ghost use Rattle.mk_jobs.specs.Plan.{names_of, node_limit};
-ghost use Rattle.mk_jobs.specs.Jobs.{IsNumberOf, IsValid, is_listed, is_live, is_phony, maker_of, name_of, node_count, prerequisites_of, reads_of, writes_of};
+ghost use Rattle.mk_jobs.specs.Jobs.{IsNumberOf, IsValid, is_listed, is_live, is_phony, maker_of, may_read, may_write, name_of, node_count, prerequisites_of, reads_of, writes_of};
 ghost use Rattle.mk_jobs.specs.Rows.{with_rows};
 ghost use Rattle.mk_jobs.specs.Shape.{IsRising, IsWellFormed};
 
@@ -10,15 +10,20 @@ use crate::maker::Maker;
 use crate::plan::Plan;
 use crate::recipe::is_live;
 use mk_name::name::Name;
+use mk_path::covering::is_covered;
+use mk_path::path::Path;
+use mk_text::root::Root;
+use std::alloc::Global;
 use std::marker::Model;
 
-/// A plan, and for each node the names that its footprints read and write. A node's number is its place in serial
-/// order.
+/// A plan, the root of its names, and for each node the paths that its footprints read and write. A node's number is its
+/// place in serial order.
 #[derive(Debug, Drop)]
 pub struct Jobs {
     plan: Plan,
-    reads: Vec<Vec<Name>>,
-    writes: Vec<Vec<Name>>,
+    root: Root,
+    reads: Vec<Vec<Path>>,
+    writes: Vec<Vec<Path>>,
 }
 
 impl Model for Jobs {
@@ -30,28 +35,39 @@ impl Model for Jobs {
 
     ghost view = { λ a. record {
       plan = a.plan;
+      root = a.root;
       reads = map (λ row. row.items) a.reads.items;
       writes = map (λ row. row.items) a.writes.items;
     } };
 
     ghost invariant = { λ a. IsWellFormed (record {
       plan = a.plan;
+      root = a.root;
       reads = map (λ row. row.items) a.reads.items;
       writes = map (λ row. row.items) a.writes.items;
     }) };
 }
 
 impl Jobs {
-    /// The jobs of a plan with a row of names for each node: what it reads, and what it writes.
-    pub fn from_rows(plan: Plan, reads: Vec<Vec<Name>>, writes: Vec<Vec<Name>>) -> Jobs
-        requires { IsWellFormed (with_rows plan reads.items writes.items) }
-        ensures { result ≡ with_rows plan reads.items writes.items }
+    /// The jobs of a plan with a row of paths for each node: what it reads, and what it writes. Relative names stand below
+    /// this root. The only error is want of memory, and then the plan comes back as it was.
+    pub fn new(
+        _alloc: Global,
+        plan: Plan,
+        root: Root,
+        reads: Vec<Vec<Path>>,
+        writes: Vec<Vec<Path>>,
+    ) -> Result<Jobs, Plan>
+        requires { IsWellFormed (with_rows plan root reads.items writes.items) }
+        ensures jobs { IfOk result (λ jobs. jobs ≡ with_rows plan root reads.items writes.items) }
+        ensures back { IfErr result (λ back. back ≡ plan) }
     {
-        Jobs {
+        Ok(Jobs {
             plan,
+            root,
             reads,
             writes,
-        }
+        })
     }
 
     /// How many nodes there are, at most 20,000; they have at most 200,000 prerequisites together. Prerequisites have
@@ -131,9 +147,16 @@ impl Jobs {
         is_live(&self.plan, n)
     }
 
-    /// The names that a node's recipe reads, rising; none where it is not live. Its number must be below the count of
+    /// The root that relative names stand below.
+    pub fn root(&self) -> &Root
+        ensures { result.now ≡ self.now.root }
+    {
+        &self.root
+    }
+
+    /// The paths that a node's recipe reads, rising; none where it is not live. Its number must be below the count of
     /// nodes.
-    pub fn reads(&self, n: u32) -> &[Name]
+    pub fn reads(&self, n: u32) -> &[Path]
         requires { n < node_count self.now }
         ensures reads { result.now ≡ reads_of self.now n }
         ensures rising { IsRising result.now }
@@ -142,14 +165,32 @@ impl Jobs {
         row.as_slice()
     }
 
-    /// The names that a node's recipe writes, rising; none where it is not live. Its number must be below the count of
+    /// The paths that a node's recipe writes, rising; none where it is not live. Its number must be below the count of
     /// nodes.
-    pub fn writes(&self, n: u32) -> &[Name]
+    pub fn writes(&self, n: u32) -> &[Path]
         requires { n < node_count self.now }
         ensures writes { result.now ≡ writes_of self.now n }
         ensures rising { IsRising result.now }
     {
         let row = &self.writes[n as usize];
         row.as_slice()
+    }
+
+    /// Whether a node may read a name (profile): it is live, and a path that it reads covers the name. Its number must be
+    /// below the count of nodes.
+    pub fn may_read(&self, n: u32, name: &Name) -> bool
+        requires { n < node_count self.now }
+        ensures { result ≡ may_read self.now n name.now }
+    {
+        self.is_live(n) && is_covered(self.root(), self.reads(n), name)
+    }
+
+    /// Whether a node may write a name (profile): it is live, and a path that it writes covers the name. Its number must
+    /// be below the count of nodes.
+    pub fn may_write(&self, n: u32, name: &Name) -> bool
+        requires { n < node_count self.now }
+        ensures { result ≡ may_write self.now n name.now }
+    {
+        self.is_live(n) && is_covered(self.root(), self.writes(n), name)
     }
 }

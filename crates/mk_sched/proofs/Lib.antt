@@ -1,4 +1,3 @@
-pub mod Among
 pub mod Basics
 pub mod ByTable
 pub mod Computed

@@ -1,6 +1,7 @@
 -- A worked case, computed: a header that the makefile forgets, and the same with the header named.
-use Rattle.std.specs.Prelude.{ℕ, ◌≡◌, true, false, List, [], ◌∷◌, reverse, Some, None, if◌then◌else◌}
+use Rattle.std.specs.Prelude.{ℕ, ◌≡◌, true, false, List, [], ◌∷◌, reverse, codes, Some, None, if◌then◌else◌}
 use Rattle.mk_name.specs.Names.{Name, same_name}
+use Rattle.mk_path.specs.declared.path.Path.{Path}
 use Rattle.mk_jobs.specs.Plan.{Node}
 use Rattle.mk_jobs.specs.declared.maker.Maker.TheVariants.{Rule, Nothing}
 use Rattle.mk_jobs.specs.Jobs.{Jobs, Before, Clash, IsValid, IsRaceFree}
@@ -41,6 +42,10 @@ made name prerequisites = record { name = name; prerequisites = prerequisites; m
 abbrev pub gathered : Name → List ℕ → Node
 gathered name prerequisites = record { name = name; prerequisites = prerequisites; maker = Nothing; phony = false; listed = false }
 
+-- the path that is this name alone
+abbrev pub file : Name → Path
+file x = record { name = x; tree = false }
+
 -- `gen.h` is made of `gen.sh`, and `a.o` of these prerequisites; the recipe of `a.o` reads `a.c` and `gen.h`
 abbrev pub header_jobs : List ℕ → Jobs
 header_jobs prerequisites = record {
@@ -48,8 +53,9 @@ header_jobs prerequisites = record {
     nodes = source gen_sh ∷ made gen_h (0 ∷ []) ∷ source a_c ∷ made a_o prerequisites ∷ gathered all (1 ∷ 3 ∷ []) ∷ [];
     wait_uses = 0;
   };
-  reads = [] ∷ (gen_sh ∷ []) ∷ [] ∷ (a_c ∷ gen_h ∷ []) ∷ [] ∷ [];
-  writes = [] ∷ (gen_h ∷ []) ∷ [] ∷ (a_o ∷ []) ∷ [] ∷ [];
+  root = codes "/";
+  reads = [] ∷ (file gen_sh ∷ []) ∷ [] ∷ (file a_c ∷ file gen_h ∷ []) ∷ [] ∷ [];
+  writes = [] ∷ (file gen_h ∷ []) ∷ [] ∷ (file a_o ∷ []) ∷ [] ∷ [];
 }
 
 -- the makefile forgets that `a.o` needs `gen.h`

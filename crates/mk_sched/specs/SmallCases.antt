@@ -1,5 +1,5 @@
 -- Worked cases, computed: files of equal times, and a parallel run put in order.
-use Rattle.std.specs.Prelude.{◌≡◌, true, false, List, [], ◌∷◌, reverse, Some, None, if◌then◌else◌}
+use Rattle.std.specs.Prelude.{◌≡◌, true, false, List, [], ◌∷◌, reverse, codes, Some, None, if◌then◌else◌}
 use Rattle.mk_name.specs.Names.{Name, same_name}
 use Rattle.mk_jobs.specs.declared.maker.Maker.TheVariants.{Rule}
 use Rattle.mk_jobs.specs.Jobs.{Jobs}
@@ -7,7 +7,7 @@ use Rattle.mk_sched.specs.Stores.{Store}
 use Rattle.mk_sched.specs.Events.{Skip, Start, Look, Put, Finish, Event}
 use Rattle.mk_sched.specs.Runs.{IsRun}
 use Rattle.mk_sched.specs.Serial.{serial}
-use Rattle.mk_sched.specs.MissingHeader.{source, by}
+use Rattle.mk_sched.specs.MissingHeader.{file, source, by}
 
 -- `a` is made of `b`
 abbrev pub two_files : Jobs
@@ -16,8 +16,9 @@ two_files = record {
     nodes = source (98 ∷ []) ∷ record { name = 97 ∷ []; prerequisites = 0 ∷ []; maker = Rule; phony = false; listed = true } ∷ [];
     wait_uses = 0;
   };
-  reads = [] ∷ ((98 ∷ []) ∷ []) ∷ [];
-  writes = [] ∷ ((97 ∷ []) ∷ []) ∷ [];
+  root = codes "/";
+  reads = [] ∷ (file (98 ∷ []) ∷ []) ∷ [];
+  writes = [] ∷ (file (97 ∷ []) ∷ []) ∷ [];
 }
 
 -- both are there, of the time 5

@@ -2,9 +2,7 @@
 ghost use Rattle.std.specs.Prelude.{◌≡◌, ◌<◌, ◌↔◌, ◌||◌, ◌∷◌, [], List, ℕ, Bool, not};
 ghost use Rattle.std.specs.Prelude.{IsTrue, option_map};
 ghost use Rattle.std.specs.List.{list_any};
-ghost use Rattle.mk_jobs.specs.Jobs.{node_count, prerequisites_of, may_read, may_write};
-ghost use Rattle.mk_jobs.specs.Shape.{IsRising};
-ghost use Rattle.mk_name.specs.Names.{has, same_name};
+ghost use Rattle.mk_jobs.specs.Jobs.{node_count, prerequisites_of};
 ghost use Rattle.mk_sched.specs.Events.{Skip as skip, Start as start, Look as look, Put as put, Erase as erase, Finish as finish};
 ghost use Rattle.mk_sched.specs.Events.{count_to};
 ghost use Rattle.mk_sched.specs.Refusals.{Finds, Holds, asked};
@@ -49,30 +47,6 @@ fn has_begun(state: &State, n: u32) -> bool
         || (held state.now).running n }
 {
     state.has_passed(n) || state.runs(n)
-}
-
-/// Whether a name is one of some that rise.
-fn is_among(names: &[Name], name: &Name) -> bool
-    requires { IsRising names.now }
-    ensures { result ≡ has same_name names.now name.now }
-{
-    names.binary_search(name).is_ok()
-}
-
-/// Whether a node may read a name. Its number must be below the count of nodes.
-fn may_read(jobs: &Jobs, n: u32, name: &Name) -> bool
-    requires { n < node_count jobs.now }
-    ensures { result ≡ may_read jobs.now n name.now }
-{
-    jobs.is_live(n) && is_among(jobs.reads(n), name)
-}
-
-/// Whether a node may write a name. Its number must be below the count of nodes.
-fn may_write(jobs: &Jobs, n: u32, name: &Name) -> bool
-    requires { n < node_count jobs.now }
-    ensures { result ≡ may_write jobs.now n name.now }
-{
-    jobs.is_live(n) && is_among(jobs.writes(n), name)
 }
 
 /// Whether a look tells what a file holds, or that there is none.
@@ -147,7 +121,7 @@ fn look_refusal(
     if !state.runs(n) {
         return Some(Refusal::NotRunning);
     }
-    if !may_read(jobs, n, path) {
+    if !jobs.may_read(n, path) {
         return Some(Refusal::OutsideFootprint);
     }
     if !is_told(seen, state.store.file(path)) {
@@ -166,7 +140,7 @@ fn put_refusal(state: &State, jobs: &Jobs, n: u32, path: &Name, time: u64) -> Op
     if !state.runs(n) {
         return Some(Refusal::NotRunning);
     }
-    if !may_write(jobs, n, path) {
+    if !jobs.may_write(n, path) {
         return Some(Refusal::OutsideFootprint);
     }
     if !state.store.is_before(time) {
@@ -185,7 +159,7 @@ fn erase_refusal(state: &State, jobs: &Jobs, n: u32, path: &Name) -> Option<Refu
     if !state.runs(n) {
         return Some(Refusal::NotRunning);
     }
-    if !may_write(jobs, n, path) {
+    if !jobs.may_write(n, path) {
         return Some(Refusal::OutsideFootprint);
     }
     None

@@ -63,6 +63,10 @@ full root path = if is_absolute path then components path else components root +
 abbrev pub plain_name : List ℕ → List ℕ → List ℕ
 plain_name root path = name_of (reduced (components root)) (reduced (full root path))
 
+-- the root with this text, spelled from the top
+abbrev pub top_of : List ℕ → List ℕ
+top_of root = 47 ∷ join_with_byte 47 (reduced (components root))
+
 -- no byte is NUL or a newline
 abbrev pub is_line : List ℕ → Bool
 is_line text = list_all (λ b. not (b == 0) && not (b == 10)) text

@@ -79,6 +79,18 @@ fn join(bytes: &mut Vec<u8>, parts: &[&[u8]]) -> Result<(), AllocError>
     Ok(())
 }
 
+/// The components, spelled from the top: a slash, and then the components with one slash between each two.
+/// Room for `size` bytes is made at first.
+pub fn from_top(alloc: Global, parts: &[&[u8]], size: usize) -> Result<Vec<u8>, AllocError>
+    ensures { let joined = join_with_byte 47 (map (λ x. x.now) parts.now) in
+        IfOk result (λ bytes. bytes.items ≡ 47 ∷ joined) }
+{
+    let mut bytes = Vec::with_capacity(alloc, size)?;
+    bytes.push(b'/')?;
+    join(&mut bytes, parts)?;
+    Ok(bytes)
+}
+
 /// The name read off a reduced list of components, below the root with this reduced list.
 /// Room for `size` bytes is made at first.
 pub fn name_below(

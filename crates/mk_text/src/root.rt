@@ -1,9 +1,9 @@
 //! The root: the directory that relative paths start from.
 ghost use Rattle.std.specs.Prelude.{◌≡◌, List, ℕ, map, IfOk};
 ghost use Rattle.mk_name.specs.Gives.{Gives};
-ghost use Rattle.mk_text.specs.Spelling.{components, reduced, root_of};
+ghost use Rattle.mk_text.specs.Spelling.{components, reduced, root_of, top_of};
 
-use crate::components::{add_path, copies};
+use crate::components::{add_path, copies, from_top};
 use crate::limits::is_root;
 use mk_name::fault::{Fault, Halt, Source};
 use std::alloc::{AllocError, Global};
@@ -15,6 +15,8 @@ pub struct Root {
     text: Vec<u8>,
     /// The reduced components of the text.
     parts: Vec<Vec<u8>>,
+    /// The components, spelled from the top.
+    top: Vec<u8>,
 }
 
 impl Model for Root {
@@ -22,7 +24,8 @@ impl Model for Root {
 
     ghost view = { λ a. a.text.items };
 
-    ghost invariant = { λ a. map (λ part. part.items) a.parts.items ≡ reduced (components a.text.items) };
+    ghost invariant = { λ a. (map (λ part. part.items) a.parts.items ≡ reduced (components a.text.items))
+        × (a.top.items ≡ top_of a.text.items) };
 }
 
 impl Root {
@@ -55,6 +58,7 @@ impl Root {
         Ok(Root {
             text: Vec::from_slice(alloc, text)?,
             parts: copies(alloc, parts.as_slice())?,
+            top: from_top(alloc, parts.as_slice(), text.len())?,
         })
     }
 
@@ -70,5 +74,13 @@ impl Root {
         ensures { result.now ≡ self.now }
     {
         self.text.as_slice()
+    }
+
+    /// The root, spelled from the top: a slash, and then the reduced components of its text with one slash between
+    /// each two. For the topmost folder that is the slash alone.
+    pub fn top(&self) -> &[u8]
+        ensures { result.now ≡ top_of self.now }
+    {
+        self.top.as_slice()
     }
 }
