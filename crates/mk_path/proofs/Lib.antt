@@ -1,5 +1,7 @@
+pub mod Begin
 pub mod Folders
-mod Found
+pub mod Found
 pub mod Halves
+pub mod Overs
 pub mod PathOrder
 pub mod Tests

@@ -6,4 +6,5 @@
 #![tactic(auto)]
 
 pub mod covering;
+pub mod laws;
 pub mod path;
