@@ -1,6 +1,8 @@
+pub mod Begin
 pub mod Folders
-mod Found
+pub mod Found
 pub mod Halves
+pub mod Overs
 pub mod PathOrder
 pub mod Spelled
 pub mod Tests

@@ -1,3 +1,4 @@
 pub mod Covering
+pub mod Laws
 pub mod Paths
 pub mod Texts

@@ -6,5 +6,6 @@
 #![tactic(auto)]
 
 pub mod covering;
+pub mod laws;
 pub mod path;
 pub mod spelling;
