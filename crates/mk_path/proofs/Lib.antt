@@ -1,0 +1,7 @@
+pub mod Ascents
+pub mod Marking
+pub mod Meeting
+pub mod Reaching
+pub mod Searching
+pub mod SetBits
+pub mod Tables

@@ -4,4 +4,10 @@
 //! a tree covers what stands in its folder, by the list of the folders that a name stands in.
 #![tactic(auto)]
 
+pub mod bits;
+pub mod index;
+mod marks;
+mod meets;
 pub mod path;
+pub mod table;
+mod ups;
