@@ -31,3 +31,21 @@ found_is numbers t (Err i) found is at rise =
             | inr most ↦ absurd (omega (arith, apart.2 k most there.1, same))
           ],
     )
+
+pub less_at : (numbers : List ℕ) → IsStrictlyIncreasing numbers → (i j : ℕ) → i < j → j < length numbers → get_or numbers i 0 < get_or numbers j 0
+less_at numbers rise i j before below = AllPairs-from_increasing numbers rise i j 0 before below
+
+-- where a number stands, those before it are less, and those behind are not
+pub placed_ok : (numbers : List ℕ) (n place : ℕ) → IsBinarySearchResult (λ y. nat_cmp y n) numbers (Ok place) → IsStrictlyIncreasing numbers
+    → ((k : ℕ) → k < place → get_or numbers k 0 < n) × ((k : ℕ) → place ≤ k → k < length numbers → n ≤ get_or numbers k 0)
+placed_ok numbers n place at rise =
+    let here = searched numbers n (Ok place) at (in_order numbers rise) in (
+      λ k less. omega (arith, less_at numbers rise k place less here.0, here.1),
+      λ k most below. omega (arith, in_order numbers rise place k most below, here.1),
+    )
+
+pub placed_err : (numbers : List ℕ) (n place : ℕ) → IsBinarySearchResult (λ y. nat_cmp y n) numbers (Err place) → IsStrictlyIncreasing numbers
+    → ((k : ℕ) → k < place → get_or numbers k 0 < n) × ((k : ℕ) → place ≤ k → k < length numbers → n ≤ get_or numbers k 0)
+placed_err numbers n place at rise =
+    let apart = searched numbers n (Err place) at (in_order numbers rise) in
+    (apart.1, λ k most below. omega (arith, apart.2 k most below))

@@ -1,5 +1,5 @@
 -- What an index keeps of the paths that nodes use.
-use Rattle.std.specs.Prelude.{ℕ, ◌≡◌, ◌<◌, ◌↔◌, true, false, List, [], length, map, get_or, Contains}
+use Rattle.std.specs.Prelude.{ℕ, ◌≡◌, ◌<◌, ◌↔◌, Bool, true, false, List, [], length, map, get_or, Contains}
 use Rattle.std.specs.List.{All}
 use Rattle.std.specs.List.Sorted.{IsStrictlyIncreasing, IsStrictlySortedBy}
 use Rattle.mk_path.specs.declared.path.Path.{Path}
@@ -16,6 +16,11 @@ pub record Index : Type 0 where
   pub ups : Ups
   pub writers : List (List ℕ)
   pub readers : List (List ℕ)
+
+-- the numbers of what a node writes, or of what it reads
+abbrev pub numbers_of : Index → ℕ → Bool → List ℕ
+numbers_of index n true = row_of index.writes n
+numbers_of index n false = row_of index.reads n
 
 -- a row of numbers rises, and all are numbers of paths
 pub record IsNumberRow (ups : Ups) (row : List ℕ) : Type 0 where

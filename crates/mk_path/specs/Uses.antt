@@ -1,6 +1,7 @@
 -- What nodes read and write, by paths: a row of paths for each node.
-use Rattle.std.specs.Prelude.{ℕ, ◌≡◌, ◌⊎◌, ◌++◌, true, List, [], slice_get, unwrap_or, Contains}
+use Rattle.std.specs.Prelude.{ℕ, ◌≡◌, ◌⊎◌, ◌++◌, Bool, true, false, List, [], get_or, slice_get, unwrap_or, Contains}
 use Rattle.std.specs.declared.cmp.Ordering.TheVariants.{Less}
+use Rattle.mk_path.specs.declared.index.Place.{Place}
 use Rattle.mk_path.specs.declared.path.Path.{Path}
 use Rattle.mk_path.specs.Paths.{is_over, path_cmp}
 
@@ -42,3 +43,12 @@ IsOverlap uses a b o = ReachesPath uses a b o ⊎ ReachesPath uses b a o
 pub record IsLeastOverlap (uses : Uses) (a b : ℕ) (o : Path) : Type 0 where
   pub overlap : IsOverlap uses a b o
   pub least : (p : Path) → IsOverlap uses a b p → (p ≡ o) ⊎ (path_cmp o p ≡ Less)
+
+-- the paths that a node writes, or those that it reads
+abbrev pub paths_of : Uses → ℕ → Bool → List Path
+paths_of uses n true = writes_of uses n
+paths_of uses n false = reads_of uses n
+
+-- the path at a place of what a node writes, or reads
+abbrev pub path_of : Uses → Place → Path
+path_of uses place = get_or (paths_of uses place.node place.written) place.place (record { name = []; tree = false })
