@@ -1,4 +1,5 @@
 pub mod Bits
+pub mod Covering
 pub mod Index
 pub mod Marks
 pub mod Meets

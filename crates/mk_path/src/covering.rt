@@ -1,0 +1,93 @@
+//! Whether some paths cover a name. The folders of the name are looked for among the trees, so nothing is spelled anew
+//! and no memory is taken.
+ghost use Rattle.std.specs.Prelude.{◌≡◌, ◌||◌};
+ghost use Rattle.std.specs.List.{list_any};
+ghost use Rattle.std.specs.List.Sorted.{IsStrictlySortedBy};
+ghost use Rattle.mk_name.specs.Names.{has};
+ghost use Rattle.mk_path.specs.Covering.{found, found_outer, found_over_root, has_tree, inner_folders};
+ghost use Rattle.mk_path.specs.Paths.{covered, path_cmp, same_path};
+ghost use Rattle.mk_text.specs.Spelling.{top_of};
+
+use crate::path::Path;
+use mk_name::name::Name;
+use mk_text::root::Root;
+use std::cmp::Ordering;
+
+/// How a path stands to the path of a name and a kind, by name and then the file before the tree.
+fn order(path: &Path, name: &[u8], tree: bool) -> Ordering
+    ensures { result ≡ path_cmp path.now (record { name = name.now; tree = tree }) }
+{
+    let bytes = path.name.as_bytes();
+    bytes.cmp(&name).then(path.tree.cmp(&tree))
+}
+
+/// Whether a path of this name and kind is one of the paths, which rise.
+fn has_path(paths: &[Path], name: &[u8], tree: bool) -> bool
+    requires { IsStrictlySortedBy path_cmp paths.now }
+    ensures { result ≡ has same_path paths.now (record { name = name.now; tree = tree }) }
+{
+    paths
+        .binary_search_by(|path| order(path, name, tree))
+        .is_ok()
+}
+
+/// Whether a tree of the paths is a folder that the text spells, other than the text itself.
+fn has_inner_folder(paths: &[Path], text: &[u8]) -> bool
+    requires { IsStrictlySortedBy path_cmp paths.now }
+    ensures { result ≡ list_any (has_tree paths.now) (inner_folders text.now) }
+{
+    for i in 1..text.len() {
+        if text[i] == b'/' && has_path(paths, &text[..i], true) {
+            return true;
+        }
+    }
+    false
+}
+
+/// Whether a tree of the paths is a folder that the text spells.
+fn has_own_folder(paths: &[Path], text: &[u8]) -> bool
+    requires { IsStrictlySortedBy path_cmp paths.now }
+    ensures { result ≡ (has_tree paths.now text.now || list_any (has_tree paths.now) (inner_folders text.now)) }
+{
+    has_path(paths, text, true) || has_inner_folder(paths, text)
+}
+
+/// Whether a tree of the paths is a folder that the root stands in.
+fn has_folder_over_root(root: &Root, paths: &[Path]) -> bool
+    requires { IsStrictlySortedBy path_cmp paths.now }
+    ensures { result ≡ found_over_root paths.now (top_of root.now) }
+{
+    let top = root.top();
+    let is_slash = top == b"/".as_slice();
+    !is_slash && (has_inner_folder(paths, top) || has_path(paths, b"/".as_slice(), true))
+}
+
+/// Whether a tree of the paths is a folder over those that a name spells.
+fn has_outer_folder(root: &Root, paths: &[Path], name: &[u8]) -> bool
+    requires { IsStrictlySortedBy path_cmp paths.now }
+    ensures { result ≡ found_outer paths.now (top_of root.now) name.now }
+{
+    match name {
+        [b'/', ..] => has_path(paths, b"/".as_slice(), true),
+        _ => has_path(paths, b".".as_slice(), true) || has_folder_over_root(root, paths),
+    }
+}
+
+/// Whether the file of this name, or a tree that it stands in, is one of the paths.
+fn is_found(root: &Root, paths: &[Path], name: &[u8]) -> bool
+    requires { IsStrictlySortedBy path_cmp paths.now }
+    ensures { result ≡ found paths.now (top_of root.now) name.now }
+{
+    has_path(paths, name, false)
+        || has_own_folder(paths, name)
+        || has_outer_folder(root, paths, name)
+}
+
+/// Whether one of the paths, which rise, covers a name (profile): a file its own name, a tree what stands in its
+/// folder.
+pub fn is_covered(root: &Root, paths: &[Path], name: &Name) -> bool
+    requires { IsStrictlySortedBy path_cmp paths.now }
+    ensures { result ≡ covered root.now paths.now name.now }
+{
+    is_found(root, paths, name.as_bytes())
+}
