@@ -1,16 +1,21 @@
 -- Where paths of two nodes overlap, the nodes clash.
-use Rattle.std.proofs.Common.{ℕ, ◌≡◌, ◌&&◌, ◌||◌, ◌++◌, ◌⊎◌, true, List, [], Contains, inl, inr, refl, subst, arith}
+use Rattle.std.proofs.Common.{ℕ, ◌≡◌, ◌&&◌, ◌||◌, ◌++◌, ◌⊎◌, true, List, [], Contains, inl, inr, refl, sym, subst, arith}
 use Rattle.std.proofs.lemmas.Bool.{and_from, cases_Bool, or_left, or_right}
 use Rattle.std.proofs.lemmas.List.Elements.{Contains-append_cases, Contains-append_left, Contains-append_right}
 use Rattle.std.proofs.lemmas.List.Folds.{list_any-from_Any}
 use Rattle.mk_path.specs.declared.path.Path.{Path}
 use Rattle.mk_path.specs.Paths.{is_over}
+use Rattle.mk_path.specs.Texts.{text_of}
 use Rattle.mk_path.specs.Uses.{ReachesPath}
 use Rattle.mk_path.proofs.Overs.{over_self}
-use Rattle.mk_jobs.specs.Jobs.{Jobs, is_live, reads_of, writes_of}
+use Rattle.mk_jobs.specs.Jobs.{Jobs, IsValid, is_live, reads_of, writes_of}
+use Rattle.mk_proof.specs.Shapes.{Trace}
 use Rattle.mk_jobs.specs.Reaching.{uses_of}
 use Rattle.mk_jobs.specs.Shape.{IsWellFormed}
+use Rattle.mk_cert.proofs.Racing.{is_sure}
 use Rattle.mk_cert.specs.Laws.{OverlapsClash}
+use Rattle.mk_cert.specs.Races.{IsOfRace}
+use Rattle.mk_cert.specs.Sure.{IsSure}
 use Rattle.mk_cert.specs.Traces.{clash_over, some_over, touches_over, writes_over}
 
 no_element : {X : Type 0} (xs : List X) (x : X) → xs ≡ [] → Contains xs x → ⊥
@@ -103,3 +108,9 @@ overlaps jobs a b p shape apart (inr reach) =
         | inr right ↦ or_left (writes_over jobs a p) _ right
       ]);
     }
+
+-- the trace of a race is sure
+pub of_race : (jobs : Jobs) (trace : Trace) → IsWellFormed jobs → IsValid jobs → IsOfRace jobs trace → IsSure jobs trace
+of_race jobs trace shape valid of =
+    let clash = overlaps jobs trace.first trace.second of.path shape of.different of.overlap in
+    subst (IsSure jobs) (sym of.is) (is_sure jobs of.early trace.first trace.second (text_of of.path) valid clash of.not_before of.not_after of.tells)
