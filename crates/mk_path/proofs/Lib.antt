@@ -2,8 +2,10 @@ pub mod Ascents
 pub mod Folders
 pub mod Found
 pub mod Halves
+pub mod Holding
 pub mod Marking
 pub mod Meeting
+pub mod Numbering
 pub mod Overlaps
 pub mod PathOrder
 pub mod Reaching

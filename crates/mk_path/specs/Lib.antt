@@ -1,9 +1,11 @@
 pub mod Bits
 pub mod Covering
+pub mod Holders
 pub mod Index
 pub mod Marks
 pub mod Meets
 pub mod Paths
+pub mod Places
 pub mod Table
 pub mod Ups
 pub mod Uses

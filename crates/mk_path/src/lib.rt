@@ -9,9 +9,11 @@
 
 pub mod bits;
 pub mod covering;
+mod holders;
 pub mod index;
 mod marks;
 mod meets;
 pub mod path;
+mod places;
 pub mod table;
 mod ups;
