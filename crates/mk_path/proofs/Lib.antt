@@ -1,4 +1,5 @@
 pub mod Ascents
+pub mod Begin
 pub mod Folders
 pub mod Found
 pub mod Halves
@@ -7,6 +8,7 @@ pub mod Marking
 pub mod Meeting
 pub mod Numbering
 pub mod Overlaps
+pub mod Overs
 pub mod PathOrder
 pub mod Reaching
 pub mod Searching

@@ -2,6 +2,7 @@ pub mod Bits
 pub mod Covering
 pub mod Holders
 pub mod Index
+pub mod Laws
 pub mod Marks
 pub mod Meets
 pub mod Paths

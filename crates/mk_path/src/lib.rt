@@ -11,6 +11,7 @@ pub mod bits;
 pub mod covering;
 mod holders;
 pub mod index;
+pub mod laws;
 mod marks;
 mod meets;
 pub mod path;
