@@ -1,5 +1,9 @@
 pub mod Ascents
 pub mod Begin
+pub mod Building
+pub mod Climbing
+pub mod Finding
+pub mod FolderKinds
 pub mod Folders
 pub mod Found
 pub mod Halves

@@ -1,8 +1,8 @@
 -- Numbers of paths: their places among those in order.
-use Rattle.std.proofs.Common.{ℕ, zero, suc, ◌≡◌, ◌<◌, ◌≤◌, ◌+◌, ◌⊎◌, ◌&&◌, List, [], ◌∷◌, ◌++◌, length, get_or, map, Bool, true, false, not, if◌then◌else◌, Contains, Bor, Vec, Ordering, Less, Equal, Result, Ok, Err, is_ok, refl, sym, ap, ap₂, subst, ◌∙◌, inl, inr, arith}
+use Rattle.std.proofs.Common.{ℕ, zero, suc, ◌≡◌, ◌<◌, ◌&&◌, List, [], ◌∷◌, ◌++◌, length, get_or, map, Bool, true, false, not, if◌then◌else◌, Contains, Bor, Vec, Ordering, Less, Equal, Err, refl, sym, ap, ap₂, subst, ◌∙◌, arith}
 use Rattle.std.specs.Cmp.{IsTotalOrder, IsEquivalence}
 use Rattle.std.specs.Global.{Global}
-use Rattle.std.specs.List.{All, AllByRecursion, Any, dedup, flat_map, list_any}
+use Rattle.std.specs.List.{AllByRecursion, Any, dedup, flat_map, list_any}
 use Rattle.std.specs.List.Sorted.{IsBinarySearchResult, IsPermutation, IsSearchInRange, IsSorted, IsStrictlySortedBy}
 use Rattle.std.specs.Ordering.{eq_by_cmp, is_eq}
 use Rattle.std.proofs.lemmas.Bool.{and_parts, both_ways}

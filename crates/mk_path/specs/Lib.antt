@@ -5,6 +5,7 @@ pub mod Index
 pub mod Laws
 pub mod Marks
 pub mod Meets
+pub mod Nearest
 pub mod Paths
 pub mod Places
 pub mod Table

@@ -14,6 +14,7 @@ pub mod index;
 pub mod laws;
 mod marks;
 mod meets;
+mod nearest;
 pub mod path;
 mod places;
 pub mod table;

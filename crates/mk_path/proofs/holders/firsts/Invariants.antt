@@ -1,4 +1,4 @@
-use Rattle.std.proofs.Common.{ℕ, ◌≡◌, ◌≤◌, ◌<◌, List, length, get_or, map}
+use Rattle.std.proofs.Common.{◌≡◌, map}
 use Rattle.mk_path.specs.Holders.{AreFirsts}
 use Rattle.mk_path.proofs.Holding.{IsBegun}
 use Rattle.mk_path.proofs.holders.firsts.Given as goal

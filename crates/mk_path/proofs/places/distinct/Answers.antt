@@ -1,5 +1,4 @@
-use Rattle.std.proofs.Common.{List, Contains, ◌++◌, map, sym, subst}
-use Rattle.std.specs.List.{flat_map}
+use Rattle.std.proofs.Common.{List, Contains, map, sym, subst}
 use Rattle.std.proofs.lemmas.List.Elements.{Contains-append_left, Contains-append_right}
 use Rattle.mk_path.specs.declared.path.Path.{Path}
 use Rattle.mk_path.proofs.Numbering.{behind, held_of}

@@ -1,4 +1,3 @@
-use Rattle.std.proofs.Common.{arith}
 use Rattle.mk_path.proofs.Numbering.{found_is, not_missed}
 use Rattle.mk_path.proofs.places.number.Goals as goal
 
