@@ -3,4 +3,5 @@ pub mod ChainLemmas
 pub mod JobsLemmas
 pub mod NodeNames
 pub mod Numberings
+pub mod OverPairs
 pub mod Reaching

@@ -1,5 +1,5 @@
 -- Nodes clash where one reaches the other.
-use Rattle.std.proofs.Common.{ℕ, ◌≡◌, ◌≢◌, ◌⊎◌, true, List, Contains, sym, subst, inl, inr, arith}
+use Rattle.std.proofs.Common.{ℕ, ◌≡◌, ◌≢◌, ◌<◌, ◌⊎◌, true, List, Contains, sym, subst, inl, inr, arith}
 use Rattle.std.proofs.lemmas.Bool.{and_from, and_parts, cases_Bool, or_cases, or_left, or_right}
 use Rattle.std.proofs.lemmas.List.Elements.{Contains-append_cases, Contains-append_left, Contains-append_right}
 use Rattle.std.proofs.lemmas.List.Folds.{Any-from_list_any, list_any-from_Any}
@@ -8,9 +8,10 @@ use Rattle.mk_path.specs.declared.path.Path.{Path}
 use Rattle.mk_path.specs.Paths.{covered, covers}
 use Rattle.mk_path.specs.Uses.{Reaches, touched_by}
 use Rattle.mk_path.proofs.Overs.{covers_own_name, over_covers_name, paths_of_one_name}
-use Rattle.mk_jobs.specs.Jobs.{Clash, ClashOn, Jobs, is_live, may_read, may_touch, may_write, reads_of, writes_of}
+use Rattle.mk_jobs.specs.Jobs.{Clash, ClashOn, Jobs, is_live, may_read, may_touch, may_write, node_count, reads_of, writes_of}
 use Rattle.mk_jobs.specs.Reaching.{ClashIsReach, uses_of}
 use Rattle.mk_jobs.specs.Shape.{IsWellFormed}
+use Rattle.mk_jobs.proofs.JobsLemmas.{live_node}
 
 -- a path of a node's reads or writes
 abbrev IsOf : Jobs → ℕ → Path → Type 0
@@ -139,7 +140,7 @@ clash_of jobs a b shape other reaches =
           )
     ]
 
-turned_clash : {jobs : Jobs} {a b : ℕ} → Clash jobs b a → Clash jobs a b
+pub turned_clash : {jobs : Jobs} {a b : ℕ} → Clash jobs b a → Clash jobs a b
 turned_clash {jobs} {a} {b} clash = (
   clash.0,
   record {
@@ -161,3 +162,11 @@ clash_is_reach jobs a b shape = (
     | inr over ↦ turned_clash (clash_of jobs b a shape (λ same. reaches.0 (sym same)) over)
   ],
 )
+
+-- whoever reaches a node is a node
+pub reach_node : (jobs : Jobs) (a b : ℕ) → IsWellFormed jobs → Reaches (uses_of jobs) a b → a < node_count jobs
+unfolding reads_of writes_of
+reach_node jobs a b shape reaches = elim reaches.1.touches [
+  | inl writes ↦ live_node jobs a (writer_is_live jobs a reaches.1.upper shape writes.0)
+  | inr reads ↦ live_node jobs a (reader_is_live jobs a reaches.1.upper shape reads.0)
+]

@@ -3,6 +3,7 @@ pub mod Jobs
 pub mod Laws
 pub mod Numbered
 pub mod Numbers
+pub mod Overs
 pub mod Plan
 pub mod Reaching
 pub mod Recipes

@@ -1,15 +1,20 @@
 //! Jobs: a plan, and what each of its recipes may read and write.
-ghost use Rattle.std.specs.Prelude.{◌≡◌, ◌<◌, ◌≤◌, IfErr, IfOk, Some};
+ghost use Rattle.std.specs.Prelude.{ℕ, ◌≡◌, ◌<◌, ◌≤◌, ◌*◌, ◌↔◌, ◌⊎◌, IfErr, IfOk, IsTrue, Some, length};
+ghost use Rattle.mk_path.specs.Bits.{HasBit};
+ghost use Rattle.mk_path.specs.Uses.{Reaches};
 ghost use Rattle.mk_jobs.specs.Numbered.{number_of};
 ghost use Rattle.mk_jobs.specs.Plan.{names_of, node_limit};
 ghost use Rattle.mk_jobs.specs.Jobs.{IsNumberOf, IsValid, is_listed, is_live, is_phony, maker_of, may_read, may_write, name_of, node_count, prerequisites_of, reads_of, writes_of};
+ghost use Rattle.mk_jobs.specs.Reaching.{uses_of};
 ghost use Rattle.mk_jobs.specs.Rows.{with_rows};
 ghost use Rattle.mk_jobs.specs.Shape.{IsRising, IsWellFormed};
 
 use crate::maker::Maker;
+use crate::overs::is_reaching;
 use crate::plan::Plan;
 use crate::recipe::is_live;
 use mk_name::name::Name;
+use mk_path::bits::set_bit;
 use mk_path::covering::is_covered;
 use mk_path::path::Path;
 use mk_text::root::Root;
@@ -192,5 +197,32 @@ impl Jobs {
         ensures { result ≡ may_write self.now n name.now }
     {
         self.is_live(n) && is_covered(self.root(), self.writes(n), name)
+    }
+
+    /// Sets in a row the bits of the nodes that reach node b: those that have a path which is one of b's or a tree over it,
+    /// where one of the two is written. b itself may be one of them, and no other bit changes. b must be below the count of
+    /// nodes, and the row must have a word for each 64 nodes. Two different nodes clash just where one reaches the other.
+    pub fn mark_reaching(&self, b: u32, row: &mut [u64])
+        requires node { b < node_count self.now }
+        requires room { node_count self.now ≤ 64 * length row.old }
+        ensures { (a : ℕ) → HasBit row.new a ↔ (HasBit row.old a ⊎ Reaches (uses_of self.now) a b) }
+    {
+        for a in 0..self.count() {
+            if self.reaches(a, b) {
+                set_bit(row, a);
+            }
+        }
+    }
+
+    /// Whether node a reaches node b.
+    fn reaches(&self, a: u32, b: u32) -> bool
+        requires first { a < node_count self.now }
+        requires second { b < node_count self.now }
+        ensures { IsTrue result ↔ Reaches (uses_of self.now) a b }
+    {
+        let root = self.root();
+        let (reads, writes) = (self.reads(a), self.writes(a));
+        let (others_reads, others_writes) = (self.reads(b), self.writes(b));
+        is_reaching(root, reads, writes, others_reads, others_writes)
     }
 }

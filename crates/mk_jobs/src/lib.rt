@@ -11,5 +11,6 @@ pub mod jobs;
 pub mod laws;
 pub mod maker;
 pub mod numbering;
+mod overs;
 pub mod plan;
 pub mod recipe;

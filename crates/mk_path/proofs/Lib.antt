@@ -1,10 +1,16 @@
 pub mod Ascents
 pub mod Begin
+pub mod Building
+pub mod Climbing
+pub mod Finding
+pub mod FolderKinds
 pub mod Folders
 pub mod Found
 pub mod Halves
+pub mod Holding
 pub mod Marking
 pub mod Meeting
+pub mod Numbering
 pub mod Overlaps
 pub mod Overs
 pub mod PathOrder

@@ -1,10 +1,13 @@
 pub mod Bits
 pub mod Covering
+pub mod Holders
 pub mod Index
 pub mod Laws
 pub mod Marks
 pub mod Meets
+pub mod Nearest
 pub mod Paths
+pub mod Places
 pub mod Table
 pub mod Texts
 pub mod Ups

@@ -1,5 +1,7 @@
 -- What nodes read and write, by paths: a row of paths for each node.
-use Rattle.std.specs.Prelude.{ℕ, ◌≡◌, ◌⊎◌, ◌++◌, Bool, true, false, List, [], get_or, slice_get, unwrap_or, Contains}
+use Rattle.std.specs.Prelude.{ℕ, ◌≡◌, ◌⊎◌, ◌++◌, Bool, true, false, List, Vec, [], map, get_or, slice_get, unwrap_or, Contains}
+use Rattle.std.specs.Global.{Global}
+use Rattle.std.specs.List.Sorted.{IsStrictlySortedBy}
 use Rattle.std.specs.declared.cmp.Ordering.TheVariants.{Less}
 use Rattle.mk_path.specs.declared.index.Place.{Place}
 use Rattle.mk_path.specs.declared.path.Path.{Path}
@@ -18,6 +20,19 @@ reads_of uses n = unwrap_or (slice_get uses.reads n) []
 -- the paths that a node writes
 abbrev pub writes_of : Uses → ℕ → List Path
 writes_of uses n = unwrap_or (slice_get uses.writes n) []
+
+-- the uses of rows of paths
+abbrev pub uses_of : List ℕ → List (Vec Path Global) → List (Vec Path Global) → Uses
+uses_of root reads writes = record {
+  root = root;
+  reads = map (λ (row : Vec Path Global). row.items) reads;
+  writes = map (λ (row : Vec Path Global). row.items) writes;
+}
+
+-- the paths of each row rise
+pub record AreRising (uses : Uses) : Type 0 where
+  pub reads : (n : ℕ) → IsStrictlySortedBy path_cmp (reads_of uses n)
+  pub writes : (n : ℕ) → IsStrictlySortedBy path_cmp (writes_of uses n)
 
 -- the paths that a node touches
 abbrev pub touched_by : Uses → ℕ → List Path

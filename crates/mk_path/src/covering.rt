@@ -14,7 +14,7 @@ use mk_text::root::Root;
 use std::cmp::Ordering;
 
 /// How a path stands to the path of a name and a kind, by name and then the file before the tree.
-fn order(path: &Path, name: &[u8], tree: bool) -> Ordering
+pub(crate) fn order(path: &Path, name: &[u8], tree: bool) -> Ordering
     ensures { result ≡ path_cmp path.now (record { name = name.now; tree = tree }) }
 {
     let bytes = path.name.as_bytes();

@@ -9,11 +9,14 @@
 
 pub mod bits;
 pub mod covering;
+mod holders;
 pub mod index;
 pub mod laws;
 mod marks;
 mod meets;
+mod nearest;
 pub mod path;
+mod places;
 pub mod spelling;
 pub mod table;
 mod ups;

@@ -1,6 +1,6 @@
 //! The way up from a number: which one stands next above it.
 ghost use Rattle.std.specs.Prelude.{◌≡◌, ◌<◌, IfNone, IfSome};
-ghost use Rattle.mk_path.specs.Ups.{IsUp, IsUpOf, above, number_count, rank_at};
+ghost use Rattle.mk_path.specs.Ups.{AreRanked, IsUpOf, above, number_count, rank_at};
 
 use std::marker::Model;
 
@@ -23,6 +23,14 @@ impl Model for Ups {
 }
 
 impl Ups {
+    /// The ways up with these next numbers and ranks.
+    pub fn new(next: Vec<u32>, ranks: Vec<u32>) -> Ups
+        requires { AreRanked (record { next = next.items; ranks = ranks.items }) }
+        ensures { result ≡ record { next = next.items; ranks = ranks.items } }
+    {
+        Ups { next, ranks }
+    }
+
     /// The number next above this one, if there is one.
     pub fn above(&self, t: u32) -> Option<u32>
         requires { t < number_count self.now }

@@ -1,0 +1,27 @@
+-- Verdicts, and what they give.
+use Rattle.std.proofs.Common.{ℕ, List, All, inl, inr}
+use Rattle.std.proofs.lemmas.Bool.{cases_order}
+use Rattle.std.proofs.lemmas.List.Elements.{All-contains}
+use Rattle.mk_jobs.specs.Jobs.{Jobs, Before, IsRaceFree}
+use Rattle.mk_jobs.specs.Shape.{IsWellFormed}
+use Rattle.mk_jobs.proofs.JobsLemmas.{shape_valid}
+use Rattle.mk_jobs.proofs.Reaching.{turned_clash}
+use Rattle.mk_sched.specs.Laws.{IsDeterminate}
+use Rattle.mk_sched.proofs.Determinate.{headline}
+use Rattle.mk_decide.specs.declared.decision.Verdict.{Verdict}
+use Rattle.mk_decide.specs.declared.decision.Verdict.TheVariants.{Safe, Race}
+use Rattle.mk_decide.specs.Decisions.{IsSafe, IsVerdict}
+use Rattle.mk_decide.specs.Pairs.{ArePairs}
+
+-- where all clashing pairs are in order, the jobs are race-free
+pub ordered_free : (jobs : Jobs) (pairs : List (ℕ × ℕ)) → ArePairs jobs pairs → All (λ (p : ℕ × ℕ). Before jobs p.0 p.1) pairs → IsRaceFree jobs
+ordered_free jobs pairs are ordered a b clash = elim (cases_order a b) [
+  | inl same ↦ absurd (clash.1.different same)
+  | inr (inl less) ↦ inl (All-contains (λ (p : ℕ × ℕ). Before jobs p.0 p.1) pairs (a, b) ordered ((are.clash a b).1 (less, clash)))
+  | inr (inr more) ↦ inr (All-contains (λ (p : ℕ × ℕ). Before jobs p.0 p.1) pairs (b, a) ordered ((are.clash b a).1 (more, turned_clash clash)))
+]
+
+-- safe jobs are determinate
+pub safe_determinate : (jobs : Jobs) (verdict : Verdict) → IsWellFormed jobs → IsVerdict jobs verdict → IsSafe verdict → IsDeterminate jobs
+safe_determinate jobs (Safe chains) shape is safe = headline jobs (shape_valid shape) is.race_free
+safe_determinate jobs (Race a b) shape is safe = absurd safe

@@ -1,0 +1,5 @@
+pub mod Decisions
+pub mod LeastRaces
+pub mod Pairs
+pub mod Races
+pub mod Verdicts

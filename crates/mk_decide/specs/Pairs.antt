@@ -1,0 +1,42 @@
+-- Pairs of nodes that clash.
+use Rattle.std.specs.Prelude.{ℕ, ◌<◌, ◌↔◌, List, [], length}
+use Rattle.std.specs.List.{Contains}
+use Rattle.std.specs.List.Sorted.{IsStrictlySortedBy}
+use Rattle.mk_name.specs.Told.{Told}
+use Rattle.mk_name.specs.declared.fault.Kind.TheVariants.{TooManyPairs}
+use Rattle.mk_name.specs.declared.fault.Source.TheVariants as sources
+use Rattle.mk_jobs.specs.Jobs.{Jobs, Clash}
+use Rattle.mk_proof.specs.Shapes.{pair_cmp}
+
+-- the most pairs that may clash
+abbrev pub pair_limit : ℕ
+pair_limit = 1000000
+
+-- each pair comes before those after it
+abbrev pub IsRising : List (ℕ × ℕ) → Type 0
+IsRising pairs = IsStrictlySortedBy pair_cmp pairs
+
+-- all pairs of nodes that clash, each once, the smaller number first, in order
+pub record ArePairs (jobs : Jobs) (pairs : List (ℕ × ℕ)) : Type 0 where
+  pub rise : IsRising pairs
+  pub clash : (a b : ℕ) → Contains pairs (a, b) ↔ ((a < b) × Clash jobs a b)
+
+-- in each pair the numbers rise and the nodes clash
+abbrev pub OnlyClashing : Jobs → List (ℕ × ℕ) → Type 0
+OnlyClashing jobs pairs = (a b : ℕ) → Contains pairs (a, b) → (a < b) × Clash jobs a b
+
+-- more pairs clash than may
+pub record HasManyPairs (jobs : Jobs) : Type 0 where
+  pub pairs : List (ℕ × ℕ)
+  pub rise : IsRising pairs
+  pub clash : OnlyClashing jobs pairs
+  pub many : pair_limit < length pairs
+
+-- the pair of two nodes is there, the smaller number first
+pub record Holds (pairs : List (ℕ × ℕ)) (a b : ℕ) : Type 0 where
+  pub rising : a < b → Contains pairs (a, b)
+  pub falling : b < a → Contains pairs (b, a)
+
+-- the fault of too many pairs
+abbrev pub too_many : Told
+too_many = record { kind = TooManyPairs; source = sources.Jobs; place = 0; names = [] }

@@ -1,0 +1,76 @@
+//! Whether jobs are race-free, and what shows it.
+ghost use Rattle.std.specs.Prelude.{ℕ, ◌≡◌, ◌≤◌, Err, IfErr, IfOk, length};
+ghost use Rattle.mk_name.specs.Gives.{HaltsAmong};
+ghost use Rattle.mk_jobs.specs.Shape.{IsWellFormed};
+ghost use Rattle.mk_sched.specs.Laws.{IsDeterminate};
+ghost use Rattle.mk_decide.specs.Decisions.{IsSafe, IsVerdict};
+ghost use Rattle.mk_decide.specs.Pairs.{ArePairs, HasManyPairs, pair_limit, too_many};
+
+use crate::chains::{certificate_of, first_race};
+use crate::pairs::clashing_pairs;
+use mk_jobs::jobs::Jobs;
+use mk_name::fault::Halt;
+use mk_order::before::Before;
+use mk_order::rows::Rows;
+use mk_proof::certificate::Certificate;
+use std::alloc::{AllocError, Global};
+
+/// What is decided about jobs.
+#[derive(Debug, Drop)]
+pub enum Verdict {
+    /// They are race-free. The certificate has one chain for each pair of nodes that clash, from the one to the other, and no
+    /// other chain.
+    Safe(Certificate),
+    /// These two nodes race, the smaller number first: they clash, and neither is before the other. No other race precedes
+    /// them, by first and then second number.
+    Race(u32, u32),
+}
+
+/// Decides whether jobs are race-free (profile); if they are, they are determinate. `before` must speak of the same jobs. Where
+/// more than `PAIR_LIMIT` pairs of nodes clash the fault is `TooManyPairs` in the jobs, at place 0. It goes over no pairs
+/// but those that clash.
+pub fn decide_with<B: Before>(alloc: Global, jobs: &Jobs, before: &mut B) -> Result<Verdict, Halt>
+    requires same { B.jobs before.old ≡ jobs.now }
+    ensures answer { IfOk result (IsVerdict jobs.now) }
+    ensures determinate { IfOk result (λ verdict. IsSafe verdict → IsDeterminate jobs.now) }
+    ensures many { IfErr result (λ halt.
+        HaltsAmong {Y = ℕ} halt (λ answer. (answer ≡ Err too_many) × HasManyPairs jobs.now)) }
+    ensures keeps { IfOk result (λ verdict. B.jobs before.new ≡ B.jobs before.old) }
+{
+    let _count = jobs.count();
+    let pairs = clashing_pairs(alloc, jobs)?;
+    let verdict = verdict_of(alloc, jobs, before, &pairs)?;
+    Ok(verdict)
+}
+
+/// Decides by all clashing pairs. The only error is want of memory.
+fn verdict_of<B: Before>(
+    alloc: Global,
+    jobs: &Jobs,
+    before: &mut B,
+    pairs: &[(u32, u32)],
+) -> Result<Verdict, AllocError>
+    requires same { B.jobs before.old ≡ jobs.now }
+    requires shape { IsWellFormed jobs.now }
+    requires pairs { ArePairs jobs.now pairs.now }
+    requires few { length pairs.now ≤ pair_limit }
+    ensures answer { IfOk result (IsVerdict jobs.now) }
+    ensures keeps { IfOk result (λ verdict. B.jobs before.new ≡ B.jobs before.old) }
+{
+    if let Some((a, b)) = first_race(jobs, before, pairs) {
+        return Ok(Verdict::Race(a, b));
+    }
+    let chains = certificate_of(alloc, jobs, before, pairs)?;
+    Ok(Verdict::Safe(chains))
+}
+
+/// The same, with rows of bits for the order of nodes.
+pub fn decide(alloc: Global, jobs: &Jobs) -> Result<Verdict, Halt>
+    ensures answer { IfOk result (IsVerdict jobs.now) }
+    ensures determinate { IfOk result (λ verdict. IsSafe verdict → IsDeterminate jobs.now) }
+    ensures many { IfErr result (λ halt.
+        HaltsAmong {Y = ℕ} halt (λ answer. (answer ≡ Err too_many) × HasManyPairs jobs.now)) }
+{
+    let mut rows = Rows::new(alloc, jobs)?;
+    decide_with(alloc, jobs, &mut rows)
+}
