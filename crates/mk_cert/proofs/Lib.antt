@@ -6,7 +6,6 @@ pub mod OnPaths
 pub mod Overlapping
 pub mod Paired
 pub mod Racing
-pub mod Reached
 pub mod Searched
 pub mod Sound
 pub mod Timing

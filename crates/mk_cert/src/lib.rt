@@ -8,7 +8,6 @@ pub mod accepting;
 mod clash;
 mod edges;
 pub mod laws;
-mod marks;
 mod pairs;
 mod search;
 mod stage;

@@ -6,7 +6,6 @@ ghost use Rattle.mk_jobs.specs.Jobs.{node_count};
 ghost use Rattle.mk_jobs.specs.Reaching.{uses_of};
 ghost use Rattle.mk_cert.specs.Pairs.{IsPaired};
 
-use crate::marks::mark_reaching;
 use crate::search::has_chain;
 use mk_jobs::jobs::Jobs;
 use mk_jobs::plan::NODE_LIMIT;
@@ -68,7 +67,7 @@ fn has_chains_of(jobs: &Jobs, certificate: &Certificate, b: u32) -> bool
 {
     let _count = jobs.count();
     let mut row = [0u64; WORDS];
-    mark_reaching(jobs, b, &mut row);
+    jobs.mark_reaching(b, &mut row);
     are_paired(certificate, b, &row)
 }
 
