@@ -3,5 +3,4 @@ pub mod ChainLemmas
 pub mod JobsLemmas
 pub mod NodeNames
 pub mod Numberings
-pub mod OverPairs
 pub mod Reaching

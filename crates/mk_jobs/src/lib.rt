@@ -11,6 +11,5 @@ pub mod jobs;
 pub mod laws;
 pub mod maker;
 pub mod numbering;
-mod overs;
 pub mod plan;
 pub mod recipe;

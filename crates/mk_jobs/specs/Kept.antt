@@ -1,0 +1,12 @@
+-- What a value of jobs keeps inside.
+use Rattle.std.specs.Prelude.{◌≡◌, length}
+use Rattle.mk_path.specs.Index.{Index, IsIndexed}
+use Rattle.mk_jobs.specs.Jobs.{Jobs}
+use Rattle.mk_jobs.specs.Reaching.{uses_of}
+use Rattle.mk_jobs.specs.Shape.{IsWellFormed}
+
+-- the jobs are well-formed, and the index is that of what they use
+pub record IsKept (jobs : Jobs) (index : Index) : Type 0 where
+  pub shape : IsWellFormed jobs
+  pub indexed : IsIndexed (uses_of jobs) index
+  pub nodes : length index.reads ≡ length jobs.reads
