@@ -2,6 +2,7 @@ pub mod Chains
 pub mod Jobs
 pub mod Kept
 pub mod Laws
+pub mod Needs
 pub mod Numbered
 pub mod Numbers
 pub mod Plan

@@ -1,21 +1,23 @@
 //! Jobs: a plan, and what each of its recipes may read and write.
-ghost use Rattle.std.specs.Prelude.{ℕ, ◌≡◌, ◌<◌, ◌≤◌, ◌*◌, ◌↔◌, ◌⊎◌, [], IfErr, IfOk, IfSome, IsSome, Some, false, get_or, length};
+ghost use Rattle.std.specs.Prelude.{ℕ, ◌≡◌, ◌<◌, ◌≤◌, ◌*◌, ◌↔◌, ◌⊎◌, [], IfErr, IfOk, IfSome, IsSome, IsTrue, Some, false, get_or, length};
 ghost use Rattle.mk_path.specs.Bits.{HasBit};
 ghost use Rattle.mk_path.specs.Uses.{IsLeastOverlap, Reaches, path_of, paths_of};
 ghost use Rattle.mk_jobs.specs.Numbered.{number_of};
 ghost use Rattle.mk_jobs.specs.Plan.{names_of, node_limit};
-ghost use Rattle.mk_jobs.specs.Jobs.{Clash, IsNumberOf, IsValid, is_listed, is_live, is_phony, maker_of, may_read, may_write, name_of, node_count, prerequisites_of, reads_of, writes_of};
+ghost use Rattle.mk_jobs.specs.Jobs.{Clash, IsNumberOf, IsPrerequisite, IsValid, is_listed, is_live, is_phony, maker_of, may_read, may_write, name_of, node_count, prerequisites_of, reads_of, writes_of};
 ghost use Rattle.mk_jobs.specs.Reaching.{uses_of};
 ghost use Rattle.mk_jobs.specs.Rows.{with_rows};
 ghost use Rattle.mk_jobs.specs.Shape.{IsRising, IsWellFormed};
 
 use crate::maker::Maker;
+use crate::needs::needs_of;
 use crate::plan::Plan;
 use crate::recipe::is_live;
 use mk_name::name::Name;
 use mk_path::covering::is_covered;
 use mk_path::index::{Index, Place};
 use mk_path::path::Path;
+use mk_path::table::Table;
 use mk_text::root::Root;
 use std::alloc::Global;
 use std::marker::Model;
@@ -30,6 +32,8 @@ pub struct Jobs {
     writes: Vec<Vec<Path>>,
     /// What they use, by numbers.
     index: Index,
+    /// The prerequisites of each node, rising.
+    needs: Table,
 }
 
 impl Model for Jobs {
@@ -51,7 +55,7 @@ impl Model for Jobs {
       root = a.root;
       reads = map (λ row. row.items) a.reads.items;
       writes = map (λ row. row.items) a.writes.items;
-    }) a.index };
+    }) a.index a.needs };
 }
 
 impl Jobs {
@@ -68,15 +72,19 @@ impl Jobs {
         ensures jobs { IfOk result (λ jobs. jobs ≡ with_rows plan root reads.items writes.items) }
         ensures back { IfErr result (λ back. back ≡ plan) }
     {
-        match Index::new(alloc, &root, reads.as_slice(), writes.as_slice()) {
-            Ok(index) => Ok(Jobs {
+        match (
+            needs_of(alloc, &plan),
+            Index::new(alloc, &root, reads.as_slice(), writes.as_slice()),
+        ) {
+            (Ok(needs), Ok(index)) => Ok(Jobs {
                 plan,
                 root,
                 reads,
                 writes,
                 index,
+                needs,
             }),
-            Err(_) => Err(plan),
+            _ => Err(plan),
         }
     }
 
@@ -115,6 +123,14 @@ impl Jobs {
         ensures { result.now ≡ prerequisites_of self.now n }
     {
         self.plan.prerequisites(n)
+    }
+
+    /// Whether node n needs node p at once. n must be below the count of nodes.
+    pub fn is_prerequisite(&self, p: u32, n: u32) -> bool
+        requires { n < node_count self.now }
+        ensures { IsTrue result ↔ IsPrerequisite self.now p n }
+    {
+        self.needs.row(n as usize).binary_search(&p).is_ok()
     }
 
     /// What makes a node's name. Its number must be below the count of nodes.

@@ -10,6 +10,7 @@
 pub mod jobs;
 pub mod laws;
 pub mod maker;
+mod needs;
 pub mod numbering;
 pub mod plan;
 pub mod recipe;
