@@ -1,7 +1,7 @@
 pub mod Accessors
 pub mod ChainLemmas
 pub mod JobsLemmas
+pub mod Needed
 pub mod NodeNames
 pub mod Numberings
-pub mod OverPairs
 pub mod Reaching

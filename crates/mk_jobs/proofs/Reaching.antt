@@ -6,7 +6,7 @@ use Rattle.std.proofs.lemmas.List.Folds.{Any-from_list_any, list_any-from_Any}
 use Rattle.mk_name.specs.Names.{Name}
 use Rattle.mk_path.specs.declared.path.Path.{Path}
 use Rattle.mk_path.specs.Paths.{covered, covers}
-use Rattle.mk_path.specs.Uses.{Reaches, touched_by}
+use Rattle.mk_path.specs.Uses.{IsOverlap, Reaches, touched_by}
 use Rattle.mk_path.proofs.Overs.{covers_own_name, over_covers_name, paths_of_one_name}
 use Rattle.mk_jobs.specs.Jobs.{Clash, ClashOn, Jobs, is_live, may_read, may_touch, may_write, node_count, reads_of, writes_of}
 use Rattle.mk_jobs.specs.Reaching.{ClashIsReach, uses_of}
@@ -169,4 +169,15 @@ unfolding reads_of writes_of
 reach_node jobs a b shape reaches = elim reaches.1.touches [
   | inl writes ↦ live_node jobs a (writer_is_live jobs a reaches.1.upper shape writes.0)
   | inr reads ↦ live_node jobs a (reader_is_live jobs a reaches.1.upper shape reads.0)
+]
+
+-- two nodes with an overlap clash, and others do not
+pub overlap_clashes : (jobs : Jobs) (a b : ℕ) (o : Path) → IsWellFormed jobs → a ≢ b → IsOverlap (uses_of jobs) a b o → Clash jobs a b
+overlap_clashes jobs a b o shape other (inl reaches) = (clash_is_reach jobs a b shape).1 (other, inl (o, reaches))
+overlap_clashes jobs a b o shape other (inr reaches) = (clash_is_reach jobs a b shape).1 (other, inr (o, reaches))
+
+pub no_overlap_apart : (jobs : Jobs) (a b : ℕ) → IsWellFormed jobs → ((o : Path) → IsOverlap (uses_of jobs) a b o → ⊥) → Clash jobs a b → ⊥
+no_overlap_apart jobs a b shape none clash = elim ((clash_is_reach jobs a b shape).0 clash).1 [
+  | inl reaches ↦ none reaches.0 (inl reaches.1)
+  | inr reaches ↦ none reaches.0 (inr reaches.1)
 ]

@@ -1,9 +1,10 @@
 pub mod Chains
 pub mod Jobs
+pub mod Kept
 pub mod Laws
+pub mod Needs
 pub mod Numbered
 pub mod Numbers
-pub mod Overs
 pub mod Plan
 pub mod Reaching
 pub mod Recipes

@@ -1,22 +1,23 @@
 //! Jobs: a plan, and what each of its recipes may read and write.
-ghost use Rattle.std.specs.Prelude.{ℕ, ◌≡◌, ◌<◌, ◌≤◌, ◌*◌, ◌↔◌, ◌⊎◌, IfErr, IfOk, IsTrue, Some, length};
+ghost use Rattle.std.specs.Prelude.{ℕ, ◌≡◌, ◌<◌, ◌≤◌, ◌*◌, ◌↔◌, ◌⊎◌, [], IfErr, IfOk, IfSome, IsSome, IsTrue, Some, false, get_or, length};
 ghost use Rattle.mk_path.specs.Bits.{HasBit};
-ghost use Rattle.mk_path.specs.Uses.{Reaches};
+ghost use Rattle.mk_path.specs.Uses.{IsLeastOverlap, Reaches, path_of, paths_of};
 ghost use Rattle.mk_jobs.specs.Numbered.{number_of};
 ghost use Rattle.mk_jobs.specs.Plan.{names_of, node_limit};
-ghost use Rattle.mk_jobs.specs.Jobs.{IsNumberOf, IsValid, is_listed, is_live, is_phony, maker_of, may_read, may_write, name_of, node_count, prerequisites_of, reads_of, writes_of};
+ghost use Rattle.mk_jobs.specs.Jobs.{Clash, IsNumberOf, IsPrerequisite, IsValid, is_listed, is_live, is_phony, maker_of, may_read, may_write, name_of, node_count, prerequisites_of, reads_of, writes_of};
 ghost use Rattle.mk_jobs.specs.Reaching.{uses_of};
 ghost use Rattle.mk_jobs.specs.Rows.{with_rows};
 ghost use Rattle.mk_jobs.specs.Shape.{IsRising, IsWellFormed};
 
 use crate::maker::Maker;
-use crate::overs::is_reaching;
+use crate::needs::needs_of;
 use crate::plan::Plan;
 use crate::recipe::is_live;
 use mk_name::name::Name;
-use mk_path::bits::set_bit;
 use mk_path::covering::is_covered;
+use mk_path::index::{Index, Place};
 use mk_path::path::Path;
+use mk_path::table::Table;
 use mk_text::root::Root;
 use std::alloc::Global;
 use std::marker::Model;
@@ -29,12 +30,16 @@ pub struct Jobs {
     root: Root,
     reads: Vec<Vec<Path>>,
     writes: Vec<Vec<Path>>,
+    /// What they use, by numbers.
+    index: Index,
+    /// The prerequisites of each node, rising.
+    needs: Table,
 }
 
 impl Model for Jobs {
     ghost use Rattle.std.specs.Prelude.{map};
     ghost use Rattle.mk_jobs.specs.Jobs as spec;
-    ghost use Rattle.mk_jobs.specs.Shape.{IsWellFormed};
+    ghost use Rattle.mk_jobs.specs.Kept.{IsKept};
 
     ghost Value = { spec.Jobs };
 
@@ -45,19 +50,19 @@ impl Model for Jobs {
       writes = map (λ row. row.items) a.writes.items;
     } };
 
-    ghost invariant = { λ a. IsWellFormed (record {
+    ghost invariant = { λ a. IsKept (record {
       plan = a.plan;
       root = a.root;
       reads = map (λ row. row.items) a.reads.items;
       writes = map (λ row. row.items) a.writes.items;
-    }) };
+    }) a.index a.needs };
 }
 
 impl Jobs {
     /// The jobs of a plan with a row of paths for each node: what it reads, and what it writes. Relative names stand below
     /// this root. The only error is want of memory, and then the plan comes back as it was.
     pub fn new(
-        _alloc: Global,
+        alloc: Global,
         plan: Plan,
         root: Root,
         reads: Vec<Vec<Path>>,
@@ -67,12 +72,20 @@ impl Jobs {
         ensures jobs { IfOk result (λ jobs. jobs ≡ with_rows plan root reads.items writes.items) }
         ensures back { IfErr result (λ back. back ≡ plan) }
     {
-        Ok(Jobs {
-            plan,
-            root,
-            reads,
-            writes,
-        })
+        match (
+            needs_of(alloc, &plan),
+            Index::new(alloc, &root, reads.as_slice(), writes.as_slice()),
+        ) {
+            (Ok(needs), Ok(index)) => Ok(Jobs {
+                plan,
+                root,
+                reads,
+                writes,
+                index,
+                needs,
+            }),
+            _ => Err(plan),
+        }
     }
 
     /// How many nodes there are, at most 20,000; they have at most 200,000 prerequisites together. Prerequisites have
@@ -110,6 +123,14 @@ impl Jobs {
         ensures { result.now ≡ prerequisites_of self.now n }
     {
         self.plan.prerequisites(n)
+    }
+
+    /// Whether node n needs node p at once. n must be below the count of nodes.
+    pub fn is_prerequisite(&self, p: u32, n: u32) -> bool
+        requires { n < node_count self.now }
+        ensures { IsTrue result ↔ IsPrerequisite self.now p n }
+    {
+        self.needs.row(n as usize).binary_search(&p).is_ok()
     }
 
     /// What makes a node's name. Its number must be below the count of nodes.
@@ -207,22 +228,44 @@ impl Jobs {
         requires room { node_count self.now ≤ 64 * length row.old }
         ensures { (a : ℕ) → HasBit row.new a ↔ (HasBit row.old a ⊎ Reaches (uses_of self.now) a b) }
     {
-        for a in 0..self.count() {
-            if self.reaches(a, b) {
-                set_bit(row, a);
-            }
+        self.index.mark_reaching(b, row);
+    }
+
+    /// The least path on which two nodes clash (profile): the overlap of a path of each, of which one is written; the overlap
+    /// of two paths is the one that the other is or lies over. None where they do not clash. Both numbers must be below the
+    /// count of nodes.
+    pub fn clash(&self, a: u32, b: u32) -> Option<&Path>
+        requires first { a < node_count self.now }
+        requires second { b < node_count self.now }
+        ensures least { IfSome result (λ path. IsLeastOverlap (uses_of self.now) a b path.now) }
+        ensures clash { IsSome result ↔ Clash self.now a b }
+    {
+        if a == b {
+            return None;
+        }
+        match self.index.overlap(a, b) {
+            Some(place) => Some(self.path_at(place)),
+            None => None,
         }
     }
 
-    /// Whether node a reaches node b.
-    fn reaches(&self, a: u32, b: u32) -> bool
-        requires first { a < node_count self.now }
-        requires second { b < node_count self.now }
-        ensures { IsTrue result ↔ Reaches (uses_of self.now) a b }
+    /// The path at a place.
+    fn path_at(&self, place: Place) -> &Path
+        requires node { place.node < node_count self.now }
+        requires within { place.place < length (paths_of (uses_of self.now) place.node place.written) }
+        ensures { result.now ≡ path_of (uses_of self.now) place }
     {
-        let root = self.root();
-        let (reads, writes) = (self.reads(a), self.writes(a));
-        let (others_reads, others_writes) = (self.reads(b), self.writes(b));
-        is_reaching(root, reads, writes, others_reads, others_writes)
+        if place.written {
+            return path_in(self.writes(place.node), place.place);
+        }
+        path_in(self.reads(place.node), place.place)
     }
+}
+
+/// The path at a place of some.
+fn path_in(paths: &[Path], place: usize) -> &Path
+    requires { place < length paths.now }
+    ensures { result.now ≡ get_or paths.now place (record { name = []; tree = false }) }
+{
+    &paths[place]
 }

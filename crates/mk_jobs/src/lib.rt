@@ -10,7 +10,7 @@
 pub mod jobs;
 pub mod laws;
 pub mod maker;
+mod needs;
 pub mod numbering;
-mod overs;
 pub mod plan;
 pub mod recipe;

@@ -8,4 +8,4 @@ unfolding node_count
 returns-clause-count c = c.count.ensures.count ∙ ap (λ jobs. length jobs.plan.nodes) c.self.view_is
 
 pub returns-clause-valid : goal.returns-clause-valid
-returns-clause-valid c = subst IsValid c.self.view_is (shape_valid c.self.invariant)
+returns-clause-valid c = subst IsValid c.self.view_is (shape_valid c.self.invariant.shape)

@@ -13,4 +13,4 @@ unfolding name_of
 returns-clause-name c = c.name.ensures ∙ ap (λ (d : Node). d.name) (plan_node _ c.args.self.now _ (ap (λ jobs. jobs.plan) c.self.view_is))
 
 pub returns-clause-number : goal.returns-clause-number
-returns-clause-number c = number_found c.args.self.now c.args.n (subst IsWellFormed c.self.view_is c.self.invariant) c.requires
+returns-clause-number c = number_found c.args.self.now c.args.n (subst IsWellFormed c.self.view_is c.self.invariant.shape) c.requires
