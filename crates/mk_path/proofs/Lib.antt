@@ -4,4 +4,6 @@ pub mod Found
 pub mod Halves
 pub mod Overs
 pub mod PathOrder
+pub mod RangePlaces
+pub mod RangeTests
 pub mod Tests

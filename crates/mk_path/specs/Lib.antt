@@ -1,3 +1,5 @@
 pub mod Covering
 pub mod Laws
 pub mod Paths
+pub mod Ranges
+pub mod Taken

@@ -8,3 +8,4 @@
 pub mod covering;
 pub mod laws;
 pub mod path;
+pub mod taken;
