@@ -1,8 +1,10 @@
 pub mod Begin
+pub mod ByComponents
 pub mod Folders
 pub mod Found
 pub mod Halves
 pub mod Overs
+pub mod Parts
 pub mod PathOrder
 pub mod RangePlaces
 pub mod RangeTests
