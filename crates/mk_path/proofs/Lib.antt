@@ -1,6 +1,7 @@
 pub mod Ascents
 pub mod Begin
 pub mod Building
+pub mod ByComponents
 pub mod Climbing
 pub mod Finding
 pub mod FolderKinds
@@ -13,7 +14,10 @@ pub mod Meeting
 pub mod Numbering
 pub mod Overlaps
 pub mod Overs
+pub mod Parts
 pub mod PathOrder
+pub mod RangePlaces
+pub mod RangeTests
 pub mod Reaching
 pub mod Searching
 pub mod SetBits

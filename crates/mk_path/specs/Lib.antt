@@ -8,7 +8,9 @@ pub mod Meets
 pub mod Nearest
 pub mod Paths
 pub mod Places
+pub mod Ranges
 pub mod Table
+pub mod Taken
 pub mod Texts
 pub mod Ups
 pub mod Uses
