@@ -52,12 +52,7 @@ fn empty_log(alloc: Global) -> Log
 fn fault(alloc: Global, place: u64) -> Halt
     ensures { result ≡ halts.Fault (told place) }
 {
-    Halt::Fault(Fault::unnamed(
-        alloc,
-        Kind::BadLog,
-        Source::Log,
-        place,
-    ))
+    Halt::Fault(Fault::unnamed(alloc, Kind::BadLog, Source::Log, place))
 }
 
 /// Adds what a physical line says, and tells whether the line is good behind those before it.

@@ -1,9 +1,9 @@
 //! The texts of proofs.
+use mk_name::fault::Halt;
+use mk_name::report::refused_report;
 use mk_proof::proof::Proof;
 use mk_proof::reading::read_proof;
 use mk_proof::writing::{write_certificate, write_trace};
-use mk_name::fault::Halt;
-use mk_name::report::refused_report;
 use std::alloc::{AllocError, Global};
 
 /// Texts of proofs, each of which is written back as the same bytes.
