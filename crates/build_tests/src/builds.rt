@@ -8,6 +8,7 @@ use mk_jobs::jobs::Jobs;
 use mk_name::fault::Halt;
 use mk_name::name::Name;
 use mk_name::report::refused_report;
+use mk_path::path::Path;
 use mk_race::input::Input;
 use mk_race::preparing::prepare;
 use mk_sched::event::Event;
@@ -152,9 +153,9 @@ fn push_node(alloc: Global, out: &mut Vec<u8>, jobs: &Jobs, n: u32) -> Result<()
     out.push(b' ')?;
     out.extend_from_slice(jobs.name(n).as_bytes())?;
     out.extend_from_slice(b" reads")?;
-    push_names(out, jobs.reads(n))?;
+    push_paths(out, jobs.reads(n))?;
     out.extend_from_slice(b" writes")?;
-    push_names(out, jobs.writes(n))?;
+    push_paths(out, jobs.writes(n))?;
     out.push(b'\n')?;
     Ok(())
 }
@@ -193,11 +194,14 @@ pub(crate) fn push_number(alloc: Global, out: &mut Vec<u8>, number: u64) -> Resu
     out.extend_from_slice(text.as_bytes())
 }
 
-/// Adds names, each behind a blank.
-pub(crate) fn push_names(out: &mut Vec<u8>, names: &[Name]) -> Result<(), AllocError> {
-    for name in names {
+/// Adds paths, each behind a blank, a tree with its slash.
+fn push_paths(out: &mut Vec<u8>, paths: &[Path]) -> Result<(), AllocError> {
+    for path in paths {
         out.push(b' ')?;
-        out.extend_from_slice(name.as_bytes())?;
+        out.extend_from_slice(path.name.as_bytes())?;
+        if path.tree {
+            out.push(b'/')?;
+        }
     }
     Ok(())
 }
