@@ -1,18 +1,20 @@
 -- Lemmas on answers over texts that are the same.
-use Rattle.std.proofs.Common.{◌≡◌, ℕ, Bool, List, Ok, Err, subst}
+use Rattle.std.proofs.Common.{◌≡◌, ◌≢◌, ◌∙◌, ℕ, Bool, List, Ok, Err, subst, sym}
 use Rattle.mk_name.specs.Gives.{HaltsAmong}
 use Rattle.mk_name.specs.Shown.{refused_text}
 use Rattle.mk_name.specs.Told.{Told}
 use Rattle.mk_name.specs.declared.fault.Halt.{Halt}
 use Rattle.mk_name.specs.declared.fault.Halt.TheVariants.{Fault}
 use Rattle.mk_race.specs.Played.{IsPlayed}
-use Rattle.mk_race.specs.Stages.{Texts}
+use Rattle.mk_race.specs.Stages.{IsPlanned, Texts}
+use Rattle.mk_race.specs.declared.planning.Planned.{Planned}
 use Rattle.mk_race.specs.declared.replaying.Played.{Played}
 use Rattle.mk_race.specs.declared.replaying.Played.TheVariants.{Allowed, NotAllowed}
-use Rattle.mk_program.specs.Answers.{IsReplayAnswer, status_of}
+use Rattle.mk_program.specs.Answers.{IsOrderAnswer, IsReplayAnswer, status_of}
+use Rattle.mk_program.specs.PlanText.{plan_text}
 use Rattle.mk_program.specs.OutcomeText.{IsOutcomeText}
 use Rattle.mk_program.specs.declared.statuses.Status.{Status}
-use Rattle.mk_program.specs.declared.statuses.Status.TheVariants.{Refused}
+use Rattle.mk_program.specs.declared.statuses.Status.TheVariants.{Done, Failed, Refused}
 
 -- texts that agree in each part
 pub texts_are : (root root' : List ℕ) (operands operands' : List (List ℕ)) (base base' makefile makefile' listing listing' : List ℕ)
@@ -46,3 +48,12 @@ outcome_is texts footprints log limit limit' tie (Allowed replayed) status text 
     rw ends (replayed, subst (λ (n : ℕ). IsPlayed texts footprints log n tie (Ok (Allowed replayed))) same played, told)
 outcome_is texts footprints log limit limit' tie (NotAllowed place refusal) status text played same ends told =
     rw ends (place, refusal, subst (λ (n : ℕ). IsPlayed texts footprints log n tie (Ok (NotAllowed place refusal))) same played, told)
+
+-- what is done has not failed
+pub not_failed : (status : Status) → status ≡ Done → status ≢ Failed
+not_failed status done failed = let e : ◌≡◌ {A = Status} Done Failed = sym done ∙ failed in cc
+
+-- what is told of a plan is its answer
+pub plan_is : (texts : Texts) (planned : Planned) (status : Status) (text : List ℕ)
+    → IsPlanned texts (Ok planned) → status ≡ Done → text ≡ plan_text planned.plan → IsOrderAnswer texts status text
+plan_is texts planned status text is ends told = rw ends (planned, is, told)

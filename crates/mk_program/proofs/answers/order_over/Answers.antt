@@ -1,0 +1,11 @@
+use Rattle.std.proofs.lemmas.Result.{IfOk-weaker}
+use Rattle.mk_race.specs.Stages.{texts_of}
+use Rattle.mk_program.proofs.Answering.{not_failed, plan_is}
+use Rattle.mk_program.proofs.answers.order_over.Goals as goal
+
+pub returns-in-Ok-clause-status : goal.returns-in-Ok-clause-status
+returns-in-Ok-clause-status c = IfOk-weaker c.plan_answer.result _ _ (λ answer h. not_failed answer.status h.0) c.plan_answer.ensures
+
+pub returns-in-Ok-clause-answer : goal.returns-in-Ok-clause-answer
+returns-in-Ok-clause-answer c =
+    IfOk-weaker c.plan_answer.result _ _ (λ answer h. plan_is (texts_of c.args.input.now) c.in-Ok.planned _ _ c.in-Ok.ensures h.0 h.1) c.plan_answer.ensures
