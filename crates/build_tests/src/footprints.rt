@@ -25,7 +25,7 @@ const CASES: &[(&str, &str)] = &[
     // Paths are compared in plain spelling.
     (
         "{\"target\":\"./x/../a\",\"reads\":[\"/w/s\",\"s\",\"sub//../s\"],\"writes\":[\"/tmp/t\",\"out/\"]}",
-        "0 a reads s writes /tmp/t out\n",
+        "0 a reads s writes /tmp/t out/\n",
     ),
     // Spaces, tabs and carriage returns around lines mean nothing; blank lines count.
     (
