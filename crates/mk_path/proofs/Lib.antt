@@ -1,6 +1,14 @@
+pub mod Ascents
 pub mod Folders
-mod Found
+pub mod Found
 pub mod Halves
+pub mod Marking
+pub mod Meeting
+pub mod Overlaps
 pub mod PathOrder
+pub mod Reaching
+pub mod Searching
+pub mod SetBits
 pub mod Spelled
+pub mod Tables
 pub mod Tests

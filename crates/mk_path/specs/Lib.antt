@@ -1,3 +1,10 @@
+pub mod Bits
 pub mod Covering
+pub mod Index
+pub mod Marks
+pub mod Meets
 pub mod Paths
+pub mod Table
 pub mod Texts
+pub mod Ups
+pub mod Uses

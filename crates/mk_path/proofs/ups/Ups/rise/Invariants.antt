@@ -1,0 +1,13 @@
+use Rattle.std.proofs.Common.{◌<◌}
+use Rattle.mk_path.specs.Ups.{IsUpOf, number_count, rank_at}
+use Rattle.mk_path.proofs.ups.Ups.rise.Given as goal
+
+abbrev pub invariant-loop-t : goal.invariant-loop-t
+invariant-loop-t l = record {
+  up : IsUpOf l.self l.t l.fn.from;
+  within : l.t < number_count l.self;
+}
+
+-- the rank falls
+abbrev pub decreases-loop-t : goal.decreases-loop-t
+decreases-loop-t l = rank_at l.self l.t

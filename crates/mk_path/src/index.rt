@@ -1,0 +1,169 @@
+//! An index over rows of paths: who reaches whom, and where.
+ghost use Rattle.std.specs.Prelude.{ℕ, ◌≡◌, ◌<◌, ◌≤◌, ◌*◌, ◌↔◌, ◌⊎◌, ◌∷◌, IfNone, IfSome, List, length, slice_index};
+ghost use Rattle.std.specs.List.Sorted.{IsStrictlyIncreasing};
+ghost use Rattle.mk_path.specs.Bits.{HasBit};
+ghost use Rattle.mk_path.specs.Index.{IsIndexed, IsNumberRow, IsWhole, numbers_of};
+ghost use Rattle.mk_path.specs.Meets.{AreBelow, Facing, IsFront, IsLeastMet, Stands, facing};
+ghost use Rattle.mk_path.specs.Uses.{IsLeastOverlap, IsOverlap, Reaches, Uses, path_of, paths_of};
+
+use crate::marks::mark_over;
+use crate::meets::first_met;
+use crate::path::Path;
+use crate::table::Table;
+use crate::ups::Ups;
+use std::marker::Model;
+
+/// A place among the paths of a node: of those that it writes, or of those that it reads, counted from 0 on.
+#[derive(Clone, Copy, Debug, PartialEq, Eq)]
+pub struct Place {
+    pub node: u32,
+    pub written: bool,
+    pub place: usize,
+}
+
+/// The number of a path, and a place where the path stands.
+#[derive(Clone, Copy, Debug)]
+struct Found {
+    number: u32,
+    place: Place,
+}
+
+/// What nodes read and write, by the numbers of their paths. Made once, it answers which nodes reach a node, and where two
+/// nodes overlap, without a look at any path.
+#[derive(Debug, Drop)]
+pub struct Index {
+    reads: Table,
+    writes: Table,
+    ups: Ups,
+    writers: Table,
+    readers: Table,
+}
+
+impl Model for Index {
+    ghost use Rattle.mk_path.specs.Index as spec;
+    ghost use Rattle.mk_path.specs.Index.{IsWhole};
+
+    ghost Value = { spec.Index };
+
+    ghost view = { λ a. record { reads = a.reads; writes = a.writes; ups = a.ups; writers = a.writers; readers = a.readers } };
+
+    ghost invariant = { λ a. IsWhole (record { reads = a.reads; writes = a.writes; ups = a.ups; writers = a.writers; readers = a.readers }) };
+}
+
+impl Index {
+    /// How many nodes there are.
+    pub fn count(&self) -> usize
+        ensures count { result ≡ length self.now.reads }
+        ensures whole { IsWhole self.now }
+    {
+        self.reads.count()
+    }
+
+    /// Sets the bits of the nodes that reach node b: those that have a path which is one of b's or a tree over it, where one
+    /// of the two is written. b itself may be one of them. All other bits stay. b must be below the count of nodes, and the
+    /// row must have a word for each 64 nodes.
+    pub fn mark_reaching(&self, b: u32, row: &mut [u64])
+        requires node { b < length self.now.reads }
+        requires room { length self.now.reads ≤ 64 * length row.old }
+        ensures marked { (uses : Uses) (a : ℕ) → IsIndexed uses self.now → HasBit row.new a ↔ (HasBit row.old a ⊎ Reaches uses a b) }
+    {
+        let reads = self.reads.row(b as usize);
+        let writes = self.writes.row(b as usize);
+        mark_over(&self.ups, &self.writers, reads, row);
+        mark_over(&self.ups, &self.writers, writes, row);
+        mark_over(&self.ups, &self.readers, writes, row);
+    }
+
+    /// Where two nodes overlap first: the place of the least path which is the overlap of a path of a and one of b, of which
+    /// one is written; the overlap of two paths is the one that the other is over. None where they do not overlap. Both must
+    /// be below the count of nodes.
+    pub fn overlap(&self, a: u32, b: u32) -> Option<Place>
+        requires first { a < length self.now.reads }
+        requires second { b < length self.now.reads }
+        ensures node { IfSome result (λ place. place.node < length self.now.reads) }
+        ensures within { IfSome result (λ place. (uses : Uses) → IsIndexed uses self.now → place.place < length (paths_of uses place.node place.written)) }
+        ensures some { IfSome result (λ place. (uses : Uses) → IsIndexed uses self.now → IsLeastOverlap uses a b (path_of uses place)) }
+        ensures none { IfNone result ((uses : Uses) (o : Path) → IsIndexed uses self.now → ¬ IsOverlap uses a b o) }
+    {
+        let count = self.count();
+        prove!((a as usize) < count && (b as usize) < count);
+        let best = self.under(None, a, b);
+        match self.under(best, b, a) {
+            Some(found) => Some(found.place),
+            None => None,
+        }
+    }
+
+    /// The least of the best so far and of the paths of b that a reaches.
+    fn under(&self, best: Option<Found>, a: u32, b: u32) -> Option<Found>
+        requires first { a < length self.now.reads }
+        requires second { b < length self.now.reads }
+        requires stands { IfSome best (Stands self.now) }
+        ensures stands { IfSome result (Stands self.now) }
+        ensures least { (pairs : List Facing) → IsLeastMet self.now.ups pairs best → IsLeastMet self.now.ups (facing self.now a b pairs) result }
+    {
+        let best = self.lesser(best, b, true, self.numbers(a, true));
+        let best = self.lesser(best, b, true, self.numbers(a, false));
+        self.lesser(best, b, false, self.numbers(a, true))
+    }
+
+    /// The least of the best so far and of the numbers of what a node writes, or reads, that one of theirs stands above.
+    fn lesser(&self, best: Option<Found>, node: u32, written: bool, theirs: &[u32]) -> Option<Found>
+        requires node { node < length self.now.reads }
+        requires rise { IsStrictlyIncreasing theirs.now }
+        requires stands { IfSome best (Stands self.now) }
+        ensures stands { IfSome result (Stands self.now) }
+        ensures least { (pairs : List Facing) → IsLeastMet self.now.ups pairs best
+            → IsLeastMet self.now.ups (record { mine = numbers_of self.now node written; theirs = theirs.now } ∷ pairs) result }
+    {
+        let mine = before(self.numbers(node, written), best);
+        match first_met(&self.ups, mine, theirs) {
+            Some(place) => Some(Found {
+                number: mine[place],
+                place: Place {
+                    node,
+                    written,
+                    place,
+                },
+            }),
+            None => best,
+        }
+    }
+
+    /// The numbers of what a node writes, or reads.
+    fn numbers(&self, node: u32, written: bool) -> &[u32]
+        requires { node < length self.now.reads }
+        ensures numbers { result.now ≡ numbers_of self.now node written }
+        ensures row { IsNumberRow self.now.ups result.now }
+    {
+        if written {
+            self.writes.row(node as usize)
+        } else {
+            self.reads.row(node as usize)
+        }
+    }
+}
+
+/// The front of some numbers that rise: those up to the best so far, if there is one.
+fn before(numbers: &[u32], best: Option<Found>) -> &[u32]
+    requires { IsStrictlyIncreasing numbers.now }
+    ensures { IsFront numbers.now best result.now }
+{
+    match best {
+        Some(found) => &numbers[..place_of(numbers, found.number)],
+        None => numbers,
+    }
+}
+
+/// Where a number stands among others that rise, or would stand.
+fn place_of(numbers: &[u32], n: u32) -> usize
+    requires { IsStrictlyIncreasing numbers.now }
+    ensures within { result ≤ length numbers.now }
+    ensures below { AreBelow numbers.now result n }
+    ensures rest { (k : ℕ) → result ≤ k → k < length numbers.now → n ≤ slice_index numbers.now k }
+{
+    match numbers.binary_search(&n) {
+        Ok(place) => place,
+        Err(place) => place,
+    }
+}

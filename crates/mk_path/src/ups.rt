@@ -1,0 +1,61 @@
+//! The way up from a number: which one stands next above it.
+ghost use Rattle.std.specs.Prelude.{◌≡◌, ◌<◌, IfNone, IfSome};
+ghost use Rattle.mk_path.specs.Ups.{IsUp, IsUpOf, above, number_count, rank_at};
+
+use std::marker::Model;
+
+/// For each number the one next above it, and a rank, which falls on the way up.
+#[derive(Debug, Drop)]
+pub struct Ups {
+    next: Vec<u32>,
+    ranks: Vec<u32>,
+}
+
+impl Model for Ups {
+    ghost use Rattle.mk_path.specs.Ups as spec;
+    ghost use Rattle.mk_path.specs.Ups.{AreRanked};
+
+    ghost Value = { spec.Ups };
+
+    ghost view = { λ a. record { next = a.next.items; ranks = a.ranks.items } };
+
+    ghost invariant = { λ a. AreRanked (record { next = a.next.items; ranks = a.ranks.items }) };
+}
+
+impl Ups {
+    /// The number next above this one, if there is one.
+    pub fn above(&self, t: u32) -> Option<u32>
+        requires { t < number_count self.now }
+        ensures some { IfSome result (λ u. u ≡ above self.now t) }
+        ensures within { IfSome result (λ u. u < number_count self.now) }
+        ensures falls { IfSome result (λ u. rank_at self.now u < rank_at self.now t) }
+        ensures none { IfNone result (above self.now t ≡ t) }
+    {
+        let u = self.next[t as usize];
+        if u == t { None } else { Some(u) }
+    }
+
+    /// The rank of a number, which is less than that of each number below it.
+    pub fn rank(&self, t: u32) -> u32
+        requires { t < number_count self.now }
+        ensures { result ≡ rank_at self.now t }
+    {
+        self.ranks[t as usize]
+    }
+
+    /// Goes up from a number, if there is one, as long as the rank is above this limit.
+    pub fn rise(&self, from: Option<u32>, limit: u32) -> Option<u32>
+        requires { IfSome from (λ q. q < number_count self.now) }
+        ensures up { IfSome result (λ t. IsUpOf self.now t from) }
+        ensures within { IfSome result (λ t. t < number_count self.now) }
+    {
+        let mut t = from?;
+        while self.rank(t) > limit {
+            match self.above(t) {
+                Some(u) => t = u,
+                None => break,
+            }
+        }
+        Some(t)
+    }
+}
