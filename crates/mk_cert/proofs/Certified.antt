@@ -1,20 +1,29 @@
 -- What a certificate gives.
-use Rattle.std.proofs.Common.{ℕ, ◌≡◌, ◌<◌, List, [], ◌∷◌, length, get_or, inl, inr, sym, subst, ◌∙◌, arith}
+use Rattle.std.proofs.Common.{ℕ, ◌≡◌, ◌<◌, ◌-◌, List, [], ◌∷◌, length, get_or, inl, inr, refl, sym, ap, subst, ◌∙◌, arith}
 use Rattle.std.specs.List.{All}
 use Rattle.std.proofs.lemmas.List.{get_or-map, length-map}
 use Rattle.mk_jobs.specs.Jobs.{Jobs, Before}
+use Rattle.mk_jobs.specs.Chains.{last_of}
 use Rattle.mk_jobs.proofs.ChainLemmas.{chain_is_before}
 use Rattle.mk_jobs.proofs.JobsLemmas.{before_less}
 use Rattle.mk_sched.proofs.Determinate.{headline}
-use Rattle.mk_cert.specs.Shapes.{ends_of}
+use Rattle.mk_proof.specs.Shapes.{ends_of}
 use Rattle.mk_cert.specs.Certificates.{IsChain, IsAtEnds}
 use Rattle.mk_cert.specs.Laws.{CertificateIsRaceFree, CertificateIsDeterminate, SmallerFirst}
+
+-- the last of a list by its place
+last_at : (a : ℕ) (nodes : List ℕ) (d : ℕ) → get_or (a ∷ nodes) (length nodes) d ≡ last_of a nodes
+last_at a [] d = refl
+last_at a (b ∷ nodes) d = last_at b nodes d
 
 -- the first node of a chain is before the last
 chain_before : (jobs : Jobs) (chain : List ℕ) → IsChain jobs chain → Before jobs (ends_of chain).0 (ends_of chain).1
 chain_before jobs [] edges = absurd edges
 chain_before jobs (a ∷ []) edges = absurd edges
-chain_before jobs (a ∷ next ∷ nodes) edges = chain_is_before jobs a next nodes edges
+chain_before jobs (a ∷ next ∷ nodes) edges =
+    let place : length (a ∷ next ∷ nodes) - 1 ≡ length (next ∷ nodes) = omega arith in
+    let last = ap (λ k. get_or (a ∷ next ∷ nodes) k 0) place ∙ last_at a (next ∷ nodes) 0 in
+    subst (Before jobs a) (sym last) (chain_is_before jobs a next nodes edges)
 
 -- so it is with the ends of each chain
 pub ends_before : (jobs : Jobs) (chains : List (List ℕ)) (a b : ℕ) → All (IsChain jobs) chains → IsAtEnds chains a b → Before jobs a b

@@ -12,7 +12,7 @@ use Rattle.mk_sched.proofs.Moving.{count_to-same, count_to-more}
 use Rattle.mk_cert.specs.Traces.{ClashesOn}
 use Rattle.mk_cert.specs.Sure.{is_waiting, is_ready, passes}
 use Rattle.mk_cert.specs.Laws.{StepMoves}
-use Rattle.mk_cert.specs.declared.step.Step.TheVariants.{Skip, Start, Finish}
+use Rattle.mk_proof.specs.declared.step.Step.TheVariants.{Skip, Start, Finish}
 
 -- ---- a clash on a path
 

@@ -12,11 +12,11 @@ use Rattle.mk_sched.specs.Runs.{IsRun}
 use Rattle.mk_sched.specs.Controls.{controls}
 use Rattle.mk_sched.proofs.Basics.{split, is_begun, same_name-true, same_name-refl}
 use Rattle.mk_sched.proofs.OneRun.{chain_passed}
-use Rattle.mk_cert.specs.Shapes.{Trace}
+use Rattle.mk_proof.specs.Shapes.{Trace}
 use Rattle.mk_cert.specs.Traces.{Fits, TraceHolds, event_of, past_of, time_at}
 use Rattle.mk_cert.specs.Laws.{StepsAreRun, StoreFits, TraceRefutes}
-use Rattle.mk_cert.specs.declared.step.Step.{Step}
-use Rattle.mk_cert.specs.declared.step.Step.TheVariants.{Skip, Start, Finish}
+use Rattle.mk_proof.specs.declared.step.Step.{Step}
+use Rattle.mk_proof.specs.declared.step.Step.TheVariants.{Skip, Start, Finish}
 use Rattle.mk_cert.proofs.Clashing.{a_clash}
 
 -- ---- steps as events

@@ -14,8 +14,8 @@ use Rattle.mk_cert.specs.Traces.{AreOfListed, event_of, time_of, time_at}
 use Rattle.mk_cert.specs.Sure.{surely_fresh, is_waiting, is_ready, passes, all_pass}
 use Rattle.mk_cert.specs.Races.{TellsEarly, passing, early_steps, falling_times}
 use Rattle.mk_cert.specs.Laws.{RaceTraceIsSure, RaceTraceHolds}
-use Rattle.mk_cert.specs.declared.step.Step.{Step}
-use Rattle.mk_cert.specs.declared.step.Step.TheVariants.{Start}
+use Rattle.mk_proof.specs.declared.step.Step.{Step}
+use Rattle.mk_proof.specs.declared.step.Step.TheVariants.{Start}
 use Rattle.mk_cert.proofs.Clashing.{apart, both_live, start_moves}
 use Rattle.mk_cert.proofs.Sound.{holds}
 
@@ -47,7 +47,7 @@ before_first step (edge p) = further (edge step) p
 before_first step (further chain p) = further (before_first step chain) p
 
 -- what is listed is a node
-listed_node : (jobs : Jobs) (n : ℕ) → is_listed jobs n ≡ true → n < node_count jobs
+pub listed_node : (jobs : Jobs) (n : ℕ) → is_listed jobs n ≡ true → n < node_count jobs
 unfolding node_count is_listed
 listed_node jobs n listed = elim (cases_lt n (length jobs.plan.nodes)) [
   | inl below ↦ below

@@ -18,8 +18,8 @@ use Rattle.mk_sched.proofs.Surely.{surely}
 use Rattle.mk_cert.specs.Traces.{Follows, event_of, past_of, time_at}
 use Rattle.mk_cert.specs.Sure.{surely_older, surely_fresh, is_ready, passes, all_pass}
 use Rattle.mk_cert.specs.Laws.{SurelyFresh, SureTraceHolds}
-use Rattle.mk_cert.specs.declared.step.Step.{Step}
-use Rattle.mk_cert.specs.declared.step.Step.TheVariants.{Skip, Start, Finish}
+use Rattle.mk_proof.specs.declared.step.Step.{Step}
+use Rattle.mk_proof.specs.declared.step.Step.TheVariants.{Skip, Start, Finish}
 use Rattle.mk_cert.proofs.Clashing.{ready_parts, runs_is}
 
 -- a test that all elements pass gives what it says of each

@@ -4,7 +4,7 @@ use Rattle.std.specs.List.{All}
 use Rattle.std.specs.List.Sorted.{IsStrictlySortedBy}
 use Rattle.mk_jobs.specs.Jobs.{Jobs, Clash, node_count}
 use Rattle.mk_jobs.specs.Chains.{IsEdgeByEdge}
-use Rattle.mk_cert.specs.Shapes.{ends_of, pair_cmp}
+use Rattle.mk_proof.specs.Shapes.{ends_of, pair_cmp}
 
 -- two or more nodes, and an edge from each to the next
 abbrev pub IsChain : Jobs → List ℕ → Type 0

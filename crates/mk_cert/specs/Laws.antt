@@ -8,12 +8,12 @@ use Rattle.mk_sched.specs.Runs.{IsRun}
 use Rattle.mk_sched.specs.Laws.{IsDeterminate}
 use Rattle.mk_sched.specs.Sure.{HasTimes}
 use Rattle.mk_sched.specs.Counter.{Moves}
-use Rattle.mk_cert.specs.Shapes.{Trace}
+use Rattle.mk_proof.specs.Shapes.{Trace}
 use Rattle.mk_cert.specs.Certificates.{IsCertificate, IsAtEnds}
 use Rattle.mk_cert.specs.Traces.{ClashesOn, Fits, TraceHolds, event_of, past_of}
 use Rattle.mk_cert.specs.Sure.{IsSure, passes, surely_fresh}
 use Rattle.mk_cert.specs.Races.{TellsEarly, race_trace}
-use Rattle.mk_cert.specs.declared.step.Step.{Step}
+use Rattle.mk_proof.specs.declared.step.Step.{Step}
 
 -- jobs with a certificate are race-free
 abbrev pub CertificateIsRaceFree : Type 0

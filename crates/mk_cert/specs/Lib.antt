@@ -1,9 +1,6 @@
 pub mod Certificates
-pub mod Drafts
 pub mod Laws
-pub mod ProofText
 pub mod Races
-pub mod Shapes
+pub mod Standing
 pub mod Sure
-pub mod Tables
 pub mod Traces

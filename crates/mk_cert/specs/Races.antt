@@ -1,9 +1,9 @@
 -- The trace that shows a race.
 use Rattle.std.specs.Prelude.{ℕ, ◌≡◌, ◌⊎◌, ◌↔◌, ◌++◌, Bool, true, List, [], ◌∷◌, if◌then◌else◌}
 use Rattle.mk_jobs.specs.Jobs.{Jobs, Before, node_count, is_live, is_listed}
-use Rattle.mk_cert.specs.Shapes.{Trace, trace_of}
-use Rattle.mk_cert.specs.declared.step.Step.{Step}
-use Rattle.mk_cert.specs.declared.step.Step.TheVariants.{Skip, Start, Finish}
+use Rattle.mk_proof.specs.Shapes.{Trace, trace_of}
+use Rattle.mk_proof.specs.declared.step.Step.{Step}
+use Rattle.mk_proof.specs.declared.step.Step.TheVariants.{Skip, Start, Finish}
 
 -- the test tells which nodes are before one of the two
 abbrev pub TellsEarly : Jobs → ℕ → ℕ → (ℕ → Bool) → Type 0

@@ -4,10 +4,10 @@ use Rattle.std.specs.List.{list_all}
 use Rattle.mk_jobs.specs.Jobs.{Jobs, node_count, prerequisites_of, has_recipe, is_phony, is_listed}
 use Rattle.mk_sched.specs.Events.{Event, Phase, Waiting, Running, Skipped, Ran, phase, is_passed, is_running, is_started, count_to}
 use Rattle.mk_sched.specs.Sure.{surely_stale}
-use Rattle.mk_cert.specs.Shapes.{Trace}
+use Rattle.mk_proof.specs.Shapes.{Trace}
 use Rattle.mk_cert.specs.Traces.{ClashesOn, AreOfListed, event_of, time_at}
-use Rattle.mk_cert.specs.declared.step.Step.{Step}
-use Rattle.mk_cert.specs.declared.step.Step.TheVariants.{Skip, Start, Finish}
+use Rattle.mk_proof.specs.declared.step.Step.{Step}
+use Rattle.mk_proof.specs.declared.step.Step.TheVariants.{Skip, Start, Finish}
 
 -- it waits
 abbrev pub is_waiting : Phase → Bool

@@ -8,9 +8,9 @@ use Rattle.mk_sched.specs.Events.Act.{Skip as skip, Start as start, Finish as fi
 use Rattle.mk_sched.specs.Runs.{IsRun, May}
 use Rattle.mk_sched.specs.Controls.{controls}
 use Rattle.mk_sched.specs.Sure.{HasTimes}
-use Rattle.mk_cert.specs.Shapes.{Trace}
-use Rattle.mk_cert.specs.declared.step.Step.{Step}
-use Rattle.mk_cert.specs.declared.step.Step.TheVariants.{Skip, Start, Finish}
+use Rattle.mk_proof.specs.Shapes.{Trace}
+use Rattle.mk_proof.specs.declared.step.Step.{Step}
+use Rattle.mk_proof.specs.declared.step.Step.TheVariants.{Skip, Start, Finish}
 
 -- two nodes clash on the path that a trace spells
 abbrev pub ClashesOn : Jobs → ℕ → ℕ → List ℕ → Type 0

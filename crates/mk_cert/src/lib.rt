@@ -1,14 +1,16 @@
-//! Certificates and traces: the proofs of an answer, and their texts.
+//! Certificates and traces: when they are good for jobs. Their types and texts stand in `mk_proof`, whose modules are passed
+//! on.
 #![tactic(auto)]
 
-pub mod certificate;
-mod draft;
+pub use mk_proof::{certificate, proof, reading, step, trace, writing};
+
+pub mod accepting;
+mod clash;
+mod edges;
 pub mod laws;
-mod line;
-mod number;
-pub mod proof;
-pub mod reading;
-pub mod step;
-mod table;
-pub mod trace;
-pub mod writing;
+mod search;
+mod stage;
+mod standing;
+mod surely;
+mod times;
+mod walk;

@@ -1,10 +1,12 @@
 pub mod Ascents
+pub mod Begin
 pub mod Folders
 pub mod Found
 pub mod Halves
 pub mod Marking
 pub mod Meeting
 pub mod Overlaps
+pub mod Overs
 pub mod PathOrder
 pub mod Reaching
 pub mod Searching

@@ -1,6 +1,7 @@
 pub mod Bits
 pub mod Covering
 pub mod Index
+pub mod Laws
 pub mod Marks
 pub mod Meets
 pub mod Paths

@@ -10,6 +10,7 @@
 pub mod bits;
 pub mod covering;
 pub mod index;
+pub mod laws;
 mod marks;
 mod meets;
 pub mod path;

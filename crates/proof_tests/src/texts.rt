@@ -1,7 +1,7 @@
 //! The texts of proofs.
-use mk_cert::proof::Proof;
-use mk_cert::reading::read_proof;
-use mk_cert::writing::{write_certificate, write_trace};
+use mk_proof::proof::Proof;
+use mk_proof::reading::read_proof;
+use mk_proof::writing::{write_certificate, write_trace};
 use mk_name::fault::Halt;
 use mk_name::report::refused_report;
 use std::alloc::{AllocError, Global};

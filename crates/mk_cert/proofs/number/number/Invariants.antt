@@ -1,6 +1,0 @@
-use Rattle.mk_cert.proofs.Found.{ReadsDigits}
-use Rattle.mk_cert.proofs.number.number.Given as goal
-
--- the digits so far make this number
-abbrev pub invariant-loop-byte : goal.invariant-loop-byte
-invariant-loop-byte l = ReadsDigits l.text l.byte-index l.number

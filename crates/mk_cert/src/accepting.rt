@@ -1,0 +1,60 @@
+//! Whether certificates and traces are good for jobs.
+ghost use Rattle.std.specs.Prelude.{◌↔◌, IfOk, IsTrue};
+ghost use Rattle.mk_proof.specs.Shapes.{trace_of};
+ghost use Rattle.mk_cert.specs.Sure.{IsSure};
+ghost use Rattle.mk_cert.specs.Traces.{TraceHolds};
+
+use crate::clash::clash_on;
+use crate::times::{are_of_listed, by_node};
+use crate::walk::all_pass;
+use mk_jobs::jobs::Jobs;
+use mk_proof::step::Step;
+use mk_proof::trace::Trace;
+use std::alloc::{AllocError, Global};
+
+/// Whether a trace shows a race of these jobs (profile): its nodes clash on its path; just the listed nodes have a time; by
+/// these times alone each step is allowed after those before it, whatever else stands in the store; and at the end both
+/// nodes run. The only error is want of memory.
+///
+/// A trace that is accepted holds. Not every trace that holds is accepted; the trace of a race is.
+pub fn accept_trace(alloc: Global, jobs: &Jobs, trace: &Trace) -> Result<bool, AllocError>
+    ensures sure { IfOk result (λ accepted. IsTrue accepted ↔ IsSure jobs.now trace.now) }
+    ensures holds { IfOk result (λ accepted. IsTrue accepted → TraceHolds jobs.now trace.now) }
+{
+    let _count = jobs.count();
+    let accepted = is_sure(
+        alloc,
+        jobs,
+        (trace.first(), trace.second()),
+        trace.path(),
+        trace.times(),
+        trace.steps(),
+    )?;
+    Ok(accepted)
+}
+
+/// Whether the trace of these parts is sure. The only error is want of memory.
+fn is_sure(
+    alloc: Global,
+    jobs: &Jobs,
+    nodes: (u32, u32),
+    path: &[u8],
+    times: &[(u32, u32)],
+    steps: &[Step],
+) -> Result<bool, AllocError>
+    ensures { IfOk result (λ sure. IsTrue sure ↔ IsSure jobs.now (trace_of nodes.0 nodes.1 path.now times.now steps.now)) }
+{
+    let (first, second) = nodes;
+    let count = jobs.count();
+    if first >= count || second >= count || !clash_on(jobs, first, second, path) {
+        return Ok(false);
+    }
+    let Some(table) = by_node(alloc, count, times)? else {
+        return Ok(false);
+    };
+    if !are_of_listed(jobs, &table) {
+        return Ok(false);
+    }
+    let sure = all_pass(alloc, jobs, &table, first, second, steps)?;
+    Ok(sure)
+}

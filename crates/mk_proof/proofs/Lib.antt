@@ -1,0 +1,9 @@
+pub mod Beginnings
+pub mod Following
+pub mod Found
+pub mod ReadLines
+pub mod Risen
+pub mod Tabled
+pub mod Texts
+pub mod Words
+pub mod Written

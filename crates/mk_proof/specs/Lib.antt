@@ -1,0 +1,4 @@
+pub mod Drafts
+pub mod ProofText
+pub mod Shapes
+pub mod Tables
