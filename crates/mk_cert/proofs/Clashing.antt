@@ -1,26 +1,67 @@
 -- What a clash on a path, the phases and the steps that pass give.
-use Rattle.std.proofs.Common.{ℕ, ◌≡◌, ◌≢◌, ◌==◌, ◌&&◌, nat_lt, true, false, List, ◌∷◌, refl, sym, ap, ltb-true, eq-eqb, ne_eqb, eqb-true, subst}
+use Rattle.std.proofs.Common.{ℕ, ◌≡◌, ◌≢◌, ◌==◌, ◌&&◌, ◌||◌, nat_lt, true, false, List, [], ◌∷◌, refl, sym, ap, inl, inr, ltb-true, eq-eqb, ne_eqb, eqb-true, subst}
 use Rattle.std.specs.List.{list_all}
-use Rattle.std.proofs.lemmas.Bool.{and_parts, false≢true}
-use Rattle.mk_jobs.specs.Jobs.{Jobs, Clash, node_count, prerequisites_of}
+use Rattle.std.proofs.lemmas.Bool.{and_from, and_parts, false≢true, or_cases, or_left, or_right}
+use Rattle.mk_path.specs.declared.path.Path.{Path}
+use Rattle.mk_path.specs.Paths.{covered, covers, is_over}
+use Rattle.mk_path.proofs.Overs.{over_covers_name}
+use Rattle.mk_jobs.specs.Jobs.{Jobs, Clash, is_live, may_read, may_touch, may_write, node_count, prerequisites_of, reads_of, writes_of}
 use Rattle.mk_jobs.specs.Laws.{AreLive}
 use Rattle.mk_jobs.proofs.JobsLemmas.{clash_live}
 use Rattle.mk_sched.specs.Events.{Event, Phase, Waiting, Running, Skipped, Ran, phase, is_passed, is_running, running_below}
 use Rattle.mk_sched.specs.Events.Act.{Skip as skip, Start as start, Finish as finish}
 use Rattle.mk_sched.proofs.Basics.{split}
 use Rattle.mk_sched.proofs.Moving.{count_to-same, count_to-more}
-use Rattle.mk_cert.specs.Traces.{ClashesOn}
+use Rattle.mk_cert.specs.Traces.{ClashesOn, some_over, touches_over, writes_over}
 use Rattle.mk_cert.specs.Sure.{is_waiting, is_ready, passes}
 use Rattle.mk_cert.specs.Laws.{StepMoves}
 use Rattle.mk_proof.specs.declared.step.Step.TheVariants.{Skip, Start, Finish}
 
 -- ---- a clash on a path
 
+-- what lies under one of these paths has a name that they cover
+some_covered : (root : List ℕ) (paths : List Path) (p : Path) → some_over root paths p ≡ true → covered root paths p.name ≡ true
+some_covered root [] p over = absurd (false≢true over)
+some_covered root (q ∷ paths) p over = elim (or_cases (is_over root q p) _ over) [
+  | inl here ↦ ap (λ b. b || covered root paths p.name) (over_covers_name root q p here)
+  | inr later ↦ or_right (covers root q p.name) _ (some_covered root paths p later)
+]
+
+reads_covered : (jobs : Jobs) (n : ℕ) (p : Path) → is_live jobs n ≡ true → some_over jobs.root (reads_of jobs n) p ≡ true → may_read jobs n p.name ≡ true
+unfolding may_read
+reads_covered jobs n p live over = and_from _ _ live (some_covered jobs.root (reads_of jobs n) p over)
+
+pub writes_covered : (jobs : Jobs) (n : ℕ) (p : Path) → writes_over jobs n p ≡ true → may_write jobs n p.name ≡ true
+unfolding may_write
+writes_covered jobs n p over =
+    let parts = and_parts (is_live jobs n) (some_over jobs.root (writes_of jobs n) p) over in
+    and_from _ _ parts.0 (some_covered jobs.root (writes_of jobs n) p parts.1)
+
+pub touches_covered : (jobs : Jobs) (n : ℕ) (p : Path) → touches_over jobs n p ≡ true → may_touch jobs n p.name ≡ true
+touches_covered jobs n p over =
+    let parts = and_parts (is_live jobs n) (some_over jobs.root (reads_of jobs n) p || some_over jobs.root (writes_of jobs n) p) over in
+    elim (or_cases (some_over jobs.root (reads_of jobs n) p) _ parts.1) [
+      | inl reads ↦ or_left (may_read jobs n p.name) _ (reads_covered jobs n p parts.0 reads)
+      | inr writes ↦ or_right (may_read jobs n p.name) _ (writes_covered jobs n p (and_from _ _ parts.0 writes))
+    ]
+
+-- nodes that clash on a path clash on its name
 pub a_clash : {jobs : Jobs} {a b : ℕ} {path : List ℕ} → ClashesOn jobs a b path → Clash jobs a b
-a_clash {path = path} clash = (path, clash)
+a_clash {jobs} {a} {b} clash = (
+  clash.path.name,
+  record {
+    different = clash.different;
+    first = touches_covered jobs a clash.path clash.first;
+    second = touches_covered jobs b clash.path clash.second;
+    written = elim (or_cases (writes_over jobs a clash.path) _ clash.written) [
+      | inl left ↦ or_left (may_write jobs a clash.path.name) _ (writes_covered jobs a clash.path left)
+      | inr right ↦ or_right (may_write jobs a clash.path.name) _ (writes_covered jobs b clash.path right)
+    ];
+  },
+)
 
 pub both_live : {jobs : Jobs} {a b : ℕ} {path : List ℕ} → ClashesOn jobs a b path → AreLive jobs a b
-both_live clash = clash_live clash
+both_live clash = clash_live (a_clash clash).1
 
 pub apart : {jobs : Jobs} {a b : ℕ} {path : List ℕ} → ClashesOn jobs a b path → a ≢ b
 apart clash = clash.different

@@ -1,7 +1,11 @@
 -- Traces that hold: what they say of every run.
-use Rattle.std.specs.Prelude.{ℕ, ◌≡◌, ◌==◌, ◌++◌, Bool, List, ◌∷◌, map, reverse, Option, is_some, unwrap_or}
+use Rattle.std.specs.Prelude.{ℕ, ◌≡◌, ◌≢◌, ◌==◌, ◌&&◌, ◌||◌, ◌++◌, Bool, true, List, ◌∷◌, map, reverse, Option, is_some, unwrap_or}
+use Rattle.std.specs.List.{list_any}
 use Rattle.std.specs.Map.{lookup}
-use Rattle.mk_jobs.specs.Jobs.{Jobs, ClashOn, is_listed}
+use Rattle.mk_path.specs.declared.path.Path.{Path}
+use Rattle.mk_path.specs.Paths.{is_over}
+use Rattle.mk_path.specs.Texts.{text_of}
+use Rattle.mk_jobs.specs.Jobs.{Jobs, is_listed, is_live, reads_of, writes_of}
 use Rattle.mk_sched.specs.Stores.{Store, AgreesWith}
 use Rattle.mk_sched.specs.Events.{Event, Running, phase}
 use Rattle.mk_sched.specs.Events.Act.{Skip as skip, Start as start, Finish as finish}
@@ -12,9 +16,27 @@ use Rattle.mk_proof.specs.Shapes.{Trace}
 use Rattle.mk_proof.specs.declared.step.Step.{Step}
 use Rattle.mk_proof.specs.declared.step.Step.TheVariants.{Skip, Start, Finish}
 
--- two nodes clash on the path that a trace spells
-abbrev pub ClashesOn : Jobs → ℕ → ℕ → List ℕ → Type 0
-ClashesOn jobs first second path = ClashOn jobs first second path
+-- one of these paths is over p
+abbrev pub some_over : List ℕ → List Path → Path → Bool
+some_over root paths p = list_any (λ q. is_over root q p) paths
+
+-- a node writes what p covers: it is live, and a path that it writes is over p
+abbrev pub writes_over : Jobs → ℕ → Path → Bool
+writes_over jobs n p = is_live jobs n && some_over jobs.root (writes_of jobs n) p
+
+-- a node touches what p covers: it is live, and a path that it reads or writes is over p
+abbrev pub touches_over : Jobs → ℕ → Path → Bool
+touches_over jobs n p = is_live jobs n && (some_over jobs.root (reads_of jobs n) p || some_over jobs.root (writes_of jobs n) p)
+
+-- two nodes clash on the path that a trace spells: they are different, both touch what the path covers, and at least one
+-- writes it
+pub record ClashesOn (jobs : Jobs) (a b : ℕ) (text : List ℕ) : Type 0 where
+  pub different : a ≢ b
+  pub path : Path
+  pub spells : text_of path ≡ text
+  pub first : touches_over jobs a path ≡ true
+  pub second : touches_over jobs b path ≡ true
+  pub written : writes_over jobs a path || writes_over jobs b path ≡ true
 
 -- a step as an event
 abbrev pub event_of : Step → Event
