@@ -27,7 +27,8 @@ TOP = HERE.parent
 # The worked builds that are looked at as closely as the examples.
 NAMED = """
     cases/graph/two-objects-order cases/graph/missing-header-order cases/graph/three-name-cycle
-    cases/footprints/second-output-replay cases/limits/largest-expansion
+    cases/footprints/second-output-replay cases/limits/largest-expansion cases/inference/suffix-first-in-list
+    cases/text/continued-lines cases/macros/late-macro-change
     cases/schedules/header-first-run cases/schedules/object-first-run cases/schedules/equal-times-with-tie
     cases/schedules/equal-times-without-tie cases/schedules/interleaved-run-of-two-objects
 """.split()
