@@ -23,7 +23,7 @@ each_at test [] k x below is passes = absurd (omega arith)
 each_at test (y ∷ ys) zero x below is passes = ap test (sym is) ∙ (and_parts _ _ passes).0
 each_at test (y ∷ ys) (suc k) x below is passes = each_at test ys k x (omega arith) is (and_parts _ _ passes).1
 
-each_passes : (test : ℕ → Bool) (xs : List ℕ) → list_all test xs ≡ true → (x : ℕ) → Contains xs x → test x ≡ true
+pub each_passes : (test : ℕ → Bool) (xs : List ℕ) → list_all test xs ≡ true → (x : ℕ) → Contains xs x → test x ≡ true
 each_passes test xs passes x inside = each_at test xs inside.0 x inside.1 inside.2 passes
 
 nothing_in : (x : ℕ) → Contains [] x → ⊥
@@ -32,15 +32,15 @@ nothing_in x inside = let below = inside.1 in omega arith
 only_in : (y x : ℕ) → Contains (y ∷ []) x → y ≡ x
 only_in y x inside = eqb-true y x (each_passes (λ z. y == z) (y ∷ []) (rw (eq-eqb y y refl) refl) x inside)
 
-later_than : (last : ℕ) (store : Store) → IsLast last store → (x : Name) (file : File) → store x ≡ Some file → file.time < suc last
+pub later_than : (last : ℕ) (store : Store) → IsLast last store → (x : Name) (file : File) → store x ≡ Some file → file.time < suc last
 later_than last store is_last x file is = let low = is_last x file is in omega arith
 
-put_last : (path : Name) (bytes : Bytes) (time last : ℕ) (store : Store) → IsLast last store → last ≤ time → IsLast time (λ x. if same_name path x then Some (record { bytes = bytes; time = time }) else store x)
+pub put_last : (path : Name) (bytes : Bytes) (time last : ℕ) (store : Store) → IsLast last store → last ≤ time → IsLast time (λ x. if same_name path x then Some (record { bytes = bytes; time = time }) else store x)
 put_last path bytes time last store is_last le x file is = split (same_name path x)
     (λ same. let here : file.time ≡ time = cc (rw same at is) in omega arith)
     (λ other. let low = is_last x file (rw other at is) in omega arith)
 
-sources_last : IsLast 1 two_sources
+pub sources_last : IsLast 1 two_sources
 sources_last x file is = split (same_name gen_sh x)
     (λ same. let here : file.time ≡ 1 = cc (rw same at is) in omega arith)
     (λ other. split (same_name a_c x)
@@ -122,7 +122,7 @@ object_run : IsRun missing_header false 1 two_sources (reverse object_first)
 object_run = (runs_by_table missing_header false 1 two_sources object_first).1 object_allowed
 
 -- what holds of the five nodes holds below the count
-each_node : (P : ℕ → Type 0) → P 0 → P 1 → P 2 → P 3 → P 4 → (n : ℕ) → n < node_count missing_header → P n
+pub each_node : (P : ℕ → Type 0) → P 0 → P 1 → P 2 → P 3 → P 4 → (n : ℕ) → n < node_count missing_header → P n
 unfolding node_count
 each_node P p q r s t zero inside = p
 each_node P p q r s t (suc zero) inside = q

@@ -7,6 +7,7 @@ pub mod Gathering
 pub mod InOrder
 pub mod Listing
 pub mod Moving
+pub mod NamedRuns
 pub mod OneRun
 pub mod Plainly
 pub mod Refusing

@@ -2,6 +2,7 @@ pub mod Controls
 pub mod Counter
 pub mod Events
 pub mod Grouped
+pub mod HeaderNamedRuns
 pub mod InTime
 pub mod Laws
 pub mod MissingHeader

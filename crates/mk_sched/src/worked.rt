@@ -1,5 +1,6 @@
 //! Worked cases. Each function's contract is a case, computed from the definitions, and its body is empty.
 ghost use Rattle.mk_sched.specs.MissingHeader.{BothOrders, MissingHeaderRaces, HeaderNamedIsSafe};
+ghost use Rattle.mk_sched.specs.HeaderNamedRuns.{HeaderNamedRuns};
 ghost use Rattle.mk_sched.specs.SmallCases.{EqualTimes, InterleavedInOrder};
 
 /// A makefile forgets a header: both orders are complete runs, and they end with different bytes.
@@ -15,6 +16,11 @@ pub fn missing_header_races()
 /// With the header named the jobs are valid, race-free and determinate.
 pub fn header_named_is_safe()
     ensures { HeaderNamedIsSafe }
+{}
+
+/// Two different runs of these jobs leave the same files, and one of them is put in serial order.
+pub fn header_named_runs()
+    ensures { HeaderNamedRuns }
 {}
 
 /// A target as old as its prerequisite is stale where equal times count, and not otherwise.
