@@ -3,3 +3,4 @@ pub mod ChainLemmas
 pub mod JobsLemmas
 pub mod NodeNames
 pub mod Numberings
+pub mod Reaching

@@ -4,6 +4,7 @@ pub mod Laws
 pub mod Numbered
 pub mod Numbers
 pub mod Plan
+pub mod Reaching
 pub mod Recipes
 pub mod Rows
 pub mod Shape

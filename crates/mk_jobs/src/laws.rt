@@ -1,5 +1,6 @@
 //! Laws of jobs. Each function's contract is a law, and its body is empty.
 ghost use Rattle.mk_jobs.specs.Chains.{ChainIsBefore, BeforeHasChain};
+ghost use Rattle.mk_jobs.specs.Reaching.{ClashIsReach};
 ghost use Rattle.mk_jobs.specs.Laws.{ShapeIsValid, ChainsRise, ClashIsLive, ClashTurns};
 
 /// Jobs of the full shape are valid.
@@ -30,4 +31,10 @@ pub fn chain_is_before()
 /// Where a is before b, a chain leads from a to b edge by edge.
 pub fn before_has_chain()
     ensures { BeforeHasChain }
+{}
+
+/// Two nodes clash just where one of them reaches the other: it has a path over one of the other's, and one of the two is
+/// written.
+pub fn clash_is_reach()
+    ensures { ClashIsReach }
 {}
