@@ -1,6 +1,6 @@
 -- From the nodes of a plan to jobs: the first fault, or rows that are well-formed.
-use Rattle.std.proofs.Common.{◌≡◌, ℕ, zero, suc, ◌+◌, ◌<◌, ◌≤◌, Bool, true, false, not, ◌&&◌, ◌||◌, List, [], ◌∷◌, ◌++◌, Option, None, Some, length, get_or, take, drop, slice_get, sym, ap, ap₂, subst, ◌∙◌, refl, arith, map, inl, inr, Vec}
-use Rattle.std.specs.Prelude.{Result, Ok, Err, find, is_some, unwrap_or, Contains, IsTrue, nat_eq}
+use Rattle.std.proofs.Common.{◌≡◌, ℕ, zero, suc, ◌+◌, ◌<◌, ◌≤◌, true, false, not, ◌&&◌, List, [], ◌∷◌, ◌++◌, Option, None, Some, length, get_or, take, drop, slice_get, sym, ap, ap₂, subst, ◌∙◌, refl, arith, map, inl, inr, Vec}
+use Rattle.std.specs.Prelude.{Result, Ok, Err, find, unwrap_or, Contains, IsTrue, nat_eq}
 use Rattle.std.specs.List.{cons_option, enumerate_from, filter_map}
 use Rattle.std.specs.Option.{option_map_or, option_map}
 use Rattle.std.proofs.lemmas.Bool.{and_parts, both_ways, cases_Bool, cases_lt, cond-true, cond-false, eq-eqb, or_cases, or_right, or_left}
@@ -16,24 +16,18 @@ use Rattle.mk_name.specs.declared.fault.Kind.TheVariants.{MissingFootprint, Writ
 use Rattle.mk_name.specs.declared.fault.Halt.{Halt}
 use Rattle.mk_name.specs.declared.fault.Halt.TheVariants as halts
 use Rattle.mk_name.proofs.Names.{name_is_exact}
+use Rattle.mk_path.specs.Paths.{covered}
+use Rattle.mk_path.specs.declared.path.Path.{Path}
 use Rattle.mk_jobs.specs.Numbered.{number_of}
 use Rattle.mk_jobs.specs.Plan.{Plan, Node, names_of, nobody, NeedsStandBefore, edge_count, edge_limit, node_limit}
-use Rattle.mk_jobs.proofs.Numberings.{has_at, number_at, number_has, number_none}
-use Rattle.mk_foot.specs.Attached.{attached, first_fault, footprint_of, is_taken, jobs_with, node_answer, node_fault, recipe_fault, told}
+use Rattle.mk_jobs.proofs.Numberings.{has_at, number_at}
+use Rattle.mk_foot.specs.Attached.{HasAll, attached_beside, first_fault, footprint_of, is_taken, jobs_with, node_answer, node_fault, recipe_fault, told}
 use Rattle.mk_foot.specs.Footprints.{Footprint, Footprints, footprint_at, no_footprint}
 use Rattle.mk_jobs.specs.Jobs.{Jobs, IsPrerequisite, node_at, node_count, name_of, is_live, reads_of, writes_of, prerequisites_of, may_write}
 use Rattle.mk_jobs.specs.Recipes.{is_live_node}
 use Rattle.mk_jobs.specs.Shape.{IsRising, IsWellFormed}
 use Rattle.mk_jobs.proofs.Accessors.{live_is, name_there, name_count}
 use Rattle.mk_jobs.proofs.JobsLemmas.{live_node}
-
--- a name has a number where it stands in the list
-pub numbered-has : (names : List Name) (x : Name) → is_some (number_of names x) ≡ has same_name names x
-numbered-has names x = by (number_of names x) refl
-  where
-    by : (o : Option ℕ) → number_of names x ≡ o → is_some o ≡ has same_name names x
-    by None e = sym (number_none names x e)
-    by (Some n) e = sym (number_has names x n e)
 
 -- what a value or a fault says of the fault before it
 pub fault_none : {X : Type 0} (o : Option Told) (x y : X) → option_map_or (λ fault. Err fault) o (Ok x) ≡ Ok y → (o ≡ None) × (x ≡ y)
@@ -52,16 +46,16 @@ halts_along (halts.Fault fault) small big same h = same fault h
 
 -- what is known before the node of a number: the first fault is among the nodes that are left, and those before have no fault
 -- and rising rows
-pub record RowsTo (plan : Plan) (targets : List Name) (footprints : Footprints) (n : ℕ) (reads writes : List (List Name)) : Type 0 where
-  pub first : slice_get (filter_map (node_fault (names_of plan.nodes) targets footprints) (drop n (enumerate_from 0 plan.nodes))) 0 ≡ first_fault plan targets footprints
+pub record RowsTo (plan : Plan) (owned : List Name) (footprints : Footprints) (n : ℕ) (reads writes : List (List Path)) : Type 0 where
+  pub first : slice_get (filter_map (node_fault owned footprints) (drop n (enumerate_from 0 plan.nodes))) 0 ≡ first_fault plan owned footprints
   pub reads_are : reads ≡ map (λ (node : Node). (footprint_of footprints node).reads) (take n plan.nodes)
   pub writes_are : writes ≡ map (λ (node : Node). (footprint_of footprints node).writes) (take n plan.nodes)
-  pub good : (k : ℕ) → k < n → node_fault (names_of plan.nodes) targets footprints (k, get_or plan.nodes k nobody) ≡ None
+  pub good : (k : ℕ) → k < n → node_fault owned footprints (k, get_or plan.nodes k nobody) ≡ None
   pub reads_rise : (k : ℕ) → k < n → IsRising (footprint_of footprints (get_or plan.nodes k nobody)).reads
   pub writes_rise : (k : ℕ) → k < n → IsRising (footprint_of footprints (get_or plan.nodes k nobody)).writes
 
-pub rows_none : (plan : Plan) (targets : List Name) (footprints : Footprints) → RowsTo plan targets footprints 0 [] []
-rows_none plan targets footprints = record {
+pub rows_none : (plan : Plan) (owned : List Name) (footprints : Footprints) → RowsTo plan owned footprints 0 [] []
+rows_none plan owned footprints = record {
   first = refl;
   reads_are = refl;
   writes_are = refl;
@@ -70,9 +64,9 @@ rows_none plan targets footprints = record {
   writes_rise = λ k below. absurd (omega (arith, below));
 }
 
-module _ (plan : Plan) (targets : List Name) (footprints : Footprints) (n : ℕ) (within : n < length plan.nodes) (reads writes : List (List Name)) (before : RowsTo plan targets footprints n reads writes) where
+module _ (plan : Plan) (owned : List Name) (footprints : Footprints) (n : ℕ) (within : n < length plan.nodes) (reads writes : List (List Path)) (before : RowsTo plan owned footprints n reads writes) where
   fault_in : ℕ × Node → Option Told
-  fault_in = node_fault (names_of plan.nodes) targets footprints
+  fault_in = node_fault owned footprints
 
   node : Node
   node = get_or plan.nodes n nobody
@@ -91,18 +85,18 @@ module _ (plan : Plan) (targets : List Name) (footprints : Footprints) (n : ℕ)
       ∙ ap (λ p. slice_get (cons_option p (filter_map fault_in (drop (n + 1) (enumerate_from 0 plan.nodes)))) 0) e
 
   -- the fault of a node is the first
-  pub fault_first : (t : Told) → node_answer (names_of plan.nodes) targets footprints (n, get_or plan.nodes n nobody) ≡ Err t → attached plan targets footprints ≡ Err t
+  pub fault_first : (t : Told) → node_answer owned footprints (n, get_or plan.nodes n nobody) ≡ Err t → attached_beside owned plan footprints ≡ Err t
   unfolding fault_in node
   fault_first t e =
-      let here = fault_some (node_fault (names_of plan.nodes) targets footprints (n, get_or plan.nodes n nobody)) _ t e in
+      let here = fault_some (node_fault owned footprints (n, get_or plan.nodes n nobody)) _ t e in
       ap (λ o. option_map_or (λ fault. Err fault) o (Ok (jobs_with footprints plan))) (sym before.first ∙ at_first (Some t) here)
 
   -- one row more
-  pub rows_more : (row : Footprint) → node_answer (names_of plan.nodes) targets footprints (n, get_or plan.nodes n nobody) ≡ Ok row
-      → IsRising row.reads → IsRising row.writes → RowsTo plan targets footprints (n + 1) (reads ++ row.reads ∷ []) (writes ++ row.writes ∷ [])
+  pub rows_more : (row : Footprint) → node_answer owned footprints (n, get_or plan.nodes n nobody) ≡ Ok row
+      → IsRising row.reads → IsRising row.writes → RowsTo plan owned footprints (n + 1) (reads ++ row.reads ∷ []) (writes ++ row.writes ∷ [])
   unfolding fault_in node
   rows_more row e reads_rise writes_rise =
-      let parts = fault_none (node_fault (names_of plan.nodes) targets footprints (n, get_or plan.nodes n nobody)) _ row e in
+      let parts = fault_none (node_fault owned footprints (n, get_or plan.nodes n nobody)) _ row e in
       let one : take (n + 1) plan.nodes ≡ take n plan.nodes ++ get_or plan.nodes n nobody ∷ [] = take_more plan.nodes n nobody within in
       record {
         first = sym (at_first None parts.0) ∙ before.first;
@@ -110,7 +104,7 @@ module _ (plan : Plan) (targets : List Name) (footprints : Footprints) (n : ℕ)
             ∙ sym (ap (map (λ (d : Node). (footprint_of footprints d).reads)) one ∙ map_push (λ (d : Node). (footprint_of footprints d).reads) (take n plan.nodes) (get_or plan.nodes n nobody));
         writes_are = ap₂ (λ xs x. xs ++ x ∷ []) before.writes_are (ap (λ (f : Footprint). f.writes) (sym parts.1))
             ∙ sym (ap (map (λ (d : Node). (footprint_of footprints d).writes)) one ∙ map_push (λ (d : Node). (footprint_of footprints d).writes) (take n plan.nodes) (get_or plan.nodes n nobody));
-        good = λ k below. by_place (λ k. node_fault (names_of plan.nodes) targets footprints (k, get_or plan.nodes k nobody) ≡ None) before.good parts.0 k below;
+        good = λ k below. by_place (λ k. node_fault owned footprints (k, get_or plan.nodes k nobody) ≡ None) before.good parts.0 k below;
         reads_rise = λ k below. by_place (λ k. IsRising (footprint_of footprints (get_or plan.nodes k nobody)).reads) before.reads_rise
             (subst (λ (f : Footprint). IsRising f.reads) (sym parts.1) reads_rise) k below;
         writes_rise = λ k below. by_place (λ k. IsRising (footprint_of footprints (get_or plan.nodes k nobody)).writes) before.writes_rise
@@ -125,16 +119,17 @@ module _ (plan : Plan) (targets : List Name) (footprints : Footprints) (n : ℕ)
           ]
 
 -- behind the last node there is no fault
-pub rows_all : (plan : Plan) (targets : List Name) (footprints : Footprints) (n : ℕ) (reads writes : List (List Name)) → length plan.nodes ≤ n
-    → RowsTo plan targets footprints n reads writes
-    → attached plan targets footprints ≡ Ok (record { plan = plan; reads = reads; writes = writes })
-rows_all plan targets footprints n reads writes past rows =
-    let none : first_fault plan targets footprints ≡ None =
-    sym rows.first ∙ ap (λ l. slice_get (filter_map (node_fault (names_of plan.nodes) targets footprints) l) 0)
+pub rows_all : (plan : Plan) (owned : List Name) (footprints : Footprints) (n : ℕ) (reads writes : List (List Path)) → length plan.nodes ≤ n
+    → RowsTo plan owned footprints n reads writes
+    → attached_beside owned plan footprints ≡ Ok (record { plan = plan; root = footprints.root; reads = reads; writes = writes })
+rows_all plan owned footprints n reads writes past rows =
+    let none : first_fault plan owned footprints ≡ None =
+    sym rows.first ∙ ap (λ l. slice_get (filter_map (node_fault owned footprints) l) 0)
     (drop_all n (enumerate_from 0 plan.nodes) (omega (arith, past, length-enumerate_from 0 plan.nodes))) in
     ap (λ o. option_map_or (λ fault. Err fault) o (Ok (jobs_with footprints plan))) none
     ∙ λ i. Ok (record {
       plan = plan;
+      root = footprints.root;
       reads = (sym (rows.reads_are ∙ ap (map (λ (d : Node). (footprint_of footprints d).reads)) (take_all n plan.nodes past))) i;
       writes = (sym (rows.writes_are ∙ ap (map (λ (d : Node). (footprint_of footprints d).writes)) (take_all n plan.nodes past))) i;
     })
@@ -143,15 +138,11 @@ pub rising_nil : IsRising []
 unfolding IsStrictlySortedBy
 rising_nil = tt
 
--- a name that is not the own one is taken where a node or a target has it
-pub taken_is : (own node target r : Bool) → own ≡ true → (node || target) ≡ r → r ≡ (own && (node || target))
-taken_is own node target r e f = sym (ap (λ b. b && (node || target)) e ∙ f)
-
 -- the jobs of nodes that have no fault
-module _ (plan : Plan) (targets : List Name) (footprints : Footprints)
+module _ (plan : Plan) (owned : List Name) (footprints : Footprints)
     (few : length plan.nodes ≤ node_limit) (few_edges : edge_count plan.nodes ≤ edge_limit)
-    (distinct : IsDistinct same_name (names_of plan.nodes)) (rising : NeedsStandBefore plan.nodes)
-    (good : (k : ℕ) → k < length plan.nodes → node_fault (names_of plan.nodes) targets footprints (k, get_or plan.nodes k nobody) ≡ None)
+    (distinct : IsDistinct same_name (names_of plan.nodes)) (rising : NeedsStandBefore plan.nodes) (whole : HasAll owned (names_of plan.nodes))
+    (good : (k : ℕ) → k < length plan.nodes → node_fault owned footprints (k, get_or plan.nodes k nobody) ≡ None)
     (reads_rise : (k : ℕ) → k < length plan.nodes → IsRising (footprint_of footprints (get_or plan.nodes k nobody)).reads)
     (writes_rise : (k : ℕ) → k < length plan.nodes → IsRising (footprint_of footprints (get_or plan.nodes k nobody)).writes) where
   jobs : Jobs
@@ -228,16 +219,16 @@ module _ (plan : Plan) (targets : List Name) (footprints : Footprints)
       unwrap_or_past : (nodes : List Node) (i : ℕ) → length nodes ≤ i → unwrap_or (slice_get nodes i) nobody ≡ nobody
       unwrap_or_past nodes i past = ap (λ o. unwrap_or o nobody) (slice_get_past nodes i past)
 
-  -- what a live recipe writes is not taken
-  not_taken : (own : Name) (writes : List Name) (x : Name) → find (is_taken (names_of plan.nodes) targets own) writes ≡ None
-      → has same_name writes x ≡ true → is_taken (names_of plan.nodes) targets own x ≡ false
-  not_taken own [] x none there = absurd (both_ways _ refl there)
-  not_taken own (y ∷ ys) x none there =
-      elim (cases_Bool (is_taken (names_of plan.nodes) targets own y)) [
-        | inl taken ↦ absurd (let e : Some y ≡ None = sym (cond-true (is_taken (names_of plan.nodes) targets own y) (Some y) _ taken) ∙ none in cc)
+  -- of names none of which is taken, one that stands there is not taken
+  not_taken : (own : Name) (writes : List Path) (names : List Name) (x : Name) → find (is_taken footprints.root writes own) names ≡ None
+      → has same_name names x ≡ true → is_taken footprints.root writes own x ≡ false
+  not_taken own writes [] x none there = absurd (both_ways _ refl there)
+  not_taken own writes (y ∷ ys) x none there =
+      elim (cases_Bool (is_taken footprints.root writes own y)) [
+        | inl taken ↦ absurd (let e : Some y ≡ None = sym (cond-true (is_taken footprints.root writes own y) (Some y) _ taken) ∙ none in cc)
         | inr free ↦ elim (or_cases (same_name y x) _ there) [
-          | inl same ↦ subst (λ (z : Name). is_taken (names_of plan.nodes) targets own z ≡ false) (name_is_exact.equal y x same) free
-          | inr later ↦ not_taken own ys x (sym (cond-false (is_taken (names_of plan.nodes) targets own y) (Some y) _ free) ∙ none) later
+          | inl same ↦ subst (λ (z : Name). is_taken footprints.root writes own z ≡ false) (name_is_exact.equal y x same) free
+          | inr later ↦ not_taken own writes ys x (sym (cond-false (is_taken footprints.root writes own y) (Some y) _ free) ∙ none) later
         ]
       ]
 
@@ -245,18 +236,19 @@ module _ (plan : Plan) (targets : List Name) (footprints : Footprints)
   option_none f None e = refl
   option_none f (Some a) e = absurd (let g : Some (f a) ≡ None = e in cc)
 
-  free_writes : (n : ℕ) (own : Name) (o : Option Footprint) (x : Name) → recipe_fault (names_of plan.nodes) targets n own o ≡ None
-      → has same_name (unwrap_or o no_footprint).writes x ≡ true → is_taken (names_of plan.nodes) targets own x ≡ false
+  free_writes : (n : ℕ) (own : Name) (o : Option Footprint) (x : Name) → recipe_fault footprints.root owned n own o ≡ None
+      → has same_name owned x ≡ true → is_taken footprints.root (unwrap_or o no_footprint).writes own x ≡ false
   free_writes n own None x none there = absurd (let g : Some (told MissingFootprint n (own ∷ [])) ≡ None = none in cc)
   free_writes n own (Some footprint) x none there =
-      not_taken own footprint.writes x (option_none (λ y. told WritesTarget n (own ∷ y ∷ [])) (find (is_taken (names_of plan.nodes) targets own) footprint.writes) none) there
+      not_taken own footprint.writes owned x
+      (option_none (λ y. told WritesTarget n (own ∷ y ∷ [])) (find (is_taken footprints.root footprint.writes own) owned) none) there
 
-  same_own : (own : Name) (x : Name) → has same_name (names_of plan.nodes) x ≡ true → is_taken (names_of plan.nodes) targets own x ≡ false → own ≡ x
-  same_own own x there free =
+  -- a name that is written and not taken is the own one
+  same_own : (own : Name) (writes : List Path) (x : Name) → covered footprints.root writes x ≡ true → is_taken footprints.root writes own x ≡ false → own ≡ x
+  same_own own writes x written free =
       elim (cases_Bool (same_name own x)) [
         | inl same ↦ name_is_exact.equal own x same
-        | inr other ↦ absurd (both_ways _ free
-            (ap₂ (λ a b. not a && b) other (or_left (has same_name (names_of plan.nodes) x) (has same_name targets x) there)))
+        | inr other ↦ absurd (both_ways _ free (ap₂ (λ a b. not a && b) other written))
       ]
 
   own_alone : (n m : ℕ) → m < node_count jobs → may_write jobs n (name_of jobs m) ≡ true → name_of jobs n ≡ name_of jobs m
@@ -268,15 +260,15 @@ module _ (plan : Plan) (targets : List Name) (footprints : Footprints)
       let node = get_or plan.nodes n nobody in
       let live : is_live_node node ≡ true = live_at n ∙ parts.0 in
       let mine : footprint_of footprints node ≡ unwrap_or (footprint_at footprints node.name) no_footprint = cond-true (is_live_node node) _ _ live in
-      let there : has same_name (unwrap_or (footprint_at footprints node.name) no_footprint).writes x ≡ true =
-      ap (λ (f : Footprint). has same_name f.writes x) (sym mine) ∙ ap (λ ws. has same_name ws x) (sym (writes_at n n_below)) ∙ parts.1 in
-      let none : recipe_fault (names_of plan.nodes) targets n node.name (footprint_at footprints node.name) ≡ None =
+      let written : covered footprints.root (unwrap_or (footprint_at footprints node.name) no_footprint).writes x ≡ true =
+      ap (λ (f : Footprint). covered footprints.root f.writes x) (sym mine) ∙ ap (λ ws. covered footprints.root ws x) (sym (writes_at n n_below)) ∙ parts.1 in
+      let none : recipe_fault footprints.root owned n node.name (footprint_at footprints node.name) ≡ None =
       sym (cond-true (is_live_node node) _ _ live) ∙ good n n_below in
       let named : has same_name (names_of plan.nodes) x ≡ true =
       subst (λ (y : Name). has same_name (names_of plan.nodes) y ≡ true) (name_there jobs m below) (has_at (names_of plan.nodes) m (omega (arith, below, name_count jobs))) in
-      name_is n ∙ same_own node.name x named (free_writes n node.name (footprint_at footprints node.name) x none there)
+      name_is n ∙ same_own node.name _ x written (free_writes n node.name (footprint_at footprints node.name) x none (whole x named))
 
-  all_rows : (f : Node → List Name) → length (map f plan.nodes) ≡ node_count jobs
+  all_rows : (f : Node → List Path) → length (map f plan.nodes) ≡ node_count jobs
   unfolding jobs node_count
   all_rows f = length-map plan.nodes f
 
@@ -313,25 +305,26 @@ module _ (plan : Plan) (targets : List Name) (footprints : Footprints)
   }
 
 -- a row behind the others
-pub row_pushed : (rows new : List (Vec Name Global)) (v : Vec Name Global) (row : List Name) → new ≡ rows ++ v ∷ [] → v.items ≡ row
-    → map (λ (r : Vec Name Global). r.items) rows ++ row ∷ [] ≡ map (λ (r : Vec Name Global). r.items) new
+pub row_pushed : (rows new : List (Vec Path Global)) (v : Vec Path Global) (row : List Path) → new ≡ rows ++ v ∷ [] → v.items ≡ row
+    → map (λ (r : Vec Path Global). r.items) rows ++ row ∷ [] ≡ map (λ (r : Vec Path Global). r.items) new
 row_pushed rows new v row e f =
-    ap (λ x. map (λ (r : Vec Name Global). r.items) rows ++ x ∷ []) (sym f)
-    ∙ sym (map_push (λ (r : Vec Name Global). r.items) rows v) ∙ ap (map (λ (r : Vec Name Global). r.items)) (sym e)
+    ap (λ x. map (λ (r : Vec Path Global). r.items) rows ++ x ∷ []) (sym f)
+    ∙ sym (map_push (λ (r : Vec Path Global). r.items) rows v) ∙ ap (map (λ (r : Vec Path Global). r.items)) (sym e)
 
 -- behind the last node the rows are well-formed
-pub rows_shape : (plan : Plan) (targets : List Name) (footprints : Footprints) (n : ℕ) (reads writes : List (List Name)) → length plan.nodes ≤ n
-    → length plan.nodes ≤ node_limit → edge_count plan.nodes ≤ edge_limit → IsDistinct same_name (names_of plan.nodes) → NeedsStandBefore plan.nodes
-    → RowsTo plan targets footprints n reads writes → IsWellFormed (record { plan = plan; reads = reads; writes = writes })
+pub rows_shape : (plan : Plan) (owned : List Name) (footprints : Footprints) (n : ℕ) (reads writes : List (List Path)) → length plan.nodes ≤ n
+    → length plan.nodes ≤ node_limit → edge_count plan.nodes ≤ edge_limit → IsDistinct same_name (names_of plan.nodes) → NeedsStandBefore plan.nodes → HasAll owned (names_of plan.nodes)
+    → RowsTo plan owned footprints n reads writes → IsWellFormed (record { plan = plan; root = footprints.root; reads = reads; writes = writes })
 unfolding jobs
-rows_shape plan targets footprints n reads writes past few few_edges distinct rising rows =
-    let whole : IsWellFormed (jobs_with footprints plan) =
-    shape_is plan targets footprints few few_edges distinct rising
+rows_shape plan owned footprints n reads writes past few few_edges distinct rising whole rows =
+    let all : IsWellFormed (jobs_with footprints plan) =
+    shape_is plan owned footprints few few_edges distinct rising whole
     (λ k below. rows.good k (omega (arith, below, past)))
     (λ k below. rows.reads_rise k (omega (arith, below, past)))
     (λ k below. rows.writes_rise k (omega (arith, below, past))) in
     subst IsWellFormed (λ i. record {
       plan = plan;
+      root = footprints.root;
       reads = (sym (rows.reads_are ∙ ap (map (λ (d : Node). (footprint_of footprints d).reads)) (take_all n plan.nodes past))) i;
       writes = (sym (rows.writes_are ∙ ap (map (λ (d : Node). (footprint_of footprints d).writes)) (take_all n plan.nodes past))) i;
-    }) whole
+    }) all

@@ -1,6 +1,7 @@
 pub mod AttachNodes
 pub mod LineLemmas
 pub mod OneList
+pub mod OwnedNames
 pub mod ReadLines
 pub mod ReadOnce
 pub mod Uniting

@@ -5,7 +5,7 @@ use Rattle.std.proofs.lemmas.Str.{IsUtf8-from_is_utf8, is_utf8-from_IsUtf8}
 use Rattle.std.proofs.lemmas.Bool.{cases_Bool, cond-true, cond-false}
 use Rattle.serde_json.specs.Data.{Data, Items}
 use Rattle.serde_json.specs.Read.{read}
-use Rattle.mk_name.specs.Names.{Name}
+use Rattle.mk_path.specs.declared.path.Path.{Path}
 use Rattle.mk_foot.specs.Json.{value_of}
 use Rattle.mk_foot.specs.Lines.{paths_in}
 
@@ -19,6 +19,6 @@ value_bad text bad =
       | inr other ↦ sym (cond-false (is_utf8 text) (read text) None other)
     ]
 
--- the names so far, before those of the items that are left
-abbrev pub names_with : List ℕ → List Name → Items → Option (List Name)
-names_with root names items = option_map (λ xs. names ++ xs) (paths_in root items)
+-- the paths so far, before those of the items that are left
+abbrev pub paths_with : List ℕ → List Path → Items → Option (List Path)
+paths_with root paths items = option_map (λ xs. paths ++ xs) (paths_in root items)

@@ -14,7 +14,7 @@ use Rattle.mk_name.specs.declared.fault.Halt.{Halt}
 use Rattle.mk_name.specs.declared.fault.Halt.TheVariants as halts
 use Rattle.mk_name.specs.declared.fault.Kind.TheVariants.{BadFootprint, FootprintsTooLarge}
 use Rattle.mk_foot.specs.Lines.{Line, lines_in}
-use Rattle.mk_foot.specs.Footprints.{Footprints, Unites, fault_at, fault_by, first_fault, lines_of, path_count, path_limit, told}
+use Rattle.mk_foot.specs.Footprints.{AreFootprints, Footprints, fault_at, fault_by, first_fault, lines_of, path_count, path_limit, told}
 
 -- what is known before the physical line of a number: the first fault is among those that are left, and the footprints, and
 -- the count of paths, are those of the lines so far
@@ -22,7 +22,7 @@ pub record ReadsTo (root : List ℕ) (texts : List (List ℕ)) (number paths : �
   pub first : slice_get (filter_map (fault_at root texts) (drop number (enumerate_from 1 texts))) 0 ≡ first_fault root texts
   pub count : paths ≡ path_count (lines_of root (take number texts))
   pub few : paths ≤ path_limit
-  pub united : Unites footprints (lines_of root (take number texts))
+  pub united : AreFootprints root footprints (lines_of root (take number texts))
 
 -- the paths of one line
 pub one_line : (line : Line) → path_count (line ∷ []) ≡ length line.reads + length line.writes
@@ -82,7 +82,7 @@ module _ (root : List ℕ) (texts : List (List ℕ)) (number : ℕ) (text : List
 
     -- else the reading goes on
     pub goes_on : (said : List Line) (paths' : ℕ) (footprints' : Footprints) → lines_in root text ≡ Some said → paths' ≡ paths + path_count said → paths' ≤ path_limit
-        → Unites footprints' (lines_of root (take number texts) ++ said) → ReadsTo root texts (number + 1) paths' footprints'
+        → AreFootprints root footprints' (lines_of root (take number texts) ++ said) → ReadsTo root texts (number + 1) paths' footprints'
     goes_on said paths' footprints' e count few united =
         record {
           first =
@@ -90,7 +90,7 @@ module _ (root : List ℕ) (texts : List (List ℕ)) (number : ℕ) (text : List
               ∙ before.first;
           count = count ∙ sym (counted said e);
           few = few;
-          united = subst (λ (ls : List Line). Unites footprints' ls) (sym (lines_more said e)) united;
+          united = subst (λ (ls : List Line). AreFootprints root footprints' ls) (sym (lines_more said e)) united;
         }
 
 -- the text of a physical line
@@ -114,13 +114,13 @@ halts_by (halts.Fault given) answers fault is holds =
     subst (λ (t : Told). answers (Err t)) same (holds other)
 
 -- before the first line nothing is known
-pub reads_none : (root : List ℕ) (texts : List (List ℕ)) (footprints : Footprints) → Unites footprints [] → ReadsTo root texts 0 0 footprints
+pub reads_none : (root : List ℕ) (texts : List (List ℕ)) (footprints : Footprints) → AreFootprints root footprints [] → ReadsTo root texts 0 0 footprints
 reads_none root texts footprints united = record { first = refl; count = refl; few = omega arith; united = united }
 
 -- behind the last line there is no fault, and all lines are united
 pub reads_all : (root : List ℕ) (texts : List (List ℕ)) (number paths : ℕ) (footprints : Footprints) → length texts ≤ number
-    → ReadsTo root texts number paths footprints → (first_fault root texts ≡ None) × Unites footprints (lines_of root texts)
+    → ReadsTo root texts number paths footprints → (first_fault root texts ≡ None) × AreFootprints root footprints (lines_of root texts)
 reads_all root texts number paths footprints past all = (
   sym all.first ∙ ap (λ l. slice_get (filter_map (fault_at root texts) l) 0) (drop_all number (enumerate_from 1 texts) (omega (arith, past, length-enumerate_from 1 texts))),
-  subst (λ (ts : List (List ℕ)). Unites footprints (lines_of root ts)) (take_all number texts past) all.united,
+  subst (λ (ts : List (List ℕ)). AreFootprints root footprints (lines_of root ts)) (take_all number texts past) all.united,
 )

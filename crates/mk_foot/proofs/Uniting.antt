@@ -12,18 +12,19 @@ use Rattle.std.proofs.lemmas.List.Sums.{fold-append}
 use Rattle.std.proofs.lemmas.Grind.{flat_map-append}
 use Rattle.mk_name.specs.Names.{Name, same_name}
 use Rattle.mk_name.proofs.Names.{name_is_exact}
-use Rattle.mk_text.specs.Listing.{in_order}
+use Rattle.mk_path.specs.Paths.{path_cmp}
+use Rattle.mk_path.specs.declared.path.Path.{Path}
 use Rattle.mk_foot.specs.Lines.{Line}
-use Rattle.mk_foot.specs.Footprints.{Footprint, Footprints, footprint_at, footprint_on, IsInOrder, lines_on, no_footprint, together, union_of, Unites}
+use Rattle.mk_foot.specs.Footprints.{ByTarget, Footprint, footprint_in, footprint_on, in_order, IsInOrder, lines_on, no_footprint, together, union_of, Unites}
 
--- names put among those that are there
-abbrev pub with_more : List Name → List Name → List Name
-with_more names more = fold (insert_key (slice_cmp nat_cmp)) names more
+-- paths put among those that are there
+abbrev pub with_more : List Path → List Path → List Path
+with_more paths more = fold (insert_key path_cmp) paths more
 
-union_more : (f : Line → List Name) (lines : List Line) (line : Line) → in_order (flat_map f (lines ++ line ∷ [])) ≡ with_more (in_order (flat_map f lines)) (f line)
+union_more : (f : Line → List Path) (lines : List Line) (line : Line) → in_order (flat_map f (lines ++ line ∷ [])) ≡ with_more (in_order (flat_map f lines)) (f line)
 union_more f lines line =
     ap in_order (flat_map-append f lines (line ∷ []) ∙ ap (λ xs. flat_map f lines ++ xs) (append-nil (f line)))
-    ∙ fold-append (insert_key (slice_cmp nat_cmp)) [] (flat_map f lines) (f line)
+    ∙ fold-append (insert_key path_cmp) [] (flat_map f lines) (f line)
 
 -- what lines say together, as a footprint
 whole : (lines : List Line) → unwrap_or (together lines) no_footprint ≡ union_of lines
@@ -63,28 +64,28 @@ module _ (line : Line) (lines : List Line) where
       both : {f g : Footprint} → f.reads ≡ g.reads → f.writes ≡ g.writes → f ≡ g
       both r w = λ i. record { reads = r i; writes = w i }
 
-  pub unites_more : (old removed new : Footprints) (before after : Footprint)
-      → unwrap_or (footprint_at old line.target) no_footprint ≡ before
+  pub unites_more : (old removed new : ByTarget) (before after : Footprint)
+      → unwrap_or (footprint_in old line.target) no_footprint ≡ before
       → after.reads ≡ with_more before.reads line.reads → after.writes ≡ with_more before.writes line.writes
-      → ((q : Name) → footprint_at removed q ≡ cond (is_eq (slice_cmp nat_cmp line.target q)) None (footprint_at old q))
-      → ((q : Name) → footprint_at new q ≡ cond (is_eq (slice_cmp nat_cmp line.target q)) (Some after) (footprint_at removed q))
+      → ((q : Name) → footprint_in removed q ≡ cond (is_eq (slice_cmp nat_cmp line.target q)) None (footprint_in old q))
+      → ((q : Name) → footprint_in new q ≡ cond (is_eq (slice_cmp nat_cmp line.target q)) (Some after) (footprint_in removed q))
       → IsInOrder new → Unites old lines → Unites new (lines ++ line ∷ [])
-  unites_more old removed new before after was reads writes out put in_order all = record {
+  unites_more old removed new before after was reads writes out put rising all = record {
     united = λ target.
         put target
-        ∙ ap (λ b. cond b (Some after) (footprint_at removed target)) (sym (texts_ties line.target target))
+        ∙ ap (λ b. cond b (Some after) (footprint_in removed target)) (sym (texts_ties line.target target))
         ∙ elim (cases_Bool (same_name line.target target)) [
           | inl own ↦
-              cond-true (same_name line.target target) (Some after) (footprint_at removed target) own
+              cond-true (same_name line.target target) (Some after) (footprint_in removed target) own
               ∙ footprint_more target before after own
-              (ap (λ o. unwrap_or o no_footprint) (sym (all.united target) ∙ ap (footprint_at old) (sym (name_is_exact.equal line.target target own))) ∙ was) reads writes
+              (ap (λ o. unwrap_or o no_footprint) (sym (all.united target) ∙ ap (footprint_in old) (sym (name_is_exact.equal line.target target own))) ∙ was) reads writes
           | inr other ↦
-              cond-false (same_name line.target target) (Some after) (footprint_at removed target) other
+              cond-false (same_name line.target target) (Some after) (footprint_in removed target) other
               ∙ out target
-              ∙ ap (λ b. cond b None (footprint_at old target)) (sym (texts_ties line.target target))
-              ∙ cond-false (same_name line.target target) None (footprint_at old target) other
+              ∙ ap (λ b. cond b None (footprint_in old target)) (sym (texts_ties line.target target))
+              ∙ cond-false (same_name line.target target) None (footprint_in old target) other
               ∙ all.united target
               ∙ ap together (sym (on_other target other))
         ];
-    in_order = in_order;
+    rising = rising;
   }

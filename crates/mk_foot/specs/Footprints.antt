@@ -1,6 +1,7 @@
 -- The footprints of targets: what their lines say together, or the first line at fault.
-use Rattle.std.specs.Prelude.{◌≡◌, ℕ, ◌+◌, List, [], ◌∷◌, ◌++◌, Option, None, Some, Result, Ok, Err, filter, length, nat_lt, slice_get, take, unwrap_or, if◌then◌else◌}
+use Rattle.std.specs.Prelude.{◌≡◌, ℕ, ◌+◌, List, [], ◌∷◌, ◌++◌, Option, None, Some, Result, Ok, Err, filter, fold, length, nat_lt, slice_get, take, unwrap_or, if◌then◌else◌}
 use Rattle.std.specs.List.{enumerate_from, filter_map, flat_map, sum_by}
+use Rattle.std.specs.BTreeSet.{insert_key}
 use Rattle.std.specs.Cmp.Lexicographic.{slice_cmp}
 use Rattle.std.specs.Ordering.{is_eq, nat_cmp}
 use Rattle.std.specs.List.Sorted.{IsStrictlySortedBy}
@@ -10,17 +11,23 @@ use Rattle.mk_name.specs.Told.{Told}
 use Rattle.mk_name.specs.declared.fault.Kind.{Kind}
 use Rattle.mk_name.specs.declared.fault.Kind.TheVariants.{BadFootprint, FootprintsTooLarge}
 use Rattle.mk_name.specs.declared.fault.Source.TheVariants as sources
-use Rattle.mk_text.specs.Listing.{in_order, lines}
+use Rattle.mk_text.specs.Listing.{lines}
+use Rattle.mk_path.specs.Paths.{path_cmp}
+use Rattle.mk_path.specs.declared.path.Path.{Path}
 use Rattle.mk_foot.specs.Lines.{Line, lines_in}
 
--- all that the recipe of a target reads and writes, each name once, rising
+-- all that the recipe of a target reads and writes, each path once, rising
 pub record Footprint : Type 0 where
-  pub reads : List Name
-  pub writes : List Name
+  pub reads : List Path
+  pub writes : List Path
 
 -- that of a recipe that neither reads nor writes
 abbrev pub no_footprint : Footprint
 no_footprint = record { reads = []; writes = [] }
+
+-- paths in their order, each once
+abbrev pub in_order : List Path → List Path
+in_order paths = fold (insert_key path_cmp) [] paths
 
 -- the union of what some lines say
 abbrev pub union_of : List Line → Footprint
@@ -42,21 +49,34 @@ together (line ∷ lines) = Some (union_of (line ∷ lines))
 abbrev pub footprint_on : List Line → Name → Option Footprint
 footprint_on lines target = together (lines_on target lines)
 
--- targets with their footprints, and what they have for a target
-abbrev pub Footprints : Type 0
-Footprints = List (Name × Footprint)
+-- targets with their footprints, and what stands there for a target
+abbrev pub ByTarget : Type 0
+ByTarget = List (Name × Footprint)
+
+abbrev pub footprint_in : ByTarget → Name → Option Footprint
+footprint_in entries target = lookup (λ name. is_eq (slice_cmp nat_cmp target name)) entries
+
+-- footprints: the text of the root that their paths were read below, and the footprint of each target
+pub record Footprints : Type 0 where
+  pub root : List ℕ
+  pub by_target : ByTarget
 
 abbrev pub footprint_at : Footprints → Name → Option Footprint
-footprint_at footprints target = lookup (λ name. is_eq (slice_cmp nat_cmp target name)) footprints
+footprint_at footprints target = footprint_in footprints.by_target target
 
 -- each target stands once, in the byte order of their names
-abbrev pub IsInOrder : Footprints → Type 0
-IsInOrder footprints = IsStrictlySortedBy (slice_cmp nat_cmp) (keys_of footprints)
+abbrev pub IsInOrder : ByTarget → Type 0
+IsInOrder entries = IsStrictlySortedBy (slice_cmp nat_cmp) (keys_of entries)
 
 -- for each target they have what the lines on it say together, and targets stand in order
-pub record Unites (footprints : Footprints) (lines : List Line) : Type 0 where
-  pub united : (target : Name) → footprint_at footprints target ≡ footprint_on lines target
-  pub in_order : IsInOrder footprints
+pub record Unites (entries : ByTarget) (lines : List Line) : Type 0 where
+  pub united : (target : Name) → footprint_in entries target ≡ footprint_on lines target
+  pub rising : IsInOrder entries
+
+-- the footprints below a root of what some lines say
+pub record AreFootprints (root : List ℕ) (footprints : Footprints) (lines : List Line) : Type 0 where
+  pub root_is : footprints.root ≡ root
+  pub unites : Unites footprints.by_target lines
 
 -- the lines that physical lines say; a bad one says nothing
 abbrev pub lines_of : List ℕ → List (List ℕ) → List Line
@@ -87,9 +107,9 @@ first_fault root texts = slice_get (filter_map (fault_at root texts) (enumerate_
 
 -- what `read_footprints` answers: the footprints of all lines, or the first fault
 abbrev pub IsRead : List ℕ → List ℕ → Result Footprints Told → Type 0
-IsRead root text (Ok footprints) = (first_fault root (lines text) ≡ None) × Unites footprints (lines_of root (lines text))
+IsRead root text (Ok footprints) = (first_fault root (lines text) ≡ None) × AreFootprints root footprints (lines_of root (lines text))
 IsRead root text (Err fault) = first_fault root (lines text) ≡ Some fault
 
 -- the footprints of some lines become those of the same lines and one more
 abbrev pub AddsLine : Footprints → Line → Footprints → Type 0
-AddsLine old line new = (lines : List Line) → Unites old lines → Unites new (lines ++ line ∷ [])
+AddsLine old line new = (root : List ℕ) (lines : List Line) → AreFootprints root old lines → AreFootprints root new (lines ++ line ∷ [])

@@ -16,14 +16,10 @@ is_blank text = list_all (λ b. b == 32 || b == 9 || b == 13) text
 abbrev pub value_of : List ℕ → Option Data
 value_of text = if is_utf8 text then read text else None
 
--- the name of a path
+-- the name that a text spells, if it is a path
 abbrev pub path_named : List ℕ → List ℕ → Option Name
 path_named root text = if is_path text then Some (plain_name root text) else None
 
--- the name of a text, if it is a path
-abbrev pub path_in : List ℕ → Data → Option Name
-path_in root d = option_and_then (path_named root) (as_str d)
-
--- the name under a key of an object
+-- the name that the text under a key of an object spells
 abbrev pub path_under : List ℕ → List ℕ → Data → Option Name
-path_under root key d = option_and_then (path_in root) (get key d)
+path_under root key d = option_and_then (path_named root) (option_and_then as_str (get key d))

@@ -1,30 +1,35 @@
 //! From a plan and footprints to jobs, or to the first node at fault.
-ghost use Rattle.std.specs.Prelude.{◌≡◌, ◌<◌, ◌∷◌, [], IfErr, IfOk, Ok, find, get_or, length};
-ghost use Rattle.std.specs.Option.{option_copied};
+ghost use Rattle.std.specs.Prelude.{◌≡◌, ◌<◌, ◌∷◌, [], IfErr, IfOk, Ok, get_or, length, map};
+ghost use Rattle.std.specs.Cmp.Lexicographic.{slice_cmp};
+ghost use Rattle.std.specs.List.Sorted.{IsStrictlySortedBy};
+ghost use Rattle.std.specs.Ordering.{nat_cmp};
 ghost use Rattle.mk_name.specs.Gives.{Gives, Halts};
 ghost use Rattle.mk_name.specs.declared.fault.Halt.TheVariants as halts;
 ghost use Rattle.mk_rules.specs.Book.{targets_of};
 ghost use Rattle.mk_jobs.specs.Plan.{names_of, nobody};
-ghost use Rattle.mk_foot.specs.Attached as spec;
-ghost use Rattle.mk_foot.specs.Footprints.{no_footprint};
 ghost use Rattle.mk_jobs.specs.Rows.{with_rows};
 ghost use Rattle.mk_jobs.specs.Shape.{IsRising, IsWellFormed};
+ghost use Rattle.mk_foot.specs.Attached as spec;
 
 use crate::footprints::{Footprint, Footprints, in_order};
+use crate::owned::{lent, owned_names};
+use crate::taken::least_covered;
 use mk_jobs::jobs::Jobs;
 use mk_jobs::plan::Plan;
 use mk_jobs::recipe::is_live;
 use mk_name::fault::{Fault, Halt, Kind, Source};
 use mk_name::name::Name;
+use mk_path::path::Path;
 use mk_rules::rulebook::Rulebook;
-use std::alloc::Global;
+use mk_text::root::Root;
+use std::alloc::{AllocError, Global};
 use std::marker::Model;
 
-/// The names that the recipe of one node reads and writes, rising.
+/// The paths that the recipe of one node reads and writes, rising.
 #[derive(Debug, Drop)]
 struct Row {
-    reads: Vec<Name>,
-    writes: Vec<Name>,
+    reads: Vec<Path>,
+    writes: Vec<Path>,
 }
 
 impl Model for Row {
@@ -35,19 +40,20 @@ impl Model for Row {
     ghost view = { λ a. record { reads = a.reads.items; writes = a.writes.items } };
 }
 
-/// The names that the recipes of all nodes read and write.
+/// The paths that the recipes of all nodes read and write, and the root that they were read below.
 #[derive(Debug, Drop)]
 struct Rows {
-    reads: Vec<Vec<Name>>,
-    writes: Vec<Vec<Name>>,
+    root: Root,
+    reads: Vec<Vec<Path>>,
+    writes: Vec<Vec<Path>>,
 }
 
 /// The jobs of a plan with these footprints (profile). The rulebook is that of the plan.
 ///
 /// The first of these faults is answered, each in the jobs at its node's number: `MissingFootprint` with the target of a
-/// live recipe that no footprint names; `WritesTarget` with the target of a live recipe and the least name that it writes
-/// beside its own, where a node or a rule's target has that name. Recipes that are not live need no footprint, and read and
-/// write nothing. With a fault, and where memory ran out, the plan comes back.
+/// live recipe that no footprint names; `WritesTarget` with the target of a live recipe and the least name beside its own
+/// that is covered by what it writes, where a node or a rule's target has that name. Recipes that are not live need no
+/// footprint, and read and write nothing. With a fault, and where memory ran out, the plan comes back.
 pub fn attach(
     alloc: Global,
     plan: Plan,
@@ -60,47 +66,77 @@ pub fn attach(
         Halts refused.1 (spec.attached plan (targets_of rulebook.now.rules) footprints.now)) }
     ensures plan { IfErr result (λ refused. refused.0 ≡ plan) }
 {
-    match rows_of(alloc, &plan, rulebook, footprints) {
-        Ok(rows) => Ok(Jobs::from_rows(plan, rows.reads, rows.writes)),
-        Err(halt) => Err((plan, halt)),
+    let rows = match rows_beside(alloc, &plan, rulebook, footprints) {
+        Ok(rows) => rows,
+        Err(halt) => return Err((plan, halt)),
+    };
+    match Jobs::new(alloc, plan, rows.root, rows.reads, rows.writes) {
+        Ok(jobs) => Ok(jobs),
+        Err(plan) => Err((plan, Halt::Memory)),
     }
 }
 
-/// What the nodes of a plan read and write, or the first fault.
-fn rows_of(
+/// What the nodes of a plan read and write, or the first fault. The rulebook is that of the plan.
+fn rows_beside(
     alloc: Global,
     plan: &Plan,
     rulebook: &Rulebook,
     footprints: &Footprints,
 ) -> Result<Rows, Halt>
     ensures rows { IfOk result (λ rows. spec.attached plan.now (targets_of rulebook.now.rules) footprints.now
-        ≡ Ok (with_rows plan.now rows.reads.items rows.writes.items)) }
+        ≡ Ok (with_rows plan.now rows.root rows.reads.items rows.writes.items)) }
     ensures shape { IfOk result (λ rows.
-        IsWellFormed (with_rows plan.now rows.reads.items rows.writes.items)) }
+        IsWellFormed (with_rows plan.now rows.root rows.reads.items rows.writes.items)) }
     ensures fault { IfErr result (λ halt.
         Halts halt (spec.attached plan.now (targets_of rulebook.now.rules) footprints.now)) }
+{
+    let names = owned_names(alloc, plan, rulebook)?;
+    let owned = lent(alloc, names.as_slice())?;
+    rows_of(alloc, plan, owned.as_slice(), footprints)
+}
+
+/// What the nodes of a plan read and write, or the first fault, where these names belong to recipes.
+fn rows_of(
+    alloc: Global,
+    plan: &Plan,
+    owned: &[&Name],
+    footprints: &Footprints,
+) -> Result<Rows, Halt>
+    requires rising { IsStrictlySortedBy (slice_cmp nat_cmp) (map (λ name. name.now) owned.now) }
+    requires whole { spec.HasAll (map (λ name. name.now) owned.now) (names_of plan.now.nodes) }
+    ensures rows { IfOk result (λ rows. spec.attached_beside (map (λ name. name.now) owned.now) plan.now footprints.now
+        ≡ Ok (with_rows plan.now rows.root rows.reads.items rows.writes.items)) }
+    ensures shape { IfOk result (λ rows.
+        IsWellFormed (with_rows plan.now rows.root rows.reads.items rows.writes.items)) }
+    ensures fault { IfErr result (λ halt.
+        Halts halt (spec.attached_beside (map (λ name. name.now) owned.now) plan.now footprints.now)) }
 {
     let mut reads = Vec::new(alloc);
     let mut writes = Vec::new(alloc);
     for n in 0..plan.count() {
-        let row = row_of(alloc, plan, n, rulebook, footprints)?;
+        let row = row_of(alloc, plan, n, owned, footprints)?;
         reads.push(row.reads)?;
         writes.push(row.writes)?;
     }
-    Ok(Rows { reads, writes })
+    let root = footprints.root().copy(alloc)?;
+    Ok(Rows {
+        root,
+        reads,
+        writes,
+    })
 }
 
-/// What a node reads and writes, or its fault.
+/// What a node reads and writes, or its fault, where these names belong to recipes.
 fn row_of(
     alloc: Global,
     plan: &Plan,
     n: u32,
-    rulebook: &Rulebook,
+    owned: &[&Name],
     footprints: &Footprints,
 ) -> Result<Row, Halt>
-    requires { n < length plan.now.nodes }
-    ensures answer { Gives result (spec.node_answer (names_of plan.now.nodes) (targets_of rulebook.now.rules)
-        footprints.now (n, get_or plan.now.nodes n nobody)) }
+    requires node { n < length plan.now.nodes }
+    requires rising { IsStrictlySortedBy (slice_cmp nat_cmp) (map (λ name. name.now) owned.now) }
+    ensures answer { Gives result (spec.node_answer (map (λ name. name.now) owned.now) footprints.now (n, get_or plan.now.nodes n nobody)) }
     ensures rising { IfOk result (λ row. IsRising row.reads × IsRising row.writes) }
 {
     if !is_live(plan, n) {
@@ -111,30 +147,26 @@ fn row_of(
     }
     let own = plan.name(n);
     match footprints.of(own) {
-        Some(footprint) => live_row(alloc, plan, n, rulebook, footprint),
-        None => {
-            let names = vec![in alloc; own.copy(alloc)?]?;
-            Err(fault(Kind::MissingFootprint, n, names))
-        }
+        Some(footprint) => live_row(alloc, n, own, owned, footprints.root(), footprint),
+        None => Err(missing(alloc, n, own)?),
     }
 }
 
-/// What a live recipe with a footprint reads and writes, or its fault.
+/// What a live recipe with a footprint reads and writes, or its fault, where these names belong to recipes.
 fn live_row(
     alloc: Global,
-    plan: &Plan,
     n: u32,
-    rulebook: &Rulebook,
+    own: &Name,
+    owned: &[&Name],
+    root: &Root,
     footprint: &Footprint,
 ) -> Result<Row, Halt>
-    requires { n < length plan.now.nodes }
-    ensures answer { Gives result (spec.live_answer (names_of plan.now.nodes) (targets_of rulebook.now.rules)
-        n (get_or plan.now.nodes n nobody).name footprint.now) }
+    requires { IsStrictlySortedBy (slice_cmp nat_cmp) (map (λ name. name.now) owned.now) }
+    ensures answer { Gives result (spec.live_answer root.now (map (λ name. name.now) owned.now) n own.now footprint.now) }
     ensures rising { IfOk result (λ row. IsRising row.reads × IsRising row.writes) }
 {
-    let own = plan.name(n);
     let writes = in_order(alloc, &footprint.writes)?;
-    if let Some(other) = first_taken(plan, rulebook, own, writes.as_slice()) {
+    if let Some(other) = least_covered(root, writes.as_slice(), owned, own) {
         let names = vec![in alloc; own.copy(alloc)?, other.copy(alloc)?]?;
         return Err(fault(Kind::WritesTarget, n, names));
     }
@@ -144,31 +176,17 @@ fn live_row(
     })
 }
 
+/// The fault of a live recipe whose target no footprint names. The only error is want of memory.
+fn missing(alloc: Global, n: u32, own: &Name) -> Result<Halt, AllocError>
+    ensures { IfOk result (λ halt. halt ≡ halts.Fault (spec.told Kind.MissingFootprint n (own.now ∷ []))) }
+{
+    let names = vec![in alloc; own.copy(alloc)?]?;
+    Ok(fault(Kind::MissingFootprint, n, names))
+}
+
 /// A fault of a node.
 fn fault(kind: Kind, n: u32, names: Vec<Name>) -> Halt
     ensures { result ≡ halts.Fault (spec.told kind n names.items) }
 {
     Halt::Fault(Fault::new(kind, Source::Jobs, u64::from(n), names))
-}
-
-/// The first of the names that belongs to another than the target.
-fn first_taken<'a>(
-    plan: &Plan,
-    rulebook: &Rulebook,
-    own: &Name,
-    names: &'a [Name],
-) -> Option<&'a Name>
-    ensures { option_copied result ≡ find
-        (spec.is_taken (names_of plan.now.nodes) (targets_of rulebook.now.rules) own.now) names.now }
-{
-    names
-        .iter()
-        .find(|name| is_taken(plan, rulebook, own, name))
-}
-
-/// Whether the name is not the target's own but that of some node, or one that the rules name as a target.
-fn is_taken(plan: &Plan, rulebook: &Rulebook, own: &Name, name: &Name) -> bool
-    ensures { result ≡ spec.is_taken (names_of plan.now.nodes) (targets_of rulebook.now.rules) own.now name.now }
-{
-    own != name && (plan.number(name).is_some() || rulebook.is_target(name))
 }

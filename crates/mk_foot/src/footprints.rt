@@ -1,22 +1,23 @@
 //! Footprints: what the recipe of each target reads and writes.
 ghost use Rattle.std.specs.Prelude.{◌≡◌, [], IfOk, OnOk, fold, option_map};
 ghost use Rattle.std.specs.BTreeSet.{insert_key};
-ghost use Rattle.std.specs.Cmp.Lexicographic.{slice_cmp};
-ghost use Rattle.std.specs.Ordering.{nat_cmp};
-ghost use Rattle.mk_foot.specs.Footprints.{AddsLine, Unites, footprint_at};
-ghost use Rattle.mk_jobs.specs.Shape.{IsRising};
+ghost use Rattle.std.specs.List.Sorted.{IsStrictlySortedBy};
+ghost use Rattle.mk_path.specs.Paths.{path_cmp};
+ghost use Rattle.mk_foot.specs.Footprints.{AddsLine, AreFootprints, footprint_at};
 
 use crate::line::Line;
 use mk_name::name::Name;
+use mk_path::path::Path;
+use mk_text::root::Root;
 use std::alloc::{AllocError, Global};
 use std::collections::{BTreeMap, BTreeSet};
 use std::marker::Model;
 
-/// All that the recipe of one target reads and writes, each name once.
+/// All that the recipe of one target reads and writes, each path once.
 #[derive(Debug, Drop)]
 pub(crate) struct Footprint {
-    pub(crate) reads: BTreeSet<Name>,
-    pub(crate) writes: BTreeSet<Name>,
+    pub(crate) reads: BTreeSet<Path>,
+    pub(crate) writes: BTreeSet<Path>,
 }
 
 impl Model for Footprint {
@@ -27,9 +28,10 @@ impl Model for Footprint {
     ghost view = { λ a. record { reads = a.reads.keys; writes = a.writes.keys } };
 }
 
-/// What the recipe of each target reads and writes. A target has a footprint where some line names it.
+/// What the recipe of each target reads and writes, below one root. A target has a footprint where some line names it.
 #[derive(Debug, Drop)]
 pub struct Footprints {
+    root: Root,
     by_target: BTreeMap<Name, Footprint>,
 }
 
@@ -38,17 +40,25 @@ impl Model for Footprints {
 
     ghost Value = { spec.Footprints };
 
-    ghost view = { λ a. a.by_target.entries };
+    ghost view = { λ a. record { root = a.root; by_target = a.by_target.entries } };
 }
 
 impl Footprints {
     /// The footprints of no target.
-    pub(crate) fn new(alloc: Global) -> Footprints
-        ensures { Unites result [] }
+    pub(crate) fn new(alloc: Global, root: Root) -> Footprints
+        ensures { AreFootprints root result [] }
     {
         Footprints {
+            root,
             by_target: BTreeMap::new(alloc),
         }
+    }
+
+    /// The root that their paths were read below.
+    pub fn root(&self) -> &Root
+        ensures { result.now ≡ self.now.root }
+    {
+        &self.root
     }
 
     /// The footprint of a target, where some line names it.
@@ -69,31 +79,31 @@ impl Footprints {
                 writes: BTreeSet::new(alloc),
             },
         };
-        add_names(&mut footprint.reads, line.reads)?;
-        add_names(&mut footprint.writes, line.writes)?;
+        add_paths(&mut footprint.reads, line.reads)?;
+        add_paths(&mut footprint.writes, line.writes)?;
         self.by_target.insert(line.target, footprint)?;
         Ok(())
     }
 }
 
-/// Adds the names that are not there yet.
-fn add_names(names: &mut BTreeSet<Name>, more: Vec<Name>) -> Result<(), AllocError>
-    ensures { OnOk result (names.new.keys ≡ fold (insert_key (slice_cmp nat_cmp)) names.old.keys more.items) }
+/// Adds the paths that are not there yet.
+fn add_paths(paths: &mut BTreeSet<Path>, more: Vec<Path>) -> Result<(), AllocError>
+    ensures { OnOk result (paths.new.keys ≡ fold (insert_key path_cmp) paths.old.keys more.items) }
 {
-    for name in more {
-        names.insert(name)?;
+    for path in more {
+        paths.insert(path)?;
     }
     Ok(())
 }
 
-/// The names of a set, rising.
-pub(crate) fn in_order(alloc: Global, names: &BTreeSet<Name>) -> Result<Vec<Name>, AllocError>
-    ensures names { IfOk result (λ list. list.items ≡ names.now.keys) }
-    ensures rising { IfOk result (λ list. IsRising list.items) }
+/// The paths of a set, rising.
+pub(crate) fn in_order(alloc: Global, paths: &BTreeSet<Path>) -> Result<Vec<Path>, AllocError>
+    ensures paths { IfOk result (λ list. list.items ≡ paths.now.keys) }
+    ensures rising { IfOk result (λ list. IsStrictlySortedBy path_cmp list.items) }
 {
-    let mut list = Vec::with_capacity(alloc, names.len())?;
-    for name in names {
-        list.push(name.copy(alloc)?)?;
+    let mut list = Vec::with_capacity(alloc, paths.len())?;
+    for path in paths {
+        list.push(path.copy(alloc)?)?;
     }
     Ok(list)
 }

@@ -1,7 +1,6 @@
 //! Lines of JSON: what footprints and logs are written in.
-ghost use Rattle.std.specs.Prelude.{◌≡◌, IfOk, map, option_map};
+ghost use Rattle.std.specs.Prelude.{◌≡◌, IfOk, option_map};
 ghost use Rattle.serde_json.specs.View.{view};
-ghost use Rattle.mk_text.specs.Listing.{lines};
 ghost use Rattle.mk_foot.specs.Json as spec;
 
 use mk_name::fault::Halt;
@@ -10,13 +9,6 @@ use mk_text::root::Root;
 use mk_text::spelling::plain_path;
 use serde_json::Value;
 use std::alloc::{AllocError, Global};
-
-/// What stands between the newlines of a text. The only error is want of memory.
-pub fn physical_lines(alloc: Global, text: &[u8]) -> Result<Vec<&[u8]>, AllocError>
-    ensures { IfOk result (λ found. map (λ line. line.now) found.items ≡ lines text.now) }
-{
-    text.split(|byte| *byte == b'\n').collect(alloc)
-}
 
 /// Whether a line has no byte but spaces, tabs and carriage returns: such a line is passed over.
 pub fn is_blank(text: &[u8]) -> bool
@@ -41,13 +33,10 @@ pub fn value_of(alloc: Global, text: &[u8]) -> Result<Option<Value>, AllocError>
     }
 }
 
-/// The name of a text, if it is a path.
-pub(crate) fn path_in(alloc: Global, value: &Value, root: &Root) -> Result<Option<Name>, AllocError>
-    ensures { IfOk result (λ name. name ≡ spec.path_in root.now (view value.now)) }
+/// The name that a text spells, if it is a path.
+pub(crate) fn name_in(alloc: Global, text: &str, root: &Root) -> Result<Option<Name>, AllocError>
+    ensures { IfOk result (λ name. name ≡ spec.path_named root.now text.now) }
 {
-    let Some(text) = value.as_str() else {
-        return Ok(None);
-    };
     match plain_path(alloc, text.as_bytes(), root) {
         Ok(name) => Ok(Some(name)),
         Err(Halt::Fault(_)) => Ok(None),
@@ -65,8 +54,8 @@ pub fn path_under(
 ) -> Result<Option<Name>, AllocError>
     ensures { IfOk result (λ name. name ≡ spec.path_under root.now key.now (view object.now)) }
 {
-    match object.get(key) {
-        Some(value) => path_in(alloc, value, root),
+    match object.get(key).and_then(Value::as_str) {
+        Some(text) => name_in(alloc, text, root),
         None => Ok(None),
     }
 }

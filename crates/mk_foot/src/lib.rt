@@ -1,8 +1,8 @@
 //! What each recipe may read and write: footprints from their text, and the jobs of a plan with them.
 //!
 //! [`read_footprints`] takes the bytes of footprints, a line of JSON for each that was recorded, and gives [`Footprints`]:
-//! for each target what its lines say together, each name once. [`attach`] takes a plan, the rulebook that it was made
-//! from and footprints, and gives [`Jobs`]: the plan, and for each node the names that its recipe reads and writes. Either
+//! for each target what its lines say together, each path once: a name, or a tree where it ends in `/`. [`attach`] takes a plan, the rulebook that it was made
+//! from and footprints, and gives [`Jobs`]: the plan, and for each node the paths that its recipe reads and writes. Either
 //! gives the first fault of its input instead, or that memory ran out.
 //!
 //! What comes out is defined in `specs/`:
@@ -20,8 +20,10 @@ pub mod attaching;
 pub mod footprints;
 pub mod json;
 mod line;
+mod owned;
 pub mod reading;
 pub mod reading_laws;
+mod taken;
 
 pub use crate::attaching::attach;
 pub use crate::footprints::Footprints;

@@ -4,8 +4,9 @@ ghost use Rattle.serde_json.specs.View.{items_view, view};
 ghost use Rattle.mk_foot.specs.Json.{value_of};
 ghost use Rattle.mk_foot.specs.Lines as spec;
 
-use crate::json::{path_in, path_under, value_of};
+use crate::json::{name_in, path_under, value_of};
 use mk_name::name::Name;
+use mk_path::path::Path;
 use mk_text::root::Root;
 use serde_json::Value;
 use std::alloc::{AllocError, Global};
@@ -15,8 +16,8 @@ use std::marker::Model;
 #[derive(Debug, Drop)]
 pub(crate) struct Line {
     pub(crate) target: Name,
-    pub(crate) reads: Vec<Name>,
-    pub(crate) writes: Vec<Name>,
+    pub(crate) reads: Vec<Path>,
+    pub(crate) writes: Vec<Path>,
 }
 
 impl Model for Line {
@@ -31,30 +32,53 @@ impl Model for Line {
     } };
 }
 
-/// The names of a list, if each of its items is a path.
-fn paths_in(alloc: Global, values: &[Value], root: &Root) -> Result<Option<Vec<Name>>, AllocError>
-    ensures { IfOk result (λ names.
-        option_map (λ list. list.items) names ≡ spec.paths_in root.now (items_view values.now)) }
+/// Whether the last byte is a slash.
+fn ends_in_slash(text: &[u8]) -> bool
+    ensures { result ≡ spec.ends_in_slash text.now }
 {
-    let mut names = Vec::new(alloc);
+    text.last() == Some(&b'/')
+}
+
+/// The path of a value, if it is a text that spells one.
+fn path_of(alloc: Global, value: &Value, root: &Root) -> Result<Option<Path>, AllocError>
+    ensures { IfOk result (λ path. path ≡ spec.path_of root.now (view value.now)) }
+{
+    let Some(text) = value.as_str() else {
+        return Ok(None);
+    };
+    match name_in(alloc, text, root)? {
+        Some(name) => Ok(Some(Path {
+            name,
+            tree: ends_in_slash(text.as_bytes()),
+        })),
+        None => Ok(None),
+    }
+}
+
+/// The paths of a list, if each of its items is one.
+fn paths_in(alloc: Global, values: &[Value], root: &Root) -> Result<Option<Vec<Path>>, AllocError>
+    ensures { IfOk result (λ paths.
+        option_map (λ list. list.items) paths ≡ spec.paths_in root.now (items_view values.now)) }
+{
+    let mut paths = Vec::new(alloc);
     for value in values {
-        match path_in(alloc, value, root)? {
-            Some(name) => names.push(name)?,
+        match path_of(alloc, value, root)? {
+            Some(path) => paths.push(path)?,
             None => return Ok(None),
         }
     }
-    Ok(Some(names))
+    Ok(Some(paths))
 }
 
-/// The names of the list under a key.
+/// The paths of the list under a key.
 fn paths_under(
     alloc: Global,
     object: &Value,
     key: &str,
     root: &Root,
-) -> Result<Option<Vec<Name>>, AllocError>
-    ensures { IfOk result (λ names.
-        option_map (λ list. list.items) names ≡ spec.paths_under root.now key.now (view object.now)) }
+) -> Result<Option<Vec<Path>>, AllocError>
+    ensures { IfOk result (λ paths.
+        option_map (λ list. list.items) paths ≡ spec.paths_under root.now key.now (view object.now)) }
 {
     match object.get(key).and_then(Value::as_array) {
         Some(values) => paths_in(alloc, values.as_slice(), root),

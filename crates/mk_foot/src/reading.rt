@@ -9,9 +9,10 @@ ghost use Rattle.mk_foot.specs.Footprints.{IsRead, told};
 ghost use Rattle.mk_foot.specs.Lines.{lines_in};
 
 use crate::footprints::Footprints;
-use crate::json::{is_blank, physical_lines};
+use crate::json::is_blank;
 use crate::line::{Line, line_of};
 use mk_name::fault::{Fault, Halt, Kind, Source};
+use mk_text::lexical::physical_lines;
 use mk_text::root::Root;
 use std::alloc::{AllocError, Global};
 
@@ -19,18 +20,19 @@ use std::alloc::{AllocError, Global};
 const PATH_LIMIT: usize = 1_000_000;
 
 /// Reads footprints, one object of JSON a line (profile). Its `target` is a path, its `reads` and `writes` are lists of
-/// paths, and other keys mean nothing. Lines with nothing but spaces, tabs and carriage returns are passed over; the last
-/// line needs no newline. Several lines of one target unite.
+/// paths, and other keys mean nothing. A path of these lists whose last byte is `/` is a tree: its name and all that stands
+/// below it. Lines with nothing but spaces, tabs and carriage returns are passed over; the last line needs no newline.
+/// Several lines of one target unite.
 ///
 /// The first of these faults is answered, each in the footprints at its line from 1, without names: `BadFootprint` at a
 /// line that is no such object in UTF-8, or that has a text that `plain_path` refuses; `FootprintsTooLarge` at the line
-/// with which all paths so far, those that are read and those that are written, repeats too, are more than 1,000,000. The only other
-/// error is want of memory.
+/// with which all paths so far, those that are read and those that are written, repeats too, are more than 1,000,000; a tree
+/// counts as one path. The only other error is want of memory.
 pub fn read_footprints(alloc: Global, text: &[u8], root: &Root) -> Result<Footprints, Halt>
     ensures { Answers result (IsRead root.now text.now) }
 {
     let lines = physical_lines(alloc, text)?;
-    let mut footprints = Footprints::new(alloc);
+    let mut footprints = Footprints::new(alloc, root.copy(alloc)?);
     let mut paths = 0_usize;
     for (number, text) in lines.iter().enumerate() {
         let place = number as u64 + 1;
@@ -49,7 +51,7 @@ pub fn read_footprints(alloc: Global, text: &[u8], root: &Root) -> Result<Footpr
 fn fault(alloc: Global, kind: Kind, place: u64) -> Halt
     ensures { result ≡ halts.Fault (told kind place) }
 {
-    Halt::Fault(Fault::new(kind, Source::Footprints, place, Vec::new(alloc)))
+    Halt::Fault(Fault::unnamed(alloc, kind, Source::Footprints, place))
 }
 
 /// What a physical line says; nothing where it is blank. A bad line is a fault at its place.

@@ -9,11 +9,12 @@ ghost use Rattle.mk_log.specs.declared.entry.Entry.TheVariants.{Holds};
 
 use crate::entry::{Entry, entry_of};
 use crate::log::Log;
-use mk_foot::json::{is_blank, physical_lines};
+use mk_foot::json::is_blank;
 use mk_jobs::jobs::Jobs;
 use mk_name::fault::{Fault, Halt, Kind, Source};
 use mk_name::name::Name;
 use mk_sched::store::Store;
+use mk_text::lexical::physical_lines;
 use mk_text::root::Root;
 use std::alloc::{AllocError, Global};
 
@@ -51,7 +52,12 @@ fn empty_log(alloc: Global) -> Log
 fn fault(alloc: Global, place: u64) -> Halt
     ensures { result ≡ halts.Fault (told place) }
 {
-    Halt::Fault(Fault::new(Kind::BadLog, Source::Log, place, Vec::new(alloc)))
+    Halt::Fault(Fault::unnamed(
+        alloc,
+        Kind::BadLog,
+        Source::Log,
+        place,
+    ))
 }
 
 /// Adds what a physical line says, and tells whether the line is good behind those before it.

@@ -145,6 +145,13 @@ impl Rulebook {
         self.rules.len()
     }
 
+    /// How many targets the target rules have, each name once.
+    pub fn target_count(&self) -> usize
+        ensures { result ≡ length (targets_of self.now.rules) }
+    {
+        self.targets.len()
+    }
+
     /// Whether it is a target of a target rule.
     pub fn is_target(&self, name: &Name) -> bool
         ensures { result ≡ is_target self.now.rules name.now }

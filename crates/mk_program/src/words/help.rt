@@ -58,10 +58,11 @@ pub const REPLAY_ABOUT: &str =
 
 pub const REPLAY_DETAILS: &str = "\
 MAKEFILE, BASE, LISTING, DIR and the operands are those of `race order`. FOOTPRINTS is the path of a file that has for each
-recipe that may run an object of JSON on a line of its own: its target, and the paths that it reads and writes. LOG is the
-path of a file that has first an object for each file that is there, and these are the files of LISTING, and then one for
-each event, in the order in which they happened. PATH and NODE are paths, NODE that of a file of the build; HEX is what a
-file holds, in lower case hexadecimal; TIME is a whole number.
+recipe that may run an object of JSON on a line of its own: its target, and the paths that it reads and writes, where a
+path that ends in `/` stands for all that is below it too. LOG is the path of a file that has first an object for each file
+that is there, and these are the files of LISTING, and then one for each event, in the order in which they happened. PATH
+and NODE are paths, NODE that of a file of the build; HEX is what a file holds, in lower case hexadecimal; TIME is a whole
+number.
   {\"do\":\"file\",\"path\":PATH,\"bytes\":HEX,\"time\":TIME}              a file that is there, written at that time
   {\"do\":\"skip\",\"node\":NODE}                                      NODE stays as it is; start and finish: of its recipe
   {\"do\":\"look\",\"node\":NODE,\"path\":PATH,\"bytes\":HEX}              the recipe reads PATH; null where nothing is there

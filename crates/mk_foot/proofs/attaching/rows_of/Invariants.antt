@@ -1,8 +1,7 @@
 use Rattle.std.proofs.Common.{map}
-use Rattle.mk_rules.specs.Book.{targets_of}
 use Rattle.mk_foot.proofs.AttachNodes.{RowsTo}
 use Rattle.mk_foot.proofs.attaching.rows_of.Given as goal
 
 -- the nodes so far have their rows
 abbrev pub invariant-loop-n : goal.invariant-loop-n
-invariant-loop-n l = RowsTo l.plan (targets_of l.rulebook.rules) l.footprints l.n (map (λ row. row.items) l.reads.items) (map (λ row. row.items) l.writes.items)
+invariant-loop-n l = RowsTo l.plan (map (λ name. name.now) l.owned) l.footprints l.n (map (λ row. row.items) l.reads.items) (map (λ row. row.items) l.writes.items)

@@ -2,5 +2,5 @@ use Rattle.std.proofs.Common.{◌≡◌, ◌++◌}
 use Rattle.mk_foot.proofs.footprints.in_order.Given as goal
 
 -- what is copied, and then what is left
-abbrev pub invariant-loop-name : goal.invariant-loop-name
-invariant-loop-name l = l.list.items ++ l.name-iterator ≡ l.names.keys
+abbrev pub invariant-loop-path : goal.invariant-loop-path
+invariant-loop-path l = l.list.items ++ l.path-iterator ≡ l.paths.keys
