@@ -47,18 +47,21 @@ touches_covered jobs n p over =
 
 -- nodes that clash on a path clash on its name
 pub a_clash : {jobs : Jobs} {a b : ℕ} {path : List ℕ} → ClashesOn jobs a b path → Clash jobs a b
-a_clash {jobs} {a} {b} clash = (
-  clash.path.name,
-  record {
-    different = clash.different;
-    first = touches_covered jobs a clash.path clash.first;
-    second = touches_covered jobs b clash.path clash.second;
-    written = elim (or_cases (writes_over jobs a clash.path) _ clash.written) [
-      | inl left ↦ or_left (may_write jobs a clash.path.name) _ (writes_covered jobs a clash.path left)
-      | inr right ↦ or_right (may_write jobs a clash.path.name) _ (writes_covered jobs b clash.path right)
-    ];
-  },
-)
+a_clash {jobs} {a} {b} clash =
+    let p = clash.path in
+    let parts = and_parts (touches_over jobs a p && touches_over jobs b p) (writes_over jobs a p || writes_over jobs b p) clash.clash in
+    let both = and_parts (touches_over jobs a p) (touches_over jobs b p) parts.0 in (
+      p.name,
+      record {
+        different = clash.different;
+        first = touches_covered jobs a p both.0;
+        second = touches_covered jobs b p both.1;
+        written = elim (or_cases (writes_over jobs a p) _ parts.1) [
+          | inl left ↦ or_left (may_write jobs a p.name) _ (writes_covered jobs a p left)
+          | inr right ↦ or_right (may_write jobs a p.name) _ (writes_covered jobs b p right)
+        ];
+      },
+    )
 
 pub both_live : {jobs : Jobs} {a b : ℕ} {path : List ℕ} → ClashesOn jobs a b path → AreLive jobs a b
 both_live clash = clash_live (a_clash clash).1

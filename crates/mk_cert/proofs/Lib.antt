@@ -2,6 +2,7 @@ pub mod Certified
 pub mod Clashing
 pub mod Edged
 pub mod Followed
+pub mod OnPaths
 pub mod Racing
 pub mod Searched
 pub mod Sound

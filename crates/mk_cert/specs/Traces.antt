@@ -1,5 +1,5 @@
 -- Traces that hold: what they say of every run.
-use Rattle.std.specs.Prelude.{ℕ, ◌≡◌, ◌≢◌, ◌==◌, ◌&&◌, ◌||◌, ◌++◌, Bool, true, List, ◌∷◌, map, reverse, Option, is_some, unwrap_or}
+use Rattle.std.specs.Prelude.{ℕ, ◌≡◌, ◌≢◌, ◌==◌, ◌&&◌, ◌||◌, ◌++◌, Bool, true, List, ◌∷◌, map, Contains, reverse, Option, is_some, unwrap_or}
 use Rattle.std.specs.List.{list_any}
 use Rattle.std.specs.Map.{lookup}
 use Rattle.mk_path.specs.declared.path.Path.{Path}
@@ -28,15 +28,22 @@ writes_over jobs n p = is_live jobs n && some_over jobs.root (writes_of jobs n) 
 abbrev pub touches_over : Jobs → ℕ → Path → Bool
 touches_over jobs n p = is_live jobs n && (some_over jobs.root (reads_of jobs n) p || some_over jobs.root (writes_of jobs n) p)
 
--- two nodes clash on the path that a trace spells: they are different, both touch what the path covers, and at least one
--- writes it
+-- two nodes clash on what p covers: both touch it, and at least one writes it
+abbrev pub clash_over : Jobs → ℕ → ℕ → Path → Bool
+clash_over jobs a b p = touches_over jobs a p && touches_over jobs b p && (writes_over jobs a p || writes_over jobs b p)
+
+-- the paths of two nodes
+abbrev pub paths_of : Jobs → ℕ → ℕ → List Path
+paths_of jobs a b = (reads_of jobs a ++ writes_of jobs a) ++ (reads_of jobs b ++ writes_of jobs b)
+
+-- two nodes clash on the path that a trace spells: they are different, it is a path of one of them, and they clash on what it
+-- covers
 pub record ClashesOn (jobs : Jobs) (a b : ℕ) (text : List ℕ) : Type 0 where
   pub different : a ≢ b
   pub path : Path
+  pub named : Contains (paths_of jobs a b) path
   pub spells : text_of path ≡ text
-  pub first : touches_over jobs a path ≡ true
-  pub second : touches_over jobs b path ≡ true
-  pub written : writes_over jobs a path || writes_over jobs b path ≡ true
+  pub clash : clash_over jobs a b path ≡ true
 
 -- a step as an event
 abbrev pub event_of : Step → Event
