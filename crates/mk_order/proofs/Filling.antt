@@ -6,7 +6,8 @@ use Rattle.std.proofs.lemmas.List.{take_at, drop_at, take-append-le, drop-append
 use Rattle.std.proofs.lemmas.Nat.{mul-le}
 use Rattle.std.proofs.lemmas.Nat.Bits.{shr_and_one}
 use Rattle.mk_jobs.specs.Jobs.{Jobs, Before, IsValid, prerequisites_of, node_count}
-use Rattle.mk_order.specs.Bits.{HasBit, Gains, AreRows, IsFilled, row_at}
+use Rattle.mk_path.specs.Bits.{HasBit}
+use Rattle.mk_order.specs.Bits.{Gains, AreRows, IsFilled, row_at}
 use Rattle.mk_order.proofs.Edges.{prerequisite_from, before_from}
 use Rattle.mk_order.proofs.RowBits.{clear_bits}
 

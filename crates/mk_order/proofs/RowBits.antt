@@ -1,13 +1,14 @@
 -- Bits of rows: merged, set, and found again in the table of rows.
-use Rattle.std.proofs.Common.{ℕ, ◌≡◌, ◌<◌, ◌≤◌, ◌*◌, ◌/◌, ◌%◌, ◌^◌, ◌↔◌, ◌⊎◌, List, [], ◌∷◌, ◌++◌, length, set, get_or, max, bit_or, All, sym, ap, ap₂, subst, ◌∙◌, inl, inr, arith, w64}
+use Rattle.std.proofs.Common.{ℕ, ◌≡◌, ◌<◌, ◌≤◌, ◌/◌, ◌%◌, ◌↔◌, ◌⊎◌, List, [], ◌∷◌, ◌++◌, length, set, get_or, max, bit_or, All, sym, ap, subst, ◌∙◌, inl, inr, arith}
 use Rattle.std.specs.Int.{bit_at}
 use Rattle.std.specs.Simd.Lanes.{zip2}
 use Rattle.std.proofs.lemmas.Bool.{cases_lt, cases_eq}
-use Rattle.std.proofs.lemmas.List.{get_or_past, get_or-set_same, get_or-set_other}
+use Rattle.std.proofs.lemmas.List.{get_or_past}
 use Rattle.std.proofs.lemmas.List.Elements.{Contains-append_left, Contains-push, Contains-push_cases}
-use Rattle.std.proofs.lemmas.Nat.Bits.{bit_at_or, bit_at-lt, bit_at-zero, bit_at_set_same, bit_at_set_other}
+use Rattle.std.proofs.lemmas.Nat.Bits.{bit_at_or, bit_at-lt, bit_at-zero}
 use Rattle.std.proofs.lemmas.Simd.{get_or-zip2, length-zip2}
-use Rattle.mk_order.specs.Bits.{HasBit, IsReached, Gains, row_at}
+use Rattle.mk_path.specs.Bits.{HasBit}
+use Rattle.mk_order.specs.Bits.{IsReached, Gains, row_at}
 
 -- a bit past the last word is not there
 no_bit : (row : List ℕ) (n : ℕ) → length row ≤ n / 64 → HasBit row n → ⊥
@@ -38,33 +39,6 @@ merged_bits xs ys n same = elim (cases_lt (n / 64) (length xs)) [
     λ has. elim has [ inl left ↦ absurd (no_bit xs n past left) | inr right ↦ absurd (no_bit ys n (omega (arith, past, same)) right) ],
   )
 ]
-
--- the bits of a row in which one is set
-pub set_bits : (row : List ℕ) (n k : ℕ) → n / 64 < length row
-    → HasBit (set row (n / 64) (bit_or (get_or row (n / 64) 0) (1 * 2 ^ (n % 64) % 2 ^ 64))) k ↔ (HasBit row k ⊎ (k ≡ n))
-set_bits row n k here =
-    let old = get_or row (n / 64) 0 in
-    let word = bit_or old (1 * 2 ^ (n % 64) % 2 ^ 64) in
-    let new = set row (n / 64) word in
-    let low : n % 64 < 64 = omega arith in
-    elim (cases_eq (k / 64) (n / 64)) [
-      | inl same ↦
-          let at : get_or new (k / 64) 0 ≡ word = ap (λ i. get_or new i 0) same ∙ get_or-set_same row (n / 64) word 0 here in
-          elim (cases_eq (k % 64) (n % 64)) [
-            | inl low_same ↦
-                let bit : bit_at (get_or new (k / 64) 0) (k % 64) ≡ 1 = ap₂ bit_at at low_same ∙ bit_at_set_same w64 old (n % 64) low in
-                let one : k ≡ n = omega (arith, same, low_same) in
-                (λ has. inr one, λ has. bit)
-            | inr other ↦
-                let kept : bit_at (get_or new (k / 64) 0) (k % 64) ≡ bit_at (get_or row (k / 64) 0) (k % 64) =
-                ap (λ w. bit_at w (k % 64)) at ∙ bit_at_set_other w64 old (n % 64) low (k % 64) other ∙ ap (λ i. bit_at (get_or row i 0) (k % 64)) (sym same) in
-                (λ has. inl (sym kept ∙ has), λ has. elim has [ inl before ↦ kept ∙ before | inr one ↦ absurd (other (ap (λ m. m % 64) one)) ])
-          ]
-      | inr apart ↦
-          let kept : bit_at (get_or new (k / 64) 0) (k % 64) ≡ bit_at (get_or row (k / 64) 0) (k % 64) =
-          ap (λ w. bit_at w (k % 64)) (get_or-set_other row (n / 64) (k / 64) word 0 apart) in
-          (λ has. inl (sym kept ∙ has), λ has. elim has [ inl before ↦ kept ∙ before | inr one ↦ absurd (apart (ap (λ m. m / 64) one)) ])
-    ]
 
 -- a row of no bits
 pub clear_bits : (row : List ℕ) (n : ℕ) → All (λ word. word ≡ 0) row → HasBit row n → ⊥

@@ -1,11 +1,7 @@
 -- Rows of bits, kept in words of 64: what the table of rows holds inside.
-use Rattle.std.specs.Prelude.{ℕ, ◌≡◌, ◌<◌, ◌≤◌, ◌↔◌, ◌⊎◌, ◌*◌, ◌/◌, ◌%◌, List, length, take, drop, get_or, Contains}
-use Rattle.std.specs.Int.{bit_at}
+use Rattle.std.specs.Prelude.{ℕ, ◌≡◌, ◌<◌, ◌≤◌, ◌↔◌, ◌⊎◌, ◌*◌, List, length, take, drop, Contains}
+use Rattle.mk_path.specs.Bits.{HasBit}
 use Rattle.mk_jobs.specs.Jobs.{Jobs, Before, node_count}
-
--- a row has the bit of a number
-abbrev pub HasBit : List ℕ → ℕ → Type 0
-HasBit row n = bit_at (get_or row (n / 64) 0) (n % 64) ≡ 1
 
 -- the row of a number, where each row has `width` words
 abbrev pub row_at : ℕ → List ℕ → ℕ → List ℕ

@@ -1,11 +1,12 @@
 //! A row of bits for each node: who is before it.
-ghost use Rattle.std.specs.Prelude.{ℕ, ◌≡◌, ◌<◌, ◌≤◌, ◌↔◌, ◌⊎◌, ◌+◌, ◌*◌, All, IfOk, length};
+ghost use Rattle.std.specs.Prelude.{◌≡◌, ◌<◌, ◌≤◌, ◌+◌, ◌*◌, All, IfOk, length};
 ghost use Rattle.mk_jobs.specs.Jobs.{IsValid, node_count};
-ghost use Rattle.mk_order.specs.Bits.{AreRows, Gains, HasBit};
+ghost use Rattle.mk_order.specs.Bits.{AreRows, Gains};
 
 use crate::before::Before;
 use crate::words::merge;
 use mk_jobs::jobs::Jobs;
+use mk_path::bits::set_bit;
 use std::alloc::{AllocError, Global};
 use std::marker::Model;
 
@@ -78,12 +79,4 @@ fn add_nodes(row: &mut [u64], done: &[u64], nodes: &[u32])
         merge(row, &done[at..at + width]);
         set_bit(row, p);
     }
-}
-
-/// Sets the bit of a number.
-fn set_bit(row: &mut [u64], n: u32)
-    requires { n < 64 * length row.old }
-    ensures { (k : ℕ) → HasBit row.new k ↔ (HasBit row.old k ⊎ (k ≡ n)) }
-{
-    row[n as usize / WORD] |= 1 << (n as usize % WORD);
 }
