@@ -8,6 +8,8 @@ pub mod Meeting
 pub mod Overlaps
 pub mod Overs
 pub mod PathOrder
+pub mod RangePlaces
+pub mod RangeTests
 pub mod Reaching
 pub mod Searching
 pub mod SetBits

@@ -5,7 +5,9 @@ pub mod Laws
 pub mod Marks
 pub mod Meets
 pub mod Paths
+pub mod Ranges
 pub mod Table
+pub mod Taken
 pub mod Texts
 pub mod Ups
 pub mod Uses

@@ -16,4 +16,5 @@ mod meets;
 pub mod path;
 pub mod spelling;
 pub mod table;
+pub mod taken;
 mod ups;
