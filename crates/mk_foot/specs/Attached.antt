@@ -1,5 +1,5 @@
 -- What `attach` answers: the jobs of a plan and its footprints, or the first node at fault.
-use Rattle.std.specs.Prelude.{◌≡◌, ℕ, Bool, true, List, [], ◌∷◌, ◌++◌, Option, None, Some, Result, Ok, Err, ◌&&◌, not, find, map, slice_get, unwrap_or, if◌then◌else◌}
+use Rattle.std.specs.Prelude.{◌≡◌, ℕ, true, List, [], ◌∷◌, ◌++◌, Option, None, Some, Result, Ok, Err, find, map, slice_get, unwrap_or, if◌then◌else◌}
 use Rattle.std.specs.List.{enumerate_from, filter_map}
 use Rattle.std.specs.Option.{option_map, option_map_or}
 use Rattle.mk_name.specs.Names.{Name, has, same_name}
@@ -8,8 +8,7 @@ use Rattle.mk_name.specs.declared.fault.Kind.{Kind}
 use Rattle.mk_name.specs.declared.fault.Kind.TheVariants.{MissingFootprint, WritesTarget}
 use Rattle.mk_name.specs.declared.fault.Source.TheVariants as sources
 use Rattle.mk_text.specs.Listing.{in_order}
-use Rattle.mk_path.specs.Paths.{covered}
-use Rattle.mk_path.specs.declared.path.Path.{Path}
+use Rattle.mk_path.specs.Taken.{is_taken}
 use Rattle.mk_jobs.specs.Plan.{Node, Plan, names_of}
 use Rattle.mk_foot.specs.Footprints.{Footprint, Footprints, footprint_at, no_footprint}
 use Rattle.mk_jobs.specs.Jobs.{Jobs}
@@ -26,10 +25,6 @@ owned_names names targets = in_order (names ++ targets)
 -- each of the names stands in the list
 abbrev pub HasAll : List Name → List Name → Type 0
 HasAll list names = (x : Name) → has same_name names x ≡ true → has same_name list x ≡ true
-
--- a name is not the recipe's own, and what it writes covers the name
-abbrev pub is_taken : List ℕ → List Path → Name → Name → Bool
-is_taken root writes own x = not (same_name own x) && covered root writes x
 
 -- the fault of a live recipe: no line names its target; or it writes what belongs to another, of which the least name is told
 abbrev pub recipe_fault : List ℕ → List Name → ℕ → Name → Option Footprint → Option Told

@@ -13,13 +13,13 @@ ghost use Rattle.mk_foot.specs.Attached as spec;
 
 use crate::footprints::{Footprint, Footprints, in_order};
 use crate::owned::{lent, owned_names};
-use crate::taken::least_covered;
 use mk_jobs::jobs::Jobs;
 use mk_jobs::plan::Plan;
 use mk_jobs::recipe::is_live;
 use mk_name::fault::{Fault, Halt, Kind, Source};
 use mk_name::name::Name;
 use mk_path::path::Path;
+use mk_path::taken::least_covered;
 use mk_rules::rulebook::Rulebook;
 use mk_text::root::Root;
 use std::alloc::{AllocError, Global};

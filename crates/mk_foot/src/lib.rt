@@ -23,7 +23,6 @@ mod line;
 mod owned;
 pub mod reading;
 pub mod reading_laws;
-mod taken;
 
 pub use crate::attaching::attach;
 pub use crate::footprints::Footprints;

@@ -3,8 +3,10 @@ pub mod Begin
 pub mod Folders
 pub mod Found
 pub mod Halves
+pub mod Holding
 pub mod Marking
 pub mod Meeting
+pub mod Numbering
 pub mod Overlaps
 pub mod Overs
 pub mod PathOrder

@@ -1,10 +1,12 @@
 pub mod Bits
 pub mod Covering
+pub mod Holders
 pub mod Index
 pub mod Laws
 pub mod Marks
 pub mod Meets
 pub mod Paths
+pub mod Places
 pub mod Ranges
 pub mod Table
 pub mod Taken
