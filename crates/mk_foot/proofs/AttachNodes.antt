@@ -21,7 +21,8 @@ use Rattle.mk_path.specs.declared.path.Path.{Path}
 use Rattle.mk_jobs.specs.Numbered.{number_of}
 use Rattle.mk_jobs.specs.Plan.{Plan, Node, names_of, nobody, NeedsStandBefore, edge_count, edge_limit, node_limit}
 use Rattle.mk_jobs.proofs.Numberings.{has_at, number_at}
-use Rattle.mk_foot.specs.Attached.{HasAll, attached_beside, first_fault, footprint_of, is_taken, jobs_with, node_answer, node_fault, recipe_fault, told}
+use Rattle.mk_path.specs.Taken.{is_taken}
+use Rattle.mk_foot.specs.Attached.{HasAll, attached_beside, first_fault, footprint_of, jobs_with, node_answer, node_fault, recipe_fault, told}
 use Rattle.mk_foot.specs.Footprints.{Footprint, Footprints, footprint_at, no_footprint}
 use Rattle.mk_jobs.specs.Jobs.{Jobs, IsPrerequisite, node_at, node_count, name_of, is_live, reads_of, writes_of, prerequisites_of, may_write}
 use Rattle.mk_jobs.specs.Recipes.{is_live_node}
