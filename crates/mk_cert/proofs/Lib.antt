@@ -3,7 +3,9 @@ pub mod Clashing
 pub mod Edged
 pub mod Followed
 pub mod OnPaths
+pub mod Paired
 pub mod Racing
+pub mod Reached
 pub mod Searched
 pub mod Sound
 pub mod Timing

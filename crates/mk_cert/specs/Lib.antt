@@ -1,5 +1,6 @@
 pub mod Certificates
 pub mod Laws
+pub mod Pairs
 pub mod Races
 pub mod Standing
 pub mod Sure

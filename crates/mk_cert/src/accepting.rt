@@ -1,16 +1,34 @@
 //! Whether certificates and traces are good for jobs.
 ghost use Rattle.std.specs.Prelude.{◌↔◌, IfOk, IsTrue};
 ghost use Rattle.mk_proof.specs.Shapes.{trace_of};
+ghost use Rattle.mk_sched.specs.Laws.{IsDeterminate};
+ghost use Rattle.mk_cert.specs.Certificates.{IsCertificate};
 ghost use Rattle.mk_cert.specs.Sure.{IsSure};
 ghost use Rattle.mk_cert.specs.Traces.{TraceHolds};
 
 use crate::clash::clash_on;
+use crate::edges::are_chains;
+use crate::pairs::has_chains;
 use crate::times::{are_of_listed, by_node};
 use crate::walk::all_pass;
 use mk_jobs::jobs::Jobs;
+use mk_proof::certificate::Certificate;
 use mk_proof::step::Step;
 use mk_proof::trace::Trace;
 use std::alloc::{AllocError, Global};
+
+/// Whether a certificate is one of these jobs (profile): its numbers are nodes; each chain goes along edges; and any two nodes
+/// that clash are the ends of a chain. There may be other chains too. It takes no memory.
+///
+/// Jobs with a certificate are determinate: see the clause.
+pub fn accept(jobs: &Jobs, certificate: &Certificate) -> bool
+    ensures certificate { IsTrue result ↔ IsCertificate jobs.now certificate.now }
+    ensures determinate { IsTrue result → IsDeterminate jobs.now }
+{
+    let _count = jobs.count();
+    let _chains = certificate.count();
+    are_chains(jobs, certificate) && has_chains(jobs, certificate)
+}
 
 /// Whether a trace shows a race of these jobs (profile): its nodes clash on its path; just the listed nodes have a time; by
 /// these times alone each step is allowed after those before it, whatever else stands in the store; and at the end both

@@ -27,7 +27,7 @@ fn is_over(root: &Root, q: &Path, p: &Path) -> bool
 }
 
 /// Whether one of these paths is over p.
-fn some_over(root: &Root, paths: &[Path], p: &Path) -> bool
+pub(crate) fn some_over(root: &Root, paths: &[Path], p: &Path) -> bool
     ensures { result ≡ some_over root.now paths.now p.now }
 {
     paths.iter().any(|q| is_over(root, q, p))

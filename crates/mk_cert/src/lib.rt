@@ -8,6 +8,8 @@ pub mod accepting;
 mod clash;
 mod edges;
 pub mod laws;
+mod marks;
+mod pairs;
 mod search;
 mod stage;
 mod standing;
