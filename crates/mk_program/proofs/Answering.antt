@@ -1,5 +1,5 @@
 -- Lemmas on answers over texts that are the same.
-use Rattle.std.proofs.Common.{◌≡◌, ℕ, Bool, List, Ok, Err, subst}
+use Rattle.std.proofs.Common.{◌≡◌, ℕ, Bool, true, false, List, Ok, Err, subst}
 use Rattle.mk_name.specs.Gives.{HaltsAmong}
 use Rattle.mk_name.specs.Shown.{refused_text}
 use Rattle.mk_name.specs.Told.{Told}
@@ -7,9 +7,10 @@ use Rattle.mk_name.specs.declared.fault.Halt.{Halt}
 use Rattle.mk_name.specs.declared.fault.Halt.TheVariants.{Fault}
 use Rattle.mk_race.specs.Played.{IsPlayed}
 use Rattle.mk_race.specs.Stages.{Texts}
+use Rattle.mk_race.specs.Verified.{IsVerified}
 use Rattle.mk_race.specs.declared.replaying.Played.{Played}
 use Rattle.mk_race.specs.declared.replaying.Played.TheVariants.{Allowed, NotAllowed}
-use Rattle.mk_program.specs.Answers.{IsReplayAnswer, status_of}
+use Rattle.mk_program.specs.Answers.{IsReplayAnswer, IsVerifyAnswer, status_of, verdict_status, verdict_text}
 use Rattle.mk_program.specs.OutcomeText.{IsOutcomeText}
 use Rattle.mk_program.specs.declared.statuses.Status.{Status}
 use Rattle.mk_program.specs.declared.statuses.Status.TheVariants.{Refused}
@@ -46,3 +47,26 @@ outcome_is texts footprints log limit limit' tie (Allowed replayed) status text 
     rw ends (replayed, subst (λ (n : ℕ). IsPlayed texts footprints log n tie (Ok (Allowed replayed))) same played, told)
 outcome_is texts footprints log limit limit' tie (NotAllowed place refusal) status text played same ends told =
     rw ends (place, refusal, subst (λ (n : ℕ). IsPlayed texts footprints log n tie (Ok (NotAllowed place refusal))) same played, told)
+
+-- the answer to a proof over what was read is the one over the texts
+pub verify_told : (old new : Texts) (footprints footprints' proof proof' : List ℕ) (status : Status) (text : List ℕ)
+    → old ≡ new → footprints ≡ footprints' → proof ≡ proof' → IsVerifyAnswer old footprints proof status text
+    → IsVerifyAnswer new footprints' proof' status text
+verify_told old new footprints footprints' proof proof' status text t f p h =
+    subst (λ (x : List ℕ). IsVerifyAnswer new footprints' x status text) p
+    (subst (λ (x : List ℕ). IsVerifyAnswer new x proof status text) f
+    (subst (λ (x : Texts). IsVerifyAnswer x footprints proof status text) t h))
+
+-- the report of the fault of a proof is its answer
+pub unverified_is : (texts : Texts) (footprints proof : List ℕ) (halt : Halt) (fault : Told) (status : Status) (text : List ℕ)
+    → HaltsAmong halt (IsVerified texts footprints proof) → halt ≡ Fault fault → status ≡ Refused → text ≡ refused_text fault
+    → IsVerifyAnswer texts footprints proof status text
+unverified_is texts footprints proof halt fault status text verified is ends told =
+    rw ends (fault, subst (λ (h : Halt). HaltsAmong h (IsVerified texts footprints proof)) is verified, told)
+
+-- what is told of a proof that was judged is its answer
+pub verdict_is : (texts : Texts) (footprints proof : List ℕ) (accepted : Bool) (status : Status) (text : List ℕ)
+    → IsVerified texts footprints proof (Ok accepted) → status ≡ verdict_status accepted → text ≡ verdict_text accepted
+    → IsVerifyAnswer texts footprints proof status text
+verdict_is texts footprints proof true status text verified ends told = rw ends (verified, told)
+verdict_is texts footprints proof false status text verified ends told = rw ends (verified, told)

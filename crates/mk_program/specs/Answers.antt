@@ -1,13 +1,14 @@
 -- What the program answers to a request, over what the files hold, and what it writes of that.
-use Rattle.std.specs.Prelude.{◌≡◌, ℕ, Bool, List, Ok, Err, Option, map}
+use Rattle.std.specs.Prelude.{◌≡◌, ℕ, Bool, true, false, List, Ok, Err, Option, map, codes, if◌then◌else◌}
 use Rattle.std.specs.Borrow.{Bor}
 use Rattle.std.specs.Io.KnownBytes.{Appends}
 use Rattle.clap.specs.Words.{Text}
-use Rattle.mk_name.specs.Shown.{refused_text}
+use Rattle.mk_name.specs.Shown.{line, refused_text}
 use Rattle.mk_name.specs.Told.{Told}
 use Rattle.mk_text.specs.Device.{AppendsBeginning}
 use Rattle.mk_race.specs.Played.{IsPlayed}
 use Rattle.mk_race.specs.Stages.{IsPlanned, Texts}
+use Rattle.mk_race.specs.Verified.{IsVerified}
 use Rattle.mk_race.specs.declared.replaying.Played.{Played}
 use Rattle.mk_race.specs.declared.replaying.Played.TheVariants.{Allowed, NotAllowed}
 use Rattle.mk_race.specs.declared.planning.Planned.{Planned}
@@ -31,7 +32,7 @@ use Rattle.mk_program.specs.declared.statuses.Status.TheVariants as statuses
 -- the text of the plan, or the report of the fault that refuses the texts
 abbrev pub IsOrderAnswer : Texts → Status → List ℕ → Type 0
 IsOrderAnswer texts statuses.Done text = (planned : Planned) × IsPlanned texts (Ok planned) × (text ≡ plan_text planned.plan)
-IsOrderAnswer texts statuses.NotAllowed text = ⊥
+IsOrderAnswer texts statuses.No text = ⊥
 IsOrderAnswer texts statuses.Refused text = (told : Told) × IsPlanned texts (Err told) × (text ≡ refused_text told)
 IsOrderAnswer texts statuses.Failed text = ⊥
 
@@ -39,16 +40,32 @@ IsOrderAnswer texts statuses.Failed text = ⊥
 abbrev pub IsReplayAnswer : Texts → List ℕ → List ℕ → ℕ → Bool → Status → List ℕ → Type 0
 IsReplayAnswer texts footprints log limit tie statuses.Done text =
     (replayed : Replayed) × IsPlayed texts footprints log limit tie (Ok (Allowed replayed)) × IsOutcomeText (Allowed replayed) text
-IsReplayAnswer texts footprints log limit tie statuses.NotAllowed text =
+IsReplayAnswer texts footprints log limit tie statuses.No text =
     (place : ℕ) × (refusal : Refusal) × IsPlayed texts footprints log limit tie (Ok (NotAllowed place refusal)) × IsOutcomeText (NotAllowed place refusal) text
 IsReplayAnswer texts footprints log limit tie statuses.Refused text =
     (told : Told) × IsPlayed texts footprints log limit tie (Err told) × (text ≡ refused_text told)
 IsReplayAnswer texts footprints log limit tie statuses.Failed text = ⊥
 
+-- the text of a proof's judgement
+abbrev pub verdict_text : Bool → List ℕ
+verdict_text accepted = line (if accepted then codes "accepted" else codes "not accepted")
+
+-- that the proof is accepted, or that it is not, or the report of the fault that refuses the texts
+abbrev pub IsVerifyAnswer : Texts → List ℕ → List ℕ → Status → List ℕ → Type 0
+IsVerifyAnswer texts footprints proof statuses.Done text = IsVerified texts footprints proof (Ok true) × (text ≡ verdict_text true)
+IsVerifyAnswer texts footprints proof statuses.No text = IsVerified texts footprints proof (Ok false) × (text ≡ verdict_text false)
+IsVerifyAnswer texts footprints proof statuses.Refused text =
+    (told : Told) × IsVerified texts footprints proof (Err told) × (text ≡ refused_text told)
+IsVerifyAnswer texts footprints proof statuses.Failed text = ⊥
+
+-- how the program ends after a proof was judged
+abbrev pub verdict_status : Bool → Status
+verdict_status accepted = if accepted then statuses.Done else statuses.No
+
 -- how the program ends after a replay
 abbrev pub status_of : Played → Status
 status_of (Allowed replayed) = statuses.Done
-status_of (NotAllowed place refusal) = statuses.NotAllowed
+status_of (NotAllowed place refusal) = statuses.No
 
 -- the texts that a build is planned from
 abbrev pub texts_for : BuildArgs → (InputFile → List ℕ) → Texts
@@ -63,6 +80,8 @@ texts_for build text = record {
 -- the answer to a request, over the texts of its inputs
 abbrev pub IsAnswerOver : Request → (InputFile → List ℕ) → Status → List ℕ → Type 0
 IsAnswerOver (requests.Order build) text status answer = IsOrderAnswer (texts_for build text) status answer
+IsAnswerOver (requests.Verify verify) text status answer =
+    IsVerifyAnswer (texts_for verify.build text) (text inputs.Footprints) (text inputs.Proof) status answer
 IsAnswerOver (requests.Replay replay) text status answer =
     IsReplayAnswer (texts_for replay.build text) (text inputs.Footprints) (text inputs.Log) replay.limit replay.tie status answer
 

@@ -13,6 +13,7 @@ word_of inputs.Base = codes "base"
 word_of inputs.Makefile = codes "makefile"
 word_of inputs.Listing = codes "listing"
 word_of inputs.Footprints = codes "footprints"
+word_of inputs.Proof = codes "proof"
 word_of inputs.Log = codes "log"
 
 -- the text of a failure

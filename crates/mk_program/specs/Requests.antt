@@ -23,5 +23,7 @@ build_inputs build = base_input build.base ++ input_at inputs.Makefile build.mak
 
 abbrev pub inputs_of : Request → List InputPath
 inputs_of (requests.Order build) = build_inputs build
+inputs_of (requests.Verify verify) =
+    build_inputs verify.build ++ input_at inputs.Footprints verify.footprints ++ input_at inputs.Proof verify.proof
 inputs_of (requests.Replay replay) =
     build_inputs replay.build ++ input_at inputs.Footprints replay.footprints ++ input_at inputs.Log replay.log

@@ -13,7 +13,7 @@ use crate::inputs::{InputText, read_inputs, text_of};
 use crate::openers::Opener;
 use crate::outcome_lines::outcome_text;
 use crate::plan_lines::plan_text;
-use crate::requests::{BuildArgs, ReplayArgs, Request, inputs_of};
+use crate::requests::{BuildArgs, ReplayArgs, Request, VerifyArgs, inputs_of};
 use crate::statuses::Status;
 use mk_jobs::plan::Plan;
 use mk_name::fault::{Fault, Halt};
@@ -21,6 +21,7 @@ use mk_name::report::refused_report;
 use mk_race::input::Input;
 use mk_race::planning::plan_of;
 use mk_race::replaying::{Played, replay_log};
+use mk_race::verifying::verify_proof;
 use std::alloc::{AllocError, Global};
 
 /// What the program says, and how it ends where that is written.
@@ -58,6 +59,7 @@ fn answer_over(
 {
     match request {
         Request::Order(build) => order_answer(alloc, build, texts),
+        Request::Verify(verify) => verify_answer(alloc, verify, texts),
         Request::Replay(replay) => replay_answer(alloc, replay, texts),
     }
 }
@@ -74,6 +76,23 @@ fn order_answer(
 {
     let operands = bytes_of(alloc, build.operands.as_slice())?;
     order_over(alloc, &input_of(build, operands.as_slice(), texts))
+}
+
+/// Whether a proof is accepted for a build, or why the inputs are refused.
+fn verify_answer(
+    alloc: Global,
+    verify: &VerifyArgs<'_>,
+    texts: &[InputText],
+) -> Result<Answer, AllocError>
+    ensures status { IfOk result (λ answer. answer.status ≢ Status.Failed) }
+    ensures answer { IfOk result (λ answer. (text : InputFile → List ℕ) → AreTexts texts.now text
+        → spec.IsVerifyAnswer (spec.texts_for verify.now.build text) (text InputFile.Footprints)
+        (text InputFile.Proof) answer.status answer.text.items) }
+{
+    let build = &verify.build;
+    let operands = bytes_of(alloc, build.operands.as_slice())?;
+    let input = input_of(build, operands.as_slice(), texts);
+    verify_over(alloc, &input, text_of(texts, InputFile::Proof))
 }
 
 /// Whether a log is a run of a build, or why the inputs are refused.
@@ -129,6 +148,19 @@ fn order_over(alloc: Global, input: &Input<'_>) -> Result<Answer, AllocError>
     }
 }
 
+/// Whether a proof is accepted for a build, or the report of the first fault of both.
+fn verify_over(alloc: Global, input: &Input<'_>, proof: &[u8]) -> Result<Answer, AllocError>
+    ensures status { IfOk result (λ answer. answer.status ≢ Status.Failed) }
+    ensures answer { IfOk result (λ answer. spec.IsVerifyAnswer (texts_of input.now)
+        input.now.footprints.now proof.now answer.status answer.text.items) }
+{
+    match verify_proof(alloc, input, proof) {
+        Ok(accepted) => verdict_answer(alloc, accepted),
+        Err(Halt::Fault(fault)) => refused(alloc, &fault),
+        Err(Halt::Memory) => Err(AllocError),
+    }
+}
+
 /// What a log is to a build, or the report of the first fault of both.
 fn replay_over(
     alloc: Global,
@@ -156,6 +188,22 @@ fn plan_answer(alloc: Global, plan: &Plan) -> Result<Answer, AllocError>
     Ok(Answer {
         status: Status::Done,
         text: plan_text(alloc, plan)?,
+    })
+}
+
+/// Whether a proof is accepted, told.
+fn verdict_answer(alloc: Global, accepted: bool) -> Result<Answer, AllocError>
+    ensures { IfOk result (λ answer. (answer.status ≡ spec.verdict_status accepted)
+        × (answer.text.items ≡ spec.verdict_text accepted)) }
+{
+    let (status, text) = if accepted {
+        (Status::Done, b"accepted\n".as_slice())
+    } else {
+        (Status::No, b"not accepted\n".as_slice())
+    };
+    Ok(Answer {
+        status,
+        text: Vec::from_slice(alloc, text)?,
     })
 }
 
@@ -187,7 +235,7 @@ fn status_of(played: &Played) -> Status
 {
     match played {
         Played::Allowed(_) => Status::Done,
-        Played::NotAllowed { .. } => Status::NotAllowed,
+        Played::NotAllowed { .. } => Status::No,
     }
 }
 

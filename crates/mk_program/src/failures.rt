@@ -12,6 +12,7 @@ pub enum InputFile {
     Makefile,
     Listing,
     Footprints,
+    Proof,
     Log,
 }
 
@@ -26,6 +27,7 @@ impl fmt::Display for InputFile {
             InputFile::Makefile => "makefile",
             InputFile::Listing => "listing",
             InputFile::Footprints => "footprints",
+            InputFile::Proof => "proof",
             InputFile::Log => "log",
         })
     }

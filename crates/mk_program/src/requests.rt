@@ -17,6 +17,14 @@ pub struct BuildArgs<'a> {
     pub operands: Vec<&'a str>,
 }
 
+/// What a proof is judged by: a build, and the paths of its footprints and of the proof.
+#[derive(Debug, Drop)]
+pub struct VerifyArgs<'a> {
+    pub build: BuildArgs<'a>,
+    pub footprints: &'a str,
+    pub proof: &'a str,
+}
+
 /// What a log is judged by: a build, the paths of its footprints and of the log, how many recipes may run at once, and
 /// whether files of equal times count as newer.
 #[derive(Debug, Drop)]
@@ -32,6 +40,7 @@ pub struct ReplayArgs<'a> {
 #[derive(Debug, Drop)]
 pub enum Request<'a> {
     Order(BuildArgs<'a>),
+    Verify(VerifyArgs<'a>),
     Replay(ReplayArgs<'a>),
 }
 
@@ -43,6 +52,11 @@ pub fn inputs_of<'a>(alloc: Global, request: &Request<'a>) -> Result<Vec<InputPa
     let mut inputs = Vec::new(alloc);
     match request {
         Request::Order(build) => push_build(&mut inputs, build)?,
+        Request::Verify(verify) => {
+            push_build(&mut inputs, &verify.build)?;
+            push_input(&mut inputs, InputFile::Footprints, verify.footprints)?;
+            push_input(&mut inputs, InputFile::Proof, verify.proof)?;
+        }
         Request::Replay(replay) => {
             push_build(&mut inputs, &replay.build)?;
             push_input(&mut inputs, InputFile::Footprints, replay.footprints)?;

@@ -33,7 +33,7 @@ pub fn race_words<'a, P: Opener, O: Outlet, E: Outlet>(
         words.entry.now (P.text opener.old) result (O.written out.old) (O.written out.new) }
     ensures refused { result ≡ Status.Refused → spec.WritesAnswer
         words.entry.now (P.text opener.old) result (O.written out.old) (O.written out.new) }
-    ensures not_allowed { result ≡ Status.NotAllowed → spec.WritesAnswer
+    ensures no { result ≡ Status.No → spec.WritesAnswer
         words.entry.now (P.text opener.old) result (O.written out.old) (O.written out.new) }
     ensures usage { result ≢ Status.Failed → IsAnswerable (wrong words.entry.now) }
     // What is not the whole answer is nothing, or what a device took before it failed.
@@ -91,7 +91,7 @@ fn answer_written<'a, P: Opener, O: Outlet>(
         words.entry.now (P.text opener.old) status (O.written out.old) (O.written out.new)) }
     ensures refused { IfOk result (λ status. status ≡ Status.Refused → spec.WritesAnswer
         words.entry.now (P.text opener.old) status (O.written out.old) (O.written out.new)) }
-    ensures not_allowed { IfOk result (λ status. status ≡ Status.NotAllowed → spec.WritesAnswer
+    ensures no { IfOk result (λ status. status ≡ Status.No → spec.WritesAnswer
         words.entry.now (P.text opener.old) status (O.written out.old) (O.written out.new)) }
     ensures usage { OnOk result (IsAnswerable (wrong words.entry.now)) }
     ensures nothing { OnErr result (O.has_failed out.new ≡ false → out.new ≡ out.old) }
@@ -118,7 +118,7 @@ fn answer_to<'a, P: Opener>(
         words.entry.now (P.text opener.old) answer.status answer.text.items) }
     ensures refused { IfOk result (λ answer. answer.status ≡ Status.Refused → spec.IsAnswerTo
         words.entry.now (P.text opener.old) answer.status answer.text.items) }
-    ensures not_allowed { IfOk result (λ answer. answer.status ≡ Status.NotAllowed → spec.IsAnswerTo
+    ensures no { IfOk result (λ answer. answer.status ≡ Status.No → spec.IsAnswerTo
         words.entry.now (P.text opener.old) answer.status answer.text.items) }
     ensures usage { OnOk result (IsAnswerable (wrong words.entry.now)) }
     ensures write { IfErr result (λ failure. failure ≢ Failure.Write) }

@@ -6,11 +6,13 @@ ghost use Rattle.mk_program.specs.CommandLine as spec;
 
 mod help;
 mod replay_words;
+mod verify_words;
 
 use crate::requests::{BuildArgs, Request};
 use clap::{Arg, ArgAction, ArgMatches, Command, Error};
 use replay_words::{replay_args, replay_command};
 use std::alloc::{AllocError, Global};
+use verify_words::{verify_args, verify_command};
 
 /// Reads the words of the command line, of which the first is the program's name. A fault of the words and a call for
 /// help or the version are errors, which have their text.
@@ -31,12 +33,15 @@ fn request_of<'a>(
     name: &str,
     found: &ArgMatches<'a>,
 ) -> Result<Request<'a>, AllocError>
-    requires { (name.now ≡ codes "order") ⊎ (name.now ≡ codes "replay") }
+    requires { (name.now ≡ codes "order") ⊎ (name.now ≡ codes "verify") ⊎ (name.now ≡ codes "replay") }
     ensures { IfOk result (λ request.
         spec.IsFor request name.now (rows_of (found_of found.now))) }
 {
     if name == "order" {
         return Ok(Request::Order(build_args(alloc, found)?));
+    }
+    if name == "verify" {
+        return Ok(Request::Verify(verify_args(alloc, found)?));
     }
     Ok(Request::Replay(replay_args(alloc, found)?))
 }
@@ -53,6 +58,7 @@ fn race_command<'a>(alloc: Global) -> Result<Command<'a>, AllocError>
         .disable_help_subcommand(true)
         .subcommand_required(true)
         .subcommand(order_command(alloc)?)?
+        .subcommand(verify_command(alloc)?)?
         .subcommand(replay_command(alloc)?)
 }
 
