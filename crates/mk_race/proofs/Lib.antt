@@ -1,3 +1,4 @@
 mod GoalsLemmas
+mod Kinds
 mod Listed
 mod Staging

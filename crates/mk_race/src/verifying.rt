@@ -1,7 +1,9 @@
 //! From the texts of a build and of a proof to whether the proof is accepted.
+ghost use Rattle.std.specs.Prelude.{IfOk, IsTrue};
 ghost use Rattle.mk_name.specs.Gives.{Answers};
 ghost use Rattle.mk_race.specs.Stages.{texts_of};
-ghost use Rattle.mk_race.specs.Verified.{IsVerified, IsVerifiedOn};
+ghost use Rattle.mk_race.specs.Verified.{IsCertificateText, IsDeterminateBuild, IsVerified, IsVerifiedOn};
+ghost use Rattle.mk_sched.specs.Laws.{IsDeterminate};
 
 use crate::input::Input;
 use crate::preparing::prepare;
@@ -19,8 +21,11 @@ use std::alloc::Global;
 /// The first fault is answered: those of the jobs (see [`prepare`](crate::prepare)), and then of the proof by its lines. The
 /// only other error is want of memory.
 pub fn verify_proof(alloc: Global, input: &Input<'_>, proof: &[u8]) -> Result<bool, Halt>
-    ensures { Answers result
+    ensures answer { Answers result
         (IsVerified (texts_of input.now) input.now.footprints.now proof.now) }
+    // The headline: where a certificate is accepted, no schedule of the build's recipes shows in the files.
+    ensures determinate { IfOk result (λ accepted. IsTrue accepted → IsCertificateText proof.now
+        → IsDeterminateBuild (texts_of input.now) input.now.footprints.now) }
 {
     let prepared = prepare(alloc, input)?;
     verify_on(alloc, &prepared.jobs, proof)
@@ -28,7 +33,9 @@ pub fn verify_proof(alloc: Global, input: &Input<'_>, proof: &[u8]) -> Result<bo
 
 /// Whether these jobs accept a proof.
 fn verify_on(alloc: Global, jobs: &Jobs, proof: &[u8]) -> Result<bool, Halt>
-    ensures { Answers result (IsVerifiedOn jobs.now proof.now) }
+    ensures answer { Answers result (IsVerifiedOn jobs.now proof.now) }
+    ensures determinate { IfOk result (λ accepted. IsTrue accepted → IsCertificateText proof.now
+        → IsDeterminate jobs.now) }
 {
     match read_proof(alloc, proof)? {
         Proof::Certificate(certificate) => Ok(accept(jobs, &certificate)),
