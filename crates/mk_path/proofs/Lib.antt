@@ -1,5 +1,6 @@
 pub mod Ascents
 pub mod Begin
+pub mod ByComponents
 pub mod Folders
 pub mod Found
 pub mod Halves
@@ -9,6 +10,7 @@ pub mod Meeting
 pub mod Numbering
 pub mod Overlaps
 pub mod Overs
+pub mod Parts
 pub mod PathOrder
 pub mod RangePlaces
 pub mod RangeTests

@@ -1,8 +1,9 @@
 -- Laws of what covers what, and of which path lies over which.
-use Rattle.std.specs.Prelude.{ℕ, ◌≡◌, ◌⊎◌, ◌++◌, true, List}
+use Rattle.std.specs.Prelude.{ℕ, ◌≡◌, ◌⊎◌, ◌++◌, ◌&&◌, Bool, true, false, List, [], ◌∷◌}
 use Rattle.mk_name.specs.Names.{Name, has, same_name}
 use Rattle.mk_path.specs.declared.path.Path.{Path}
 use Rattle.mk_path.specs.Paths.{covers, folders, is_over}
+use Rattle.mk_text.specs.Spelling.{full, plain_name, reduced}
 
 -- the name x stands in the folder t, or is it
 abbrev pub IsFolderOf : List ℕ → Name → Name → Type 0
@@ -48,3 +49,16 @@ OverCoversName = (root : List ℕ) (p q : Path) → IsOver root p q → Covers r
 
 abbrev pub OverCovers : Type 0
 OverCovers = (root : List ℕ) (p q : Path) (x : Name) → IsOver root p q → Covers root q x → Covers root p x
+
+-- the second list begins with the first
+abbrev pub begins_with : List Name → List Name → Bool
+begins_with [] parts = true
+begins_with (part ∷ parts) [] = false
+begins_with (part ∷ parts) (other ∷ others) = same_name part other && begins_with parts others
+
+-- for plain names covering is by full components: those that the tree's path stands for are the first of those that the
+-- other path stands for
+abbrev pub CoversByComponents : Type 0
+CoversByComponents = (root tree path : List ℕ) →
+    covers root (record { name = plain_name root tree; tree = true }) (plain_name root path)
+    ≡ begins_with (reduced (full root tree)) (reduced (full root path))

@@ -1,5 +1,5 @@
 //! Laws of what covers what. Each function's contract is a law, and its body is empty.
-ghost use Rattle.mk_path.specs.Laws.{CoversOwnName, FoldersBegin, IsOwnFolder, OverCovers, OverCoversName, OverFurther, OverSelf, PathsOfOneName, TreesOverOne};
+ghost use Rattle.mk_path.specs.Laws.{CoversByComponents, CoversOwnName, FoldersBegin, IsOwnFolder, OverCovers, OverCoversName, OverFurther, OverSelf, PathsOfOneName, TreesOverOne};
 
 /// The folders of a folder are the first of the folders of what stands in it, and a name is one of its own.
 pub fn folders_begin()
@@ -24,4 +24,10 @@ pub fn over_covers()
     ensures own { CoversOwnName }
     ensures name { OverCoversName }
     ensures all { OverCovers }
+{}
+
+/// A tree covers a plain name exactly where the components that the tree's path stands for, from the top down, are the
+/// first of those that the other path stands for.
+pub fn covers_by_components()
+    ensures { CoversByComponents }
 {}
