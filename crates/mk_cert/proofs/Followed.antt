@@ -14,7 +14,7 @@ use Rattle.mk_sched.proofs.Basics.{split, is_begun, same_name-true, same_name-re
 use Rattle.mk_sched.proofs.OneRun.{chain_passed}
 use Rattle.mk_proof.specs.Shapes.{Trace}
 use Rattle.mk_cert.specs.Traces.{Fits, TraceHolds, event_of, past_of, time_at}
-use Rattle.mk_cert.specs.Laws.{StepsAreRun, StoreFits, TraceRefutes}
+use Rattle.mk_cert.specs.Laws.{HoldsForARun, StepsAreRun, StoreFits, TraceRefutes}
 use Rattle.mk_proof.specs.declared.step.Step.{Step}
 use Rattle.mk_proof.specs.declared.step.Step.TheVariants.{Skip, Start, Finish}
 use Rattle.mk_cert.proofs.Clashing.{a_clash}
@@ -103,6 +103,12 @@ fitting jobs times shape = (
         (λ unlisted. let none = absent jobs (time_at times) n (node_count jobs) shape inside (omega arith) unlisted in cc);
   },
 )
+
+pub runs : HoldsForARun
+runs jobs trace tie shape holds =
+    let store = fitting jobs trace.times shape in
+    let run = are_run jobs trace tie store.0 holds store.1 in
+    (store.0, store.1, run.0, run.1, run.2)
 
 -- ---- a race
 

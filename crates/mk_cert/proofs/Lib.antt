@@ -3,6 +3,7 @@ pub mod Clashing
 pub mod Edged
 pub mod Followed
 pub mod OnPaths
+pub mod Overlapping
 pub mod Paired
 pub mod Racing
 pub mod Reached

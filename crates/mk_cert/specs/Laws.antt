@@ -1,7 +1,11 @@
 -- Laws of certificates and traces.
-use Rattle.std.specs.Prelude.{ℕ, ◌≡◌, ◌<◌, Bool, true, false, List, ◌∷◌}
+use Rattle.std.specs.Prelude.{ℕ, ◌≡◌, ◌≢◌, ◌<◌, Bool, true, false, List, ◌∷◌}
 use Rattle.mk_jobs.specs.Jobs.{Jobs, Before, Clash, IsRaceFree, IsValid, node_count}
+use Rattle.mk_jobs.specs.Reaching.{uses_of}
 use Rattle.mk_jobs.specs.Shape.{IsWellFormed}
+use Rattle.mk_path.specs.declared.path.Path.{Path}
+use Rattle.mk_path.specs.Texts.{text_of}
+use Rattle.mk_path.specs.Uses.{IsOverlap}
 use Rattle.mk_sched.specs.Stores.{Store, AgreesWith, is_stale}
 use Rattle.mk_sched.specs.Events.{Event, Running, phase, is_started, running_below, store_after}
 use Rattle.mk_sched.specs.Runs.{IsRun}
@@ -73,6 +77,20 @@ StoreFits = (jobs : Jobs) (times : List (ℕ × ℕ)) → IsWellFormed jobs → 
 -- jobs of which a trace holds are not race-free
 abbrev pub TraceRefutes : Type 0
 TraceRefutes = (jobs : Jobs) (trace : Trace) → IsWellFormed jobs → TraceHolds jobs trace → IsRaceFree jobs → ⊥
+
+-- so some store opens a run of just these steps, with either `tie`, at whose end both nodes run
+abbrev pub HoldsForARun : Type 0
+HoldsForARun =
+    (jobs : Jobs) (trace : Trace) (tie : Bool) → IsWellFormed jobs → TraceHolds jobs trace
+    → (opening : Store) × Fits jobs trace.times opening
+    × IsRun jobs tie 2 opening (past_of trace.steps)
+    × (phase (past_of trace.steps) trace.first ≡ Running) × (phase (past_of trace.steps) trace.second ≡ Running)
+
+-- two nodes clash on each overlap of their paths, as it is spelled
+abbrev pub OverlapsClash : Type 0
+OverlapsClash =
+    (jobs : Jobs) (a b : ℕ) (p : Path)
+    → IsWellFormed jobs → a ≢ b → IsOverlap (uses_of jobs) a b p → ClashesOn jobs a b (text_of p)
 
 -- a start that passes adds one to the nodes that run, a finish takes one off, and a skip leaves them
 abbrev pub StepMoves : Type 0

@@ -1,5 +1,9 @@
 -- The trace that shows a race.
-use Rattle.std.specs.Prelude.{ℕ, ◌≡◌, ◌⊎◌, ◌↔◌, ◌++◌, Bool, true, List, [], ◌∷◌, if◌then◌else◌}
+use Rattle.std.specs.Prelude.{ℕ, ◌≡◌, ◌≢◌, ◌⊎◌, ◌↔◌, ◌++◌, Bool, true, List, [], ◌∷◌, if◌then◌else◌}
+use Rattle.mk_path.specs.declared.path.Path.{Path}
+use Rattle.mk_path.specs.Texts.{text_of}
+use Rattle.mk_path.specs.Uses.{IsOverlap}
+use Rattle.mk_jobs.specs.Reaching.{uses_of}
 use Rattle.mk_jobs.specs.Jobs.{Jobs, Before, node_count, is_live, is_listed}
 use Rattle.mk_proof.specs.Shapes.{Trace, trace_of}
 use Rattle.mk_proof.specs.declared.step.Step.{Step}
@@ -28,3 +32,15 @@ falling_times jobs n (ℕ.suc left) =
 abbrev pub race_trace : Jobs → (ℕ → Bool) → ℕ → ℕ → List ℕ → Trace
 race_trace jobs early first second path =
     trace_of first second path (falling_times jobs 0 (node_count jobs)) (early_steps jobs early (node_count jobs) ++ Start first ∷ Start second ∷ [])
+
+-- the trace of a race: its nodes are different, and neither is before the other; its path spells an overlap of their paths; and
+-- the rest is as above, by a test that tells who is before one of them
+pub record IsOfRace (jobs : Jobs) (trace : Trace) : Type 0 where
+  pub early : ℕ → Bool
+  pub path : Path
+  pub different : trace.first ≢ trace.second
+  pub overlap : IsOverlap (uses_of jobs) trace.first trace.second path
+  pub not_before : Before jobs trace.first trace.second → ⊥
+  pub not_after : Before jobs trace.second trace.first → ⊥
+  pub tells : TellsEarly jobs trace.first trace.second early
+  pub is : trace ≡ race_trace jobs early trace.first trace.second (text_of path)

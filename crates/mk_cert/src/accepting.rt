@@ -3,6 +3,7 @@ ghost use Rattle.std.specs.Prelude.{◌↔◌, IfOk, IsTrue};
 ghost use Rattle.mk_proof.specs.Shapes.{trace_of};
 ghost use Rattle.mk_sched.specs.Laws.{IsDeterminate};
 ghost use Rattle.mk_cert.specs.Certificates.{IsCertificate};
+ghost use Rattle.mk_cert.specs.Races.{IsOfRace};
 ghost use Rattle.mk_cert.specs.Sure.{IsSure};
 ghost use Rattle.mk_cert.specs.Traces.{TraceHolds};
 
@@ -38,6 +39,7 @@ pub fn accept(jobs: &Jobs, certificate: &Certificate) -> bool
 pub fn accept_trace(alloc: Global, jobs: &Jobs, trace: &Trace) -> Result<bool, AllocError>
     ensures sure { IfOk result (λ accepted. IsTrue accepted ↔ IsSure jobs.now trace.now) }
     ensures holds { IfOk result (λ accepted. IsTrue accepted → TraceHolds jobs.now trace.now) }
+    ensures race { IfOk result (λ accepted. IsOfRace jobs.now trace.now → IsTrue accepted) }
 {
     let _count = jobs.count();
     let accepted = is_sure(

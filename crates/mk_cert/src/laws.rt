@@ -1,6 +1,6 @@
 //! Laws of certificates and traces. Each function's contract is a law, and its body is empty.
 ghost use Rattle.mk_cert.specs.Laws.{CertificateIsRaceFree, CertificateIsDeterminate, SmallerFirst};
-ghost use Rattle.mk_cert.specs.Laws.{SurelyFresh, SureTraceHolds, RaceTraceIsSure, RaceTraceHolds, StepsAreRun, StoreFits, TraceRefutes, StepMoves};
+ghost use Rattle.mk_cert.specs.Laws.{SurelyFresh, SureTraceHolds, RaceTraceIsSure, RaceTraceHolds, StepsAreRun, StoreFits, HoldsForARun, OverlapsClash, TraceRefutes, StepMoves};
 
 /// Jobs with a certificate are race-free.
 pub fn certificate_is_race_free()
@@ -45,6 +45,16 @@ pub fn steps_are_run()
 /// For each list of times there is a store that fits.
 pub fn store_fits()
     ensures { StoreFits }
+{}
+
+/// So no trace holds for want of a run: its steps are one from some store, and both nodes run at its end.
+pub fn holds_for_a_run()
+    ensures { HoldsForARun }
+{}
+
+/// Two nodes clash on each overlap of their paths.
+pub fn overlaps_clash()
+    ensures { OverlapsClash }
 {}
 
 /// Jobs of which a trace holds are not race-free.
