@@ -9,8 +9,8 @@ use Rattle.mk_text.specs.Spelling.{root_of}
 use Rattle.mk_macro.specs.Operands.{operand_macros}
 use Rattle.mk_rules.specs.Book.{Book, targets_of}
 use Rattle.mk_graph.specs.Answer.{Comes, IsAnswer, too_large, no_rule, cycle, planned}
-use Rattle.mk_jobs.specs.Plan.{Node, Plan, nobody}
-use Rattle.mk_foot.specs.Attached.{first_fault, jobs_with}
+use Rattle.mk_jobs.specs.Plan.{Node, Plan, names_of, nobody}
+use Rattle.mk_foot.specs.Attached.{first_fault, jobs_with, owned_names}
 use Rattle.mk_foot.specs.Footprints.{Footprints}
 use Rattle.mk_jobs.specs.Jobs.{Jobs, is_listed, name_of, node_count}
 use Rattle.mk_race.specs.Laws.{JobsAreListed, StoreAgrees}
@@ -79,7 +79,7 @@ jobs_are_listed texts footprints prepared n is inside =
     let jobs = any_ok _ _ prepared given.2 in
     let read = any_ok _ _ jobs.0 jobs.1 in
     let whole : prepared ≡ with_jobs given.0 jobs.0 = same_Ok _ _ jobs.2 in
-    let plan : jobs.0.plan ≡ given.0.plan = on_plan (first_fault given.0.plan (targets_of given.0.book.rules) read.0) given.0.plan read.0 jobs.0 read.2 in
+    let plan : jobs.0.plan ≡ given.0.plan = on_plan (first_fault given.0.plan (owned_names (names_of given.0.plan.nodes) (targets_of given.0.book.rules)) read.0) given.0.plan read.0 jobs.0 read.2 in
     let all : AreListed given.0.listing jobs.0.plan = subst (λ (p : Plan). AreListed given.0.listing p) (sym plan) (planned_listed texts given.0 given.1) in
     subst (λ (p : Prepared). n < node_count p.jobs → is_listed p.jobs n ≡ has same_name p.listing (name_of p.jobs n)) (sym whole)
     (at_number given.0.listing jobs.0 n all) inside
