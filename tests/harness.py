@@ -35,12 +35,12 @@ NAMED = """
 PROCESSES = 2
 # A run that takes more seconds of a processor is ended.
 SECONDS = 30
-MARKS = struct.Struct("5Q")
+MARKS = struct.Struct("6Q")
 MARKS_BYTES = 8192
 KINDS = ("memory", "open", "read", "write")
 OUT_OF_MEMORY = b"race: out of memory\n"
 
-Told = collections.namedtuple("Told", "status stdout stderr calls met what")
+Told = collections.namedtuple("Told", "status stdout stderr calls met changing what")
 
 
 def load_test():
@@ -105,9 +105,9 @@ class Runner:
             pass
         status = os.waitstatus_to_exitcode(os.waitpid(process, 0)[1])
         out, err = (os.pread(stream, os.fstat(stream).st_size, 0) for stream in self.streams)
-        *calls, met = MARKS.unpack_from(self.marks)
+        *calls, met, changing = MARKS.unpack_from(self.marks)
         what = self.marks[MARKS.size:].split(b"\0", 1)[0]
-        return Told(status, out, err, dict(zip(KINDS, calls)), met, os.fsdecode(what))
+        return Told(status, out, err, dict(zip(KINDS, calls)), met, changing, os.fsdecode(what))
 
     def write(self, name, content):
         """A file in the runner's folder, and its path."""
@@ -124,6 +124,13 @@ def rooms(case, folder):
         shutil.copytree(case.folder, place)
         subprocess.run([sys.executable, str(place / "make-input"), str(place)], check=True)
     return test.absolute(case.words(), place)
+
+
+def turns(count, most):
+    """Which of so many calls have their turn: all, or as many as are wanted, evenly, with the first and the last."""
+    if count <= most:
+        return range(1, count + 1)
+    return sorted({1 + i * (count - 1) // (most - 1) for i in range(most)})
 
 
 def sources_of(words, path):

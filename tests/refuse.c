@@ -4,10 +4,10 @@
  * 1, those numbered FROM, FROM + STEP, .. up to TO do not do what they should. KIND is 'memory', 'open', 'read' or
  * 'write'. HOW is an error number (the call fails so; memory is refused, whatever number it is), 'none' (no byte moves,
  * and that is no failure) or 'one' (one byte moves). The rule "space BYTES" lets the address space
- * grow by so many bytes and no more.
+ * grow by so many bytes and no more, and "stack BYTES" lets the stack be so large.
  *
  * RACE_MARKS names a file of MARKS bytes, in which the library tells how many calls of each kind there were, how many of
- * them met a rule, and for the last of these that failed, or moved nothing, what it was about: a path, or 'fd N'.
+ * them met a rule, how many opened a file for more than reading, and for the last of these that failed, or moved nothing, what it was about: a path, or 'fd N'.
  *
  * Only calls of the program itself are counted: what runs before the library is set up goes through.
  */
@@ -28,7 +28,7 @@ enum { PASS = -3, NONE = -2, ONE = -1 };
 enum { RULES = 8, MARKS = 8192 };
 
 struct rule { int kind, how; unsigned long from, to, step; };
-struct marks { unsigned long calls[KINDS], met; char what[MARKS - (KINDS + 1) * sizeof(long)]; };
+struct marks { unsigned long calls[KINDS], met, changing; char what[MARKS - (KINDS + 2) * sizeof(long)]; };
 
 static const char *const NAMES[KINDS] = {"memory", "open", "read", "write"};
 static struct rule rules[RULES];
@@ -63,6 +63,7 @@ void *realloc(void *old, size_t size) { return refused() ? NULL : __libc_realloc
 
 static int open_file(const char *path, int flags, mode_t mode) {
     int how = fate(OPEN);
+    if ((flags & O_ACCMODE) != O_RDONLY || flags & (O_CREAT | O_TRUNC)) marks->changing++;
     if (how == PASS) return syscall(SYS_openat, AT_FDCWD, path, flags, mode);
     snprintf(marks->what, sizeof marks->what, "%s", path);
     errno = how;
@@ -119,14 +120,18 @@ static void bad(const char *what) {
     _exit(99);
 }
 
+static void limit(int resource, unsigned long bytes) {
+    struct rlimit both = {bytes, bytes};
+    if (setrlimit(resource, &both)) bad("RACE_FAULTS");
+}
+
 static void bound_space(unsigned long more) {
     char text[32] = {0};
     int fd = syscall(SYS_openat, AT_FDCWD, "/proc/self/statm", O_RDONLY);
     if (fd < 0 || syscall(SYS_read, fd, text, sizeof text - 1) <= 0) bad("/proc/self/statm");
     close(fd);
     unsigned long now = strtoul(text, NULL, 10) * sysconf(_SC_PAGESIZE);
-    struct rlimit limit = {now + more, now + more};
-    if (setrlimit(RLIMIT_AS, &limit)) bad("RACE_FAULTS");
+    limit(RLIMIT_AS, now + more);
 }
 
 static void read_rule(const char *text) {
@@ -134,6 +139,10 @@ static void read_rule(const char *text) {
     unsigned long bytes;
     if (sscanf(text, "space %lu", &bytes) == 1) {
         bound_space(bytes);
+        return;
+    }
+    if (sscanf(text, "stack %lu", &bytes) == 1) {
+        limit(RLIMIT_STACK, bytes);
         return;
     }
     struct rule *it = &rules[rule_count++];
