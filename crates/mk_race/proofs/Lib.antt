@@ -1,4 +1,4 @@
 mod GoalsLemmas
-mod Kinds
 mod Listed
+mod ProofTexts
 mod Staging

@@ -36,3 +36,8 @@ IsCertificateText text = (chains : List (List ℕ)) × IsRead text (Ok (Certific
 -- the texts of a build mean jobs that are determinate: any two complete runs of them whose recipes agree leave the same
 abbrev pub IsDeterminateBuild : Texts → List ℕ → Type 0
 IsDeterminateBuild texts footprints = (prepared : Prepared) × IsPrepared texts footprints (Ok prepared) × IsDeterminate prepared.jobs
+
+-- what an accepted proof says: a certificate, that the jobs are determinate
+abbrev pub IsDeterminateProof : Jobs → Proof → Type 0
+IsDeterminateProof jobs (Certificate chains) = IsDeterminate jobs
+IsDeterminateProof jobs (Trace trace) = Unit {0}
