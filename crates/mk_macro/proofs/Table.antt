@@ -7,6 +7,7 @@ use Rattle.std.specs.Prelude.{◌++◌, Result, Ok, Err, OnOk, OnErr, MatchOptio
 use Rattle.std.specs.Map.{lookup, set_value, IsKeyTest, AreApart, KeepsOthers}
 use Rattle.std.proofs.lemmas.Map.Steps.{set_value_same}
 use Rattle.std.specs.BTreeMap.{BTreeMap, get_by, is_at, UpdatesBy, WritesThrough}
+use Rattle.std.specs.Option.{is_some}
 use Rattle.std.specs.Ordering.{is_eq, nat_cmp}
 use Rattle.std.specs.Cmp.{eq_by_cmp_equiv}
 use Rattle.std.specs.Cmp.Lexicographic.{slice_cmp, bytes_decides, nat_list_cmp_total, nat_list_eq_equiv}
@@ -21,15 +22,18 @@ Key = Vec ℕ Global
 abbrev pub compare : Name → Key → Ordering
 compare name key = slice_cmp nat_cmp name key.items
 
-abbrev pub shown : List (Key × Definition) → Entries
+abbrev pub shown : {X : Type 0} → List (Key × X) → List (Name × X)
 shown entries = map (λ e. (e.0.items, e.1)) entries
 
--- a look-up in the table is one among the entries
-pub look_up : (entries : List (Key × Definition)) (name : Name) → lookup (is_at (compare name)) entries ≡ macros_of (shown entries) name
-look_up [] name = refl
-look_up (e ∷ es) name =
+-- a look-up in a table is one among the entries
+pub look_up_in : {X : Type 0} (entries : List (Key × X)) (name : Name) → lookup (is_at (compare name)) entries ≡ lookup (same_name name) (shown entries)
+look_up_in [] name = refl
+look_up_in (e ∷ es) name =
     ap (λ b. cond b (Some e.1) (lookup (is_at (compare name)) es)) (is_eq-slice_cmp name e.0.items)
-    ∙ ap (λ r. cond (same_name name e.0.items) (Some e.1) r) (look_up es name)
+    ∙ ap (λ r. cond (same_name name e.0.items) (Some e.1) r) (look_up_in es name)
+
+pub look_up : (entries : List (Key × Definition)) (name : Name) → lookup (is_at (compare name)) entries ≡ macros_of (shown entries) name
+look_up entries name = look_up_in entries name
 
 apart : (bs cs ks : List ℕ) → same_name bs cs ≡ false → same_name bs ks ≡ true → same_name cs ks ≡ false
 apart bs cs ks n y = nat_list_eq_equiv.symm cs ks ∙ sym (nat_list_eq_equiv.congr bs ks cs y) ∙ n
@@ -49,17 +53,28 @@ by_bytes f g bs w here other cs =
     (λ n. other cs n ∙ sym (cond-false (same_name bs cs) w (f cs) n))
     (cases_Bool (same_name bs cs))
 
+-- what a table tells of each name after a change at one
+pub table_set : {X : Type 0} (m n : BTreeMap Key X) (name : Name) (o : Option X) → UpdatesBy (λ x y. slice_cmp nat_cmp x.items y.items) (compare name) m n o
+    → (other : Name) → lookup (same_name other) (shown n.entries) ≡ cond (same_name name other) o (lookup (same_name other) (shown m.entries))
+table_set m n name o h other =
+    sym (look_up_in n.entries other)
+    ∙ by_bytes (λ bs. get_by (compare bs) m) (λ bs. get_by (compare bs) n) name o h.1
+    (λ cs e. other_entries _ _ _ _ h.3 _ (λ x y. (eq_by_cmp_equiv nat_list_cmp_total).congr cs x.items y.items) (λ k. apart_in_order name cs k.items e)) other
+    ∙ ap (λ r. cond (same_name name other) o r) (look_up_in m.entries other)
+
 -- the macros after a change at one name
+pub table_restored : (m n : BTreeMap Key Definition) (key name : Name) (o : Option Definition) (es : Entries) → UpdatesBy (λ x y. slice_cmp nat_cmp x.items y.items) (compare key) m n o
+    → key ≡ name → shown m.entries ≡ es → macros_of (shown n.entries) ≡ (λ other. cond (same_name name other) o (macros_of es other))
+table_restored m n key name o es h same view = λ i other. at_each other i
+  where
+    at_each : (other : Name) → macros_of (shown n.entries) other ≡ cond (same_name name other) o (macros_of es other)
+    at_each other =
+        table_set m n key o h other ∙ ap (λ x. cond (same_name x other) o (macros_of (shown m.entries) other)) same
+        ∙ ap (λ xs. cond (same_name name other) o (macros_of xs other)) view
+
 pub table_defined : (m n : BTreeMap Key Definition) (name : Name) (d : Definition) → UpdatesBy (λ x y. slice_cmp nat_cmp x.items y.items) (compare name) m n (Some d)
     → macros_of (shown n.entries) ≡ defined (macros_of (shown m.entries)) name d
-table_defined m n name d h = λ i other. at_each other i
-  where
-    at_each : (other : Name) → macros_of (shown n.entries) other ≡ cond (same_name name other) (Some d) (macros_of (shown m.entries) other)
-    at_each other =
-        sym (look_up n.entries other)
-        ∙ by_bytes (λ bs. get_by (compare bs) m) (λ bs. get_by (compare bs) n) name (Some d) h.1
-        (λ cs e. other_entries _ _ _ _ h.3 _ (λ x y. (eq_by_cmp_equiv nat_list_cmp_total).congr cs x.items y.items) (λ k. apart_in_order name cs k.items e)) other
-        ∙ ap (λ r. cond (same_name name other) (Some d) r) (look_up m.entries other)
+table_defined m n name d h = λ i other. table_set m n name (Some d) h other i
 
 -- the same where the key has this name, and where the macros stand as a value
 pub table_defined_at : (m n : BTreeMap Key Definition) (key name : Name) (d : Definition) (es : Entries) → UpdatesBy (λ x y. slice_cmp nat_cmp x.items y.items) (compare key) m n (Some d)
@@ -98,3 +113,15 @@ pub extended_none : (m n : BTreeMap Key Definition) (name : Name) (text : List �
     → MatchOption (macros_of es name) (macros_of (shown n.entries) ≡ macros_of es) (λ o. macros_of (shown n.entries) ≡ defined (macros_of es) name (extended_by o text))
 extended_none m n name text es is same view =
     rw (found m name None es is view) (ap (λ xs. macros_of (shown xs)) same ∙ ap macros_of view)
+
+-- whether a table has a name
+pub has_name : {X : Type 0} (m : BTreeMap Key X) (key name : Name) (es : List (Name × X)) (b : Bool) → b ≡ is_some (get_by (compare key) m) → key ≡ name → shown m.entries ≡ es → b ≡ is_some (lookup (same_name name) es)
+has_name m key name es b is same view =
+    is ∙ ap is_some (look_up_in m.entries key) ∙ ap (λ k. is_some (lookup (same_name k) (shown m.entries))) same ∙ ap (λ xs. is_some (lookup (same_name name) xs)) view
+
+-- what a table tells after a change, where it stands as a value
+pub table_set_at : {X : Type 0} (m n : BTreeMap Key X) (key name : Name) (o : Option X) (es : List (Name × X)) → UpdatesBy (λ x y. slice_cmp nat_cmp x.items y.items) (compare key) m n o
+    → key ≡ name → shown m.entries ≡ es → (other : Name) → lookup (same_name other) (shown n.entries) ≡ cond (same_name name other) o (lookup (same_name other) es)
+table_set_at m n key name o es h same view other =
+    table_set m n key o h other ∙ ap (λ k. cond (same_name k other) o (lookup (same_name other) (shown m.entries))) same
+    ∙ ap (λ xs. cond (same_name name other) o (lookup (same_name other) xs)) view

@@ -5,7 +5,7 @@ use Rattle.mk_name.specs.Names.{Name}
 use Rattle.mk_name.specs.Told.{Told}
 use Rattle.mk_text.specs.LogicalLine.{LogicalLine, parts_of}
 use Rattle.mk_text.specs.declared.parts.Parts.{Parts}
-use Rattle.mk_text.specs.declared.parts.Parts.TheVariants.{Assign, Entry, Recipe}
+use Rattle.mk_text.specs.declared.parts.Parts.TheVariants.{Assign, Entry, Recipe, Include}
 use Rattle.mk_text.specs.declared.line.Operator.{Operator}
 use Rattle.mk_text.specs.declared.line.Operator.TheVariants as operators
 use Rattle.mk_macro.specs.declared.definition.Manner.{Manner}
@@ -72,6 +72,7 @@ abbrev pub IsBehind : Parts → Macros → Result Macros Told → Type 0
 IsBehind (Assign parts) macros answer = IsAssigned macros parts.name parts.operator parts.value answer
 IsBehind (Entry parts) macros answer = answer ≡ Ok macros
 IsBehind Recipe macros answer = answer ≡ Ok macros
+IsBehind (Include parts) macros answer = answer ≡ Ok macros
 
 -- the macros behind a line, or its fault
 abbrev pub IsAssignment : Macros → LogicalLine → Result Macros Told → Type 0

@@ -9,5 +9,6 @@ pub mod Macros
 pub mod Operands
 pub mod Reference
 pub mod References
+pub mod Saved
 pub mod Substitution
 pub mod Words

@@ -147,7 +147,7 @@ impl Macros {
             Parts::Assign(parts) => {
                 self.assign_text(alloc, parts.name(), parts.operator(), parts.value())
             }
-            Parts::Entry(_) | Parts::Recipe => Ok(()),
+            Parts::Entry(_) | Parts::Recipe | Parts::Include(_) => Ok(()),
         }
     }
 }

@@ -1,8 +1,8 @@
 //! What a macro stands for (POSIX.1-2024 XCU make, "Macros").
-ghost use Rattle.std.specs.Prelude.{◌≡◌, ◌++◌, ◌<◌, ◌^◌, length, OnOk, OnErr};
+ghost use Rattle.std.specs.Prelude.{◌≡◌, ◌++◌, ◌<◌, ◌^◌, length, IfOk, OnOk, OnErr};
 ghost use Rattle.mk_macro.specs.Expansion.{is_late};
 
-use std::alloc::AllocError;
+use std::alloc::{AllocError, Global};
 use std::marker::Model;
 
 /// How a macro came by its value.
@@ -37,6 +37,16 @@ impl Definition {
         ensures { result ≡ record { value = value.items; manner = manner } }
     {
         Definition { value, manner }
+    }
+
+    /// An equal definition. The only error is want of memory.
+    pub fn copy(&self, alloc: Global) -> Result<Definition, AllocError>
+        ensures { IfOk result (λ copy. copy ≡ self.now) }
+    {
+        Ok(Definition {
+            value: Vec::from_slice(alloc, &self.value)?,
+            manner: self.manner,
+        })
     }
 
     /// The value.

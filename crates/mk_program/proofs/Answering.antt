@@ -1,5 +1,5 @@
 -- Lemmas on answers over texts that are the same.
-use Rattle.std.proofs.Common.{◌≡◌, ◌≢◌, ◌∙◌, ℕ, Bool, List, Ok, Err, subst, sym}
+use Rattle.std.proofs.Common.{◌≡◌, ◌≢◌, ◌∙◌, ℕ, Bool, true, false, List, Ok, Err, subst, sym}
 use Rattle.mk_name.specs.Gives.{HaltsAmong}
 use Rattle.mk_name.specs.Shown.{refused_text}
 use Rattle.mk_name.specs.Told.{Told}
@@ -7,21 +7,23 @@ use Rattle.mk_name.specs.declared.fault.Halt.{Halt}
 use Rattle.mk_name.specs.declared.fault.Halt.TheVariants.{Fault}
 use Rattle.mk_race.specs.Played.{IsPlayed}
 use Rattle.mk_race.specs.Stages.{IsPlanned, Texts}
+use Rattle.mk_race.specs.Verified.{IsVerified}
 use Rattle.mk_race.specs.declared.planning.Planned.{Planned}
 use Rattle.mk_race.specs.declared.replaying.Played.{Played}
 use Rattle.mk_race.specs.declared.replaying.Played.TheVariants.{Allowed, NotAllowed}
-use Rattle.mk_program.specs.Answers.{IsOrderAnswer, IsReplayAnswer, status_of}
+use Rattle.mk_program.specs.Answers.{IsOrderAnswer, IsReplayAnswer, IsVerifyAnswer, status_of, verdict_status, verdict_text}
+use Rattle.mk_program.specs.Includes.{Pair}
 use Rattle.mk_program.specs.PlanText.{plan_text}
 use Rattle.mk_program.specs.OutcomeText.{IsOutcomeText}
 use Rattle.mk_program.specs.declared.statuses.Status.{Status}
 use Rattle.mk_program.specs.declared.statuses.Status.TheVariants.{Done, Failed, Refused}
 
 -- texts that agree in each part
-pub texts_are : (root root' : List ℕ) (operands operands' : List (List ℕ)) (base base' makefile makefile' listing listing' : List ℕ)
+pub texts_are : (root root' : List ℕ) (operands operands' : List (List ℕ)) (base base' makefile makefile' listing listing' : List ℕ) (includes : List Pair)
     → root ≡ root' → operands ≡ operands' → base ≡ base' → makefile ≡ makefile' → listing ≡ listing' → (x : Texts) → (y : Texts)
-    → x ≡ record { root = root; operands = operands; base = base; makefile = makefile; listing = listing }
-    → y ≡ record { root = root'; operands = operands'; base = base'; makefile = makefile'; listing = listing' } → x ≡ y
-texts_are root root' operands operands' base base' makefile makefile' listing listing' r o b m l x y is_x is_y = cc
+    → x ≡ record { root = root; operands = operands; base = base; makefile = makefile; includes = includes; listing = listing }
+    → y ≡ record { root = root'; operands = operands'; base = base'; makefile = makefile'; includes = includes; listing = listing' } → x ≡ y
+texts_are root root' operands operands' base base' makefile makefile' listing listing' includes r o b m l x y is_x is_y = cc
 
 -- the answer to a replay over what was read is the one over the texts
 pub replay_told : (old new : Texts) (footprints footprints' log log' : List ℕ) (limit : ℕ) (tie : Bool) (status : Status) (text : List ℕ)
@@ -57,3 +59,26 @@ not_failed status done failed = let e : ◌≡◌ {A = Status} Done Failed = sym
 pub plan_is : (texts : Texts) (planned : Planned) (status : Status) (text : List ℕ)
     → IsPlanned texts (Ok planned) → status ≡ Done → text ≡ plan_text planned.plan → IsOrderAnswer texts status text
 plan_is texts planned status text is ends told = rw ends (planned, is, told)
+
+-- the answer to a proof over what was read is the one over the texts
+pub verify_told : (old new : Texts) (footprints footprints' proof proof' : List ℕ) (status : Status) (text : List ℕ)
+    → old ≡ new → footprints ≡ footprints' → proof ≡ proof' → IsVerifyAnswer old footprints proof status text
+    → IsVerifyAnswer new footprints' proof' status text
+verify_told old new footprints footprints' proof proof' status text t f p h =
+    subst (λ (x : List ℕ). IsVerifyAnswer new footprints' x status text) p
+    (subst (λ (x : List ℕ). IsVerifyAnswer new x proof status text) f
+    (subst (λ (x : Texts). IsVerifyAnswer x footprints proof status text) t h))
+
+-- the report of the fault of a proof is its answer
+pub unverified_is : (texts : Texts) (footprints proof : List ℕ) (halt : Halt) (fault : Told) (status : Status) (text : List ℕ)
+    → HaltsAmong halt (IsVerified texts footprints proof) → halt ≡ Fault fault → status ≡ Refused → text ≡ refused_text fault
+    → IsVerifyAnswer texts footprints proof status text
+unverified_is texts footprints proof halt fault status text verified is ends told =
+    rw ends (fault, subst (λ (h : Halt). HaltsAmong h (IsVerified texts footprints proof)) is verified, told)
+
+-- what is told of a proof that was judged is its answer
+pub verdict_is : (texts : Texts) (footprints proof : List ℕ) (accepted : Bool) (status : Status) (text : List ℕ)
+    → IsVerified texts footprints proof (Ok accepted) → status ≡ verdict_status accepted → text ≡ verdict_text accepted
+    → IsVerifyAnswer texts footprints proof status text
+verdict_is texts footprints proof true status text verified ends told = rw ends (verified, told)
+verdict_is texts footprints proof false status text verified ends told = rw ends (verified, told)

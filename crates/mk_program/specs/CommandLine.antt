@@ -10,6 +10,7 @@ use Rattle.clap.specs.declared.error.kind.ErrorKind.{ErrorKind}
 use Rattle.clap.specs.declared.error.kind.ErrorKind.TheVariants.{DisplayHelp, DisplayVersion}
 use Rattle.mk_program.specs.declared.requests.BuildArgs.{BuildArgs}
 use Rattle.mk_program.specs.declared.requests.ReplayArgs.{ReplayArgs}
+use Rattle.mk_program.specs.declared.requests.VerifyArgs.{VerifyArgs}
 use Rattle.mk_program.specs.declared.requests.Request.{Request}
 use Rattle.mk_program.specs.declared.requests.Request.TheVariants as requests
 
@@ -21,6 +22,10 @@ option id = record (new_rule id) { long = Some id; action = Some Set; value_name
 abbrev pub base : Rule
 base = record (option (codes "base")) { required = false }
 
+-- the option that names a file of includes, which may be left out
+abbrev pub includes : Rule
+includes = record (option (codes "includes")) { required = false }
+
 -- the operands: any number of words
 abbrev pub operands : Rule
 operands = record (new_rule (codes "operands")) { action = Some Append; value_names = 1 }
@@ -28,11 +33,14 @@ operands = record (new_rule (codes "operands")) { action = Some Append; value_na
 -- a command with the options and operands that every subcommand takes
 abbrev pub with_build : App → App
 with_build app =
-    with_rule (with_rule (with_rule (with_rule (with_rule app
-    (option (codes "makefile"))) (option (codes "listing"))) (option (codes "root"))) base) operands
+    with_rule (with_rule (with_rule (with_rule (with_rule (with_rule app
+    (option (codes "makefile"))) (option (codes "listing"))) (option (codes "root"))) base) includes) operands
 
 abbrev pub order_app : App
 order_app = with_build (new_app (codes "order"))
+
+abbrev pub verify_app : App
+verify_app = with_rule (with_rule (with_build (new_app (codes "verify"))) (option (codes "footprints"))) (option (codes "proof"))
 
 -- how many recipes may run at once
 abbrev pub limit : Rule
@@ -51,7 +59,7 @@ replay_app =
 abbrev pub race_app : App
 race_app =
     let top = record (new_app (codes "race")).top { has_version = true; disable_help_subcommand = true; subcommand_required = true } in
-    with_subcommand (with_subcommand (record { top = top; subs = [] }) order_app.top) replay_app.top
+    with_subcommand (with_subcommand (with_subcommand (record { top = top; subs = [] }) order_app.top) verify_app.top) replay_app.top
 
 -- what these words ask: the subcommand that they name, with the values that were found
 abbrev pub asked : List (Bor Text) → Option (Text × List Row)
@@ -71,6 +79,7 @@ operands_of rows = unwrap_or (all_of (codes "operands") rows) []
 
 -- the build has the values that were found
 pub record HasValues (build : BuildArgs) (rows : List Row) : Type 0 where
+  pub includes : option_map (λ word. word.now) build.includes ≡ first_of (codes "includes") rows
   pub base : option_map (λ word. word.now) build.base ≡ first_of (codes "base") rows
   pub makefile : build.makefile.now ≡ value_of (codes "makefile") rows
   pub listing : build.listing.now ≡ value_of (codes "listing") rows
@@ -87,6 +96,12 @@ abbrev pub is_true : Option Text → Bool
 is_true None = false
 is_true (Some text) = bytes_eq text (codes "true")
 
+-- the proof and its build have the values that were found
+pub record HasVerify (verify : VerifyArgs) (rows : List Row) : Type 0 where
+  pub build : HasValues verify.build rows
+  pub footprints : verify.footprints.now ≡ value_of (codes "footprints") rows
+  pub proof : verify.proof.now ≡ value_of (codes "proof") rows
+
 -- the replay has the values that were found
 pub record HasReplay (replay : ReplayArgs) (rows : List Row) : Type 0 where
   pub build : HasValues replay.build rows
@@ -98,6 +113,7 @@ pub record HasReplay (replay : ReplayArgs) (rows : List Row) : Type 0 where
 -- the request is for the subcommand of this name, with the values that were found
 abbrev pub IsFor : Request → Text → List Row → Type 0
 IsFor (requests.Order build) name rows = (name ≡ codes "order") × HasValues build rows
+IsFor (requests.Verify verify) name rows = (name ≡ codes "verify") × HasVerify verify rows
 IsFor (requests.Replay replay) name rows = (name ≡ codes "replay") × HasReplay replay rows
 
 -- the request is for the subcommand that was found

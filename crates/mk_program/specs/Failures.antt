@@ -9,10 +9,12 @@ use Rattle.mk_program.specs.declared.failures.InputFile.TheVariants as inputs
 
 -- how an input is told
 abbrev pub word_of : InputFile → List ℕ
+word_of inputs.Include = codes "include"
 word_of inputs.Base = codes "base"
 word_of inputs.Makefile = codes "makefile"
 word_of inputs.Listing = codes "listing"
 word_of inputs.Footprints = codes "footprints"
+word_of inputs.Proof = codes "proof"
 word_of inputs.Log = codes "log"
 
 -- the text of a failure

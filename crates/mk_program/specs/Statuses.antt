@@ -6,6 +6,6 @@ use Rattle.mk_program.specs.declared.statuses.Status.TheVariants as statuses
 -- the statuses as numbers
 abbrev pub number_of : Status → ℕ
 number_of statuses.Done = 0
-number_of statuses.NotAllowed = 1
+number_of statuses.No = 1
 number_of statuses.Refused = 2
 number_of statuses.Failed = 3

@@ -8,10 +8,13 @@ use thiserror::Error;
 /// An input of a build, which is read from a file.
 #[derive(Clone, Copy, Debug, PartialEq, Eq)]
 pub enum InputFile {
+    /// The file of includes, or one that it names.
+    Include,
     Base,
     Makefile,
     Listing,
     Footprints,
+    Proof,
     Log,
 }
 
@@ -22,10 +25,12 @@ impl fmt::Display for InputFile {
 
     fn fmt<W: fmt::Write>(&self, f: &mut fmt::Formatter<W>) -> fmt::Result {
         f.write_str(match self {
+            InputFile::Include => "include",
             InputFile::Base => "base",
             InputFile::Makefile => "makefile",
             InputFile::Listing => "listing",
             InputFile::Footprints => "footprints",
+            InputFile::Proof => "proof",
             InputFile::Log => "log",
         })
     }

@@ -1,20 +1,29 @@
 //! What the words of the command line ask for.
-ghost use Rattle.std.specs.Prelude.{◌≡◌, ◌++◌, IfOk, OnOk};
+ghost use Rattle.std.specs.Prelude.{◌≡◌, ◌++◌, IfOk, OnOk, option_map};
 ghost use Rattle.mk_program.specs.Requests as spec;
 
 use crate::failures::InputFile;
 use crate::inputs::InputPath;
 use std::alloc::{AllocError, Global};
 
-/// What a build is read from: the paths of files, the base makefile's where one is given, the root and the operands, as
-/// they were given.
+/// What a build is read from: the paths of files, those of includes and of the base makefile where they are given, the
+/// root and the operands, as they were given.
 #[derive(Debug, Drop)]
 pub struct BuildArgs<'a> {
+    pub includes: Option<&'a str>,
     pub base: Option<&'a str>,
     pub makefile: &'a str,
     pub listing: &'a str,
     pub root: &'a str,
     pub operands: Vec<&'a str>,
+}
+
+/// What a proof is judged by: a build, and the paths of its footprints and of the proof.
+#[derive(Debug, Drop)]
+pub struct VerifyArgs<'a> {
+    pub build: BuildArgs<'a>,
+    pub footprints: &'a str,
+    pub proof: &'a str,
 }
 
 /// What a log is judged by: a build, the paths of its footprints and of the log, how many recipes may run at once, and
@@ -32,17 +41,34 @@ pub struct ReplayArgs<'a> {
 #[derive(Debug, Drop)]
 pub enum Request<'a> {
     Order(BuildArgs<'a>),
+    Verify(VerifyArgs<'a>),
     Replay(ReplayArgs<'a>),
 }
 
-/// The inputs of a request with the paths of their files, in the order in which they are opened and read. The only error
-/// is want of memory.
+/// The path of the file of includes, where one is given.
+pub fn includes_path<'a>(request: &Request<'a>) -> Option<&'a str>
+    ensures { option_map (λ path. path.now) result ≡ spec.includes_path request.now }
+{
+    match request {
+        Request::Order(build) => build.includes,
+        Request::Verify(verify) => verify.build.includes,
+        Request::Replay(replay) => replay.build.includes,
+    }
+}
+
+/// The inputs of a request but for its includes, with the paths of their files, in the order in which they are opened and
+/// read. The only error is want of memory.
 pub fn inputs_of<'a>(alloc: Global, request: &Request<'a>) -> Result<Vec<InputPath<'a>>, AllocError>
     ensures { IfOk result (λ inputs. inputs.items ≡ spec.inputs_of request.now) }
 {
     let mut inputs = Vec::new(alloc);
     match request {
         Request::Order(build) => push_build(&mut inputs, build)?,
+        Request::Verify(verify) => {
+            push_build(&mut inputs, &verify.build)?;
+            push_input(&mut inputs, InputFile::Footprints, verify.footprints)?;
+            push_input(&mut inputs, InputFile::Proof, verify.proof)?;
+        }
         Request::Replay(replay) => {
             push_build(&mut inputs, &replay.build)?;
             push_input(&mut inputs, InputFile::Footprints, replay.footprints)?;

@@ -18,7 +18,8 @@ use std::alloc::{AllocError, Global};
 
 /// Runs the program on the words of the command line, of which the first is its own name. The answer, the help or the
 /// version goes to `out`; what is wrong with the words, a device or memory to `err`, whose own failure is passed over.
-/// Every file is opened, and then read to its end, before anything is written.
+/// Every file is opened and read to its end before anything is written: the includes first, one after another, and then
+/// the others, which are all opened before one of them is read.
 pub fn race_words<'a, P: Opener, O: Outlet, E: Outlet>(
     alloc: Global,
     words: &'a [&'a str],
@@ -33,7 +34,7 @@ pub fn race_words<'a, P: Opener, O: Outlet, E: Outlet>(
         words.entry.now (P.text opener.old) result (O.written out.old) (O.written out.new) }
     ensures refused { result ≡ Status.Refused → spec.WritesAnswer
         words.entry.now (P.text opener.old) result (O.written out.old) (O.written out.new) }
-    ensures not_allowed { result ≡ Status.NotAllowed → spec.WritesAnswer
+    ensures no { result ≡ Status.No → spec.WritesAnswer
         words.entry.now (P.text opener.old) result (O.written out.old) (O.written out.new) }
     ensures usage { result ≢ Status.Failed → IsAnswerable (wrong words.entry.now) }
     // What is not the whole answer is nothing, or what a device took before it failed.
@@ -91,7 +92,7 @@ fn answer_written<'a, P: Opener, O: Outlet>(
         words.entry.now (P.text opener.old) status (O.written out.old) (O.written out.new)) }
     ensures refused { IfOk result (λ status. status ≡ Status.Refused → spec.WritesAnswer
         words.entry.now (P.text opener.old) status (O.written out.old) (O.written out.new)) }
-    ensures not_allowed { IfOk result (λ status. status ≡ Status.NotAllowed → spec.WritesAnswer
+    ensures no { IfOk result (λ status. status ≡ Status.No → spec.WritesAnswer
         words.entry.now (P.text opener.old) status (O.written out.old) (O.written out.new)) }
     ensures usage { OnOk result (IsAnswerable (wrong words.entry.now)) }
     ensures nothing { OnErr result (O.has_failed out.new ≡ false → out.new ≡ out.old) }
@@ -118,7 +119,7 @@ fn answer_to<'a, P: Opener>(
         words.entry.now (P.text opener.old) answer.status answer.text.items) }
     ensures refused { IfOk result (λ answer. answer.status ≡ Status.Refused → spec.IsAnswerTo
         words.entry.now (P.text opener.old) answer.status answer.text.items) }
-    ensures not_allowed { IfOk result (λ answer. answer.status ≡ Status.NotAllowed → spec.IsAnswerTo
+    ensures no { IfOk result (λ answer. answer.status ≡ Status.No → spec.IsAnswerTo
         words.entry.now (P.text opener.old) answer.status answer.text.items) }
     ensures usage { OnOk result (IsAnswerable (wrong words.entry.now)) }
     ensures write { IfErr result (λ failure. failure ≢ Failure.Write) }

@@ -6,10 +6,10 @@ use std::process::ExitCode;
 /// How the program ends.
 #[derive(Clone, Copy, Debug, PartialEq, Eq)]
 pub enum Status {
-    /// The plan is printed, the log is a run, or the help or the version is printed.
+    /// The plan is printed, the proof is accepted, the log is a run, or the help or the version is printed.
     Done,
-    /// The log is no run.
-    NotAllowed,
+    /// The answer is no: the proof is not accepted, or the log is no run.
+    No,
     /// The inputs are refused, and the report says why.
     Refused,
     /// A device failed, memory is short, or the words are wrong.
@@ -25,7 +25,7 @@ impl From<Status> for ExitCode {
     fn from(status: Status) -> ExitCode {
         match status {
             Status::Done => ExitCode::from(0),
-            Status::NotAllowed => ExitCode::from(1),
+            Status::No => ExitCode::from(1),
             Status::Refused => ExitCode::from(2),
             Status::Failed => ExitCode::from(3),
         }

@@ -6,11 +6,13 @@ ghost use Rattle.mk_program.specs.CommandLine as spec;
 
 mod help;
 mod replay_words;
+mod verify_words;
 
 use crate::requests::{BuildArgs, Request};
 use clap::{Arg, ArgAction, ArgMatches, Command, Error};
 use replay_words::{replay_args, replay_command};
 use std::alloc::{AllocError, Global};
+use verify_words::{verify_args, verify_command};
 
 /// Reads the words of the command line, of which the first is the program's name. A fault of the words and a call for
 /// help or the version are errors, which have their text.
@@ -31,12 +33,15 @@ fn request_of<'a>(
     name: &str,
     found: &ArgMatches<'a>,
 ) -> Result<Request<'a>, AllocError>
-    requires { (name.now ≡ codes "order") ⊎ (name.now ≡ codes "replay") }
+    requires { (name.now ≡ codes "order") ⊎ (name.now ≡ codes "verify") ⊎ (name.now ≡ codes "replay") }
     ensures { IfOk result (λ request.
         spec.IsFor request name.now (rows_of (found_of found.now))) }
 {
     if name == "order" {
         return Ok(Request::Order(build_args(alloc, found)?));
+    }
+    if name == "verify" {
+        return Ok(Request::Verify(verify_args(alloc, found)?));
     }
     Ok(Request::Replay(replay_args(alloc, found)?))
 }
@@ -53,6 +58,7 @@ fn race_command<'a>(alloc: Global) -> Result<Command<'a>, AllocError>
         .disable_help_subcommand(true)
         .subcommand_required(true)
         .subcommand(order_command(alloc)?)?
+        .subcommand(verify_command(alloc)?)?
         .subcommand(replay_command(alloc)?)
 }
 
@@ -77,6 +83,7 @@ fn with_build<'a>(alloc: Global, command: Command<'a>) -> Result<Command<'a>, Al
         .arg(option(alloc, "listing", "LISTING", help::LISTING))?
         .arg(option(alloc, "root", "DIR", help::ROOT))?
         .arg(base(alloc))?
+        .arg(includes(alloc))?
         .arg(operands(alloc))
 }
 
@@ -111,11 +118,20 @@ fn base<'a>(alloc: Global) -> Arg<'a>
     option(alloc, "base", "BASE", help::BASE).required(false)
 }
 
+/// The option that names a file of includes, which may be left out.
+fn includes<'a>(alloc: Global) -> Arg<'a>
+    ensures rule { rule_of result ≡ spec.includes }
+    ensures local { result.global ≡ false }
+{
+    option(alloc, "includes", "FILE", help::INCLUDES).required(false)
+}
+
 /// The build that these matches of a subcommand ask for. The only error is want of memory.
 fn build_args<'a>(alloc: Global, found: &ArgMatches<'a>) -> Result<BuildArgs<'a>, AllocError>
     ensures { IfOk result (λ build. spec.HasValues build (rows_of (found_of found.now))) }
 {
     Ok(BuildArgs {
+        includes: found.get_str("includes"),
         base: found.get_str("base"),
         makefile: found.get_str("makefile").unwrap_or(""),
         listing: found.get_str("listing").unwrap_or(""),

@@ -1,3 +1,4 @@
 mod GoalsLemmas
 mod Listed
+mod ProofTexts
 mod Staging

@@ -2,3 +2,4 @@ pub mod Laws
 pub mod Played
 pub mod Settings
 pub mod Stages
+pub mod Verified

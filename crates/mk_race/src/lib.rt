@@ -5,13 +5,14 @@
 //!
 //! - [`plan_of`] gives [`Planned`]: the root, the listing, the rules of both makefiles and the plan of what the goals need.
 //! - [`prepare`] reads footprints too, and gives [`Prepared`]: the root, the listing and the jobs.
+//! - [`verify_proof`] reads footprints and a proof, and says whether the jobs accept it.
 //! - [`replay_log`] reads a log too, and says whether its events are a run of the jobs, and what they leave ([`Played`]).
 //!
 //! Each gives the first fault of its texts instead, in the order in which the stages read them, or that memory ran out.
 //!
 //! What comes out is defined in `specs/`: `Stages.antt` has the order of the stages and the answers of the first two,
-//! `Settings.antt` what operands say, and `Played.antt` the answer to a log. The module `laws` says what the jobs of a
-//! build have to do with its listing (`Laws.antt`).
+//! `Settings.antt` what operands say, `Verified.antt` the answer to a proof, and `Played.antt` that to a log. The module
+//! `laws` says what the jobs of a build have to do with its listing (`Laws.antt`).
 #![tactic(auto)]
 
 pub mod input;
@@ -20,8 +21,10 @@ pub mod planning;
 pub mod preparing;
 pub mod replaying;
 pub mod settings;
+pub mod verifying;
 
 pub use crate::input::Input;
 pub use crate::planning::{Planned, plan_of};
 pub use crate::preparing::{Prepared, prepare};
 pub use crate::replaying::{Played, replay_log};
+pub use crate::verifying::verify_proof;

@@ -1,59 +1,47 @@
--- The lines of two texts, read one after the other.
-use Rattle.std.proofs.Common.{ℕ, List, ◌∷◌, ◌++◌, Result, Ok, Err, refl, sym, ◌∙◌, ap, append_assoc}
+-- The lines of two texts, read one after the other, and their book.
+use Rattle.std.proofs.Common.{◌≡◌, ℕ, suc, List, [], ◌∷◌, ◌++◌, Result, Ok, Err, refl}
 use Rattle.mk_name.specs.Gives.{Answers, HaltsAmong}
 use Rattle.mk_name.specs.declared.fault.Halt.{Halt}
 use Rattle.mk_name.specs.declared.fault.Halt.TheVariants as halts
-use Rattle.mk_macro.specs.Macros.{Macros}
+use Rattle.mk_macro.specs.Macros.{Entries, Macros, macros_of}
+use Rattle.mk_include.specs.Includes.{Texts}
 use Rattle.mk_rules.specs.Book.{Book, Entry, book_of}
 use Rattle.mk_rules.specs.Placed.{Placed}
-use Rattle.mk_rules.specs.Reading.{BookSays, LinesSay, MakefilesSay, Reads, ReadsSome}
-use Rattle.mk_rules.proofs.ReadLines.{reads_both}
+use Rattle.mk_rules.specs.Reading.{BookSays, EndsAt, LinesSay, MakefilesSay, Point, Steps, depth_limit, line_says, point, start}
+use Rattle.mk_rules.proofs.Leading.{steps_both, steps_stop}
 
-module _ (root : List ℕ) (start : Macros) (base more : List Placed) where
-  -- what stops the first text stops both
-  pub base_stops : (halt : Halt) (after : Macros) → HaltsAmong halt (λ answer. LinesSay root start base answer after) → HaltsAmong halt (λ answer. LinesSay root start (base ++ more) answer after)
+module _ (root : List ℕ) (texts : Texts) (macros : Macros) (base more : List Placed) where
+  -- what ends the base ends both
+  pub base_stops : (halt : Halt) (after : Macros) → EndsAt halt after (λ answer. Steps (line_says root texts (suc depth_limit)) (start macros) base answer)
+      → HaltsAmong halt (λ answer. LinesSay root texts macros (base ++ more) answer after)
   base_stops halts.Memory after h = tt
-  base_stops (halts.Fault fault) after h =
-      (h.0, h.1, h.2 ++ more, ap (λ l. l ++ more) h.3 ∙ append_assoc h.0 (h.1 ∷ h.2) more, h.4)
+  base_stops (halts.Fault fault) after h = steps_stop (line_says root texts (suc depth_limit)) base more (start macros) (record { fault = fault; macros = after }) h
 
-  pub base_reads_some : (after : Macros) → ReadsSome root start base after → ReadsSome root start (base ++ more) after
-  base_reads_some after h = (h.0, h.1 ++ more, ap (λ l. l ++ more) h.2 ∙ append_assoc h.0 h.1 more, h.3)
-
-  module _ (entries : List Entry) (between : Macros) (first : Reads root start base entries between) where
-    -- what stops the second text stops both
-    pub more_stops : (halt : Halt) (after : Macros) → HaltsAmong halt (λ answer. LinesSay root between more answer after) → HaltsAmong halt (λ answer. LinesSay root start (base ++ more) answer after)
+  module _ (between : Point) (first : Steps (line_says root texts (suc depth_limit)) (start macros) base (Ok between)) where
+    -- what ends the makefile ends both
+    pub more_stops : (halt : Halt) (after : Macros) → EndsAt halt after (λ answer. Steps (line_says root texts (suc depth_limit)) between more answer)
+        → HaltsAmong halt (λ answer. LinesSay root texts macros (base ++ more) answer after)
     more_stops halts.Memory after h = tt
-    more_stops (halts.Fault fault) after h = (
-      base ++ h.0,
-      h.1,
-      h.2,
-      ap (λ l. base ++ l) h.3 ∙ sym (append_assoc base h.0 (h.1 ∷ h.2)),
-      (entries ++ h.4.0, reads_both root start base h.0 entries h.4.0 between after first h.4.1, h.4.2),
-    )
+    more_stops (halts.Fault fault) after h =
+        steps_both (line_says root texts (suc depth_limit)) base more (start macros) between (Err (record { fault = fault; macros = after })) first h
 
-    pub more_reads_some : (after : Macros) → ReadsSome root between more after → ReadsSome root start (base ++ more) after
-    more_reads_some after h = (
-      base ++ h.0,
-      h.1,
-      ap (λ l. base ++ l) h.2 ∙ sym (append_assoc base h.0 h.1),
-      (entries ++ h.3.0, reads_both root start base h.0 entries h.3.0 between after first h.3.1),
-    )
+    pub both_read : (entries : List Entry) (taken : ℕ) (after : Entries) → Steps (line_says root texts (suc depth_limit)) between more (Ok (point entries taken after))
+        → LinesSay root texts macros (base ++ more) (Ok entries) (macros_of after)
+    both_read entries taken after h = (taken, steps_both (line_says root texts (suc depth_limit)) base more (start macros) between (Ok (point entries taken after)) first h)
 
-    pub both_read : (others : List Entry) (after : Macros) → Reads root between more others after → Reads root start (base ++ more) (entries ++ others) after
-    both_read others after h = reads_both root start base more entries others between after first h
+module _ (root : List ℕ) (texts : Texts) (macros : Macros) (lines : List Placed) where
+  -- what stops the lines stops their book
+  pub lines_stop : (halt : Halt) (after : Macros) → HaltsAmong halt (λ answer. LinesSay root texts macros lines answer after)
+      → HaltsAmong halt (λ answer. MakefilesSay root texts macros lines answer after)
+  lines_stop halts.Memory after h = tt
+  lines_stop (halts.Fault fault) after h = (Err fault, h, refl)
 
--- what stops the lines stops their book
-pub lines_stop : (root : List ℕ) (start : Macros) (lines : List Placed) (halt : Halt) (after : Macros) → HaltsAmong halt (λ answer. LinesSay root start lines answer after)
-    → HaltsAmong halt (λ answer. MakefilesSay root start lines answer after)
-lines_stop root start lines halts.Memory after h = tt
-lines_stop root start lines (halts.Fault fault) after h = (Err fault, h, refl)
+  module _ (entries : List Entry) (after : Macros) (read : LinesSay root texts macros lines (Ok entries) after) where
+    book_stops : (halt : Halt) → HaltsAmong halt (BookSays (book_of entries)) → HaltsAmong halt (λ answer. MakefilesSay root texts macros lines answer after)
+    book_stops halts.Memory h = tt
+    book_stops (halts.Fault fault) h = (Ok entries, read, h)
 
-module _ (root : List ℕ) (start : Macros) (lines : List Placed) (entries : List Entry) (after : Macros) (read : Reads root start lines entries after) where
-  book_stops : (halt : Halt) → HaltsAmong halt (BookSays (book_of entries)) → HaltsAmong halt (λ answer. MakefilesSay root start lines answer after)
-  book_stops halts.Memory h = tt
-  book_stops (halts.Fault fault) h = (Ok entries, read, h)
-
-  -- the book of lines that are all read
-  pub book_answers : (result : Result Book Halt) → Answers result (BookSays (book_of entries)) → Answers result (λ answer. MakefilesSay root start lines answer after)
-  book_answers (Ok book) h = (Ok entries, read, h)
-  book_answers (Err halt) h = book_stops halt h
+    -- the book of lines that are all read
+    pub book_answers : (result : Result Book Halt) → Answers result (BookSays (book_of entries)) → Answers result (λ answer. MakefilesSay root texts macros lines answer after)
+    book_answers (Ok book) h = (Ok entries, read, h)
+    book_answers (Err halt) h = book_stops halt h

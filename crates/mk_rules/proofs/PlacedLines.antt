@@ -1,6 +1,6 @@
 -- The lines of a text with the text where they stand, parted at one of them.
-use Rattle.std.proofs.Common.{◌≡◌, ℕ, zero, suc, ◌+◌, ◌-◌, ◌<◌, ◌≤◌, List, [], ◌∷◌, ◌++◌, refl, sym, ◌∙◌, ap, arith, length, take, drop, get_or}
-use Rattle.std.proofs.lemmas.List.{drop_more, length-drop, take-append-drop, take_all, take_more}
+use Rattle.std.proofs.Common.{◌≡◌, ℕ, zero, suc, ◌+◌, ◌-◌, ◌<◌, ◌≤◌, Bool, List, [], ◌∷◌, ◌++◌, refl, sym, ◌∙◌, ap, arith, length, take, drop, get_or}
+use Rattle.std.proofs.lemmas.List.{drop_all, drop_more, length-drop, take-append-drop, take_all, take_more}
 use Rattle.mk_name.specs.declared.fault.Source.{Source}
 use Rattle.mk_text.specs.LogicalLine.{LogicalLine}
 use Rattle.mk_rules.specs.Placed.{Placed, begins_with_command, placed}
@@ -46,3 +46,16 @@ module _ (source : Source) where
 
   pub all_placed : (lines : List LogicalLine) (n : ℕ) → length lines ≤ n → take n (placed source lines) ≡ placed source lines
   all_placed lines n long = let short : length (placed source lines) ≤ n = omega (arith, length-placed lines) in take_all _ _ short
+
+-- the lines from this place on
+pub placed_from : (source : Source) (lines : List LogicalLine) (i : ℕ) (line : LogicalLine) (below : Bool) → i < length lines → line ≡ get_or lines i line → below ≡ begins_with_command (drop (i + 1) lines)
+    → drop i (placed source lines) ≡ record { source = source; line = line; command_below = below } ∷ drop (i + 1) (placed source lines)
+unfolding at
+placed_from source lines i line below within is same =
+    drop_more (placed source lines) i (at source line lines) (omega (arith, within, length-placed source lines))
+    ∙ ap (λ p. p ∷ drop (i + 1) (placed source lines)) (get_placed source lines i line (at source line lines) within is)
+    ∙ ap (λ (b : Bool). record { source = source; line = line; command_below = b } ∷ drop (i + 1) (placed source lines)) (sym same)
+
+-- no line is left
+pub none_from : (source : Source) (lines : List LogicalLine) (i : ℕ) → length lines ≤ i → drop i (placed source lines) ≡ []
+none_from source lines i long = let short : length (placed source lines) ≤ i = omega (arith, length-placed source lines) in drop_all i (placed source lines) short

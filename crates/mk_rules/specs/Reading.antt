@@ -1,64 +1,123 @@
--- What the lines of the makefiles say, one after another ("Macros", "Target Rules", and the profile).
-use Rattle.std.specs.Prelude.{◌≡◌, ℕ, List, [], ◌∷◌, ◌++◌, Option, None, Some, Result, Ok, Err, Vec, slice_get}
+-- What the lines of the makefiles say, one after another ("Macros", "Target Rules", "Include Lines", and the profile).
+use Rattle.std.specs.Prelude.{◌≡◌, ℕ, zero, suc, ◌+◌, Bool, List, [], ◌∷◌, ◌++◌, Option, None, Some, Result, Ok, Err, Vec, slice_get}
 use Rattle.std.specs.Global.{Global}
-use Rattle.std.specs.Option.{option_to_list}
 use Rattle.std.specs.Result.{result_map_both}
 use Rattle.mk_name.specs.Gives.{Answers}
 use Rattle.mk_name.specs.Names.{Name}
 use Rattle.mk_name.specs.Told.{Told}
 use Rattle.mk_name.specs.declared.fault.Halt.{Halt}
+use Rattle.mk_name.specs.declared.fault.Halt.TheVariants as halts
 use Rattle.mk_name.specs.declared.fault.Kind.TheVariants.{TwoRecipes}
+use Rattle.mk_name.specs.declared.fault.Source.TheVariants as sources
 use Rattle.mk_text.specs.LogicalLine.{parts_of}
+use Rattle.mk_text.specs.Parts.{EntryParts, IncludeParts}
 use Rattle.mk_text.specs.declared.parts.Parts.{Parts}
-use Rattle.mk_text.specs.declared.parts.Parts.TheVariants.{Assign, Entry, Recipe}
-use Rattle.mk_macro.specs.Macros.{Macros}
+use Rattle.mk_text.specs.declared.parts.Parts.TheVariants.{Assign, Entry, Recipe, Include}
+use Rattle.mk_macro.specs.Macros.{Entries, Macros, macros_of}
 use Rattle.mk_macro.specs.Assignments.{IsAssignment}
+use Rattle.mk_macro.specs.Expansion.{IsExpansion}
+use Rattle.mk_include.specs.Includes.{Cut, Texts, told_in}
+use Rattle.mk_include.specs.Words.{word_text, words_of}
 use Rattle.mk_rules.specs.Book as books
 use Rattle.mk_rules.specs.Entries.{EntrySays}
-use Rattle.mk_rules.specs.Placed.{Placed, told_at}
+use Rattle.mk_rules.specs.Placed.{Placed, placed, told_at}
 
--- what a line leaves: the macros behind it, and the entry that it is, if it is one
-pub record Left : Type 0 where
-  pub macros : Macros
+-- how far a reading has come: the entries so far, the macros now, and how many texts were taken in
+pub record Point : Type 0 where
   pub entries : List books.Entry
+  pub macros : Macros
+  pub taken : ℕ
 
--- what a line of these parts says, with these macros before it: what it leaves, or its fault
-abbrev pub SaysBy : Parts → List ℕ → Macros → Placed → Result Left Told → Type 0
-SaysBy (Assign parts) root macros p answer =
-    (behind : Result Macros Told) × IsAssignment macros p.line behind
-    × (answer ≡ result_map_both (λ m. record { macros = m; entries = [] }) (λ fault. fault) behind)
-SaysBy (Entry parts) root macros p answer =
-    (entry : Result books.Entry Told) × EntrySays root macros p parts entry
-    × (answer ≡ result_map_both (λ e. record { macros = macros; entries = e ∷ [] }) (λ fault. fault) entry)
-SaysBy Recipe root macros p answer = answer ≡ Ok (record { macros = macros; entries = [] })
+-- what ends a reading: a fault, and the macros that it leaves
+pub record Ended : Type 0 where
+  pub fault : Told
+  pub macros : Macros
 
--- what a line says: a fault is told at it
-abbrev pub LineSays : List ℕ → Macros → Placed → Result Left Told → Type 0
-LineSays root macros p answer =
-    (said : Result Left Told) × SaysBy (parts_of p.line) root macros p said × (answer ≡ result_map_both (λ left. left) (told_at p) said)
+-- where a part of a reading leads: to another point, or to the end
+abbrev pub Outcome : Type 0
+Outcome = Result Point Ended
 
--- from these macros on, the lines are read without a fault: these are their entries, and these the macros behind them
-abbrev pub Reads : List ℕ → Macros → List Placed → List books.Entry → Macros → Type 0
-Reads root macros [] entries after = (entries ≡ []) × (after ≡ macros)
-Reads root macros (p ∷ lines) entries after =
-    (left : Left) × LineSays root macros p (Ok left)
-    × ((more : List books.Entry) × (entries ≡ left.entries ++ more) × Reads root left.macros lines more after)
+-- a fault of the line p, which leaves these macros
+abbrev pub ended_at : Placed → Macros → Told → Ended
+ended_at p macros fault = record { fault = told_at p fault; macros = macros }
 
--- the first line that has a fault has this one, and these are the macros before it
-abbrev pub FirstFault : List ℕ → Macros → List Placed → Told → Macros → Type 0
-FirstFault root macros lines fault before =
-    (front : List Placed) × (p : Placed) × (back : List Placed) × (lines ≡ front ++ p ∷ back)
-    × ((entries : List books.Entry) × Reads root macros front entries before × LineSays root before p (Err fault))
+-- what comes behind a step: nothing more behind the end, and else the rest from the next point on
+abbrev pub Follows : (Point → Outcome → Type 0) → Outcome → Outcome → Type 0
+Follows rest (Err ended) answer = answer ≡ Err ended
+Follows rest (Ok next) answer = rest next answer
 
--- some first lines are read without a fault, and these are the macros behind them
-abbrev pub ReadsSome : List ℕ → Macros → List Placed → Macros → Type 0
-ReadsSome root macros lines after =
-    (front : List Placed) × (back : List Placed) × (lines ≡ front ++ back) × ((entries : List books.Entry) × Reads root macros front entries after)
+-- a step at each item of a list, one after another, from this point on
+abbrev pub Steps : {A : Type 0} → (Point → A → Outcome → Type 0) → Point → List A → Outcome → Type 0
+Steps step at [] answer = answer ≡ Ok at
+Steps step at (x ∷ xs) answer = (said : Outcome) × step at x said × Follows (λ next rest. Steps step next xs rest) said answer
 
--- what the lines say: their entries, with the macros behind them, or the first fault, with the macros before its line
-abbrev pub LinesSay : List ℕ → Macros → List Placed → Result (List books.Entry) Told → Macros → Type 0
-LinesSay root macros lines (Ok entries) after = Reads root macros lines entries after
-LinesSay root macros lines (Err fault) after = FirstFault root macros lines fault after
+-- what an assignment leads to: its fault leaves the macros before it
+abbrev pub AssignmentSays : Point → Placed → Outcome → Type 0
+AssignmentSays at p answer =
+    (behind : Result Macros Told) × IsAssignment at.macros p.line behind
+    × (answer ≡ result_map_both (λ macros. record at { macros = macros }) (ended_at p at.macros) behind)
+
+-- what an entry of these parts leads to
+abbrev pub EntryLineSays : List ℕ → EntryParts → Point → Placed → Outcome → Type 0
+EntryLineSays root parts at p answer =
+    (entry : Result books.Entry Told) × EntrySays root at.macros p parts entry
+    × (answer ≡ result_map_both (λ e. record at { entries = at.entries ++ e ∷ [] }) (ended_at p at.macros) entry)
+
+-- what the text of this name leads to, each of whose lines says this: its own fault leaves the macros before it
+abbrev pub TextSays : (Point → Placed → Outcome → Type 0) → Point → Name → Cut → Outcome → Type 0
+TextSays inner at name (Err fault) answer = answer ≡ Err (record { fault = fault; macros = at.macros })
+TextSays inner at name (Ok lines) answer = Steps inner at (placed (sources.Include name) lines) answer
+
+-- what a word of the include line p leads to, by the text that it names: the word's own fault leaves the macros before
+-- the line, and so takes back what the texts of earlier words assigned
+abbrev pub WordSaysBy : (Point → Placed → Outcome → Type 0) → Placed → Macros → Point → Result (Option (Name × Cut)) Told → Outcome → Type 0
+WordSaysBy inner p before at (Err fault) answer = answer ≡ Err (ended_at p before fault)
+WordSaysBy inner p before at (Ok None) answer = answer ≡ Ok at
+WordSaysBy inner p before at (Ok (Some text)) answer = TextSays inner (record at { taken = at.taken + 1 }) text.0 (told_in text.0 text.1) answer
+
+abbrev pub WordSays : List ℕ → Texts → Bool → ℕ → (Point → Placed → Outcome → Type 0) → Placed → Macros → Point → List ℕ → Outcome → Type 0
+WordSays root texts hyphen room inner p before at word answer = WordSaysBy inner p before at (word_text root texts hyphen room at.taken word) answer
+
+-- what an include line leads to whose rest expands to this
+abbrev pub RestSays : List ℕ → Texts → Bool → ℕ → (Point → Placed → Outcome → Type 0) → Point → Placed → Result (List ℕ) Told → Outcome → Type 0
+RestSays root texts hyphen room inner at p (Err fault) answer = answer ≡ Err (ended_at p at.macros fault)
+RestSays root texts hyphen room inner at p (Ok text) answer = Steps (WordSays root texts hyphen room inner p at.macros) at (words_of text) answer
+
+-- what an include line of these parts leads to: its rest is expanded once, with the macros before the line
+abbrev pub IncludeSays : List ℕ → Texts → ℕ → (Point → Placed → Outcome → Type 0) → IncludeParts → Point → Placed → Outcome → Type 0
+IncludeSays root texts room inner parts at p answer =
+    (text : Result (List ℕ) Told) × IsExpansion at.macros parts.rest text × RestSays root texts parts.hyphen room inner at p text answer
+
+-- what a line of these parts leads to, inside which so many texts may open, each of whose lines says this
+abbrev pub SaysBy : Parts → List ℕ → Texts → ℕ → (Point → Placed → Outcome → Type 0) → Point → Placed → Outcome → Type 0
+SaysBy (Assign parts) root texts room inner at p answer = AssignmentSays at p answer
+SaysBy (Entry parts) root texts room inner at p answer = EntryLineSays root parts at p answer
+SaysBy Recipe root texts room inner at p answer = answer ≡ Ok at
+SaysBy (Include parts) root texts room inner at p answer = IncludeSays root texts room inner parts at p answer
+
+-- what a line leads to where so many texts may lie inside one another, its own among them
+abbrev pub line_says : List ℕ → Texts → ℕ → Point → Placed → Outcome → Type 0
+line_says root texts zero at p answer = ⊥
+line_says root texts (suc room) at p answer = SaysBy (parts_of p.line) root texts room (line_says root texts room) at p answer
+
+-- these entries so far, this many texts taken in, and what a value of the type `Macros` holds
+abbrev pub point : List books.Entry → ℕ → Entries → Point
+point entries taken macros = record { entries = entries; macros = macros_of macros; taken = taken }
+
+-- nothing is read yet
+abbrev pub start : Macros → Point
+start macros = record { entries = []; macros = macros; taken = 0 }
+
+-- 16 texts may open inside the makefiles, one inside another
+abbrev pub depth_limit : ℕ
+depth_limit = 16
+
+-- what the lines say: their entries, with the macros behind them, or the first fault, with the macros that it leaves
+abbrev pub LinesSay : List ℕ → Texts → Macros → List Placed → Result (List books.Entry) Told → Macros → Type 0
+LinesSay root texts macros lines (Ok entries) after =
+    (taken : ℕ) × Steps (line_says root texts (suc depth_limit)) (start macros) lines (Ok (record { entries = entries; macros = after; taken = taken }))
+LinesSay root texts macros lines (Err fault) after =
+    Steps (line_says root texts (suc depth_limit)) (start macros) lines (Err (record { fault = fault; macros = after }))
 
 -- what a book answers: itself, unless a target gets commands a second time, from the rule at this place
 abbrev pub BookSaysBy : Option (ℕ × Name) → books.Book → Result books.Book Told → Type 0
@@ -75,15 +134,20 @@ abbrev pub EntriesSay : Result (List books.Entry) Told → Result books.Book Tol
 EntriesSay (Ok entries) answer = BookSays (books.book_of entries) answer
 EntriesSay (Err fault) answer = answer ≡ Err fault
 
--- what makefiles of these lines say, with these macros before them and those after
-abbrev pub MakefilesSay : List ℕ → Macros → List Placed → Result books.Book Told → Macros → Type 0
-MakefilesSay root macros lines answer after =
-    (entries : Result (List books.Entry) Told) × LinesSay root macros lines entries after × EntriesSay entries answer
+-- what makefiles of these lines say, with these texts for their include lines, these macros before them and those after
+abbrev pub MakefilesSay : List ℕ → Texts → Macros → List Placed → Result books.Book Told → Macros → Type 0
+MakefilesSay root texts macros lines answer after =
+    (entries : Result (List books.Entry) Told) × LinesSay root texts macros lines entries after × EntriesSay entries answer
 
--- a call tells the entry of a line, if it is one, and leaves these macros, or gives a fault, unless memory ran out
-abbrev pub AnswersLine : Result (Option books.Entry) Halt → Macros → (Result Left Told → Type 0) → Type 0
-AnswersLine result after answers =
-    Answers (result_map_both (λ entry. record { macros = after; entries = option_to_list entry }) (λ halt. halt) result) answers
+-- a call ends the reading by its halt, leaving these macros, unless memory ran out
+abbrev pub EndsAt : Halt → Macros → (Outcome → Type 0) → Type 0
+EndsAt halts.Memory macros says = Unit {0}
+EndsAt (halts.Fault fault) macros says = says (Err (record { fault = fault; macros = macros }))
+
+-- a call leads to this point, or ends the reading with the macros that are there
+abbrev pub Leads : {Y : Type 0} → Result Y Halt → Point → (Outcome → Type 0) → Type 0
+Leads (Ok y) at says = says (Ok at)
+Leads (Err halt) at says = EndsAt halt at.macros says
 
 -- a call gives entries or a fault, unless memory ran out
 abbrev pub AnswersEntries : Result (Vec books.Entry Global) Halt → (Result (List books.Entry) Told → Type 0) → Type 0

@@ -1,7 +1,6 @@
--- The words of a text, and the names that they spell ("Target Rules", and the profile).
-use Rattle.std.specs.Prelude.{ℕ, not, List, [], ◌∷◌, Option, Result, Ok, Err, Vec, length, map, filter, find, ◌==◌}
+-- The names that the words of a text spell ("Target Rules", and the profile).
+use Rattle.std.specs.Prelude.{ℕ, not, List, [], ◌∷◌, Option, Result, Ok, Err, Vec, map, find}
 use Rattle.std.specs.Global.{Global}
-use Rattle.std.specs.List.{slice_split}
 use Rattle.std.specs.Option.{option_map_or}
 use Rattle.std.specs.Result.{result_map_both}
 use Rattle.mk_name.specs.Gives.{Answers, Gives}
@@ -9,12 +8,8 @@ use Rattle.mk_name.specs.Names.{Name}
 use Rattle.mk_name.specs.Told.{Told}
 use Rattle.mk_name.specs.declared.fault.Halt.{Halt}
 use Rattle.mk_name.specs.declared.fault.Source.TheVariants.{Makefile}
-use Rattle.mk_text.specs.Blocks.{is_blank}
 use Rattle.mk_text.specs.Spelling.{bad_name, is_word, plain_name}
-
--- the words of a text: what stands between its blanks
-abbrev pub words_of : List ℕ → List (List ℕ)
-words_of text = filter (λ word. not (length word == 0)) (slice_split is_blank text)
+use Rattle.mk_include.specs.Words.{words_of}
 
 -- the first word that spells no name
 abbrev pub refused_word : List (List ℕ) → Option (List ℕ)

@@ -1,8 +1,9 @@
 //! The rules of a build: what the lines of its makefiles say of each name.
 //!
-//! - [`reading::read_rules`] takes the logical lines of a base makefile and a makefile, the macros of the
-//!   command line and the root; it gives the [`rulebook::Rulebook`], or the first fault, and leaves the
-//!   macros behind the lines. `specs/Reading.antt` says what lines say, one after another;
+//! - [`reading::read_rules`] takes the logical lines of a base makefile and a makefile, the texts that
+//!   include lines may name, the macros of the command line and the root; it gives the
+//!   [`rulebook::Rulebook`], or the first fault, and leaves the macros behind the lines.
+//!   `specs/Reading.antt` says what lines lead to, one after another and inside one another;
 //!   `specs/Entries.antt` what an entry says; `specs/Placed.antt` where a fault is told.
 //! - The rulebook answers what the target rules, the inference rules and the special targets say of a name
 //!   (POSIX.1-2024 XCU make, "Target Rules", "Inference Rules", "Special Targets"), all read off the list
@@ -14,6 +15,7 @@ mod entry;
 mod hasher;
 mod index;
 mod inference;
+mod lines;
 mod names;
 mod placed;
 pub mod reading;
@@ -22,4 +24,5 @@ pub mod rulebook;
 mod special;
 mod words;
 
+pub use mk_include::{cut, includes};
 pub use reading::read_rules;

@@ -1,22 +1,12 @@
-//! The words of a text, and the names that they spell.
-ghost use Rattle.std.specs.Prelude.{◌≡◌, map, IfOk};
-ghost use Rattle.mk_rules.specs.Words.{GivesNames, names_in, words_of};
+//! The names that the words of a text spell.
+ghost use Rattle.mk_rules.specs.Words.{GivesNames, names_in};
 
+use mk_include::words::words;
 use mk_name::fault::Halt;
 use mk_name::name::Name;
-use mk_text::lexical::is_blank;
 use mk_text::root::Root;
 use mk_text::spelling::plain_word;
-use std::alloc::{AllocError, Global};
-
-/// The words of a text: what stands between its blanks.
-fn words(alloc: Global, text: &[u8]) -> Result<Vec<&[u8]>, AllocError>
-    ensures { IfOk result (λ words. map (λ word. word.now) words.items ≡ words_of text.now) }
-{
-    text.split(|byte| is_blank(*byte))
-        .filter(|word| !word.is_empty())
-        .collect(alloc)
-}
+use std::alloc::Global;
 
 /// The names that the words of a text spell, in their order.
 ///

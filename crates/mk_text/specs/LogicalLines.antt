@@ -7,12 +7,12 @@ use Rattle.std.specs.Result.{result_err, result_ok}
 use Rattle.std.specs.Str.{bytes_eq}
 use Rattle.mk_name.specs.Told.{Told}
 use Rattle.mk_name.specs.declared.fault.Kind.{Kind}
-use Rattle.mk_name.specs.declared.fault.Kind.TheVariants.{NoColon, StrayRecipe, DoubleColon, BadAssignment, Include, TextTooLarge}
+use Rattle.mk_name.specs.declared.fault.Kind.TheVariants.{NoColon, StrayRecipe, DoubleColon, BadAssignment, TextTooLarge}
 use Rattle.mk_name.specs.declared.fault.Source.TheVariants.{Makefile}
 use Rattle.mk_text.specs.declared.line.Operator.{Operator}
 use Rattle.mk_text.specs.declared.line.Operator.TheVariants.{Delayed, Immediate, Append, Conditional}
 use Rattle.mk_text.specs.declared.line.LineKind.{LineKind}
-use Rattle.mk_text.specs.declared.line.LineKind.TheVariants.{Assign, Entry, Recipe}
+use Rattle.mk_text.specs.declared.line.LineKind.TheVariants.{Assign, Entry, Recipe, Include}
 use Rattle.mk_text.specs.LogicalLine.{LogicalLine}
 use Rattle.mk_text.specs.Blocks.{tab, newline, space, is_blank, are_blanks, past_blanks, physical_lines, blocks_of}
 use Rattle.mk_text.specs.Outside.{place_outside}
@@ -56,6 +56,10 @@ abbrev pub is_include : List ℕ → Bool
 is_include text =
     (bytes_eq (first_word text) (codes "include") || bytes_eq (first_word text) (codes "-include"))
     && not (begins_with_operator (later_words text))
+
+-- such a line: whether its first word has a hyphen in front, and where that word has ended
+abbrev pub include : List ℕ → LineKind
+include text = Include (slice_index (first_word text) 0 == 45) (prefix_len is_blank text + length (first_word text))
 
 -- an assignment whose operator begins and ends at these places: the name is the one word before it
 abbrev pub assignment : List ℕ → Operator → ℕ → ℕ → Result (Option LineKind) Kind
@@ -102,7 +106,7 @@ by_sign text (Some at) = if slice_index text at == equals then at_equals text at
 abbrev pub sort_of_text : List ℕ → Result (Option LineKind) Kind
 sort_of_text text =
     if are_blanks text then Ok None
-    else (if is_include text then Err Include
+    else (if is_include text then Ok (Some (include text))
     else by_sign text (place_outside (λ b. b == colon || b == equals) text))
 
 -- the lines of a block without the backslashes of its escaped newlines
@@ -154,17 +158,18 @@ sort_of below block =
 abbrev pub line_pieces : List (List ℕ) → List (List ℕ)
 line_pieces block = if slice_index (bytes_of block) 0 == tab then drop 1 (bytes_of block) ∷ [] else pieces_of block
 
--- whether a line of this kind opens an entry: an assignment closes it, and a command line leaves it
+-- whether a line of this kind opens an entry: an assignment and an include line close it, and a command line leaves it
 abbrev pub opening : LineKind → Option Bool
 opening (Entry at behind) = Some true
 opening (Assign from to operator start value) = Some false
 opening Recipe = None
+opening (Include hyphen rest) = Some false
 
 -- the same of a block; only a line that begins with a tab depends on what is open
 abbrev pub block_opening : List (List ℕ) → Option Bool
 block_opening block = option_and_then opening (option_flatten (result_ok (sort_of false block)))
 
--- whether an entry is open below these blocks: the last entry or assignment among them is an entry
+-- whether an entry is open below these blocks: the last entry, assignment or include line among them is an entry
 abbrev pub is_open : List (List (List ℕ)) → Bool
 is_open blocks = unwrap_or (last_or None (filter_map block_opening blocks)) false
 

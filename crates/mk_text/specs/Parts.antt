@@ -13,3 +13,8 @@ pub record EntryParts : Type 0 where
   pub targets : List ℕ
   pub prerequisites : List ℕ
   pub has_command : Bool
+
+-- an include line: whether its first word has a hyphen in front, and all that stands behind that word
+pub record IncludeParts : Type 0 where
+  pub hyphen : Bool
+  pub rest : List ℕ

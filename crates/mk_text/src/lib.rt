@@ -37,5 +37,5 @@ mod words;
 pub use device::{Broken, Intake, Outlet, ReadStop, read_all, write_all};
 pub use line::{LineKind, Operator};
 pub use lines::TEXT_LIMIT;
-pub use parts::{Assignment, EntryParts};
+pub use parts::{Assignment, EntryParts, IncludeParts};
 pub use spelling::{plain_path, plain_word};

@@ -44,6 +44,13 @@ pub enum LineKind {
     },
     /// A command line.
     Recipe,
+    /// An include line.
+    Include {
+        /// Whether a hyphen stands before its first word.
+        hyphen: bool,
+        /// Where that word has ended.
+        rest: usize,
+    },
 }
 
 #[derive(Debug, Drop)]

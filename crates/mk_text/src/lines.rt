@@ -46,7 +46,7 @@ fn opens(below: bool, kind: LineKind) -> bool
     match kind {
         LineKind::Recipe => below,
         LineKind::Entry { .. } => true,
-        LineKind::Assign { .. } => false,
+        LineKind::Assign { .. } | LineKind::Include { .. } => false,
     }
 }
 
@@ -147,10 +147,10 @@ fn line_of_block<'a>(
 ///
 /// Errors, in the source `Makefile` and without names: a text of more than [`TEXT_LIMIT`] bytes is
 /// `TextTooLarge` at line 0. Else the first line that is wrong is answered, at its first physical line:
-/// `Include` for an include line; `NoColon` where no `:` or `=` stands outside of references;
+/// `NoColon` where no `:` or `=` stands outside of references;
 /// `DoubleColon`; `BadAssignment` for `!=`, `:::=` and an assignment to what is no macro's name;
 /// `StrayRecipe` for a command line with no entry above it (profile: neither an empty line nor a
-/// comment ends one, an assignment does). Want of memory may come in place of any answer.
+/// comment ends one, an assignment or an include line does). Want of memory may come in place of any answer.
 pub fn lines<'a>(alloc: Global, text: &'a [u8]) -> Result<Vec<Line<'a>>, Halt>
     ensures lines { GivesLines result (logical_lines text.now) }
     ensures slices { IfOk result (λ lines. StandIn text.now (flat_map (λ line. line.pieces) lines.items)) }

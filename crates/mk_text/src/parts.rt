@@ -91,12 +91,44 @@ impl<'l> EntryParts<'l> {
     }
 }
 
+/// The parts of an include line.
+#[derive(Debug, Drop)]
+pub struct IncludeParts<'l> {
+    hyphen: bool,
+    rest: &'l [u8],
+}
+
+impl<'l> Model for IncludeParts<'l> {
+    ghost use Rattle.mk_text.specs.Parts as spec;
+
+    ghost Value = { spec.IncludeParts };
+
+    ghost view = { λ a. record { hyphen = a.hyphen; rest = a.rest.now } };
+}
+
+impl<'l> IncludeParts<'l> {
+    /// Whether a hyphen stands before the line's first word.
+    pub fn has_hyphen(&self) -> bool
+        ensures { result ≡ self.now.hyphen }
+    {
+        self.hyphen
+    }
+
+    /// All that stands behind the line's first word, the blank too.
+    pub fn rest(&self) -> &'l [u8]
+        ensures { result.now ≡ self.now.rest }
+    {
+        self.rest
+    }
+}
+
 /// The parts of a logical line's text.
 #[derive(Debug, Drop)]
 pub enum Parts<'l> {
     Assign(Assignment<'l>),
     Entry(EntryParts<'l>),
     Recipe,
+    Include(IncludeParts<'l>),
 }
 
 /// The parts of a text of this kind.
@@ -122,6 +154,10 @@ pub(crate) fn parted(kind: LineKind, text: &[u8]) -> Parts<'_>
             has_command: semicolon.is_some(),
         }),
         LineKind::Recipe => Parts::Recipe,
+        LineKind::Include { hyphen, rest } => Parts::Include(IncludeParts {
+            hyphen,
+            rest: &text[rest..],
+        }),
     }
 }
 

@@ -2,7 +2,7 @@
 //! Syntax" and "Macros").
 ghost use Rattle.std.specs.Prelude.{◌≡◌, ◌<◌, ◌≤◌, ◌+◌, ◌==◌, Ok, Some, length, slice_index};
 ghost use Rattle.mk_text.specs.LogicalLine.{IfLine, LiesIn};
-ghost use Rattle.mk_text.specs.LogicalLines.{assignment, at_colon, at_equals, begins_with_operator, entry, equals, is_include, sort_of_text};
+ghost use Rattle.mk_text.specs.LogicalLines.{assignment, at_colon, at_equals, begins_with_operator, entry, equals, include, is_include, sort_of_text};
 
 use crate::lexical::is_macro_name;
 use crate::line::{LineKind, Operator};
@@ -25,6 +25,18 @@ fn begins_with_operator(text: &[u8]) -> bool
     match text {
         [b':' | b'=', ..] | [b'?' | b'+' | b'!', b'=', ..] => true,
         _ => false,
+    }
+}
+
+/// The include line of this text.
+fn include(text: &[u8]) -> LineKind
+    ensures sort { result ≡ include text.now }
+    ensures within { LiesIn result (length text.now) }
+{
+    let (first, _) = split_word(text);
+    LineKind::Include {
+        hyphen: byte_at(first, 0) == b'-',
+        rest: count_blanks(text) + first.len(),
     }
 }
 
@@ -114,7 +126,7 @@ pub fn sort_of_text(text: &[u8]) -> Result<Option<LineKind>, Kind>
         return Ok(None);
     }
     if is_include(text) {
-        return Err(Kind::Include);
+        return Ok(Some(include(text)));
     }
     match place_outside(b':', b'=', text) {
         None => Err(Kind::NoColon),

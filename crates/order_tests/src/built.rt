@@ -7,6 +7,7 @@ use mk_jobs::plan::Plan;
 use mk_macro::macros::Macros;
 use mk_name::fault::Halt;
 use mk_name::name::Name;
+use mk_rules::includes::Includes;
 use mk_rules::reading::read_rules;
 use mk_rules::rulebook::Rulebook;
 use mk_text::lines::lines;
@@ -30,7 +31,15 @@ pub(crate) fn jobs_of(
 fn book_of(alloc: Global, root: &Root, makefile: &[u8]) -> Result<Rulebook, Halt> {
     let lines = lines(alloc, makefile)?;
     let mut macros = Macros::new(alloc, &[])?;
-    read_rules(alloc, &[], lines.as_slice(), &mut macros, root)
+    let includes = Includes::none(alloc);
+    read_rules(
+        alloc,
+        &[],
+        lines.as_slice(),
+        &includes,
+        &mut macros,
+        root,
+    )
 }
 
 fn plan_of(

@@ -2,6 +2,7 @@
 use mk_macro::macros::Macros;
 use mk_name::fault::{Fault, Halt, Kind, Source};
 use mk_name::name::Name;
+use mk_rules::includes::Includes;
 use mk_rules::reading::read_rules;
 use mk_rules::rulebook::Rulebook;
 use mk_text::lines::lines;
@@ -14,7 +15,14 @@ fn read(alloc: Global, base: &str, makefile: &str, macros: &mut Macros) -> Resul
     let root = Root::read(alloc, b"/w")?;
     let base = lines(alloc, base.as_bytes())?;
     let makefile = lines(alloc, makefile.as_bytes())?;
-    read_rules(alloc, &base, &makefile, macros, &root)
+    read_rules(
+        alloc,
+        &base,
+        &makefile,
+        &Includes::none(alloc),
+        macros,
+        &root,
+    )
 }
 
 /// Reads them with no macros before.

@@ -27,6 +27,10 @@ fn kind_shown(alloc: Global, kind: LineKind) -> Result<String, AllocError> {
             semicolon: Some(semicolon),
         } => format!(in alloc; "entry {colon} {semicolon}"),
         LineKind::Recipe => String::from_str(alloc, "recipe"),
+        LineKind::Include { hyphen, rest } => {
+            let sign = if hyphen { "-" } else { "" };
+            format!(in alloc; "{sign}include {rest}")
+        }
     }
 }
 
@@ -119,6 +123,27 @@ const ASSIGNMENTS: &[(&str, &str)] = &[
     ("include ?= x", "|1: Conditional 0-7 8 11 [include ?= x]"),
 ];
 
+/// Include lines: whether a hyphen stands in front, and where the first word has ended.
+const INCLUDES: &[(&str, &str)] = &[
+    ("include x", "|1: include 7 [include x]"),
+    (" include x y", "|1: include 8 [ include x y]"),
+    (
+        "a:\n -include x: = y",
+        "|1: entry 1 [a:]|2: -include 9 [ -include x: = y]",
+    ),
+    ("include a: b", "|1: include 7 [include a: b]"),
+    ("include ?x", "|1: include 7 [include ?x]"),
+    ("include $x", "|1: include 7 [include $x]"),
+    ("include # c", "|1: include 7 [include ]"),
+    ("include\\\n", "|1: include 7 [include] []"),
+    ("\t\ninclude", "|2: include 7 [include]"),
+    // Such a line closes the entry above it.
+    (
+        "a:\ninclude\n\t# c\nb:",
+        "|1: entry 1 [a:]|2: include 7 [include]|4: entry 1 [b:]",
+    ),
+];
+
 /// Escaped newlines and comments.
 const CONTINUED: &[(&str, &str)] = &[
     ("a: x\\\ny", "|1: entry 1 [a: x] [y]"),
@@ -188,16 +213,6 @@ const FAULTY: &[(&str, &str, u64)] = &[
     ("a:: b", "DoubleColon", 1),
     ("a::: b", "DoubleColon", 1),
     ("a::::=b", "DoubleColon", 1),
-    // Include lines.
-    ("include x", "Include", 1),
-    (" include x", "Include", 1),
-    ("a:\n -include x: = y", "Include", 2),
-    ("include a: b", "Include", 1),
-    ("include ?x", "Include", 1),
-    ("include $x", "Include", 1),
-    ("include # c", "Include", 1),
-    ("include\\\n", "Include", 1),
-    ("include", "Include", 1),
     // Assignments to what is no name, and operators that are none.
     ("= x", "BadAssignment", 1),
     ("?=x", "BadAssignment", 1),
@@ -213,6 +228,7 @@ const FAULTY: &[(&str, &str, u64)] = &[
     // A command line that no entry is open above, also one whose first sign is a backslash.
     ("\n \t\n\techo\na:", "StrayRecipe", 3),
     ("a: x\nX = 1\n\n\tc", "StrayRecipe", 4),
+    ("a: x\ninclude b\n\tc", "StrayRecipe", 3),
     ("\t\\\n# c", "StrayRecipe", 1),
     // The first line that is wrong is answered.
     ("x y\na != b", "NoColon", 1),
@@ -223,7 +239,7 @@ const FAULTY: &[(&str, &str, u64)] = &[
 #[test]
 fn lines_of_texts(rt: HostRuntime) -> Result<(), AllocError> {
     let alloc = rt.alloc();
-    for table in [ENTRIES, ASSIGNMENTS, CONTINUED] {
+    for table in [ENTRIES, ASSIGNMENTS, INCLUDES, CONTINUED] {
         for (text, expected) in table {
             let found = lines_shown(alloc, text.as_bytes())?;
             assert_eq!(rt; found.as_str(), *expected);

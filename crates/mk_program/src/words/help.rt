@@ -6,12 +6,14 @@ pub const ABOUT: &str = "\
 Reads a makefile as POSIX `make` does, and says what a build of it does, with a view to `make -j`.";
 
 pub const DETAILS: &str = "\
-`race order` prints the serial order of a build. `race replay` says whether a log of a build is a run that `make -j` may
-make. Neither says yet whether every run leaves the same files: both end with 0 on a build whose recipes race.
+`race order` prints the serial order of a build. `race verify` says whether a proof is good for a build: where it accepts a
+certificate, every run of the recipes leaves the same files. `race replay` says whether a log of a build is a run that
+`make -j` may make. `race order` and `race replay` end with 0 also on a build whose recipes race.
 
 Statuses:
-  0  order: the order is printed; replay: the log is a run, complete or not; the help or the version is printed
-  1  replay: the log is no run
+  0  order: the order is printed; verify: the proof is accepted; replay: the log is a run, complete or not; the help or the
+     version is printed
+  1  verify: the proof is not accepted; replay: the log is no run
   2  the inputs are refused: the report says where and why
   3  a file cannot be read or written, memory is short, or the words are wrong: a line on the standard error says which";
 
@@ -24,6 +26,9 @@ pub const ROOT: &str =
 
 pub const BASE: &str = "A makefile with the rules and macros that come before those of MAKEFILE";
 
+pub const INCLUDES: &str =
+    "The paths of the texts that include lines may name, one a line";
+
 pub const OPERANDS: &str = "A goal, which is to be built, or NAME=VALUE, which defines a macro";
 
 pub const ORDER_ABOUT: &str =
@@ -34,6 +39,9 @@ MAKEFILE is the path of a makefile, and BASE of one that is read before it. LIST
 files that are there before the build, one path a line. Paths that are not absolute are below DIR, which has to be
 absolute: --root \"$PWD\". An OPERAND that holds `=` defines a macro; any other is a goal. Without a goal the first target of
 BASE and then of MAKEFILE is built whose name does not begin with a period, or holds a slash.
+
+An include line takes its texts from FILE alone, which names them, one path a line, empty lines skipped. Each is opened as
+it is written there, and is the text of that path below DIR. They are read before all other files.
 
 Each line that comes out is `NUMBER KIND NAME`, and ` : NAME ..` where the file needs others. KIND is `recipe` (a rule
 with commands makes it), `inferred` (an inference rule does), `default` (the commands of .DEFAULT do) or `plain` (it is
@@ -49,16 +57,52 @@ Example:
 
 Statuses:
   0  the order is printed, whether or not the recipes race
-  2  the makefile, the base, the listing, the root or an operand is refused
+  2  the makefile, the base, an included text, the listing, the root or an operand is refused
   3  a file cannot be read or written, memory is short, or the words are wrong
 ";
+
+pub const VERIFY_ABOUT: &str =
+    "Says whether a proof is good for a build: that its recipes may run in parallel, or that two of them race.";
+
+pub const VERIFY_DETAILS: &str = "\
+MAKEFILE, BASE, FILE, LISTING, DIR and the operands are those of `race order`, and FOOTPRINTS is that of `race replay`. PROOF
+is the path of a certificate or a trace, by the numbers that `race order` prints.
+
+A certificate has, for each two recipes that touch one file which one of them writes, a chain of prerequisites from the one to
+the other. Where it is accepted, every run of the recipes leaves the same files, whatever runs at once, as far as FOOTPRINTS
+says all that they read and write. A trace leads to two such recipes that run at once.
+  certificate COUNT      trace FIRST SECOND
+  NODE NODE ..           path HEX
+  ..                     time NODE TIME        for each file of LISTING that is a node
+                         skip NODE             start NODE and finish NODE likewise
+                         end
+
+What comes out is `accepted` or `not accepted`. Inputs that are refused give `refused`, the fault, its place and names.
+
+Example:
+  $ printf 'all: x y\\nx: s\\n\\tc\\ny: s x\\n\\tc\\n' > makefile
+  $ echo s > listing
+  $ echo '{\"target\":\"x\",\"reads\":[\"s\"],\"writes\":[\"x\"]}' > footprints
+  $ echo '{\"target\":\"y\",\"reads\":[\"s\",\"x\"],\"writes\":[\"y\"]}' >> footprints
+  $ printf 'certificate 1\\n1 2\\n' > proof
+  $ race verify --makefile makefile --listing listing --root \"$PWD\" --footprints footprints --proof proof
+  accepted
+
+Statuses:
+  0  the proof is accepted
+  1  it is not
+  2  the makefile, the base, the listing, the root, an operand, the footprints or the proof is refused
+  3  a file cannot be read or written, memory is short, or the words are wrong
+";
+
+pub const PROOF: &str = "A certificate or a trace, by the numbers of `race order`";
 
 pub const REPLAY_ABOUT: &str =
     "Says whether a log of a build is a run that `make -j` may make, and what it leaves.";
 
 pub const REPLAY_DETAILS: &str = "\
-MAKEFILE, BASE, LISTING, DIR and the operands are those of `race order`. FOOTPRINTS is the path of a file that has for each
-recipe that may run an object of JSON on a line of its own: its target, and the paths that it reads and writes, where a
+MAKEFILE, BASE, FILE, LISTING, DIR and the operands are those of `race order`. FOOTPRINTS is the path of a file that has for
+each recipe that may run an object of JSON on a line of its own: its target, and the paths that it reads and writes, where a
 path that ends in `/` stands for all that is below it too. LOG is the path of a file that has first an object for each file
 that is there, and these are the files of LISTING, and then one for each event, in the order in which they happened. PATH
 and NODE are paths, NODE that of a file of the build; HEX is what a file holds, in lower case hexadecimal; TIME is a whole
@@ -92,7 +136,7 @@ Example:
 Statuses:
   0  the log is a run, complete or not, whether or not the recipes race
   1  it is not
-  2  the makefile, the base, the listing, the root, an operand, the footprints or the log is refused
+  2  the makefile, the base, an included text, the listing, the root, an operand, the footprints or the log is refused
   3  a file cannot be read or written, memory is short, or the words are wrong
 ";
 

@@ -1,0 +1,257 @@
+#!/usr/bin/env python3
+"""Times the built program on inputs that were made to cost it much time or memory.
+
+    bench/hostile/run.py [--only NAME ..] [--seconds N] [--gigabytes N] [PROGRAM]
+
+PROGRAM is the built program (crates/race/out/race). Each input is as large as a limit allows, or as its line in docs/SAFETY.md
+says, and is made at half of that size first. Printed are the size of the texts, the seconds of a processor and the peak
+memory of one run of each, as GNU time tells them (Debian's package `time`), the status, and whether the whole is over its
+bound: three seconds and a twentieth for each megabyte of the texts, and 64 MiB with eight times the texts. A run that takes
+more than N seconds (100) is stopped, and one that wants more than so many gigabytes (6) is refused memory. Nothing here is
+a test.
+"""
+import argparse
+import json
+import os
+import pathlib
+import subprocess
+import sys
+import tempfile
+
+TOP = pathlib.Path(__file__).resolve().parents[2]
+MEGABYTE = 1_048_576
+DIGITS = "0123456789abcdefghijklmnopqrstuvwxyz"
+
+
+def short(number):
+    """A name of four letters."""
+    return "".join(DIGITS[number // 36**k % 36] for k in (3, 2, 1, 0))
+
+
+def entries(head, words, room=65_000):
+    """Lines that give a target these words as prerequisites, none of them longer than an expansion may be."""
+    lines, size = [[]], 0
+    for word in words:
+        if size + len(word) + 1 > room:
+            lines.append([])
+            size = 0
+        lines[-1].append(word)
+        size += len(word) + 1
+    return "".join(f"{head}: {' '.join(line)}\n" for line in lines)
+
+
+def many(line, times):
+    """A text of equal lines."""
+    return line * int(times)
+
+
+def suffixes(names, count):
+    """Listed names that no inference rule serves, under suffixes that each have a rule."""
+
+    def make(part):
+        listed = [f"n{short(i)}" for i in range(int(names * part))]
+        ends = ["." + short(i) for i in range(int(count * part))]
+        return {
+            "base": entries(".SUFFIXES", ends),
+            "makefile": entries("all", listed) + "".join(f"{end}:;\n" for end in ends),
+            "listing": "".join(f"{name}\n" for name in listed),
+        }
+
+    return make
+
+
+def nested(part):
+    """Macros whose values stand in one another, each beside a text of 60,000 bytes."""
+    count = int(4_990 * part)
+    lines = [f"M{i} = $(T)$(M{i + 1})\n" for i in range(count)]
+    return {"makefile": "T = " + "x" * 60_000 + "\n" + "".join(lines) + f"M{count} = y\nall: $(M0)\n", "listing": ""}
+
+
+def immediate(part):
+    """70,000 macros that are expanded at once, each to 65,535 bytes."""
+    lines = [f"{short(i)}::=$A\n" for i in range(int(70_000 * part))]
+    return {"makefile": "A=" + "x" * 65_535 + "\n" + "".join(lines) + "all:\n", "listing": ""}
+
+
+def additions(part):
+    """One macro to which 65,535 bytes are added again and again."""
+    return {"makefile": "A=" + "x" * 65_535 + "\nB::=\n" + many("B+=$A\n", 140_000 * part) + "all:\n", "listing": ""}
+
+
+def repeated(part):
+    """One short entry again and again, each of which expands to 65,535 bytes of words."""
+    return {"makefile": "A=" + "y " * 32_767 + "\n" + many("x:$A\n", 160_000 * part), "listing": "y\n"}
+
+
+def references(part):
+    """One short entry again and again, each of which takes 10,000 references and gives nothing."""
+    return {"makefile": "e=\nA=" + "$e" * 9_999 + "\n" + many("x:$A\n", 170_000 * part) + "x: y\n", "listing": "y\n"}
+
+
+def long_listing(part):
+    """A listing of 10,000,000 lines."""
+    return {"makefile": "all: f0000000\n", "listing": "".join(f"f{i:07}\n" for i in range(int(10_000_000 * part)))}
+
+
+def footprints(rows):
+    """A build of recipes whose footprints have these reads, a row each, and an empty log."""
+    targets = [f"t{i:04}" for i in range(len(rows))]
+    lines = (json.dumps({"target": t, "reads": reads, "writes": [t]}) + "\n" for t, reads in zip(targets, rows))
+    makefile = entries("all", targets) + "".join(f"{t}: s\n\tc\n" for t in targets)
+    return {"makefile": makefile, "listing": "s\n", "footprints": "".join(lines), "log": '{"do":"file","path":"s","bytes":"","time":1}\n'}
+
+
+def shared_prefix(part):
+    """1,000,000 footprint paths that share a prefix of 200 bytes."""
+    prefix = "p/" * 100
+    return footprints([[f"{prefix}{k * 1_000 + i}" for i in range(999)] for k in range(int(1_000 * part))])
+
+
+def below_one_another(part):
+    """1,000,000 footprint paths, each a folder below the one before it, 199 levels deep."""
+    row = ["a/" * depth for depth in range(1, 200)]
+    return footprints([row for _ in range(int(5_000 * part))])
+
+
+def one_line(part):
+    """A makefile whose one line is a megabyte of continued lines."""
+    return {"makefile": "a:\\\n" + many("\\\n", (MEGABYTE * part - 20) // 2) + "\n", "listing": "a\n"}
+
+
+def one_command(part):
+    """A makefile with one command of a megabyte, and a listing and a footprint line of a hundred."""
+    text = "x" * int(100 * MEGABYTE * part)
+    line = json.dumps({"target": "a", "reads": [], "writes": [], "further": text}) + "\n"
+    return {**footprints([]), "makefile": "a:\n\t" + text[: int(MEGABYTE * part) - 10] + "\n", "listing": "s\n", "footprints": line}
+
+
+def listing_line(part):
+    """A listing of one line of a hundred megabytes."""
+    return {"makefile": "a:\n", "listing": "x" * int(100 * MEGABYTE * part)}
+
+
+def operands(part):
+    """100,000 operands that define macros."""
+    return {"makefile": "all: a\n", "listing": "a\n", "words": [f"{short(i)}=x" for i in range(int(100_000 * part))]}
+
+
+def goals(part):
+    """100,000 goals."""
+    listed = [f"g{short(i % 10_000)}" for i in range(int(100_000 * part))]
+    return {"makefile": "", "listing": "".join(f"{name}\n" for name in listed), "words": listed}
+
+
+def json_line(part, value):
+    """One footprint line of ten megabytes, in which a further key has such a value."""
+    size = int(10 * MEGABYTE * part)
+    made = {
+        "nested": "[" * size,
+        "keys": "{" + ",".join(f'"{i}":0' for i in range(size // 9)) + "}",
+        "long key": '{"' + "k" * size + '":0}',
+        "escapes": '"' + "\\u0041" * (size // 6) + '"',
+        "number": "1" * size,
+    }[value]
+    return {**footprints([["s"]]), "footprints": '{"further":' + made + ',"target":"t0000","reads":[],"writes":[]}\n'}
+
+
+def dense(part):
+    """20,000 nodes and 200,000 edges, each node with the ten before it."""
+    names = [short(i) for i in range(int(19_999 * part))]
+    rules = [f"{name}: {' '.join(names[max(0, i - 10):i])}\n\tc\n" for i, name in enumerate(names)]
+    half = len(rules) // 2
+    lines = [json.dumps({"target": name, "reads": ["shared"], "writes": [name]}) + "\n" for name in names]
+    makefile = f"all: {names[-1]}\n" + "".join(rules[half:])
+    texts = {"base": "".join(rules[:half]), "makefile": makefile, "listing": "", "footprints": "".join(lines), "log": ""}
+    return {**texts, "words": ["all"]}
+
+
+def puts(part):
+    """A recipe that puts one file a million times, and a store of 100,000 files."""
+    files = [f"f{i:06}" for i in range(int(100_000 * part))]
+    log = [json.dumps({"do": "file", "path": it, "bytes": "", "time": 1}) for it in files]
+    log += ['{"do":"skip","node":"s"}', '{"do":"start","node":"t0000"}']
+    log += [json.dumps({"do": "put", "node": "t0000", "path": "t0000", "bytes": "", "time": i + 2}) for i in range(int(1_000_000 * part))]
+    log += ['{"do":"finish","node":"t0000"}']
+    listing = "".join(f"{it}\n" for it in files) + "s\n"
+    log.insert(0, '{"do":"file","path":"s","bytes":"","time":1}')
+    return {**footprints([["s"]]), "listing": listing, "log": "\n".join(log) + "\n"}
+
+
+def large_file(part):
+    """A file of 50 megabytes that a log tells, puts and looks at."""
+    data = "61" * int(50 * MEGABYTE * part)
+    log = ['{"do":"file","path":"s","bytes":"%s","time":1}' % data, '{"do":"skip","node":"s"}', '{"do":"start","node":"t0000"}']
+    log += ['{"do":"look","node":"t0000","path":"s","bytes":"%s"}' % data]
+    log += ['{"do":"put","node":"t0000","path":"t0000","bytes":"%s","time":2}' % data, '{"do":"finish","node":"t0000"}']
+    return {**footprints([["s"]]), "log": "\n".join(log) + "\n"}
+
+
+INPUTS = {
+    "suffixes, 5,000 names, 2,000 suffixes": suffixes(5_000, 2_000),
+    "suffixes, 15,000 names, 100,000 suffixes": suffixes(15_000, 100_000),
+    "nested values": nested,
+    "immediate macros": immediate,
+    "additions to one macro": additions,
+    "one entry of many words, repeated": repeated,
+    "one entry of many references, repeated": references,
+    "listing of 10^7 lines": long_listing,
+    "paths with one prefix": shared_prefix,
+    "paths below one another": below_one_another,
+    "one line of continued lines": one_line,
+    "one long command and further key": one_command,
+    "one long line of the listing": listing_line,
+    "100,000 macro operands": operands,
+    "100,000 goals": goals,
+    "JSON that nests": lambda part: json_line(part, "nested"),
+    "JSON of a million keys": lambda part: json_line(part, "keys"),
+    "JSON with a long key": lambda part: json_line(part, "long key"),
+    "JSON of escapes": lambda part: json_line(part, "escapes"),
+    "JSON with a long number": lambda part: json_line(part, "number"),
+    "200,000 edges": dense,
+    "a million puts, 100,000 files": puts,
+    "a file of 50 megabytes": large_file,
+}
+
+
+def run(args, make_input, part):
+    """One run: the size of its texts in bytes, the seconds, the peak memory in MiB, and how it ended."""
+    with tempfile.TemporaryDirectory(prefix="race-bench-") as folder:
+        texts = make_input(part)
+        operands_of = texts.pop("words", [])
+        for name, text in texts.items():
+            pathlib.Path(folder, name).write_text(text)
+        size = sum(os.path.getsize(pathlib.Path(folder, name)) for name in texts) + sum(len(it) + 1 for it in operands_of)
+        words = ["replay" if "log" in texts else "order", "--root", "/w"]
+        words += [word for name in texts for word in ("--" + name, name)] + operands_of
+        del texts
+        limits = f'ulimit -v {int(args.gigabytes * MEGABYTE)} -t {args.seconds}; exec time -q -f "%M %U %S" -o memory "$@"'
+        how = {"stdin": subprocess.DEVNULL, "stdout": subprocess.DEVNULL, "stderr": subprocess.DEVNULL}
+        status = subprocess.run(["sh", "-c", limits, "sh", args.program, *words], cwd=folder, check=False, **how).returncode
+        memory, *seconds = pathlib.Path(folder, "memory").read_text().split()[-3:]
+    return size, sum(map(float, seconds)), int(memory) / 1024, str(status) if 0 <= status < 4 else "stopped"
+
+
+def is_over(size, seconds, memory, end):
+    megabytes = size / MEGABYTE
+    return end not in "012" or seconds > 3 + megabytes / 20 or memory > 64 + 8 * megabytes
+
+
+def main():
+    parser = argparse.ArgumentParser(description=__doc__, formatter_class=argparse.RawDescriptionHelpFormatter)
+    parser.add_argument("program", nargs="?", default=str(TOP / "crates/race/out/race"))
+    parser.add_argument("--only", action="append", metavar="NAME", help="the inputs whose name begins so")
+    parser.add_argument("--seconds", type=int, default=100)
+    parser.add_argument("--gigabytes", type=float, default=6)
+    args = parser.parse_args()
+    args.program = os.path.abspath(args.program)
+    print("| input | size | half: time, memory | whole: time, memory | status | |\n|---|---|---|---|---|---|")
+    for name, make_input in INPUTS.items():
+        if args.only and not any(name.startswith(it) for it in args.only):
+            continue
+        half, whole = run(args, make_input, 1 / 2), run(args, make_input, 1)
+        times = " | ".join(f"{seconds:.2f} s, {memory:.0f} MiB" for _, seconds, memory, _ in (half, whole))
+        print(f"| {name} | {whole[0] / MEGABYTE:.1f} MB | {times} | {whole[3]} | {'over' if is_over(*whole) else ''} |", flush=True)
+
+
+if __name__ == "__main__":
+    sys.exit(main())

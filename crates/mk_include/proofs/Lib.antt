@@ -1,0 +1,2 @@
+pub mod TextTable
+pub mod ReadPairs

@@ -1,0 +1,2 @@
+pub mod Includes
+pub mod Words

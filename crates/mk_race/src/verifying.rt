@@ -1,0 +1,55 @@
+//! From the texts of a build and of a proof to whether the proof is accepted.
+ghost use Rattle.std.specs.Prelude.{◌↔◌, IfOk, IsTrue};
+ghost use Rattle.mk_name.specs.Gives.{Answers};
+ghost use Rattle.mk_race.specs.Stages.{texts_of};
+ghost use Rattle.mk_race.specs.Verified.{IsCertificateText, IsDeterminateBuild, IsDeterminateProof, IsGood, IsVerified, IsVerifiedOn};
+ghost use Rattle.mk_sched.specs.Laws.{IsDeterminate};
+
+use crate::input::Input;
+use crate::preparing::prepare;
+use mk_cert::accepting::{accept, accept_trace};
+use mk_jobs::jobs::Jobs;
+use mk_name::fault::Halt;
+use mk_proof::proof::Proof;
+use mk_proof::reading::read_proof;
+use std::alloc::{AllocError, Global};
+
+/// Whether a proof is accepted for a build: a certificate just where it puts in order all of the build's recipes that are
+/// in each other's way, so that every run of them leaves the same files; a trace just where it surely leads to two such
+/// recipes that run at once.
+///
+/// The first fault is answered: those of the jobs (see [`prepare`](crate::prepare)), and then of the proof by its lines. The
+/// only other error is want of memory.
+pub fn verify_proof(alloc: Global, input: &Input<'_>, proof: &[u8]) -> Result<bool, Halt>
+    ensures answer { Answers result
+        (IsVerified (texts_of input.now) input.now.footprints.now proof.now) }
+    // The headline: where a certificate is accepted, no schedule of the build's recipes shows in the files.
+    ensures determinate { IfOk result (λ accepted. IsTrue accepted → IsCertificateText proof.now
+        → IsDeterminateBuild (texts_of input.now) input.now.footprints.now) }
+{
+    let prepared = prepare(alloc, input)?;
+    verify_on(alloc, &prepared.jobs, proof)
+}
+
+/// Whether these jobs accept the proof of a text.
+fn verify_on(alloc: Global, jobs: &Jobs, text: &[u8]) -> Result<bool, Halt>
+    ensures answer { Answers result (IsVerifiedOn jobs.now text.now) }
+    ensures determinate { IfOk result (λ accepted. IsTrue accepted → IsCertificateText text.now
+        → IsDeterminate jobs.now) }
+{
+    let proof = read_proof(alloc, text)?;
+    let accepted = judge(alloc, jobs, &proof)?;
+    Ok(accepted)
+}
+
+/// Whether these jobs accept a proof. The only error is want of memory.
+fn judge(alloc: Global, jobs: &Jobs, proof: &Proof) -> Result<bool, AllocError>
+    ensures good { IfOk result (λ accepted. IsTrue accepted ↔ IsGood jobs.now proof.now) }
+    ensures determinate { IfOk result (λ accepted. IsTrue accepted
+        → IsDeterminateProof jobs.now proof.now) }
+{
+    match proof {
+        Proof::Certificate(certificate) => Ok(accept(jobs, certificate)),
+        Proof::Trace(trace) => accept_trace(alloc, jobs, trace),
+    }
+}

@@ -1,0 +1,204 @@
+"""What the scripts beside this file share: the cases, runs of the built program under faults, and the counting.
+
+A check is a function of a Runner and of what it is about; it yields a line for each thing that is wrong. Checks are
+spread over two processes.
+"""
+import argparse
+import atexit
+import collections
+import importlib.machinery
+import importlib.util
+import mmap
+import os
+import pathlib
+import resource
+import shutil
+import signal
+import struct
+import subprocess
+import sys
+import tempfile
+import time
+from concurrent.futures import ProcessPoolExecutor
+
+sys.dont_write_bytecode = True
+HERE = pathlib.Path(__file__).resolve().parent
+TOP = HERE.parent
+# The worked builds that are looked at as closely as the examples.
+NAMED = """
+    cases/graph/two-objects-order cases/graph/missing-header-order cases/graph/three-name-cycle
+    cases/footprints/second-output-replay cases/limits/largest-expansion cases/inference/suffix-first-in-list
+    cases/text/continued-lines cases/macros/late-macro-change
+    cases/schedules/header-first-run cases/schedules/object-first-run cases/schedules/equal-times-with-tie
+    cases/schedules/equal-times-without-tie cases/schedules/interleaved-run-of-two-objects
+""".split()
+PROCESSES = 2
+# A run that takes more seconds of a processor is ended.
+SECONDS = 30
+MARKS = struct.Struct("6Q")
+MARKS_BYTES = 8192
+KINDS = ("memory", "open", "read", "write")
+OUT_OF_MEMORY = b"race: out of memory\n"
+
+Told = collections.namedtuple("Told", "status stdout stderr calls met changing what")
+
+
+def load_test():
+    """The test command of the repository as a module: it knows what a case is."""
+    loader = importlib.machinery.SourceFileLoader("race_test", str(TOP / "test"))
+    module = importlib.util.module_from_spec(importlib.util.spec_from_loader("race_test", loader))
+    loader.exec_module(module)
+    return module
+
+
+test = load_test()
+
+
+def outcome(told):
+    """What a person sees of a run."""
+    return told.status, told.stdout, told.stderr
+
+
+def seen(told):
+    """A run in few words, for a failure."""
+    if told.status < 0:
+        return f"ended by {signal.Signals(-told.status).name}"
+    return f"status {told.status}, output {test.shown(told.stdout[:80])}, errors {test.shown(told.stderr[:80])}"
+
+
+def is_refusal(told):
+    """Whether a run told a fault of its input, in the form of a refusal and with its status."""
+    lines = told.stdout.split(b"\n")
+    whole = lines[0] == b"refused" and lines[-1] == b"" and len(lines) >= 4
+    return told.status == 2 and not told.stderr and whole and lines[1][:1] == b"F" and lines[2][:3] == b"at "
+
+
+class Runner:
+    """Runs the program, one run at a time, with its outputs in files."""
+
+    def __init__(self, program, library):
+        self.program, self.library = str(program), str(library)
+        # (in memory, where there is such a folder)
+        self.folder = pathlib.Path(tempfile.mkdtemp(prefix="race-tests-", dir="/dev/shm" if os.path.isdir("/dev/shm") else None))
+        atexit.register(shutil.rmtree, self.folder, True)
+        (self.folder / "marks").write_bytes(bytes(MARKS_BYTES))
+        with open(self.folder / "marks", "r+b") as file:
+            self.marks = mmap.mmap(file.fileno(), MARKS_BYTES)
+        self.streams = [os.open(self.folder / name, os.O_RDWR | os.O_CREAT, 0o600) for name in ("out", "err")]
+        self.runs = 0
+
+    def run(self, words, faults=None, stdout=None):
+        """One run; under the library where faults are given, an empty text for none. Its output goes to that descriptor."""
+        self.runs += 1
+        self.marks[:] = bytes(MARKS_BYTES)
+        for stream in self.streams:
+            os.ftruncate(stream, 0)
+            os.lseek(stream, 0, os.SEEK_SET)
+        places = [(os.POSIX_SPAWN_OPEN, 0, os.devnull, os.O_RDONLY, 0)]
+        places += [(os.POSIX_SPAWN_DUP2, self.streams[0] if stdout is None else stdout, 1)]
+        places += [(os.POSIX_SPAWN_DUP2, self.streams[1], 2)]
+        env = {} if faults is None else {"LD_PRELOAD": self.library, "RACE_MARKS": str(self.folder / "marks"), "RACE_FAULTS": faults}
+        process = os.posix_spawn(self.program, [self.program, *words], env, file_actions=places)
+        try:
+            resource.prlimit(process, resource.RLIMIT_CPU, (SECONDS, SECONDS))
+        except ProcessLookupError:
+            pass
+        status = os.waitstatus_to_exitcode(os.waitpid(process, 0)[1])
+        out, err = (os.pread(stream, os.fstat(stream).st_size, 0) for stream in self.streams)
+        *calls, met, changing = MARKS.unpack_from(self.marks)
+        what = self.marks[MARKS.size:].split(b"\0", 1)[0]
+        return Told(status, out, err, dict(zip(KINDS, calls)), met, changing, os.fsdecode(what))
+
+    def write(self, name, content):
+        """A file in the runner's folder, and its path."""
+        path = self.folder / name
+        path.write_bytes(content)
+        return str(path)
+
+
+def rooms(case, folder):
+    """The words of a case, with absolute paths, and its inputs made where they are not kept."""
+    place = case.folder
+    if case.has("make-input"):
+        place = pathlib.Path(folder) / case.name
+        shutil.copytree(case.folder, place)
+        subprocess.run([sys.executable, str(place / "make-input"), str(place)], check=True)
+    return test.absolute(case.words(), place)
+
+
+def turns(count, most):
+    """Which of so many calls have their turn: all, or as many as are wanted, evenly, with the first and the last."""
+    if count <= most:
+        return range(1, count + 1)
+    return sorted({1 + i * (count - 1) // (most - 1) for i in range(most)})
+
+
+def sources_of(words, path):
+    """The inputs that a path stands for among the words, as the program names them."""
+    path, options = os.path.realpath(path), zip(words, words[1:])
+    return {it[2:] for it, word in options if it in test.FILE_OPTIONS and os.path.realpath(word) == path}
+
+
+def arguments(doc):
+    parser = argparse.ArgumentParser(description=doc, formatter_class=argparse.RawDescriptionHelpFormatter)
+    parser.add_argument("program", type=pathlib.Path, help="the built program")
+    parser.add_argument("--case", action="append", metavar="NAME", help="a case or a folder of cases alone; may be repeated")
+    parser.add_argument("-v", action="store_true", help="tell each check with its runs")
+    args = parser.parse_args()
+    args.program = args.program.resolve()
+    if not os.access(args.program, os.X_OK):
+        sys.exit(f"{sys.argv[0]}: there is no program {args.program}")
+    return args
+
+
+def chosen(args):
+    """The cases of the arguments; those of the examples and the named ones first."""
+    cases = [it for it in test.chosen(args.case) if not it.has("full-output")]
+    known = {it.name for it in test.all_cases()}
+    lost = [it for it in NAMED if it not in known]
+    if lost:
+        sys.exit(f"{sys.argv[0]}: no case {' '.join(lost)}")
+    return sorted(cases, key=lambda it: not is_close(it))
+
+
+def is_close(case):
+    return case.name.startswith("examples/") or case.name in NAMED
+
+
+RUNNER = None
+
+
+def start_worker(*how):
+    global RUNNER
+    RUNNER = Runner(*how)
+
+
+def do_check(job):
+    title, check, what = job
+    before = RUNNER.runs
+    try:
+        wrong = list(check(RUNNER, *what))
+    except Exception as error:
+        wrong = [f"the check itself failed: {error!r}"]
+    return title, wrong, RUNNER.runs - before
+
+
+def judge(args, jobs, what):
+    """Does all checks, tells what is wrong, and ends with the counts. A job is a title, a check and what it is about."""
+    begin = time.perf_counter()
+    failed = runs = 0
+    with tempfile.TemporaryDirectory(prefix="race-tests-") as folder:
+        library = pathlib.Path(folder) / "refuse.so"
+        subprocess.run([os.environ.get("CC", "cc"), "-O2", "-shared", "-fPIC", "-o", library, HERE / "refuse.c"], check=True)
+        with ProcessPoolExecutor(PROCESSES, initializer=start_worker, initargs=(args.program, library)) as pool:
+            for title, wrong, count in pool.map(do_check, jobs, chunksize=1):
+                runs += count
+                failed += bool(wrong)
+                if wrong:
+                    more = f" (and {len(wrong) - 3} more)" if len(wrong) > 3 else ""
+                    print(f"FAIL {title}: {'; '.join(wrong[:3])}{more}", flush=True)
+                elif args.v:
+                    print(f"pass {title}: {count} runs", flush=True)
+    print(f"{what}: {runs} runs in {time.perf_counter() - begin:.0f} seconds")
+    print(f"{len(jobs) - failed} passed, {failed} failed")
+    return 1 if failed else 0

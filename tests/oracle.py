@@ -1,0 +1,200 @@
+"""What a small build's replays must tell, written apart from the program and from its definitions, out of docs/FORMATS.md.
+
+It is slow and plain, and takes of the program only the graph, as `race order` prints it.
+"""
+import collections
+import json
+import re
+
+GREATEST_TIME = 2**64 - 1
+GREATEST_PATH = 4_096
+BLANK = b" \t\r"
+
+Node = collections.namedtuple("Node", "name recipe before")
+Event = collections.namedtuple("Event", "do node path bytes time", defaults=(None,) * 3)
+
+
+class BadLine(Exception):
+    """The line is not good; its number."""
+
+
+def components(root, path):
+    """The components of a path from the top."""
+    kept = []
+    for it in (root + b"/" + path if path[:1] != b"/" else path).split(b"/"):
+        if it == b"..":
+            kept = kept[:-1]
+        elif it not in (b"", b"."):
+            kept.append(it)
+    return kept
+
+
+def plain(root, path):
+    """The plain name of a path, or None where it is none."""
+    if not 0 < len(path) <= GREATEST_PATH or b"\0" in path or b"\n" in path:
+        return None
+    top, whole = components(b"", root), components(root, path)
+    if whole[: len(top)] == top:
+        return b"/".join(whole[len(top) :]) or b"."
+    return b"/" + b"/".join(whole)
+
+
+def no_number(text):
+    raise ValueError(text)
+
+
+def whole_number(text):
+    """(a nought with a sign is no whole number, and neither is one beyond 64 bits)"""
+    return int(text) if text != "-0" and int(text) <= GREATEST_TIME else float(text)
+
+
+def read_object(line):
+    """The object of a line of JSON, or None."""
+    try:
+        it = json.loads(line.decode("utf-8"), parse_constant=no_number, parse_int=whole_number)
+        json.dumps(it, ensure_ascii=False).encode("utf-8")  # a half of a surrogate pair is no text
+    except (ValueError, RecursionError):
+        return None
+    return it if isinstance(it, dict) else None
+
+
+def text(it, key):
+    """The bytes of a text under a key, or None."""
+    return it[key].encode() if isinstance(it.get(key), str) else None
+
+
+def unhex(digits):
+    """The bytes that lower-case hexadecimal digits tell, or None."""
+    if digits is None or len(digits) % 2 or re.search(rb"[^0-9a-f]", digits):
+        return None
+    return bytes.fromhex(digits.decode())
+
+
+class Build:
+    """The graph, and what each recipe reads and writes."""
+
+    def __init__(self, root, order, makefile, listing, footprints):
+        self.root = root
+        lines = [it.split(b" ") for it in order.splitlines()]
+        self.nodes = [Node(it[2], it[1] != b"plain", it[4:]) for it in lines]
+        self.numbers = {node.name: number for number, node in enumerate(self.nodes)}
+        self.listed = {plain(root, it) for it in listing.splitlines() if it}
+        # (the makefiles that are looked at here name their phony targets in so many words)
+        self.phony = {plain(root, it) for words in re.findall(rb"(?m)^\.PHONY:(.*)", makefile) for it in words.split()}
+        self.reads, self.writes = collections.defaultdict(list), collections.defaultdict(list)
+        for line in filter(None, footprints.splitlines()):
+            it = json.loads(line)
+            number = self.numbers.get(plain(root, it["target"].encode()))
+            node = self.nodes[number] if number is not None else None
+            if node is None or node.name in self.listed and node.name not in self.phony and not node.before:
+                continue
+            self.reads[node.name] += [path.encode() for path in it["reads"]]
+            self.writes[node.name] += [path.encode() for path in it["writes"]]
+
+    def covers(self, path, name):
+        """Whether a path of a footprint is that name, or a folder that ends in a slash and has it below."""
+        whole, below = components(self.root, path), components(self.root, name)
+        return whole == below or path.endswith(b"/") and below[: len(whole)] == whole
+
+    def may(self, paths, name):
+        return any(self.covers(path, name) for path in paths)
+
+    def is_stale(self, store, node, tie):
+        if node.name in self.phony or node.name not in store:
+            return True
+        own = store[node.name][1]
+        return any(
+            it in self.phony or it not in store or store[it][1] > own or tie and store[it][1] == own for it in node.before
+        )
+
+    def read_log(self, log):
+        """The files and the events of a log; a BadLine tells the first bad one."""
+        store, events = {}, []
+        lines = log.split(b"\n")
+        for number, line in enumerate(lines[:-1] + lines[-1:] * bool(lines[-1]), 1):
+            if not line.strip(BLANK):
+                continue
+            it = read_object(line)
+            told = it and self.read_line(it)
+            if not told or told.do == "file" and (events or told.path in store):
+                raise BadLine(number)
+            if told.do == "file":
+                store[told.path] = told.bytes, told.time
+            else:
+                events.append(told)
+        return store, events
+
+    def read_line(self, it):
+        """What an object of a log says, or None."""
+        do, path, node = it.get("do"), text(it, "path"), text(it, "node")
+        path, node = path and plain(self.root, path), node and plain(self.root, node)
+        has_time = isinstance(it.get("time"), int) and not isinstance(it.get("time"), bool)
+        content = unhex(text(it, "bytes"))
+        if do == "look" and "bytes" in it and it["bytes"] is None:
+            content = b"absent"
+        elif do == "look" and content is not None:
+            content = b"found " + content
+        good = {
+            "file": path and content is not None and has_time,
+            "put": node and path and content is not None and has_time,
+            "look": node and path and content is not None,
+            "erase": node and path,
+        }
+        good.update(dict.fromkeys(("skip", "start", "finish"), node))
+        if not isinstance(do, str) or not good.get(do) or do != "file" and node not in self.numbers:
+            return None
+        return Event(do, node, path, content, it.get("time"))
+
+    def refusal(self, it, store, passed, running, limit, tie):
+        """Why an event is not allowed, or None."""
+        node = self.nodes[self.numbers[it.node]]
+        waits = node.name not in passed and node.name not in running
+        ready = all(name in passed for name in node.before)
+        stands = b"found " + store[it.path][0] if it.path in store else b"absent"
+        questions = {
+            "skip": [(waits, "V5 TwicePassed"), (ready, "V1 NotReady"), (not node.recipe or not self.is_stale(store, node, tie), "V3 Stale")],
+            "start": [
+                *[(waits, "V5 TwicePassed"), (ready, "V1 NotReady"), (node.recipe, "V4 NoRecipe")],
+                *[(self.is_stale(store, node, tie), "V2 NotStale"), (len(running) < limit, "V10 TooManyJobs")],
+            ],
+            "look": [(it.path and self.may(self.reads[node.name], it.path), "V7 OutsideFootprint"), (stands == it.bytes, "V8 WrongBytes")],
+            "put": [
+                (it.path and self.may(self.writes[node.name], it.path), "V7 OutsideFootprint"),
+                (it.time is not None and all(time < it.time for _, time in store.values()), "V9 NotNewer"),
+            ],
+            "erase": [(it.path and self.may(self.writes[node.name], it.path), "V7 OutsideFootprint")],
+            "finish": [],
+        }[it.do]
+        if it.do in ("look", "put", "erase", "finish"):
+            questions.insert(0, (node.name in running, "V6 NotRunning"))
+        return next((word for good, word in questions if not good), None)
+
+    def replay(self, log, limit, tie):
+        """The status and the output of a replay."""
+        try:
+            store, events = self.read_log(log)
+        except BadLine as bad:
+            return 2, f"refused\nF24 BadLog\nat log {bad.args[0]}\n".encode()
+        if set(store) != self.listed:
+            return 1, b"not allowed V11 StoreNotListing at 0\n"
+        passed, running = set(), set()
+        for place, it in enumerate(events, 1):
+            why = self.refusal(it, store, passed, running, limit, tie)
+            if why:
+                return 1, f"not allowed {why} at {place}\n".encode()
+            if it.do in ("skip", "finish"):
+                passed.add(it.node)
+                running.discard(it.node)
+            elif it.do == "start":
+                running.add(it.node)
+            elif it.do == "put":
+                store[it.path] = it.bytes, it.time
+            elif it.do == "erase":
+                store.pop(it.path, None)
+        told = b"allowed complete\n" if len(passed) == len(self.nodes) else b"allowed incomplete\n"
+        rows = [b"file %s %d %s\n" % (shown(name), time, content.hex().encode() or b"-") for name, (content, time) in sorted(store.items())]
+        return 0, told + b"".join(rows)
+
+
+def shown(name):
+    return b"".join(bytes([it]) if it > 0x7F or 0x20 < it < 0x7F and it != 0x5C else b"\\x%02x" % it for it in name)
