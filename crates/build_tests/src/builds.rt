@@ -29,6 +29,7 @@ pub(crate) fn jobs_of(
         root: b"/w",
         operands: &[],
         base: b"",
+        includes: &[],
         makefile,
         listing,
         footprints,

@@ -6,6 +6,7 @@ use Rattle.mk_name.specs.Names.{Name, has, same_name}
 use Rattle.mk_name.specs.Told.{Told}
 use Rattle.mk_text.specs.Listing.{listing_of}
 use Rattle.mk_text.specs.Spelling.{root_of}
+use Rattle.mk_include.specs.Includes.{includes_of}
 use Rattle.mk_macro.specs.Operands.{operand_macros}
 use Rattle.mk_rules.specs.Book.{Book, targets_of}
 use Rattle.mk_graph.specs.Answer.{Comes, IsAnswer, too_large, no_rule, cycle, planned}
@@ -54,7 +55,8 @@ planned_listed texts given is =
     let rooted = then_ok (root_of texts.root) _ given is in
     let goals = then_ok (goals_of rooted.0 texts.operands) _ given rooted.1 in
     let macros = then_ok (operand_macros texts.operands) _ given goals.1 in
-    let listing = then_ok (listing_of rooted.0 texts.listing) _ given macros.1 in
+    let included = then_ok (includes_of rooted.0 texts.includes) _ given macros.1 in
+    let listing = then_ok (listing_of rooted.0 texts.listing) _ given included.1 in
     let graphed = any_ok _ _ given listing.1 in
     let book = any_ok _ _ graphed.0 graphed.1 in
     let plan = any_ok _ _ graphed.0 book.2 in

@@ -5,6 +5,7 @@ use Rattle.mk_name.specs.Told.{Told}
 use Rattle.mk_name.specs.Gives.{Halts, HaltsAmong}
 use Rattle.mk_name.specs.declared.fault.Halt.{Halt}
 use Rattle.mk_name.specs.declared.fault.Halt.TheVariants as halts
+use Rattle.mk_include.specs.Includes.{Texts as Included}
 use Rattle.mk_macro.specs.Macros.{Macros}
 use Rattle.mk_rules.specs.Book.{Book, targets_of}
 use Rattle.mk_graph.specs.Answer.{IsAnswer}
@@ -22,11 +23,17 @@ use Rattle.mk_race.specs.declared.preparing.Prepared.{Prepared}
 use Rattle.mk_race.specs.declared.replaying.Played.{Played}
 
 -- a halt of the plan is one of the book and the plan
-pub not_planned : (texts : Texts) (root : List ℕ) (goals : List Name) (macros : Macros) (listed : List Name) (book : Book) (halt : Halt)
-    → IsBookOf texts root macros (Ok book) → HaltsAmong halt (IsAnswer book listed (goals_or_default book goals))
-    → HaltsAmong halt (IsGraphed texts root goals macros listed)
-not_planned texts root goals macros listed book halts.Memory is h = tt
-not_planned texts root goals macros listed book (halts.Fault told) is h = (Ok book, is, (Err told, h, refl))
+pub not_planned : (texts : Texts) (root : List ℕ) (goals : List Name) (included : Included) (macros : Macros) (listed : List Name) (book : Book) (halt : Halt)
+    → IsBookOf texts root included macros (Ok book) → HaltsAmong halt (IsAnswer book listed (goals_or_default book goals))
+    → HaltsAmong halt (IsGraphed texts root goals included macros listed)
+not_planned texts root goals included macros listed book halts.Memory is h = tt
+not_planned texts root goals included macros listed book (halts.Fault told) is h = (Ok book, is, (Err told, h, refl))
+
+-- and so is one of the book
+pub no_book : (texts : Texts) (root : List ℕ) (goals : List Name) (included : Included) (macros : Macros) (listed : List Name) (halt : Halt)
+    → HaltsAmong halt (IsBookOf texts root included macros) → HaltsAmong halt (IsGraphed texts root goals included macros listed)
+no_book texts root goals included macros listed halts.Memory h = tt
+no_book texts root goals included macros listed (halts.Fault told) h = (Err told, h, refl)
 
 module _ (root : List ℕ) (book : Book) (plan : Plan) (footprints : List ℕ) where
   -- a halt of the footprints is one of the jobs

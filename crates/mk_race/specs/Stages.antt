@@ -8,6 +8,7 @@ use Rattle.mk_text.specs.Listing.{listing_of}
 use Rattle.mk_text.specs.LogicalLine.{LogicalLine}
 use Rattle.mk_text.specs.LogicalLines.{logical_lines}
 use Rattle.mk_text.specs.Spelling.{root_of}
+use Rattle.mk_include.specs.Includes.{Texts as Included, includes_of}
 use Rattle.mk_macro.specs.Macros.{Macros}
 use Rattle.mk_macro.specs.Operands.{operand_macros}
 use Rattle.mk_rules.specs.Book.{Book, targets_of}
@@ -39,9 +40,9 @@ abbrev pub told_in : Source → Result (List LogicalLine) Told → Result (List 
 told_in source (Ok lines) = Ok lines
 told_in source (Err told) = Err (record told { source = source })
 
--- the book that the lines of the base and of the makefile say, with these macros before them
-abbrev pub IsBook : List ℕ → Macros → List LogicalLine → List LogicalLine → Result Book Told → Type 0
-IsBook root macros base makefile answer = (after : Macros) × MakefilesSay root macros (all_lines base makefile) answer after
+-- the book that the lines of the base and of the makefile say, with these texts for their include lines and these macros before them
+abbrev pub IsBook : List ℕ → Included → Macros → List LogicalLine → List LogicalLine → Result Book Told → Type 0
+IsBook root included macros base makefile answer = (after : Macros) × MakefilesSay root included macros (all_lines base makefile) answer after
 
 -- the texts that a build is planned from
 pub record Texts : Type 0 where
@@ -49,6 +50,7 @@ pub record Texts : Type 0 where
   pub operands : List (List ℕ)
   pub base : List ℕ
   pub makefile : List ℕ
+  pub includes : List (List ℕ × List ℕ)
   pub listing : List ℕ
 
 abbrev pub texts_of : Input → Texts
@@ -57,31 +59,32 @@ texts_of input = record {
   operands = map (λ operand. operand.now) input.operands.now;
   base = input.base.now;
   makefile = input.makefile.now;
+  includes = map (λ pair. (pair.0.now, pair.1.now)) input.includes.now;
   listing = input.listing.now;
 }
 
--- the book of the base and of the makefile, with these macros before them
-abbrev pub IsBookOf : Texts → List ℕ → Macros → Result Book Told → Type 0
-IsBookOf texts root macros =
+-- the book of the base and of the makefile, with these texts for their include lines and these macros before them
+abbrev pub IsBookOf : Texts → List ℕ → Included → Macros → Result Book Told → Type 0
+IsBookOf texts root included macros =
     Then (told_in sources.Base (logical_lines texts.base)) (λ base.
-    Then (told_in sources.Makefile (logical_lines texts.makefile)) (λ makefile. IsBook root macros base makefile))
+    Then (told_in sources.Makefile (logical_lines texts.makefile)) (λ makefile. IsBook root included macros base makefile))
 
 -- the book, and then the plan of what the goals need
-abbrev pub IsGraphed : Texts → List ℕ → List Name → Macros → List Name → Result Graphed Told → Type 0
-IsGraphed texts root goals macros listed =
-    ThenAny (IsBookOf texts root macros) (λ book. ThenAny (IsAnswer book listed (goals_or_default book goals)) (λ plan answer.
+abbrev pub IsGraphed : Texts → List ℕ → List Name → Included → Macros → List Name → Result Graphed Told → Type 0
+IsGraphed texts root goals included macros listed =
+    ThenAny (IsBookOf texts root included macros) (λ book. ThenAny (IsAnswer book listed (goals_or_default book goals)) (λ plan answer.
     answer ≡ Ok (record { book = book; plan = plan })))
 
 -- with the plan go the root, the listing and the book that it was made from
 abbrev pub with_graph : List ℕ → List Name → Graphed → Planned
 with_graph root listed graphed = record { root = root; listing = listed; book = graphed.book; plan = graphed.plan }
 
--- the root, the operands, the listing, and then the book and the plan
+-- the root, the operands, the paths of the texts for include lines, the listing, and then the book and the plan
 abbrev pub IsPlanned : Texts → Result Planned Told → Type 0
 IsPlanned texts =
     Then (root_of texts.root) (λ root. Then (goals_of root texts.operands) (λ goals. Then (operand_macros texts.operands) (λ macros.
-    Then (listing_of root texts.listing) (λ listed.
-    ThenAny (IsGraphed texts root goals macros listed) (λ graphed answer. answer ≡ Ok (with_graph root listed graphed))))))
+    Then (includes_of root texts.includes) (λ included. Then (listing_of root texts.listing) (λ listed.
+    ThenAny (IsGraphed texts root goals included macros listed) (λ graphed answer. answer ≡ Ok (with_graph root listed graphed)))))))
 
 -- the footprints, and then the jobs of them and a plan
 abbrev pub IsJobs : List ℕ → Book → Plan → List ℕ → Result Jobs Told → Type 0

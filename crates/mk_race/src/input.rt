@@ -7,6 +7,8 @@ pub struct Input<'a> {
     pub base: &'a [u8],
     /// The text of the makefile.
     pub makefile: &'a [u8],
+    /// The texts that include lines may name, each behind its path.
+    pub includes: &'a [(&'a [u8], &'a [u8])],
     /// The paths of the files that are there, one a line.
     pub listing: &'a [u8],
     /// What the recipes read and write, as JSON Lines.

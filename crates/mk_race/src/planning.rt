@@ -1,5 +1,6 @@
 //! From the texts of a build to its plan: what is read in which order, so that the first fault is answered.
 ghost use Rattle.std.specs.Prelude.{◌≡◌};
+ghost use Rattle.mk_include.specs.Includes as included;
 ghost use Rattle.mk_macro.specs.Macros.{macros_of};
 ghost use Rattle.mk_name.specs.Gives.{Answers};
 ghost use Rattle.mk_text.specs.GivesLines.{GivesLines};
@@ -13,6 +14,7 @@ use mk_jobs::plan::Plan;
 use mk_macro::macros::Macros;
 use mk_name::fault::{Halt, Source};
 use mk_name::name::Name;
+use mk_rules::includes::Includes;
 use mk_rules::reading::read_rules;
 use mk_rules::rulebook::Rulebook;
 use mk_text::line::Line;
@@ -43,17 +45,20 @@ struct Graphed {
 
 /// The plan of what the goals of a build need. Footprints are not read.
 ///
-/// The first fault is answered, in this order: of the root, of the operands from the left, of the listing by its lines,
-/// of the base makefile and of the makefile by their lines, of their entries and assignments, and of the graph. The only
-/// other error is want of memory.
+/// The first fault is answered, in this order: of the root, of the operands from the left, of the paths of the texts for
+/// include lines, of the listing by its lines, of the base makefile and of the makefile by their lines, of their entries,
+/// assignments and include lines with the texts that these name, and of the graph. The only other error is want of
+/// memory.
 pub fn plan_of(alloc: Global, input: &Input<'_>) -> Result<Planned, Halt>
     ensures { Answers result (IsPlanned (texts_of input.now)) }
 {
     let root = Root::read(alloc, input.root)?;
     let goals = goals_of(alloc, input.operands, &root)?;
     let mut macros = Macros::new(alloc, input.operands)?;
+    let includes = Includes::read(alloc, input.includes, &root)?;
     let listing = Listing::read(alloc, input.listing, &root)?;
-    let graphed = graph_of(alloc, input, &root, goals.as_slice(), &mut macros, &listing)?;
+    let goals = goals.as_slice();
+    let graphed = graph_of(alloc, input, &root, goals, &includes, &mut macros, &listing)?;
     Ok(Planned {
         root,
         listing,
@@ -68,13 +73,14 @@ fn graph_of(
     input: &Input<'_>,
     root: &Root,
     goals: &[Name],
+    includes: &Includes<'_>,
     macros: &mut Macros,
     listing: &Listing,
 ) -> Result<Graphed, Halt>
-    ensures { Answers result
-        (IsGraphed (texts_of input.now) root.now goals.now (macros_of macros.old) listing.now) }
+    ensures { Answers result (IsGraphed (texts_of input.now) root.now goals.now
+        (included.texts_of includes.now) (macros_of macros.old) listing.now) }
 {
-    let book = book_of(alloc, input, root, macros)?;
+    let book = book_of(alloc, input, root, includes, macros)?;
     let plan = plan(alloc, &book, listing, goals)?;
     Ok(Graphed { book, plan })
 }
@@ -84,13 +90,15 @@ fn book_of(
     alloc: Global,
     input: &Input<'_>,
     root: &Root,
+    includes: &Includes<'_>,
     macros: &mut Macros,
 ) -> Result<Rulebook, Halt>
-    ensures { Answers result (IsBookOf (texts_of input.now) root.now (macros_of macros.old)) }
+    ensures { Answers result (IsBookOf (texts_of input.now) root.now
+        (included.texts_of includes.now) (macros_of macros.old)) }
 {
     let base = lines_in(alloc, Source::Base, input.base)?;
     let makefile = lines_in(alloc, Source::Makefile, input.makefile)?;
-    read_rules(alloc, base.as_slice(), makefile.as_slice(), macros, root)
+    read_rules(alloc, &base, &makefile, includes, macros, root)
 }
 
 /// The logical lines of a text, whose faults are told in this source.

@@ -62,6 +62,7 @@ fn said_of(
         root: b"/w",
         operands: &[],
         base: b"",
+        includes: &[],
         makefile: makefile.as_bytes(),
         listing: listing.as_bytes(),
         footprints: footprints.as_bytes(),

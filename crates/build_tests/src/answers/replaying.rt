@@ -52,6 +52,7 @@ fn replays_logs(rt: HostRuntime) -> Result<(), AllocError> {
 fn said_of_log(alloc: Global, log: &[u8]) -> Result<Vec<u8>, AllocError> {
     let input = Input {
         base: &[],
+        includes: &[],
         makefile: MAKEFILE.as_bytes(),
         listing: b"a.c\n",
         footprints: FOOTPRINTS.as_bytes(),
