@@ -64,7 +64,32 @@ def macros(part):
     return text, ["y"], ["all"]
 
 
-INPUTS = {"chain": chain, "dense": dense, "wide": wide, "short": short, "macros": macros}
+def many_macros(part, lines):
+    """100,000 macros, some lines, and one rule."""
+    return "".join(f"M{i}=\n" for i in range(int(100_000 * part))) + "".join(lines) + "all: y\n"
+
+
+def includes(part):
+    """1,000 include lines of two words below 100,000 macros: a text of one assignment, and a name that no text has."""
+    names = [f"t{i}.mk" for i in range(int(1_000 * part))]
+    lines = [f"-include {name} none\n" for name in names]
+    return many_macros(part, lines), ["y"], [], {name: f"M{i} = x\n" for i, name in enumerate(names)}
+
+
+def joined(part):
+    """The same with the lines of the texts in their places."""
+    return many_macros(part, [f"M{i} = x\n" for i in range(int(1_000 * part))]), ["y"], []
+
+
+INPUTS = {
+    "chain": chain,
+    "dense": dense,
+    "wide": wide,
+    "short": short,
+    "macros": macros,
+    "includes": includes,
+    "joined": joined,
+}
 
 
 def run(words, folder):
@@ -77,8 +102,11 @@ def run(words, folder):
 
 def lay_out(folder, make_input, part):
     """Writes an input of that part of its full size, and returns the goals."""
-    text, listed, goals = make_input(part)
+    text, listed, goals, *texts = make_input(part)
     pathlib.Path(folder, "makefile").write_text(text)
+    for path, included in [pair for pairs in texts for pair in pairs.items()]:
+        pathlib.Path(folder, path).write_text(included)
+    pathlib.Path(folder, "includes").write_text("".join(path + "\n" for pairs in texts for path in pairs))
     pathlib.Path(folder, "listing").write_text("".join(path + "\n" for path in listed))
     for path in listed:
         pathlib.Path(folder, path).touch()
@@ -87,7 +115,7 @@ def lay_out(folder, make_input, part):
 
 def commands(program, folder, goals):
     return {
-        "race": [program, "order", "--makefile", "makefile", "--listing", "listing", "--root", folder, *goals],
+        "race": [program, "order", "--makefile", "makefile", "--listing", "listing", "--includes", "includes", "--root", folder, *goals],
         "make": ["make", "-n", "-r", "-f", "makefile", *goals],
         "bmake": ["bmake", "-n", "-r", "-f", "makefile", *goals],
     }
@@ -99,13 +127,13 @@ def compare(args, name, make_input):
         goals = lay_out(folder, make_input, 1)
         for tool, words in commands(args.program, folder, goals).items():
             if shutil.which(words[0]) is None:
-                print(f"{name:8}{tool:8}   not here")
+                print(f"{name:9}{tool:8}   not here")
                 continue
             runs = []
             while len(runs) < args.runs and not (runs and runs[-1][0] > 10):
                 runs.append(run(words, folder))
             seconds, memory, status = min(r[0] for r in runs), max(r[1] for r in runs), runs[-1][2]
-            print(f"{name:8}{tool:8}{seconds:10.3f}{memory / 1024:8.1f}  {status}", flush=True)
+            print(f"{name:9}{tool:8}{seconds:10.3f}{memory / 1024:8.1f}  {status}", flush=True)
 
 
 def growth(args, name, make_input):
@@ -115,7 +143,7 @@ def growth(args, name, make_input):
         with tempfile.TemporaryDirectory(prefix="race-bench-") as folder:
             words = commands(args.program, folder, lay_out(folder, make_input, part))["race"]
             times.append(min(run(words, folder)[0] for _ in range(args.runs)))
-    print(f"{name:8}growth  " + "".join(f"{seconds:10.4f}" for seconds in times), flush=True)
+    print(f"{name:9}growth  " + "".join(f"{seconds:10.4f}" for seconds in times), flush=True)
 
 
 def main():
@@ -125,7 +153,7 @@ def main():
     parser.add_argument("--only", choices=INPUTS)
     args = parser.parse_args()
     args.program = os.path.abspath(args.program)
-    print(f"{'input':8}{'tool':8}{'seconds':>10}{'MiB':>8}  status")
+    print(f"{'input':9}{'tool':8}{'seconds':>10}{'MiB':>8}  status")
     chosen = [(name, make_input) for name, make_input in INPUTS.items() if args.only in (None, name)]
     for name, make_input in chosen:
         compare(args, name, make_input)

@@ -10,16 +10,17 @@ use Rattle.mk_race.specs.Stages.{Texts}
 use Rattle.mk_race.specs.declared.replaying.Played.{Played}
 use Rattle.mk_race.specs.declared.replaying.Played.TheVariants.{Allowed, NotAllowed}
 use Rattle.mk_program.specs.Answers.{IsReplayAnswer, status_of}
+use Rattle.mk_program.specs.Includes.{Pair}
 use Rattle.mk_program.specs.OutcomeText.{IsOutcomeText}
 use Rattle.mk_program.specs.declared.statuses.Status.{Status}
 use Rattle.mk_program.specs.declared.statuses.Status.TheVariants.{Refused}
 
 -- texts that agree in each part
-pub texts_are : (root root' : List ℕ) (operands operands' : List (List ℕ)) (base base' makefile makefile' listing listing' : List ℕ)
+pub texts_are : (root root' : List ℕ) (operands operands' : List (List ℕ)) (base base' makefile makefile' listing listing' : List ℕ) (includes : List Pair)
     → root ≡ root' → operands ≡ operands' → base ≡ base' → makefile ≡ makefile' → listing ≡ listing' → (x : Texts) → (y : Texts)
-    → x ≡ record { root = root; operands = operands; base = base; makefile = makefile; listing = listing }
-    → y ≡ record { root = root'; operands = operands'; base = base'; makefile = makefile'; listing = listing' } → x ≡ y
-texts_are root root' operands operands' base base' makefile makefile' listing listing' r o b m l x y is_x is_y = cc
+    → x ≡ record { root = root; operands = operands; base = base; makefile = makefile; includes = includes; listing = listing }
+    → y ≡ record { root = root'; operands = operands'; base = base'; makefile = makefile'; includes = includes; listing = listing' } → x ≡ y
+texts_are root root' operands operands' base base' makefile makefile' listing listing' includes r o b m l x y is_x is_y = cc
 
 -- the answer to a replay over what was read is the one over the texts
 pub replay_told : (old new : Texts) (footprints footprints' log log' : List ℕ) (limit : ℕ) (tie : Bool) (status : Status) (text : List ℕ)

@@ -5,8 +5,9 @@ use Rattle.clap.specs.Words.{HasKind, IsAmong, Kinds, kind_of}
 use Rattle.clap.specs.declared.error.Error.{Error}
 use Rattle.clap.specs.declared.error.kind.ErrorKind.{ErrorKind}
 use Rattle.clap.specs.declared.error.kind.ErrorKind.TheVariants.{OutOfMemory}
-use Rattle.mk_program.specs.Answers.{IsFailureOf}
+use Rattle.mk_program.specs.Answers.{IsFailureOf, IsRequestFailure}
 use Rattle.mk_program.specs.CommandLine.{Asks, IsAnswerable, IsCall, asked, wrong}
+use Rattle.mk_program.specs.Includes.{IsIncludeFailure}
 use Rattle.mk_program.specs.Inputs.{IsInputFailure}
 use Rattle.mk_program.specs.Requests.{inputs_of}
 use Rattle.mk_program.specs.declared.failures.Failure.{Failure}
@@ -14,20 +15,34 @@ use Rattle.mk_program.specs.declared.failures.Failure.TheVariants.{Memory, Read,
 use Rattle.mk_program.specs.declared.inputs.InputPath.{InputPath}
 use Rattle.mk_program.specs.declared.requests.Request.{Request}
 
--- a failure of the inputs that the words ask for may come of the words
+-- a failure of the includes is none of the words, nor of the output
+no_usage : (text : String Global) → IsIncludeFailure (Usage text) → ⊥
+no_usage text (inl memory) = cc
+no_usage text (inr read) = cc
+
+no_write : (failure : Failure) → IsIncludeFailure failure → failure ≢ Write
+no_write failure (inl memory) = λ is. cc
+no_write failure (inr read) = λ is. cc
+
+-- a failure of the files that the words ask for may come of the words
 pub input_failure : (words : List (Bor (List ℕ))) (opens : List ℕ → Option Bool) (request : Request) (failure : Failure) → Asks request (asked words)
-    → IsInputFailure opens (inputs_of request) failure → IsFailureOf words opens failure
+    → IsRequestFailure opens request failure → IsFailureOf words opens failure
 input_failure words opens request (Read input) asks fails = (request, asks, fails)
 input_failure words opens request Write asks fails = tt
 input_failure words opens request Memory asks fails = tt
-input_failure words opens request (Usage text) asks fails = absurd fails
+input_failure words opens request (Usage text) asks (inl included) = absurd (no_usage text included.1)
+input_failure words opens request (Usage text) asks (inr fails) = absurd fails
 
 -- and is none of the output
-pub not_written : (opens : List ℕ → Option Bool) (inputs : List InputPath) (failure : Failure) → IsInputFailure opens inputs failure → failure ≢ Write
-not_written opens inputs (Read input) fails = λ is. cc
-not_written opens inputs Write fails = absurd fails
-not_written opens inputs Memory fails = λ is. cc
-not_written opens inputs (Usage text) fails = absurd fails
+input_not_written : (opens : List ℕ → Option Bool) (inputs : List InputPath) (failure : Failure) → IsInputFailure opens inputs failure → failure ≢ Write
+input_not_written opens inputs (Read input) fails = λ is. cc
+input_not_written opens inputs Write fails = absurd fails
+input_not_written opens inputs Memory fails = λ is. cc
+input_not_written opens inputs (Usage text) fails = absurd fails
+
+pub not_written : (opens : List ℕ → Option Bool) (request : Request) (failure : Failure) → IsRequestFailure opens request failure → failure ≢ Write
+not_written opens request failure (inl included) = no_write failure included.1
+not_written opens request failure (inr fails) = input_not_written opens (inputs_of request) failure fails
 
 -- why the words get no answer but the help or the version
 abbrev pub IsRefusal : ErrorKind → Failure → Type 0

@@ -7,3 +7,4 @@ mod PlanLines
 mod Reading
 mod Told
 mod Values
+pub mod Included

@@ -1,5 +1,5 @@
 -- What the program answers to a request, over what the files hold, and what it writes of that.
-use Rattle.std.specs.Prelude.{◌≡◌, ℕ, Bool, List, Ok, Err, Option, map}
+use Rattle.std.specs.Prelude.{◌≡◌, ◌⊎◌, ℕ, Bool, List, Ok, Err, Option, Some, IsSome, map}
 use Rattle.std.specs.Borrow.{Bor}
 use Rattle.std.specs.Io.KnownBytes.{Appends}
 use Rattle.clap.specs.Words.{Text}
@@ -14,10 +14,11 @@ use Rattle.mk_race.specs.declared.planning.Planned.{Planned}
 use Rattle.mk_sched.specs.declared.refusal.Refusal.{Refusal}
 use Rattle.mk_sched.specs.declared.replay.Replayed.{Replayed}
 use Rattle.mk_program.specs.CommandLine.{Asks, HasMistake, asked, wrong}
+use Rattle.mk_program.specs.Includes.{IsIncludeFailure, Pair, includes_in}
 use Rattle.mk_program.specs.Inputs.{Hold, IsInputFailure}
 use Rattle.mk_program.specs.OutcomeText.{IsOutcomeText}
 use Rattle.mk_program.specs.PlanText.{plan_text}
-use Rattle.mk_program.specs.Requests.{inputs_of}
+use Rattle.mk_program.specs.Requests.{includes_path, inputs_of}
 use Rattle.mk_program.specs.declared.failures.Failure.{Failure}
 use Rattle.mk_program.specs.declared.failures.Failure.TheVariants as failures
 use Rattle.mk_program.specs.declared.failures.InputFile.{InputFile}
@@ -51,24 +52,27 @@ status_of (Allowed replayed) = statuses.Done
 status_of (NotAllowed place refusal) = statuses.NotAllowed
 
 -- the texts that a build is planned from
-abbrev pub texts_for : BuildArgs → (InputFile → List ℕ) → Texts
-texts_for build text = record {
+abbrev pub texts_for : BuildArgs → List Pair → (InputFile → List ℕ) → Texts
+texts_for build includes text = record {
   root = build.root.now;
   operands = map (λ operand. operand.now) build.operands.items;
   base = text inputs.Base;
   makefile = text inputs.Makefile;
+  includes = includes;
   listing = text inputs.Listing;
 }
 
--- the answer to a request, over the texts of its inputs
-abbrev pub IsAnswerOver : Request → (InputFile → List ℕ) → Status → List ℕ → Type 0
-IsAnswerOver (requests.Order build) text status answer = IsOrderAnswer (texts_for build text) status answer
-IsAnswerOver (requests.Replay replay) text status answer =
-    IsReplayAnswer (texts_for replay.build text) (text inputs.Footprints) (text inputs.Log) replay.limit replay.tie status answer
+-- the answer to a request, over the texts of its includes and of its inputs
+abbrev pub IsAnswerOver : Request → List Pair → (InputFile → List ℕ) → Status → List ℕ → Type 0
+IsAnswerOver (requests.Order build) includes text status answer = IsOrderAnswer (texts_for build includes text) status answer
+IsAnswerOver (requests.Replay replay) includes text status answer =
+    IsReplayAnswer (texts_for replay.build includes text) (text inputs.Footprints) (text inputs.Log) replay.limit replay.tie status answer
 
 -- the answer to a request, over what its files hold
 abbrev pub IsAnswer : Request → (List ℕ → Option (List ℕ)) → Status → List ℕ → Type 0
-IsAnswer request files status answer = (text : InputFile → List ℕ) → Hold files (inputs_of request) text → IsAnswerOver request text status answer
+IsAnswer request files status answer =
+    (includes : List Pair) (text : InputFile → List ℕ) → includes_in files (includes_path request) ≡ Some includes → Hold files (inputs_of request) text
+    → IsAnswerOver request includes text status answer
 
 -- the answer to what these words ask
 abbrev pub IsAnswerTo : List (Bor Text) → (List ℕ → Option (List ℕ)) → Status → List ℕ → Type 0
@@ -82,10 +86,15 @@ WritesAnswer words files status old new = (text : List ℕ) × Appends old new t
 abbrev pub WritesBeginning : List (Bor Text) → (List ℕ → Option (List ℕ)) → Option (List ℕ) → Option (List ℕ) → Type 0
 WritesBeginning words files old new = (status : Status) × (text : List ℕ) × AppendsBeginning old new text × IsAnswerTo words files status text
 
+-- a failure of the files of a request: of its includes, where it has any, or of its inputs
+abbrev pub IsRequestFailure : (List ℕ → Option Bool) → Request → Failure → Type 0
+IsRequestFailure opens request failure =
+    (IsSome (includes_path request) × IsIncludeFailure failure) ⊎ IsInputFailure opens (inputs_of request) failure
+
 -- the failure may come of these words, where some files may be shut
 abbrev pub IsFailureOf : List (Bor Text) → (List ℕ → Option Bool) → Failure → Type 0
 IsFailureOf words opens (failures.Read input) =
-    (request : Request) × Asks request (asked words) × IsInputFailure opens (inputs_of request) (failures.Read input)
+    (request : Request) × Asks request (asked words) × IsRequestFailure opens request (failures.Read input)
 IsFailureOf words opens failures.Write = Unit {0}
 IsFailureOf words opens failures.Memory = Unit {0}
 IsFailureOf words opens (failures.Usage text) = HasMistake (wrong words)

@@ -21,6 +21,10 @@ option id = record (new_rule id) { long = Some id; action = Some Set; value_name
 abbrev pub base : Rule
 base = record (option (codes "base")) { required = false }
 
+-- the option that names a file of includes, which may be left out
+abbrev pub includes : Rule
+includes = record (option (codes "includes")) { required = false }
+
 -- the operands: any number of words
 abbrev pub operands : Rule
 operands = record (new_rule (codes "operands")) { action = Some Append; value_names = 1 }
@@ -28,8 +32,8 @@ operands = record (new_rule (codes "operands")) { action = Some Append; value_na
 -- a command with the options and operands that every subcommand takes
 abbrev pub with_build : App → App
 with_build app =
-    with_rule (with_rule (with_rule (with_rule (with_rule app
-    (option (codes "makefile"))) (option (codes "listing"))) (option (codes "root"))) base) operands
+    with_rule (with_rule (with_rule (with_rule (with_rule (with_rule app
+    (option (codes "makefile"))) (option (codes "listing"))) (option (codes "root"))) base) includes) operands
 
 abbrev pub order_app : App
 order_app = with_build (new_app (codes "order"))
@@ -71,6 +75,7 @@ operands_of rows = unwrap_or (all_of (codes "operands") rows) []
 
 -- the build has the values that were found
 pub record HasValues (build : BuildArgs) (rows : List Row) : Type 0 where
+  pub includes : option_map (λ word. word.now) build.includes ≡ first_of (codes "includes") rows
   pub base : option_map (λ word. word.now) build.base ≡ first_of (codes "base") rows
   pub makefile : build.makefile.now ≡ value_of (codes "makefile") rows
   pub listing : build.listing.now ≡ value_of (codes "listing") rows

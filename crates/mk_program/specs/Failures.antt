@@ -9,6 +9,7 @@ use Rattle.mk_program.specs.declared.failures.InputFile.TheVariants as inputs
 
 -- how an input is told
 abbrev pub word_of : InputFile → List ℕ
+word_of inputs.Include = codes "include"
 word_of inputs.Base = codes "base"
 word_of inputs.Makefile = codes "makefile"
 word_of inputs.Listing = codes "listing"

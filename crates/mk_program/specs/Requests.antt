@@ -1,5 +1,5 @@
--- The inputs of a request, in the order in which they are opened and read.
-use Rattle.std.specs.Prelude.{ℕ, List, [], ◌∷◌, ◌++◌, Option, Some, None}
+-- The inputs of a request, in the order in which they are opened and read; the includes come before.
+use Rattle.std.specs.Prelude.{ℕ, List, [], ◌∷◌, ◌++◌, Option, Some, None, option_map}
 use Rattle.std.specs.Borrow.{Bor}
 use Rattle.mk_program.specs.declared.failures.InputFile.{InputFile}
 use Rattle.mk_program.specs.declared.failures.InputFile.TheVariants as inputs
@@ -21,6 +21,12 @@ base_input (Some path) = input_at inputs.Base path
 abbrev pub build_inputs : BuildArgs → List InputPath
 build_inputs build = base_input build.base ++ input_at inputs.Makefile build.makefile ++ input_at inputs.Listing build.listing
 
+-- the path of the file of includes, where one is given
+abbrev pub includes_path : Request → Option (List ℕ)
+includes_path (requests.Order build) = option_map (λ path. path.now) build.includes
+includes_path (requests.Replay replay) = option_map (λ path. path.now) replay.build.includes
+
+-- the inputs but for the includes
 abbrev pub inputs_of : Request → List InputPath
 inputs_of (requests.Order build) = build_inputs build
 inputs_of (requests.Replay replay) =

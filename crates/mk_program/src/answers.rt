@@ -3,17 +3,18 @@ ghost use Rattle.std.specs.Prelude.{◌≡◌, ◌≢◌, IfErr, IfOk, List, map
 ghost use Rattle.mk_name.specs.Shown.{refused_text};
 ghost use Rattle.mk_race.specs.Stages.{texts_of};
 ghost use Rattle.mk_program.specs.Answers as spec;
-ghost use Rattle.mk_program.specs.Inputs.{AreTexts, IsInputFailure};
+ghost use Rattle.mk_program.specs.Includes.{shown};
+ghost use Rattle.mk_program.specs.Inputs.{AreTexts};
 ghost use Rattle.mk_program.specs.OutcomeText.{IsOutcomeText};
 ghost use Rattle.mk_program.specs.PlanText.{plan_text as text_of_plan};
-ghost use Rattle.mk_program.specs.Requests.{inputs_of as inputs_for};
 
 use crate::failures::{Failure, InputFile};
+use crate::includes::{IncludeText, pairs_of, read_includes};
 use crate::inputs::{InputText, read_inputs, text_of};
 use crate::openers::Opener;
 use crate::outcome_lines::outcome_text;
 use crate::plan_lines::plan_text;
-use crate::requests::{BuildArgs, ReplayArgs, Request, inputs_of};
+use crate::requests::{BuildArgs, ReplayArgs, Request, includes_path, inputs_of};
 use crate::statuses::Status;
 use mk_jobs::plan::Plan;
 use mk_name::fault::{Fault, Halt};
@@ -30,35 +31,54 @@ pub struct Answer {
     pub text: Vec<u8>,
 }
 
-/// The answer to a request. All files are opened before any is read, and read before anything is said.
+/// The answer to a request. The includes are read first; then all other files are opened before any of them is read, and
+/// read before anything is said.
 pub fn answer_of<P: Opener>(
     alloc: Global,
     request: &Request<'_>,
     opener: &mut P,
 ) -> Result<Answer, Failure>
     ensures status { IfOk result (λ answer. answer.status ≢ Status.Failed) }
-    ensures failure { IfErr result (IsInputFailure (P.opens opener.old) (inputs_for request.now)) }
+    ensures failure { IfErr result (spec.IsRequestFailure (P.opens opener.old) request.now) }
     ensures answer { IfOk result (λ answer.
         spec.IsAnswer request.now (P.text opener.old) answer.status answer.text.items) }
 {
+    let included = read_includes(alloc, opener, includes_path(request))?;
     let inputs = inputs_of(alloc, request)?;
     let texts = read_inputs(alloc, opener, inputs.as_slice())?;
-    Ok(answer_over(alloc, request, texts.as_slice())?)
+    Ok(answer_with(alloc, request, included.as_slice(), texts.as_slice())?)
 }
 
-/// The answer to a request over the texts of its inputs. The only error is want of memory.
-fn answer_over(
+/// The answer to a request over the texts of its includes and of its inputs. The only error is want of memory.
+fn answer_with(
     alloc: Global,
     request: &Request<'_>,
+    included: &[IncludeText],
     texts: &[InputText],
 ) -> Result<Answer, AllocError>
     ensures status { IfOk result (λ answer. answer.status ≢ Status.Failed) }
     ensures answer { IfOk result (λ answer. (text : InputFile → List ℕ) → AreTexts texts.now text
-        → spec.IsAnswerOver request.now text answer.status answer.text.items) }
+        → spec.IsAnswerOver request.now (shown included.now) text answer.status answer.text.items) }
+{
+    let pairs = pairs_of(alloc, included)?;
+    answer_over(alloc, request, pairs.as_slice(), texts)
+}
+
+/// The answer to a request over the pairs of its includes and the texts of its inputs. The only error is want of memory.
+fn answer_over(
+    alloc: Global,
+    request: &Request<'_>,
+    includes: &[(&[u8], &[u8])],
+    texts: &[InputText],
+) -> Result<Answer, AllocError>
+    ensures status { IfOk result (λ answer. answer.status ≢ Status.Failed) }
+    ensures answer { IfOk result (λ answer. (text : InputFile → List ℕ) → AreTexts texts.now text
+        → spec.IsAnswerOver request.now (map (λ pair. (pair.0.now, pair.1.now)) includes.now) text
+        answer.status answer.text.items) }
 {
     match request {
-        Request::Order(build) => order_answer(alloc, build, texts),
-        Request::Replay(replay) => replay_answer(alloc, replay, texts),
+        Request::Order(build) => order_answer(alloc, build, includes, texts),
+        Request::Replay(replay) => replay_answer(alloc, replay, includes, texts),
     }
 }
 
@@ -66,30 +86,34 @@ fn answer_over(
 fn order_answer(
     alloc: Global,
     build: &BuildArgs<'_>,
+    includes: &[(&[u8], &[u8])],
     texts: &[InputText],
 ) -> Result<Answer, AllocError>
     ensures status { IfOk result (λ answer. answer.status ≢ Status.Failed) }
     ensures answer { IfOk result (λ answer. (text : InputFile → List ℕ) → AreTexts texts.now text
-        → spec.IsOrderAnswer (spec.texts_for build.now text) answer.status answer.text.items) }
+        → spec.IsOrderAnswer (spec.texts_for build.now
+        (map (λ pair. (pair.0.now, pair.1.now)) includes.now) text) answer.status answer.text.items) }
 {
     let operands = bytes_of(alloc, build.operands.as_slice())?;
-    order_over(alloc, &input_of(build, operands.as_slice(), texts))
+    order_over(alloc, &input_of(build, operands.as_slice(), includes, texts))
 }
 
 /// Whether a log is a run of a build, or why the inputs are refused.
 fn replay_answer(
     alloc: Global,
     replay: &ReplayArgs<'_>,
+    includes: &[(&[u8], &[u8])],
     texts: &[InputText],
 ) -> Result<Answer, AllocError>
     ensures status { IfOk result (λ answer. answer.status ≢ Status.Failed) }
     ensures answer { IfOk result (λ answer. (text : InputFile → List ℕ) → AreTexts texts.now text
-        → spec.IsReplayAnswer (spec.texts_for replay.now.build text) (text InputFile.Footprints)
+        → spec.IsReplayAnswer (spec.texts_for replay.now.build
+        (map (λ pair. (pair.0.now, pair.1.now)) includes.now) text) (text InputFile.Footprints)
         (text InputFile.Log) replay.now.limit replay.now.tie answer.status answer.text.items) }
 {
     let build = &replay.build;
     let operands = bytes_of(alloc, build.operands.as_slice())?;
-    let input = input_of(build, operands.as_slice(), texts);
+    let input = input_of(build, operands.as_slice(), includes, texts);
     let log = text_of(texts, InputFile::Log);
     replay_over(alloc, &input, log, replay.limit, replay.tie)
 }
@@ -98,17 +122,20 @@ fn replay_answer(
 fn input_of<'a>(
     build: &BuildArgs<'a>,
     operands: &'a [&'a [u8]],
+    includes: &'a [(&'a [u8], &'a [u8])],
     texts: &'a [InputText],
 ) -> Input<'a>
     ensures texts { (text : InputFile → List ℕ) → AreTexts texts.entry.now text
         → map (λ operand. operand.now) operands.entry.now ≡ map (λ operand. operand.now) build.now.operands.items
-        → texts_of result ≡ spec.texts_for build.now text }
+        → texts_of result ≡ spec.texts_for build.now
+        (map (λ pair. (pair.0.now, pair.1.now)) includes.entry.now) text }
     ensures footprints { (text : InputFile → List ℕ) → AreTexts texts.entry.now text
         → result.footprints.now ≡ text InputFile.Footprints }
 {
     Input {
         base: text_of(texts, InputFile::Base),
         makefile: text_of(texts, InputFile::Makefile),
+        includes,
         listing: text_of(texts, InputFile::Listing),
         footprints: text_of(texts, InputFile::Footprints),
         root: build.root.as_bytes(),

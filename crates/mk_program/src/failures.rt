@@ -8,6 +8,8 @@ use thiserror::Error;
 /// An input of a build, which is read from a file.
 #[derive(Clone, Copy, Debug, PartialEq, Eq)]
 pub enum InputFile {
+    /// The file of includes, or one that it names.
+    Include,
     Base,
     Makefile,
     Listing,
@@ -22,6 +24,7 @@ impl fmt::Display for InputFile {
 
     fn fmt<W: fmt::Write>(&self, f: &mut fmt::Formatter<W>) -> fmt::Result {
         f.write_str(match self {
+            InputFile::Include => "include",
             InputFile::Base => "base",
             InputFile::Makefile => "makefile",
             InputFile::Listing => "listing",

@@ -24,9 +24,9 @@ pub struct InputText {
 
 /// An input, and its file, which is open.
 #[derive(Drop)]
-struct OpenInput<F> {
-    input: InputFile,
-    file: F,
+pub(crate) struct OpenInput<F> {
+    pub(crate) input: InputFile,
+    pub(crate) file: F,
 }
 
 /// The texts of some inputs. All files are opened, in the order of the inputs, before any is read, in the same order.
@@ -83,7 +83,7 @@ fn open_all<P: Opener>(
 }
 
 /// Opens the file of an input. The error is `Failure::Read` of that input.
-fn opened<P: Opener>(opener: &mut P, known: &InputPath<'_>) -> Result<OpenInput<P::File>, Failure>
+pub(crate) fn opened<P: Opener>(opener: &mut P, known: &InputPath<'_>) -> Result<OpenInput<P::File>, Failure>
     ensures input { IfOk result (λ file. file.input ≡ known.now.input) }
     ensures works { IfOk result (λ file. P.File.has_failed file.file ≡ false) }
     ensures whole { IfOk result (λ file. (bytes : List ℕ)
@@ -127,7 +127,7 @@ fn read_files<I: Intake + Drop>(
 }
 
 /// The text of an open input, read to its end. The errors are `Failure::Read` of that input and `Failure::Memory`.
-fn text_in<I: Intake + Drop>(alloc: Global, given: OpenInput<I>) -> Result<InputText, Failure>
+pub(crate) fn text_in<I: Intake + Drop>(alloc: Global, given: OpenInput<I>) -> Result<InputText, Failure>
     requires { I.has_failed given.file ≡ false }
     ensures input { IfOk result (λ known. known.input ≡ given.input) }
     ensures text { IfOk result (λ known. IfSome (I.left given.file) (λ bytes. known.text.items ≡ bytes)) }

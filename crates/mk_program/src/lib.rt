@@ -1,8 +1,8 @@
 //! The program `race` but for its `main`: from the words of the command line to what is written, and how it ends.
 //!
-//! [`race_words`] is the program. It reads its words by `clap`, opens every file that they name through an [`Opener`], in the
-//! order base, makefile, listing, footprints, log, then reads each to its end in the same order, and then writes one text to
-//! its standard output: the answer, the help or the version. Where it cannot, it writes nothing there, or what the device
+//! [`race_words`] is the program. It reads its words by `clap`, opens and reads the file of includes and each that it names,
+//! one after another, through an [`Opener`], then opens every other file that the words name, in the order base, makefile,
+//! listing, footprints, log, then reads each to its end in the same order, and then writes one text to its standard output: the answer, the help or the version. Where it cannot, it writes nothing there, or what the device
 //! took before it failed, and tells the [`Failure`] by a line on its standard error. The [`Status`] says how it ends, and
 //! [`ExitCode::from`](std::process::ExitCode) gives its number. [`fail`] tells a failure that comes before: words that are no
 //! text.
@@ -11,6 +11,7 @@
 //!
 //! - `CommandLine.antt`: what the words ask (`asked`), and what is wrong with them (`wrong`), as `clap` reads them;
 //! - `Requests.antt`: the inputs that a request reads, in their order (`inputs_of`);
+//! - `Includes.antt`: the texts that the file of includes hands in (`includes_in`);
 //! - `Inputs.antt`: that the files hold the texts of the inputs (`Hold`), and which input fails (`IsInputFailure`): the first
 //!   that cannot be opened, or one that cannot be read though all were opened;
 //! - `Answers.antt`: the answer to a request over what its files hold (`IsAnswer`), and that it was written (`WritesAnswer`);
@@ -23,6 +24,7 @@
 
 mod answers;
 mod failures;
+mod includes;
 mod inputs;
 mod openers;
 mod outcome_lines;

@@ -1,15 +1,16 @@
 //! What the words of the command line ask for.
-ghost use Rattle.std.specs.Prelude.{◌≡◌, ◌++◌, IfOk, OnOk};
+ghost use Rattle.std.specs.Prelude.{◌≡◌, ◌++◌, IfOk, OnOk, option_map};
 ghost use Rattle.mk_program.specs.Requests as spec;
 
 use crate::failures::InputFile;
 use crate::inputs::InputPath;
 use std::alloc::{AllocError, Global};
 
-/// What a build is read from: the paths of files, the base makefile's where one is given, the root and the operands, as
-/// they were given.
+/// What a build is read from: the paths of files, those of includes and of the base makefile where they are given, the
+/// root and the operands, as they were given.
 #[derive(Debug, Drop)]
 pub struct BuildArgs<'a> {
+    pub includes: Option<&'a str>,
     pub base: Option<&'a str>,
     pub makefile: &'a str,
     pub listing: &'a str,
@@ -35,7 +36,17 @@ pub enum Request<'a> {
     Replay(ReplayArgs<'a>),
 }
 
-/// The inputs of a request with the paths of their files, in the order in which they are opened and read. The only error
+/// The path of the file of includes, where one is given.
+pub fn includes_path<'a>(request: &Request<'a>) -> Option<&'a str>
+    ensures { option_map (λ path. path.now) result ≡ spec.includes_path request.now }
+{
+    match request {
+        Request::Order(build) => build.includes,
+        Request::Replay(replay) => replay.build.includes,
+    }
+}
+
+/// The inputs of a request but for its includes, with the paths of their files, in the order in which they are opened and read. The only error
 /// is want of memory.
 pub fn inputs_of<'a>(alloc: Global, request: &Request<'a>) -> Result<Vec<InputPath<'a>>, AllocError>
     ensures { IfOk result (λ inputs. inputs.items ≡ spec.inputs_of request.now) }

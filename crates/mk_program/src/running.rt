@@ -18,7 +18,8 @@ use std::alloc::{AllocError, Global};
 
 /// Runs the program on the words of the command line, of which the first is its own name. The answer, the help or the
 /// version goes to `out`; what is wrong with the words, a device or memory to `err`, whose own failure is passed over.
-/// Every file is opened, and then read to its end, before anything is written.
+/// Every file is opened and read to its end before anything is written: the includes first, one after another, and then
+/// the others, which are all opened before one of them is read.
 pub fn race_words<'a, P: Opener, O: Outlet, E: Outlet>(
     alloc: Global,
     words: &'a [&'a str],

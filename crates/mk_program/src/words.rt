@@ -77,6 +77,7 @@ fn with_build<'a>(alloc: Global, command: Command<'a>) -> Result<Command<'a>, Al
         .arg(option(alloc, "listing", "LISTING", help::LISTING))?
         .arg(option(alloc, "root", "DIR", help::ROOT))?
         .arg(base(alloc))?
+        .arg(includes(alloc))?
         .arg(operands(alloc))
 }
 
@@ -111,11 +112,20 @@ fn base<'a>(alloc: Global) -> Arg<'a>
     option(alloc, "base", "BASE", help::BASE).required(false)
 }
 
+/// The option that names a file of includes, which may be left out.
+fn includes<'a>(alloc: Global) -> Arg<'a>
+    ensures rule { rule_of result ≡ spec.includes }
+    ensures local { result.global ≡ false }
+{
+    option(alloc, "includes", "FILE", help::INCLUDES).required(false)
+}
+
 /// The build that these matches of a subcommand ask for. The only error is want of memory.
 fn build_args<'a>(alloc: Global, found: &ArgMatches<'a>) -> Result<BuildArgs<'a>, AllocError>
     ensures { IfOk result (λ build. spec.HasValues build (rows_of (found_of found.now))) }
 {
     Ok(BuildArgs {
+        includes: found.get_str("includes"),
         base: found.get_str("base"),
         makefile: found.get_str("makefile").unwrap_or(""),
         listing: found.get_str("listing").unwrap_or(""),

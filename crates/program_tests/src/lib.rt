@@ -9,5 +9,7 @@
 mod cases;
 #[cfg(test)]
 mod failures;
+#[cfg(test)]
+mod includes;
 pub mod outcomes;
 pub mod shelf;

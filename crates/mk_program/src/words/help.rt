@@ -24,6 +24,9 @@ pub const ROOT: &str =
 
 pub const BASE: &str = "A makefile with the rules and macros that come before those of MAKEFILE";
 
+pub const INCLUDES: &str =
+    "The paths of the texts that include lines may name, one a line";
+
 pub const OPERANDS: &str = "A goal, which is to be built, or NAME=VALUE, which defines a macro";
 
 pub const ORDER_ABOUT: &str =
@@ -34,6 +37,9 @@ MAKEFILE is the path of a makefile, and BASE of one that is read before it. LIST
 files that are there before the build, one path a line. Paths that are not absolute are below DIR, which has to be
 absolute: --root \"$PWD\". An OPERAND that holds `=` defines a macro; any other is a goal. Without a goal the first target of
 BASE and then of MAKEFILE is built whose name does not begin with a period, or holds a slash.
+
+An include line takes its texts from FILE alone, which names them, one path a line, empty lines skipped. Each is opened as
+it is written there, and is the text of that path below DIR. They are read before all other files.
 
 Each line that comes out is `NUMBER KIND NAME`, and ` : NAME ..` where the file needs others. KIND is `recipe` (a rule
 with commands makes it), `inferred` (an inference rule does), `default` (the commands of .DEFAULT do) or `plain` (it is
@@ -49,7 +55,7 @@ Example:
 
 Statuses:
   0  the order is printed, whether or not the recipes race
-  2  the makefile, the base, the listing, the root or an operand is refused
+  2  the makefile, the base, an included text, the listing, the root or an operand is refused
   3  a file cannot be read or written, memory is short, or the words are wrong
 ";
 
@@ -57,7 +63,7 @@ pub const REPLAY_ABOUT: &str =
     "Says whether a log of a build is a run that `make -j` may make, and what it leaves.";
 
 pub const REPLAY_DETAILS: &str = "\
-MAKEFILE, BASE, LISTING, DIR and the operands are those of `race order`. FOOTPRINTS is the path of a file that has for each
+MAKEFILE, BASE, FILE, LISTING, DIR and the operands are those of `race order`. FOOTPRINTS is the path of a file that has for each
 recipe that may run an object of JSON on a line of its own: its target, and the paths that it reads and writes. LOG is the
 path of a file that has first an object for each file that is there, and these are the files of LISTING, and then one for
 each event, in the order in which they happened. PATH and NODE are paths, NODE that of a file of the build; HEX is what a
@@ -91,7 +97,7 @@ Example:
 Statuses:
   0  the log is a run, complete or not, whether or not the recipes race
   1  it is not
-  2  the makefile, the base, the listing, the root, an operand, the footprints or the log is refused
+  2  the makefile, the base, an included text, the listing, the root, an operand, the footprints or the log is refused
   3  a file cannot be read or written, memory is short, or the words are wrong
 ";
 

@@ -16,7 +16,7 @@ returns-in-Ok-clause-not_allowed g c =
     IfOk-weaker c.answer_of.result _ _ (λ answer h is. (c.in-Ok.request, c.in-Ok.ensures.values, h)) c.answer_of.ensures.answer
 
 pub returns-in-Ok-clause-write : goal.returns-in-Ok-clause-write
-returns-in-Ok-clause-write g c = err_more _ _ c.answer_of.result (λ failure. not_written (g.P.Opener.opens c.args.opener.now) _ failure) c.answer_of.ensures.failure
+returns-in-Ok-clause-write g c = err_more _ _ c.answer_of.result (λ failure. not_written (g.P.Opener.opens c.args.opener.now) c.in-Ok.request failure) c.answer_of.ensures.failure
 
 pub returns-in-Ok-clause-failure : goal.returns-in-Ok-clause-failure
 returns-in-Ok-clause-failure g c =

@@ -17,10 +17,11 @@ pub returns : goal.returns
 returns c =
     let found = found_of c.args.found.now in
     record {
-      base = c.get_str.ensures ∙ first_value-rows found (codes "base");
-      makefile = text_is _ _ _ found (codes "makefile") c.unwrap_or.ensures refl c.get_str-2.ensures;
-      listing = text_is _ _ _ found (codes "listing") c.unwrap_or-2.ensures refl c.get_str-3.ensures;
-      root = text_is _ _ _ found (codes "root") c.unwrap_or-3.ensures refl c.get_str-4.ensures;
+      includes = c.get_str.ensures ∙ first_value-rows found (codes "includes");
+      base = c.get_str-2.ensures ∙ first_value-rows found (codes "base");
+      makefile = text_is _ _ _ found (codes "makefile") c.unwrap_or.ensures refl c.get_str-3.ensures;
+      listing = text_is _ _ _ found (codes "listing") c.unwrap_or-2.ensures refl c.get_str-4.ensures;
+      root = text_is _ _ _ found (codes "root") c.unwrap_or-3.ensures refl c.get_str-5.ensures;
       operands = ap texts (c.in_ok-from_slice.ensures.items ∙ ap (λ (x : Bor (List (Bor Text))). x.now) c.unwrap_or-4.ensures) ∙ list_or c.get_strs.result _ refl
           ∙ ap (λ (x : Option (List Text)). unwrap_or x []) (c.get_strs.ensures ∙ raw_values-rows found (codes "operands"));
     }

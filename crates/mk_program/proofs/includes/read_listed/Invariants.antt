@@ -1,0 +1,17 @@
+use Rattle.std.proofs.Common.{◌≡◌, ◌+◌, ◌++◌, ℕ, List, [], Some, length}
+use Rattle.std.specs.Option.{option_map_or}
+use Rattle.mk_text.specs.Blocks.{physical_lines}
+use Rattle.mk_program.specs.Includes.{Pair, pairs_of, shown}
+use Rattle.mk_program.proofs.includes.read_listed.Given as goal
+
+-- the texts so far with those of the rest are all of them, and the opener tells what it told at the start
+abbrev pub invariant-lines : goal.invariant-lines
+invariant-lines g l = record {
+  told : (pairs : List Pair) → pairs_of (g.P.Opener.text l.fn.opener) (physical_lines l.fn.listed) ≡ Some pairs
+      → (more : List Pair) × (pairs_of (g.P.Opener.text l.fn.opener) (option_map_or (λ rest. physical_lines rest.now) l.rest []) ≡ Some more) × (shown l.texts.items ++ more ≡ pairs);
+  same_text : (path : List ℕ) → g.P.Opener.text l.opener path ≡ g.P.Opener.text l.fn.opener path;
+  same_opens : (path : List ℕ) → g.P.Opener.opens l.opener path ≡ g.P.Opener.opens l.fn.opener path;
+}
+
+abbrev pub decreases-lines : goal.decreases-lines
+decreases-lines g l = option_map_or (λ rest. length rest.now + 1) l.rest 0

@@ -1,0 +1,4 @@
+# what this machine has
+CC = cc
+OBJECTS = main.o greet.o
+CFLAGS ?= -O1

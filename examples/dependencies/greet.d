@@ -1,0 +1,1 @@
+greet.o: greet.c greet.h
