@@ -32,14 +32,7 @@ fn book_of(alloc: Global, root: &Root, makefile: &[u8]) -> Result<Rulebook, Halt
     let lines = lines(alloc, makefile)?;
     let mut macros = Macros::new(alloc, &[])?;
     let includes = Includes::none(alloc);
-    read_rules(
-        alloc,
-        &[],
-        lines.as_slice(),
-        &includes,
-        &mut macros,
-        root,
-    )
+    read_rules(alloc, &[], lines.as_slice(), &includes, &mut macros, root)
 }
 
 fn plan_of(
