@@ -1,1 +1,2 @@
 pub mod OrderLines
+pub mod PastTheEnd

@@ -1,7 +1,7 @@
 -- The reports of jobs that are safe and of a race. Every line ends in a newline.
-use Rattle.std.specs.Prelude.{ℕ, ◌≡◌, ◌<◌, ◌+◌, ◌-◌, ◌==◌, ◌&&◌, Bool, List, [], ◌∷◌, ◌++◌, codes, length, take, get_or, nat_lt, if◌then◌else◌}
+use Rattle.std.specs.Prelude.{ℕ, ◌≡◌, ◌+◌, ◌-◌, ◌==◌, ◌&&◌, Bool, List, [], ◌∷◌, ◌++◌, codes, length, take, get_or, nat_lt, if◌then◌else◌}
 use Rattle.std.specs.Fmt.{decimal}
-use Rattle.std.specs.List.{All, flat_map, list_any}
+use Rattle.std.specs.List.{flat_map, list_any}
 use Rattle.mk_name.specs.Shown.{line, shown}
 use Rattle.mk_path.specs.declared.path.Path.{Path}
 use Rattle.mk_path.specs.Paths.{is_over}
@@ -30,7 +30,7 @@ counts_text jobs =
     ++ number_line (codes "idle") (how_many (is_idle jobs) (node_count jobs))
     ++ number_line (codes "waits") jobs.plan.wait_uses
 
--- the names of nodes, each behind a space
+-- the names of nodes, each behind a space; what is no node has none
 abbrev pub name_text : Jobs → ℕ → List ℕ
 name_text jobs n = codes " " ++ shown (name_of jobs n)
 
@@ -45,11 +45,20 @@ order_line jobs path chain = line (codes "order " ++ shown (text_of path) ++ cod
 abbrev pub IsLeastOfChain : Jobs → List ℕ → Path → Type 0
 IsLeastOfChain jobs chain path = IsLeastOverlap (uses_of jobs) (ends_of chain).0 (ends_of chain).1 path
 
--- the line of each chain, in their order, with the least path on which its ends clash
+-- the ends of a chain clash
+abbrev pub EndsClash : Jobs → List ℕ → Type 0
+EndsClash jobs chain = Clash jobs (ends_of chain).0 (ends_of chain).1
+
+-- what is told of a chain: its line, with the least path on which its ends clash; and nothing where they do not clash
+pub record IsOrderText (jobs : Jobs) (chain text : List ℕ) : Type 0 where
+  pub told : EndsClash jobs chain → (path : Path) × IsLeastOfChain jobs chain path × (text ≡ order_line jobs path chain)
+  pub untold : (EndsClash jobs chain → ⊥) → text ≡ []
+
+-- what is told of the chains, in their order
 abbrev pub AreOrderLines : Jobs → List (List ℕ) → List ℕ → Type 0
 AreOrderLines jobs [] text = text ≡ []
-AreOrderLines jobs (chain ∷ chains) text = (path : Path) × IsLeastOfChain jobs chain path
-    × (rest : List ℕ) × AreOrderLines jobs chains rest × (text ≡ order_line jobs path chain ++ rest)
+AreOrderLines jobs (chain ∷ chains) text = (own : List ℕ) × (rest : List ℕ)
+    × IsOrderText jobs chain own × AreOrderLines jobs chains rest × (text ≡ own ++ rest)
 
 -- what stands before the lines of a certificate's chains: the counts, and how many chains there are
 abbrev pub safe_head : Jobs → ℕ → List ℕ
@@ -107,20 +116,3 @@ abbrev pub race_text : Jobs → Trace → List ℕ
 race_text jobs trace =
     line (codes "race") ++ counts_text jobs ++ pair_text jobs trace
     ++ flat_map (time_line jobs) trace.times ++ flat_map (step_line jobs) trace.steps
-
--- all numbers are nodes
-abbrev pub AreNodes : Jobs → List ℕ → Type 0
-AreNodes jobs numbers = All (λ n. n < node_count jobs) numbers
-
--- the numbers of a chain are nodes, and its ends clash
-pub record IsOfClash (jobs : Jobs) (chain : List ℕ) : Type 0 where
-  pub some : 0 < length chain
-  pub nodes : AreNodes jobs chain
-  pub clash : Clash jobs (ends_of chain).0 (ends_of chain).1
-
--- the numbers of a trace are nodes
-pub record IsOfNodes (jobs : Jobs) (trace : Trace) : Type 0 where
-  pub first : trace.first < node_count jobs
-  pub second : trace.second < node_count jobs
-  pub times : All (λ timed. timed.0 < node_count jobs) trace.times
-  pub steps : All (λ step. node_of step < node_count jobs) trace.steps

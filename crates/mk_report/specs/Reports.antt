@@ -1,17 +1,10 @@
 -- The report of an answer.
 use Rattle.std.specs.Prelude.{ℕ, ◌≡◌, Bool, true, false, List}
-use Rattle.std.specs.List.{All}
 use Rattle.mk_name.specs.Shown.{refused_text}
 use Rattle.mk_proof.specs.ProofText.{certificate_text, trace_text}
-use Rattle.mk_report.specs.ReportText.{IsOfClash, IsOfNodes, IsSafeText, race_text}
+use Rattle.mk_report.specs.ReportText.{IsSafeText, race_text}
 use Rattle.mk_report.specs.declared.answer.Answer.{Answer}
 use Rattle.mk_report.specs.declared.answer.Answer.TheVariants.{Safe, Race, Refused}
-
--- an answer can be told: the chains of its certificate are of nodes, and the ends of each clash; or its trace is of nodes
-abbrev pub CanBeTold : Answer → Type 0
-CanBeTold (Safe jobs chains) = All (IsOfClash jobs) chains
-CanBeTold (Race jobs trace) = IsOfNodes jobs trace
-CanBeTold (Refused fault) = Unit {0}
 
 -- the text of an answer: its report; or its proof, where that is asked for and there is one
 abbrev pub IsReport : Answer → Bool → List ℕ → Type 0

@@ -1,8 +1,6 @@
 //! Answers, and their reports.
 ghost use Rattle.std.specs.Prelude.{◌≡◌, IfOk};
-ghost use Rattle.std.specs.List.{All};
-ghost use Rattle.mk_report.specs.ReportText.{IsOfClash, IsOfNodes};
-ghost use Rattle.mk_report.specs.Reports.{CanBeTold, IsReport};
+ghost use Rattle.mk_report.specs.Reports.{IsReport};
 ghost use Rattle.mk_report.specs.declared.answer.Answer.TheVariants as answers;
 
 use crate::race::push_race;
@@ -31,7 +29,6 @@ fn safe_report(
     certificate: &Certificate,
     proof: bool,
 ) -> Result<Vec<u8>, AllocError>
-    requires { All (IsOfClash jobs.now) certificate.now }
     ensures { IfOk result (λ text. IsReport (answers.Safe jobs.now certificate.now) proof text.items) }
 {
     if proof {
@@ -43,13 +40,12 @@ fn safe_report(
 }
 
 /// The report of jobs with this trace, or the text of the trace. The only error is want of memory.
-fn race_report(
+pub fn race_report(
     alloc: Global,
     jobs: &Jobs,
     trace: &Trace,
     proof: bool,
 ) -> Result<Vec<u8>, AllocError>
-    requires { IsOfNodes jobs.now trace.now }
     ensures { IfOk result (λ text. IsReport (answers.Race jobs.now trace.now) proof text.items) }
 {
     if proof {
@@ -61,10 +57,8 @@ fn race_report(
 }
 
 /// The report of an answer (profile); docs/FORMATS.md has the form of its lines. With `proof` it is the text of the
-/// certificate or of the trace instead; what is refused has none, and is told as ever. The numbers of a certificate or of a
-/// trace must be nodes, and the ends of each chain must clash. The only error is want of memory.
+/// certificate or of the trace instead; what is refused has none, and is told as ever. The only error is want of memory.
 pub fn report(alloc: Global, answer: &Answer, proof: bool) -> Result<Vec<u8>, AllocError>
-    requires { CanBeTold answer.now }
     ensures { IfOk result (λ text. IsReport answer.now proof text.items) }
 {
     match answer {

@@ -1,9 +1,7 @@
 //! The report of a race.
-ghost use Rattle.std.specs.Prelude.{ℕ, ◌≡◌, ◌++◌, ◌<◌, OnOk, length};
-ghost use Rattle.std.specs.List.{All, flat_map};
-ghost use Rattle.mk_jobs.specs.Jobs.{node_count};
-ghost use Rattle.mk_proof.specs.Shapes.{node_of};
-ghost use Rattle.mk_report.specs.ReportText.{IsOfNodes, pair_text, race_text, step_line, step_word, time_line};
+ghost use Rattle.std.specs.Prelude.{◌≡◌, ◌++◌, OnOk};
+ghost use Rattle.std.specs.List.{flat_map};
+ghost use Rattle.mk_report.specs.ReportText.{pair_text, race_text, step_line, step_word, time_line};
 
 use crate::counts::push_counts;
 use crate::names::push_name;
@@ -15,9 +13,8 @@ use mk_proof::step::Step;
 use mk_proof::trace::Trace;
 use std::alloc::{AllocError, Global};
 
-/// Puts the line of a time at the end. The node's number must be below the count of nodes. The only error is want of memory.
+/// Puts the line of a time at the end. The only error is want of memory.
 fn push_time(out: &mut Vec<u8>, jobs: &Jobs, node: u32, time: u32) -> Result<(), AllocError>
-    requires { node < node_count jobs.now }
     ensures { OnOk result (out.new.items ≡ out.old.items ++ time_line jobs.now (node, time)) }
 {
     let mut buffer = Buffer::new();
@@ -29,9 +26,8 @@ fn push_time(out: &mut Vec<u8>, jobs: &Jobs, node: u32, time: u32) -> Result<(),
     Ok(())
 }
 
-/// Puts the lines of times at the end. Their numbers must be below the count of nodes. The only error is want of memory.
+/// Puts the lines of times at the end. The only error is want of memory.
 fn push_times(out: &mut Vec<u8>, jobs: &Jobs, times: &[(u32, u32)]) -> Result<(), AllocError>
-    requires { All (λ timed. timed.0 < node_count jobs.now) times.now }
     ensures { OnOk result (out.new.items ≡ out.old.items ++ flat_map (time_line jobs.now) times.now) }
 {
     for timed in times {
@@ -52,9 +48,8 @@ fn step_word(step: Step) -> &'static str
     }
 }
 
-/// Puts the line of a step at the end. Its node's number must be below the count of nodes. The only error is want of memory.
+/// Puts the line of a step at the end. The only error is want of memory.
 fn push_step(out: &mut Vec<u8>, jobs: &Jobs, step: Step) -> Result<(), AllocError>
-    requires { node_of step < node_count jobs.now }
     ensures { OnOk result (out.new.items ≡ out.old.items ++ step_line jobs.now step) }
 {
     out.extend_from_slice(step_word(step).as_bytes())?;
@@ -63,10 +58,8 @@ fn push_step(out: &mut Vec<u8>, jobs: &Jobs, step: Step) -> Result<(), AllocErro
     Ok(())
 }
 
-/// Puts the lines of steps at the end. Their nodes' numbers must be below the count of nodes. The only error is want of
-/// memory.
+/// Puts the lines of steps at the end. The only error is want of memory.
 fn push_steps(out: &mut Vec<u8>, jobs: &Jobs, steps: &[Step]) -> Result<(), AllocError>
-    requires { All (λ step. node_of step < node_count jobs.now) steps.now }
     ensures { OnOk result (out.new.items ≡ out.old.items ++ flat_map (step_line jobs.now) steps.now) }
 {
     for step in steps {
@@ -75,11 +68,8 @@ fn push_steps(out: &mut Vec<u8>, jobs: &Jobs, steps: &[Step]) -> Result<(), Allo
     Ok(())
 }
 
-/// Puts the lines of a trace's path and of its two nodes at the end. Their numbers must be below the count of nodes. The only
-/// error is want of memory.
+/// Puts the lines of a trace's path and of its two nodes at the end. The only error is want of memory.
 fn push_pair(out: &mut Vec<u8>, alloc: Global, jobs: &Jobs, trace: &Trace) -> Result<(), AllocError>
-    requires first { trace.now.first < node_count jobs.now }
-    requires second { trace.now.second < node_count jobs.now }
     ensures { OnOk result (out.new.items ≡ out.old.items ++ pair_text jobs.now trace.now) }
 {
     let path = spelled_path(alloc, trace.path())?;
@@ -91,15 +81,14 @@ fn push_pair(out: &mut Vec<u8>, alloc: Global, jobs: &Jobs, trace: &Trace) -> Re
 }
 
 /// Puts the report of a race at the end (profile): the counts, the path on which two nodes clash, the two with what each
-/// does with it, times of files, and the steps after which both run. The numbers of the trace must be below the count of
-/// nodes. The only error is want of memory.
+/// does with it, times of files, and the steps after which both run. A number of the trace that is no node has no name there.
+/// The only error is want of memory.
 pub fn push_race(
     out: &mut Vec<u8>,
     alloc: Global,
     jobs: &Jobs,
     trace: &Trace,
 ) -> Result<(), AllocError>
-    requires { IsOfNodes jobs.now trace.now }
     ensures { OnOk result (out.new.items ≡ out.old.items ++ race_text jobs.now trace.now) }
 {
     out.extend_from_slice(b"race\n")?;

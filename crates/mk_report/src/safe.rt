@@ -1,8 +1,9 @@
 //! The report of jobs that are safe.
-ghost use Rattle.std.specs.Prelude.{ℕ, ◌≡◌, ◌++◌, List, OnOk};
-ghost use Rattle.std.specs.List.{All};
-ghost use Rattle.mk_path.specs.declared.path.Path.{Path};
-ghost use Rattle.mk_report.specs.ReportText.{AreNodes, AreOrderLines, IsLeastOfChain, IsOfClash, IsSafeText, order_line, safe_head};
+ghost use Rattle.std.specs.Prelude.{ℕ, ◌≡◌, ◌++◌, ◌<◌, ◌↔◌, IfSome, IsSome, List, OnOk, length};
+ghost use Rattle.mk_path.specs.Uses.{IsLeastOverlap};
+ghost use Rattle.mk_jobs.specs.Jobs.{Clash};
+ghost use Rattle.mk_jobs.specs.Reaching.{uses_of};
+ghost use Rattle.mk_report.specs.ReportText.{AreOrderLines, IsOrderText, IsSafeText, order_line, safe_head};
 
 use crate::counts::{push_counts, push_number};
 use crate::names::push_names;
@@ -13,8 +14,7 @@ use mk_path::spelling::text_of;
 use mk_proof::certificate::Certificate;
 use std::alloc::{AllocError, Global};
 
-/// Puts the line of a chain at the end: a path, and the names of the chain's nodes. Their numbers must be below the count of
-/// nodes. The only error is want of memory.
+/// Puts the line of a chain at the end: a path, and the names of the chain's nodes. The only error is want of memory.
 fn push_order(
     out: &mut Vec<u8>,
     alloc: Global,
@@ -22,7 +22,6 @@ fn push_order(
     path: &Path,
     chain: &[u32],
 ) -> Result<(), AllocError>
-    requires { AreNodes jobs.now chain.now }
     ensures { OnOk result (out.new.items ≡ out.old.items ++ order_line jobs.now path.now chain.now) }
 {
     let spelled = text_of(alloc, path)?;
@@ -44,18 +43,31 @@ fn push_head(out: &mut Vec<u8>, jobs: &Jobs, pairs: usize) -> Result<(), AllocEr
     push_number(out, b"pairs", pairs as u64)
 }
 
-/// Puts the line of a chain at the end, with the least path on which its ends clash. The only error is want of memory.
+/// The least path on which two nodes clash, if they do. What is no node clashes with none.
+fn clash_of(jobs: &Jobs, a: u32, b: u32) -> Option<&Path>
+    ensures least { IfSome result (λ path. IsLeastOverlap (uses_of jobs.now) a b path.now) }
+    ensures clash { IsSome result ↔ Clash jobs.now a b }
+{
+    let count = jobs.count();
+    if a >= count || b >= count {
+        return None;
+    }
+    jobs.clash(a, b)
+}
+
+/// Puts the line of a chain at the end, with the least path on which its ends clash; none where they do not clash. The only
+/// error is want of memory.
 fn push_chain(
     out: &mut Vec<u8>,
     alloc: Global,
     jobs: &Jobs,
     chain: &[u32],
 ) -> Result<(), AllocError>
-    requires { IsOfClash jobs.now chain.now }
-    ensures { OnOk result ((path : Path) × IsLeastOfChain jobs.now chain.now path
-        × (out.new.items ≡ out.old.items ++ order_line jobs.now path chain.now)) }
+    requires { 0 < length chain.now }
+    ensures { OnOk result ((text : List ℕ) × IsOrderText jobs.now chain.now text
+        × (out.new.items ≡ out.old.items ++ text)) }
 {
-    match jobs.clash(chain[0], chain[chain.len() - 1]) {
+    match clash_of(jobs, chain[0], chain[chain.len() - 1]) {
         Some(path) => push_order(out, alloc, jobs, path, chain),
         None => Ok(()),
     }
@@ -68,7 +80,6 @@ fn push_chains(
     jobs: &Jobs,
     certificate: &Certificate,
 ) -> Result<(), AllocError>
-    requires { All (IsOfClash jobs.now) certificate.now }
     ensures { OnOk result ((lines : List ℕ) × AreOrderLines jobs.now certificate.now lines
         × (out.new.items ≡ out.old.items ++ lines)) }
 {
@@ -79,15 +90,13 @@ fn push_chains(
 }
 
 /// Puts the report of jobs with this certificate at the end (profile): the counts, how many chains there are, and for each
-/// chain the least path on which its ends clash and the names of its nodes. The numbers of a chain must be nodes, and its
-/// ends must clash. The only error is want of memory.
+/// chain whose ends clash the least path on which they do and the names of its nodes. The only error is want of memory.
 pub fn push_safe(
     out: &mut Vec<u8>,
     alloc: Global,
     jobs: &Jobs,
     certificate: &Certificate,
 ) -> Result<(), AllocError>
-    requires { All (IsOfClash jobs.now) certificate.now }
     ensures { OnOk result ((text : List ℕ) × IsSafeText jobs.now certificate.now text
         × (out.new.items ≡ out.old.items ++ text)) }
 {

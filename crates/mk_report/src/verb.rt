@@ -1,6 +1,5 @@
 //! What a node does with a path.
-ghost use Rattle.std.specs.Prelude.{◌≡◌, ◌++◌, ◌<◌, IfOk, OnOk};
-ghost use Rattle.mk_jobs.specs.Jobs.{node_count};
+ghost use Rattle.std.specs.Prelude.{◌≡◌, ◌++◌, IfOk, OnOk};
 ghost use Rattle.mk_path.specs.Paths as paths;
 ghost use Rattle.mk_report.specs.ReportText.{racer_line, spelled_path, spells_tree, verb_text, writes_whole};
 
@@ -40,20 +39,20 @@ fn is_over(root: &Root, upper: &Path, lower: &Path) -> bool
     upper == lower || (upper.tree && is_covered(root, from_ref(upper), &lower.name))
 }
 
-/// Whether a path that a node writes covers the whole of this one. Its number must be below the count of nodes.
+/// Whether a path that a node writes covers the whole of this one. What is no node writes nothing.
 fn writes_whole(jobs: &Jobs, number: u32, path: &Path) -> bool
-    requires { number < node_count jobs.now }
     ensures { result ≡ writes_whole jobs.now number path.now }
 {
+    if number >= jobs.count() {
+        return false;
+    }
     let root = jobs.root();
     let writes = jobs.writes(number);
     writes.iter().any(|written| is_over(root, written, path))
 }
 
-/// What a node does with a path: `writes` where a path that it writes covers the whole of it, else `reads`. Its number must
-/// be below the count of nodes.
+/// What a node does with a path: `writes` where a path that it writes covers the whole of it, else `reads`.
 pub fn verb(jobs: &Jobs, number: u32, path: &Path) -> &'static str
-    requires { number < node_count jobs.now }
     ensures { result.now ≡ verb_text jobs.now number path.now }
 {
     if writes_whole(jobs, number, path) {
@@ -63,8 +62,8 @@ pub fn verb(jobs: &Jobs, number: u32, path: &Path) -> &'static str
     }
 }
 
-/// Puts the line of a node of a race at the end: a word, the node's name and what it does with the path. Its number must be
-/// below the count of nodes. The only error is want of memory.
+/// Puts the line of a node of a race at the end: a word, the node's name and what it does with the path. The only error is
+/// want of memory.
 pub(crate) fn push_racer(
     out: &mut Vec<u8>,
     jobs: &Jobs,
@@ -72,7 +71,6 @@ pub(crate) fn push_racer(
     number: u32,
     path: &Path,
 ) -> Result<(), AllocError>
-    requires { number < node_count jobs.now }
     ensures { OnOk result (out.new.items ≡ out.old.items ++ racer_line jobs.now word.now number path.now) }
 {
     out.extend_from_slice(word)?;
