@@ -8,7 +8,7 @@ use Rattle.mk_name.specs.Told.{Told}
 use Rattle.mk_text.specs.Device.{AppendsBeginning}
 use Rattle.mk_race.specs.Played.{IsPlayed}
 use Rattle.mk_race.specs.Stages.{IsPlanned, Texts}
-use Rattle.mk_race.specs.Verified.{IsVerified}
+use Rattle.mk_race.specs.Verified.{IsVerified, ProofShows}
 use Rattle.mk_race.specs.declared.replaying.Played.{Played}
 use Rattle.mk_race.specs.declared.replaying.Played.TheVariants.{Allowed, NotAllowed}
 use Rattle.mk_race.specs.declared.planning.Planned.{Planned}
@@ -51,9 +51,10 @@ IsReplayAnswer texts footprints log limit tie statuses.Failed text = ⊥
 abbrev pub verdict_text : Bool → List ℕ
 verdict_text accepted = line (if accepted then codes "accepted" else codes "not accepted")
 
--- that the proof is accepted, or that it is not, or the report of the fault that refuses the texts
+-- that the proof is accepted, where what it shows is so; or that it is not; or the report of the fault that refuses the texts
 abbrev pub IsVerifyAnswer : Texts → List ℕ → List ℕ → Status → List ℕ → Type 0
-IsVerifyAnswer texts footprints proof statuses.Done text = IsVerified texts footprints proof (Ok true) × (text ≡ verdict_text true)
+IsVerifyAnswer texts footprints proof statuses.Done text =
+    IsVerified texts footprints proof (Ok true) × ProofShows texts footprints proof × (text ≡ verdict_text true)
 IsVerifyAnswer texts footprints proof statuses.No text = IsVerified texts footprints proof (Ok false) × (text ≡ verdict_text false)
 IsVerifyAnswer texts footprints proof statuses.Refused text =
     (told : Told) × IsVerified texts footprints proof (Err told) × (text ≡ refused_text told)

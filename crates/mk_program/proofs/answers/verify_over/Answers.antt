@@ -11,4 +11,4 @@ returns-in-Err-Fault-clause-answer c =
 pub returns-in-Ok-clause-answer : goal.returns-in-Ok-clause-answer
 returns-in-Ok-clause-answer c =
     IfOk-weaker c.verdict_answer.result _ _ (λ answer h. verdict_is (texts_of c.args.input.now) c.args.input.now.footprints.now c.args.proof.now
-    c.in-Ok.accepted _ _ c.in-Ok.ensures h.0 h.1) c.verdict_answer.ensures
+    c.in-Ok.accepted _ _ c.in-Ok.ensures.answer c.in-Ok.ensures.shows h.0 h.1) c.verdict_answer.ensures
