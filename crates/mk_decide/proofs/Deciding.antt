@@ -8,9 +8,13 @@ use Rattle.mk_jobs.proofs.JobsLemmas.{shape_valid}
 use Rattle.mk_jobs.proofs.Reaching.{turned_clash}
 use Rattle.mk_sched.specs.Laws.{IsDeterminate}
 use Rattle.mk_sched.proofs.Determinate.{headline}
+use Rattle.mk_cert.specs.Sure.{IsSure}
+use Rattle.mk_cert.specs.Traces.{TraceHolds}
+use Rattle.mk_cert.proofs.Overlapping.{of_race}
+use Rattle.mk_cert.proofs.Sound.{holds}
 use Rattle.mk_decide.specs.declared.decision.Verdict.{Verdict}
 use Rattle.mk_decide.specs.declared.decision.Verdict.TheVariants.{Safe, Race}
-use Rattle.mk_decide.specs.Decisions.{IsSafe, IsVerdict}
+use Rattle.mk_decide.specs.Decisions.{IfRace, IsSafe, IsVerdict}
 use Rattle.mk_decide.specs.Pairs.{ArePairs}
 
 -- where all clashing pairs are in order, the jobs are race-free
@@ -24,4 +28,13 @@ ordered_free jobs pairs are ordered a b clash = elim (cases_order a b) [
 -- safe jobs are determinate
 pub safe_determinate : (jobs : Jobs) (verdict : Verdict) → IsWellFormed jobs → IsVerdict jobs verdict → IsSafe verdict → IsDeterminate jobs
 safe_determinate jobs (Safe chains) shape is safe = headline jobs (shape_valid shape) is.race_free
-safe_determinate jobs (Race a b) shape is safe = absurd safe
+safe_determinate jobs (Race trace) shape is safe = absurd safe
+
+-- the trace of a race is sure, so it holds
+pub race_sure : (jobs : Jobs) (verdict : Verdict) → IsWellFormed jobs → IsVerdict jobs verdict → IfRace verdict (IsSure jobs)
+race_sure jobs (Safe chains) shape is = tt
+race_sure jobs (Race trace) shape is = of_race jobs trace shape (shape_valid shape) is.race
+
+pub race_holds : (jobs : Jobs) (verdict : Verdict) → IsWellFormed jobs → IsVerdict jobs verdict → IfRace verdict (TraceHolds jobs)
+race_holds jobs (Safe chains) shape is = tt
+race_holds jobs (Race trace) shape is = holds jobs trace (shape_valid shape) (of_race jobs trace shape (shape_valid shape) is.race)

@@ -4,3 +4,4 @@ pub mod Deciding
 pub mod Finding
 pub mod Marked
 pub mod Paired
+pub mod Tracing

@@ -3,16 +3,20 @@ ghost use Rattle.std.specs.Prelude.{ℕ, ◌≡◌, ◌≤◌, Err, IfErr, IfOk,
 ghost use Rattle.mk_name.specs.Gives.{HaltsAmong};
 ghost use Rattle.mk_jobs.specs.Shape.{IsWellFormed};
 ghost use Rattle.mk_sched.specs.Laws.{IsDeterminate};
-ghost use Rattle.mk_decide.specs.Decisions.{IsSafe, IsVerdict};
+ghost use Rattle.mk_cert.specs.Sure.{IsSure};
+ghost use Rattle.mk_cert.specs.Traces.{TraceHolds};
+ghost use Rattle.mk_decide.specs.Decisions.{IfRace, IsSafe, IsVerdict};
 ghost use Rattle.mk_decide.specs.Pairs.{ArePairs, HasManyPairs, pair_limit, too_many};
 
 use crate::chains::{certificate_of, first_race};
 use crate::pairs::clashing_pairs;
+use crate::traces::trace_of_race;
 use mk_jobs::jobs::Jobs;
 use mk_name::fault::Halt;
 use mk_order::before::Before;
 use mk_order::rows::Rows;
 use mk_proof::certificate::Certificate;
+use mk_proof::trace::Trace;
 use std::alloc::{AllocError, Global};
 
 /// What is decided about jobs.
@@ -21,18 +25,22 @@ pub enum Verdict {
     /// They are race-free. The certificate has one chain for each pair of nodes that clash, from the one to the other, and no
     /// other chain.
     Safe(Certificate),
-    /// These two nodes race, the smaller number first: they clash, and neither is before the other. No other race precedes
-    /// them, by first and then second number.
-    Race(u32, u32),
+    /// The two nodes of the trace race: they clash, and neither is before the other. No other race precedes theirs, by first and
+    /// then second number, and the path is the least on which they clash. By the times of the trace node n of N is N - n old,
+    /// where it is listed; its steps let the nodes before one of the two pass, in rising order, and then start both.
+    Race(Trace),
 }
 
-/// Decides whether jobs are race-free (profile); if they are, they are determinate. `before` must speak of the same jobs. Where
+/// Decides whether jobs are race-free (profile). If they are, they are determinate; if not, the trace holds, and is one that
+/// `accept_trace` takes. `before` must speak of the same jobs. Where
 /// more than `PAIR_LIMIT` pairs of nodes clash the fault is `TooManyPairs` in the jobs, at place 0. It goes over no pairs
 /// but those that clash.
 pub fn decide_with<B: Before>(alloc: Global, jobs: &Jobs, before: &mut B) -> Result<Verdict, Halt>
     requires same { B.jobs before.old ≡ jobs.now }
     ensures answer { IfOk result (IsVerdict jobs.now) }
     ensures determinate { IfOk result (λ verdict. IsSafe verdict → IsDeterminate jobs.now) }
+    ensures holds { IfOk result (λ verdict. IfRace verdict (TraceHolds jobs.now)) }
+    ensures sure { IfOk result (λ verdict. IfRace verdict (IsSure jobs.now)) }
     ensures many { IfErr result (λ halt.
         HaltsAmong {Y = ℕ} halt (λ answer. (answer ≡ Err too_many) × HasManyPairs jobs.now)) }
     ensures keeps { IfOk result (λ verdict. B.jobs before.new ≡ B.jobs before.old) }
@@ -58,7 +66,8 @@ fn verdict_of<B: Before>(
     ensures keeps { IfOk result (λ verdict. B.jobs before.new ≡ B.jobs before.old) }
 {
     if let Some((a, b)) = first_race(jobs, before, pairs) {
-        return Ok(Verdict::Race(a, b));
+        let trace = trace_of_race(alloc, jobs, before, a, b)?;
+        return Ok(Verdict::Race(trace));
     }
     let chains = certificate_of(alloc, jobs, before, pairs)?;
     Ok(Verdict::Safe(chains))
@@ -68,6 +77,8 @@ fn verdict_of<B: Before>(
 pub fn decide(alloc: Global, jobs: &Jobs) -> Result<Verdict, Halt>
     ensures answer { IfOk result (IsVerdict jobs.now) }
     ensures determinate { IfOk result (λ verdict. IsSafe verdict → IsDeterminate jobs.now) }
+    ensures holds { IfOk result (λ verdict. IfRace verdict (TraceHolds jobs.now)) }
+    ensures sure { IfOk result (λ verdict. IfRace verdict (IsSure jobs.now)) }
     ensures many { IfErr result (λ halt.
         HaltsAmong {Y = ℕ} halt (λ answer. (answer ≡ Err too_many) × HasManyPairs jobs.now)) }
 {

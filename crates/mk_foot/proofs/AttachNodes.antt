@@ -6,6 +6,7 @@ use Rattle.std.specs.Option.{option_map_or, option_map}
 use Rattle.std.proofs.lemmas.Bool.{and_parts, both_ways, cases_Bool, cases_lt, cond-true, cond-false, eq-eqb, or_cases, or_right, or_left}
 use Rattle.std.proofs.lemmas.List.{drop_all, drop_more, take_more, take_all, map_push, get_or-map, length-map}
 use Rattle.std.proofs.lemmas.List.FromFn.{get_or-enumerate_from, length-enumerate_from}
+use Rattle.std.proofs.lemmas.List.Elements.{All-nil}
 use Rattle.std.proofs.lemmas.Option.{unwrap_or-slice_get, slice_get_past}
 use Rattle.std.specs.Global.{Global}
 use Rattle.std.specs.List.Sorted.{IsStrictlySortedBy}
@@ -26,7 +27,7 @@ use Rattle.mk_foot.specs.Attached.{HasAll, attached_beside, first_fault, footpri
 use Rattle.mk_foot.specs.Footprints.{Footprint, Footprints, footprint_at, no_footprint}
 use Rattle.mk_jobs.specs.Jobs.{Jobs, IsPrerequisite, node_at, node_count, name_of, is_live, reads_of, writes_of, prerequisites_of, may_write}
 use Rattle.mk_jobs.specs.Recipes.{is_live_node}
-use Rattle.mk_jobs.specs.Shape.{IsRising, IsWellFormed}
+use Rattle.mk_jobs.specs.Shape.{AreNamed, IsRising, IsWellFormed}
 use Rattle.mk_jobs.proofs.Accessors.{live_is, name_there, name_count}
 use Rattle.mk_jobs.proofs.JobsLemmas.{live_node}
 
@@ -46,7 +47,7 @@ halts_along halts.Memory small big same h = tt
 halts_along (halts.Fault fault) small big same h = same fault h
 
 -- what is known before the node of a number: the first fault is among the nodes that are left, and those before have no fault
--- and rising rows
+-- and rising rows of paths that have names
 pub record RowsTo (plan : Plan) (owned : List Name) (footprints : Footprints) (n : ℕ) (reads writes : List (List Path)) : Type 0 where
   pub first : slice_get (filter_map (node_fault owned footprints) (drop n (enumerate_from 0 plan.nodes))) 0 ≡ first_fault plan owned footprints
   pub reads_are : reads ≡ map (λ (node : Node). (footprint_of footprints node).reads) (take n plan.nodes)
@@ -54,6 +55,8 @@ pub record RowsTo (plan : Plan) (owned : List Name) (footprints : Footprints) (n
   pub good : (k : ℕ) → k < n → node_fault owned footprints (k, get_or plan.nodes k nobody) ≡ None
   pub reads_rise : (k : ℕ) → k < n → IsRising (footprint_of footprints (get_or plan.nodes k nobody)).reads
   pub writes_rise : (k : ℕ) → k < n → IsRising (footprint_of footprints (get_or plan.nodes k nobody)).writes
+  pub reads_named : (k : ℕ) → k < n → AreNamed (footprint_of footprints (get_or plan.nodes k nobody)).reads
+  pub writes_named : (k : ℕ) → k < n → AreNamed (footprint_of footprints (get_or plan.nodes k nobody)).writes
 
 pub rows_none : (plan : Plan) (owned : List Name) (footprints : Footprints) → RowsTo plan owned footprints 0 [] []
 rows_none plan owned footprints = record {
@@ -63,6 +66,8 @@ rows_none plan owned footprints = record {
   good = λ k below. absurd (omega (arith, below));
   reads_rise = λ k below. absurd (omega (arith, below));
   writes_rise = λ k below. absurd (omega (arith, below));
+  reads_named = λ k below. absurd (omega (arith, below));
+  writes_named = λ k below. absurd (omega (arith, below));
 }
 
 module _ (plan : Plan) (owned : List Name) (footprints : Footprints) (n : ℕ) (within : n < length plan.nodes) (reads writes : List (List Path)) (before : RowsTo plan owned footprints n reads writes) where
@@ -94,9 +99,9 @@ module _ (plan : Plan) (owned : List Name) (footprints : Footprints) (n : ℕ) (
 
   -- one row more
   pub rows_more : (row : Footprint) → node_answer owned footprints (n, get_or plan.nodes n nobody) ≡ Ok row
-      → IsRising row.reads → IsRising row.writes → RowsTo plan owned footprints (n + 1) (reads ++ row.reads ∷ []) (writes ++ row.writes ∷ [])
+      → IsRising row.reads → IsRising row.writes → AreNamed row.reads → AreNamed row.writes → RowsTo plan owned footprints (n + 1) (reads ++ row.reads ∷ []) (writes ++ row.writes ∷ [])
   unfolding fault_in node
-  rows_more row e reads_rise writes_rise =
+  rows_more row e reads_rise writes_rise reads_named writes_named =
       let parts = fault_none (node_fault owned footprints (n, get_or plan.nodes n nobody)) _ row e in
       let one : take (n + 1) plan.nodes ≡ take n plan.nodes ++ get_or plan.nodes n nobody ∷ [] = take_more plan.nodes n nobody within in
       record {
@@ -110,6 +115,10 @@ module _ (plan : Plan) (owned : List Name) (footprints : Footprints) (n : ℕ) (
             (subst (λ (f : Footprint). IsRising f.reads) (sym parts.1) reads_rise) k below;
         writes_rise = λ k below. by_place (λ k. IsRising (footprint_of footprints (get_or plan.nodes k nobody)).writes) before.writes_rise
             (subst (λ (f : Footprint). IsRising f.writes) (sym parts.1) writes_rise) k below;
+        reads_named = λ k below. by_place (λ k. AreNamed (footprint_of footprints (get_or plan.nodes k nobody)).reads) before.reads_named
+            (subst (λ (f : Footprint). AreNamed f.reads) (sym parts.1) reads_named) k below;
+        writes_named = λ k below. by_place (λ k. AreNamed (footprint_of footprints (get_or plan.nodes k nobody)).writes) before.writes_named
+            (subst (λ (f : Footprint). AreNamed f.writes) (sym parts.1) writes_named) k below;
       }
     where
       by_place : (P : ℕ → Type 0) → ((k : ℕ) → k < n → P k) → P n → (k : ℕ) → k < n + 1 → P k
@@ -145,7 +154,9 @@ module _ (plan : Plan) (owned : List Name) (footprints : Footprints)
     (distinct : IsDistinct same_name (names_of plan.nodes)) (rising : NeedsStandBefore plan.nodes) (whole : HasAll owned (names_of plan.nodes))
     (good : (k : ℕ) → k < length plan.nodes → node_fault owned footprints (k, get_or plan.nodes k nobody) ≡ None)
     (reads_rise : (k : ℕ) → k < length plan.nodes → IsRising (footprint_of footprints (get_or plan.nodes k nobody)).reads)
-    (writes_rise : (k : ℕ) → k < length plan.nodes → IsRising (footprint_of footprints (get_or plan.nodes k nobody)).writes) where
+    (writes_rise : (k : ℕ) → k < length plan.nodes → IsRising (footprint_of footprints (get_or plan.nodes k nobody)).writes)
+    (reads_named : (k : ℕ) → k < length plan.nodes → AreNamed (footprint_of footprints (get_or plan.nodes k nobody)).reads)
+    (writes_named : (k : ℕ) → k < length plan.nodes → AreNamed (footprint_of footprints (get_or plan.nodes k nobody)).writes) where
   jobs : Jobs
   jobs = jobs_with footprints plan
 
@@ -294,6 +305,14 @@ module _ (plan : Plan) (owned : List Name) (footprints : Footprints)
       | inl below ↦ subst IsRising (sym (writes_at n below)) (writes_rise n below)
       | inr past ↦ subst IsRising (sym (writes_past n past)) rising_nil
     ];
+    reads_named = λ n. elim (cases_lt n (length plan.nodes)) [
+      | inl below ↦ subst AreNamed (sym (reads_at n below)) (reads_named n below)
+      | inr past ↦ subst AreNamed (sym (reads_past n past)) (All-nil _)
+    ];
+    writes_named = λ n. elim (cases_lt n (length plan.nodes)) [
+      | inl below ↦ subst AreNamed (sym (writes_at n below)) (writes_named n below)
+      | inr past ↦ subst AreNamed (sym (writes_past n past)) (All-nil _)
+    ];
     no_reads = λ n idle. elim (cases_lt n (length plan.nodes)) [
       | inl below ↦ reads_at n below ∙ ap (λ (f : Footprint). f.reads) (idle_nothing n idle)
       | inr past ↦ reads_past n past
@@ -322,7 +341,9 @@ rows_shape plan owned footprints n reads writes past few few_edges distinct risi
     shape_is plan owned footprints few few_edges distinct rising whole
     (λ k below. rows.good k (omega (arith, below, past)))
     (λ k below. rows.reads_rise k (omega (arith, below, past)))
-    (λ k below. rows.writes_rise k (omega (arith, below, past))) in
+    (λ k below. rows.writes_rise k (omega (arith, below, past)))
+    (λ k below. rows.reads_named k (omega (arith, below, past)))
+    (λ k below. rows.writes_named k (omega (arith, below, past))) in
     subst IsWellFormed (λ i. record {
       plan = plan;
       root = footprints.root;

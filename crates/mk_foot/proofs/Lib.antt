@@ -1,5 +1,6 @@
 pub mod AttachNodes
 pub mod LineLemmas
+pub mod Named
 pub mod OneList
 pub mod OwnedNames
 pub mod ReadLines

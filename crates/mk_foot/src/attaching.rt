@@ -8,7 +8,7 @@ ghost use Rattle.mk_name.specs.declared.fault.Halt.TheVariants as halts;
 ghost use Rattle.mk_rules.specs.Book.{targets_of};
 ghost use Rattle.mk_jobs.specs.Plan.{names_of, nobody};
 ghost use Rattle.mk_jobs.specs.Rows.{with_rows};
-ghost use Rattle.mk_jobs.specs.Shape.{IsRising, IsWellFormed};
+ghost use Rattle.mk_jobs.specs.Shape.{AreNamed, IsRising, IsWellFormed};
 ghost use Rattle.mk_foot.specs.Attached as spec;
 
 use crate::footprints::{Footprint, Footprints, in_order};
@@ -138,6 +138,7 @@ fn row_of(
     requires rising { IsStrictlySortedBy (slice_cmp nat_cmp) (map (λ name. name.now) owned.now) }
     ensures answer { Gives result (spec.node_answer (map (λ name. name.now) owned.now) footprints.now (n, get_or plan.now.nodes n nobody)) }
     ensures rising { IfOk result (λ row. IsRising row.reads × IsRising row.writes) }
+    ensures named { IfOk result (λ row. AreNamed row.reads × AreNamed row.writes) }
 {
     if !is_live(plan, n) {
         return Ok(Row {
@@ -164,6 +165,7 @@ fn live_row(
     requires { IsStrictlySortedBy (slice_cmp nat_cmp) (map (λ name. name.now) owned.now) }
     ensures answer { Gives result (spec.live_answer root.now (map (λ name. name.now) owned.now) n own.now footprint.now) }
     ensures rising { IfOk result (λ row. IsRising row.reads × IsRising row.writes) }
+    ensures named { IfOk result (λ row. AreNamed row.reads × AreNamed row.writes) }
 {
     let writes = in_order(alloc, &footprint.writes)?;
     if let Some(other) = least_covered(root, writes.as_slice(), owned, own) {

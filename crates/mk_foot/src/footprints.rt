@@ -21,11 +21,14 @@ pub(crate) struct Footprint {
 }
 
 impl Model for Footprint {
+    ghost use Rattle.mk_jobs.specs.Shape.{AreNamed};
     ghost use Rattle.mk_foot.specs.Footprints as spec;
 
     ghost Value = { spec.Footprint };
 
     ghost view = { λ a. record { reads = a.reads.keys; writes = a.writes.keys } };
+
+    ghost invariant = { λ a. AreNamed a.reads.keys × AreNamed a.writes.keys };
 }
 
 /// What the recipe of each target reads and writes, below one root. A target has a footprint where some line names it.

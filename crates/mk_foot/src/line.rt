@@ -21,6 +21,7 @@ pub(crate) struct Line {
 }
 
 impl Model for Line {
+    ghost use Rattle.mk_jobs.specs.Shape.{AreNamed};
     ghost use Rattle.mk_foot.specs.Lines as spec;
 
     ghost Value = { spec.Line };
@@ -30,6 +31,8 @@ impl Model for Line {
       reads = a.reads.items;
       writes = a.writes.items;
     } };
+
+    ghost invariant = { λ a. AreNamed a.reads.items × AreNamed a.writes.items };
 }
 
 /// Whether the last byte is a slash.

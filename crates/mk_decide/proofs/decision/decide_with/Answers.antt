@@ -1,5 +1,11 @@
-use Rattle.mk_decide.proofs.Deciding.{safe_determinate}
+use Rattle.mk_decide.proofs.Deciding.{race_holds, race_sure, safe_determinate}
 use Rattle.mk_decide.proofs.decision.decide_with.Goals as goal
 
 pub returns-clause-determinate : goal.returns-clause-determinate
 returns-clause-determinate g c = safe_determinate c.args.jobs.now c.in_ok-verdict.verdict c.count-count.ensures.shape c.in_ok-verdict.ensures.answer
+
+pub returns-clause-holds : goal.returns-clause-holds
+returns-clause-holds g c = race_holds c.args.jobs.now c.in_ok-verdict.verdict c.count-count.ensures.shape c.in_ok-verdict.ensures.answer
+
+pub returns-clause-sure : goal.returns-clause-sure
+returns-clause-sure g c = race_sure c.args.jobs.now c.in_ok-verdict.verdict c.count-count.ensures.shape c.in_ok-verdict.ensures.answer

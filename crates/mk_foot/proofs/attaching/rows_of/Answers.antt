@@ -21,7 +21,7 @@ pub loop-n-preserved : goal.loop-n-preserved
 loop-n-preserved c =
     let within = subst (λ k. c.loop-n.n < k) c.count-n-end.ensures.count c.loop-n-test.true in
     let more = rows_more c.args.plan.now (map (λ name. name.now) c.args.owned.now) c.args.footprints.now c.loop-n.n within _ _ c.loop-n.invariant c.in_ok-row.row
-    c.in_ok-row.ensures.answer c.in_ok-row.ensures.rising.0 c.in_ok-row.ensures.rising.1 in
+    c.in_ok-row.ensures.answer c.in_ok-row.ensures.rising.0 c.in_ok-row.ensures.rising.1 c.in_ok-row.ensures.named.0 c.in_ok-row.ensures.named.1 in
     let R : ℕ → List (List Path) → List (List Path) → Type 0 = RowsTo c.args.plan.now (map (λ name. name.now) c.args.owned.now) c.args.footprints.now in
     subst (λ (reads : List (List Path)). R (c.loop-n.n + 1) reads (map (λ row. row.items) c.push-in-loop-n.new.self.items))
     (row_pushed c.loop-n.reads.items c.push.new.self.items c.row.inside.reads c.in_ok-row.row.reads c.in_ok-push.ensures.items (ap (λ (f : Footprint). f.reads) c.row.view_is))

@@ -2,9 +2,17 @@ use Rattle.std.proofs.Common.{◌≡◌, ◌∷◌, [], ◌++◌, ap, ◌∙◌,
 use Rattle.std.specs.Prelude.{unwrap_or}
 use Rattle.mk_foot.specs.Lines.{Line}
 use Rattle.mk_foot.specs.Footprints.{AreFootprints, ByTarget, Footprint, Footprints, Unites, footprint_in, no_footprint}
+use Rattle.mk_jobs.specs.Shape.{AreNamed}
+use Rattle.mk_foot.proofs.Named.{more_named}
 use Rattle.mk_foot.proofs.Uniting.{unites_more, with_more}
 use Rattle.mk_foot.proofs.footprints.Footprints.add.Goals as goal
 use Rattle.mk_foot.proofs.footprints.Footprints.add.Goals.{in-Some, in-None}
+
+pub invariant_of-footprint-2 : goal.invariant_of-footprint-2
+invariant_of-footprint-2 c = (
+  subst AreNamed (sym c.in_ok-add_paths.ensures) (more_named _ _ c.footprint.invariant.0 c.line.invariant.0),
+  subst AreNamed (sym c.in_ok-add_paths-2.ensures) (more_named _ _ c.footprint.invariant.1 c.line.invariant.1),
+)
 
 pub returns : goal.returns
 returns c =
