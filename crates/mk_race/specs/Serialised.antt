@@ -9,8 +9,8 @@ use Rattle.mk_sched.specs.Serialising.{HasRoom, latest}
 use Rattle.mk_sched.specs.Steps.{past_of}
 use Rattle.mk_sched.specs.Stored.{store_of}
 use Rattle.mk_sched.specs.Stores.{AgreesWithListing}
+use Rattle.mk_decide.specs.LeastTraces.{IsOfLeastRace}
 use Rattle.mk_decide.specs.Pairs.{HasManyPairs, too_many}
-use Rattle.mk_decide.specs.Races.{IsLeastRace}
 use Rattle.mk_log.specs.Logs.{Log}
 use Rattle.mk_log.specs.Reading.{IsRead}
 use Rattle.mk_race.specs.Played.{IsNotAllowed}
@@ -51,7 +51,7 @@ abbrev pub IsOrder : Jobs → List Name → ℕ → Bool → Log → Result Orde
 IsOrder jobs listed limit tie log (Ok (NotAllowed place refusal)) = IsNotAllowed jobs listed limit tie log place refusal
 IsOrder jobs listed limit tie log (Ok NotComplete) = IsRunOf jobs listed limit tie log × (IsComplete jobs (past_of log.events) → ⊥)
 IsOrder jobs listed limit tie log (Err told) = IsWhole jobs listed limit tie log × (told ≡ too_many) × HasManyPairs jobs
-IsOrder jobs listed limit tie log (Ok (Race a b)) = IsWhole jobs listed limit tie log × IsLeastRace jobs a b
+IsOrder jobs listed limit tie log (Ok (Race trace)) = IsWhole jobs listed limit tie log × IsOfLeastRace jobs trace
 IsOrder jobs listed limit tie log (Ok NoRoom) = IsWhole jobs listed limit tie log × IsRaceFree jobs × (HasTimes log → ⊥)
 IsOrder jobs listed limit tie log (Ok (Serial list)) = IsPutInOrder jobs listed limit tie log list
 
@@ -77,7 +77,7 @@ abbrev pub IsLawful : Jobs → Bool → Log → Ordered → Type 0
 IsLawful jobs tie log (Serial list) = IsSameBuild jobs tie log list
 IsLawful jobs tie log (NotAllowed place refusal) = Unit {0}
 IsLawful jobs tie log NotComplete = Unit {0}
-IsLawful jobs tie log (Race a b) = Unit {0}
+IsLawful jobs tie log (Race trace) = Unit {0}
 IsLawful jobs tie log NoRoom = Unit {0}
 
 -- it is the same build as the log of this text on the jobs of a build

@@ -18,6 +18,7 @@ use mk_jobs::jobs::Jobs;
 use mk_log::log::Log;
 use mk_log::reading::read_log;
 use mk_name::fault::Halt;
+use mk_proof::trace::Trace;
 use mk_sched::refusal::Refusal;
 use mk_sched::replay::{Stopped, replay};
 use mk_sched::serialising::{has_room, serialise};
@@ -40,9 +41,9 @@ pub enum Ordered {
     },
     /// Its events are a run, in which not every node has passed.
     NotComplete,
-    /// Its events are a complete run, but these two nodes race, the smaller number first. No other race precedes them, by
-    /// first and then second number.
-    Race(u32, u32),
+    /// Its events are a complete run, but two nodes race. The trace is that of the least race, as
+    /// [`decide`](mk_decide::decision::decide) gives it.
+    Race(Trace),
     /// Its events are a complete run of race-free jobs, but the time of one of its files leaves fewer later ones than there
     /// are events.
     NoRoom,
@@ -152,7 +153,7 @@ fn whole_order(alloc: Global, jobs: &Jobs, log: Log, tie: bool) -> Result<Ordere
     ensures law { IfOk result (IsLawful jobs.now tie log) }
 {
     match decide(alloc, jobs)? {
-        Verdict::Race(a, b) => Ok(Ordered::Race(a, b)),
+        Verdict::Race(trace) => Ok(Ordered::Race(trace)),
         Verdict::Safe(_) => free_order(alloc, jobs, log, tie),
     }
 }
