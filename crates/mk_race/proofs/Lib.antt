@@ -1,4 +1,5 @@
 mod GoalsLemmas
+mod InOrder
 mod Listed
 mod ProofTexts
 mod Staging

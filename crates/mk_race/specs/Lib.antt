@@ -1,5 +1,6 @@
 pub mod Laws
 pub mod Played
+pub mod Serialised
 pub mod Settings
 pub mod Stages
 pub mod Verified
