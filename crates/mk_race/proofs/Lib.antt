@@ -1,3 +1,5 @@
+mod Ahead
+mod Alike
 mod GoalsLemmas
 mod Listed
 mod ProofTexts
