@@ -1,3 +1,5 @@
+mod Ahead
+mod Alike
 mod GoalsLemmas
 mod InOrder
 mod Listed

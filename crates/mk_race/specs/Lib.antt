@@ -1,4 +1,6 @@
+pub mod Judged
 pub mod Laws
+pub mod Parts
 pub mod Played
 pub mod Serialised
 pub mod Settings
