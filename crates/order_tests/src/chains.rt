@@ -2,34 +2,74 @@
 ghost use Rattle.std.specs.Prelude.{◌≡◌, ◌<◌};
 ghost use Rattle.mk_jobs.specs.Jobs.{node_count};
 
-use crate::built::jobs_of;
+use made_jobs::making::{Made, jobs_of};
 use mk_jobs::jobs::Jobs;
-use mk_name::fault::Halt;
 use mk_order::chains::chain;
 use mk_order::rows::Rows;
 use mk_order::walk::Walk;
 use std::alloc::{AllocError, Global};
 
-// The nodes are s 0, v 1, u 2, t 3 and all 4.
-const TWO_WAYS: &[u8] = b"all: t\nt: v u\nu: s\nv: s\n";
-
 #[test]
-fn takes_the_least_way(rt: HostRuntime) -> Result<(), Halt> {
-    let alloc = rt.alloc();
-    let jobs = jobs_of(alloc, TWO_WAYS, b"s", b"all")?;
-    assert_eq!(rt; jobs.count(), 5);
-    assert_eq!(rt;
-        walked(alloc, &jobs, 0, 4)?.as_slice(),
-        [0, 1, 3, 4].as_slice()
-    );
-    assert_eq!(rt;
-        looked_up(alloc, &jobs, 0, 4)?.as_slice(),
-        [0, 1, 3, 4].as_slice()
-    );
-    assert_eq!(rt; walked(alloc, &jobs, 1, 2)?.as_slice(), [].as_slice());
-    assert_eq!(rt; looked_up(alloc, &jobs, 1, 2)?.as_slice(), [].as_slice());
-    assert_eq!(rt; looked_up(alloc, &jobs, 0, 0)?.as_slice(), [].as_slice());
+fn takes_the_least_way(rt: HostRuntime) -> Result<(), AllocError> {
+    match jobs_of(rt.alloc(), &two_ways()) {
+        Some(jobs) => assert!(rt; is_least_way(rt.alloc(), &jobs)?),
+        None => assert!(rt; false, "the jobs are not well-formed"),
+    }
     Ok(())
+}
+
+/// Two ways from the first node to the last but one.
+fn two_ways() -> [Made<'static>; 5] {
+    [
+        Made::file("s"),
+        Made::plain("v", &[0]),
+        Made::plain("u", &[0]),
+        Made::plain("t", &[1, 2]),
+        Made::plain("all", &[3]),
+    ]
+}
+
+fn is_least_way(alloc: Global, jobs: &Jobs) -> Result<bool, AllocError> {
+    if jobs.count() != 5 {
+        return Ok(false);
+    }
+    Ok(is_walked(alloc, jobs, 0, 4, &[0, 1, 3, 4])?
+        && is_looked_up(alloc, jobs, 0, 4, &[0, 1, 3, 4])?
+        && is_walked(alloc, jobs, 1, 2, &[])?
+        && is_looked_up(alloc, jobs, 1, 2, &[])?
+        && is_looked_up(alloc, jobs, 0, 0, &[])?)
+}
+
+/// Whether a walk finds this chain; no node where there is none.
+fn is_walked(
+    alloc: Global,
+    jobs: &Jobs,
+    a: u32,
+    b: u32,
+    nodes: &[u32],
+) -> Result<bool, AllocError>
+    requires jobs { node_count jobs.now ≡ 5 }
+    requires first { a < 5 }
+    requires last { b < 5 }
+{
+    let found = walked(alloc, jobs, a, b)?;
+    Ok(found.as_slice() == nodes)
+}
+
+/// Whether rows find this chain; no node where there is none.
+fn is_looked_up(
+    alloc: Global,
+    jobs: &Jobs,
+    a: u32,
+    b: u32,
+    nodes: &[u32],
+) -> Result<bool, AllocError>
+    requires jobs { node_count jobs.now ≡ 5 }
+    requires first { a < 5 }
+    requires last { b < 5 }
+{
+    let found = looked_up(alloc, jobs, a, b)?;
+    Ok(found.as_slice() == nodes)
 }
 
 /// The chain that a walk finds; no node where there is none.

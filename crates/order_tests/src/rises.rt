@@ -2,35 +2,31 @@
 ghost use Rattle.std.specs.Prelude.{◌≤◌, ◌<◌};
 ghost use Rattle.mk_jobs.specs.Jobs.{node_count};
 
-use crate::built::jobs_of;
+use made_jobs::making::line_of;
 use mk_jobs::jobs::Jobs;
-use mk_name::fault::Halt;
 use mk_order::before::Before;
 use mk_order::rows::Rows;
 use mk_order::walk::Walk;
 use std::alloc::{AllocError, Global};
 
 #[test]
-fn lines_rise(rt: HostRuntime) -> Result<(), Halt> {
+fn lines_rise(rt: HostRuntime) -> Result<(), AllocError> {
     for count in [1, 64, 65, 512, 513, 600] {
-        let jobs = line_of(rt.alloc(), count)?;
-        assert_eq!(rt; jobs.count(), count);
-        assert!(rt; walk_rises(rt.alloc(), &jobs)?, "a walk over {count}");
-        assert!(rt; rows_rise(rt.alloc(), &jobs)?, "rows of {count}");
+        assert!(rt; rises_of(rt.alloc(), count)?, "a line of {count}");
     }
     Ok(())
 }
 
-/// The jobs of a line of nodes, each of which needs the next one.
-fn line_of(alloc: Global, count: u32) -> Result<Jobs, Halt> {
-    let mut makefile = String::new(alloc);
-    for number in 1..count {
-        let last = number - 1;
-        makefile.push_str(format!(in alloc; "n{last:03}: n{number:03}\n")?.as_str())?;
+/// Whether in a line of so many nodes the smaller number is before the greater, by a walk and by rows.
+fn rises_of(alloc: Global, count: u32) -> Result<bool, AllocError> {
+    match line_of(alloc, count) {
+        Some(jobs) => is_line(alloc, &jobs, count),
+        None => Ok(false),
     }
-    let last = count.saturating_sub(1);
-    let listing = format!(in alloc; "n{last:03}\n")?;
-    jobs_of(alloc, makefile.as_bytes(), listing.as_bytes(), b"n000")
+}
+
+fn is_line(alloc: Global, jobs: &Jobs, count: u32) -> Result<bool, AllocError> {
+    Ok(jobs.count() == count && walk_rises(alloc, jobs)? && rows_rise(alloc, jobs)?)
 }
 
 fn walk_rises(alloc: Global, jobs: &Jobs) -> Result<bool, AllocError> {
