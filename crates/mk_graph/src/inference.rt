@@ -126,6 +126,9 @@ pub(crate) fn inferred_source(
     requires { IsSourceIndex book.now listing.now index.now }
     ensures { IfOk result (λ source. source ≡ inferred_source book.now listing.now name.now) }
 {
+    if index.rules.is_empty() {
+        return Ok(None);
+    }
     if book.has_recipe(name) {
         return Ok(None);
     }
