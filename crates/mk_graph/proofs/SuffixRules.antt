@@ -40,7 +40,7 @@ no_period (b ∷ bs) h =
     true_is_not e = cc
 
 -- from the last period on
-last_period : (before after : List ℕ) → list_any is_period after ≡ false → from_last_period (before ++ 46 ∷ after) ≡ 46 ∷ after
+pub last_period : (before after : List ℕ) → list_any is_period after ≡ false → from_last_period (before ++ 46 ∷ after) ≡ 46 ∷ after
 last_period [] after h = ap (λ x. cond (not x && true) (46 ∷ after) (from_last_period after)) h
 last_period (b ∷ bs) after h =
     ap (λ x. cond (not x && is_period b) (b ∷ (bs ++ 46 ∷ after)) (from_last_period (bs ++ 46 ∷ after))) (list_any-append is_period bs (46 ∷ after) ∙ or_true (list_any is_period bs))

@@ -57,6 +57,13 @@ impl Listing {
         self.names.contains(name)
     }
 
+    /// The names of the files that exist, rising byte by byte.
+    pub fn names(&self) -> &BTreeSet<Name>
+        ensures { result.now.keys ≡ self.now }
+    {
+        &self.names
+    }
+
     /// Whether each of the files that exist is a key of the map.
     pub fn are_all_in<V>(&self, map: &BTreeMap<Name, V>) -> bool
         ensures { IsTrue result ↔ All (λ name. IsSome (get (slice_cmp nat_cmp) map.now name)) self.now }

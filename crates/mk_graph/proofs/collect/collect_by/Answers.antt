@@ -4,7 +4,7 @@ use Rattle.std.specs.Global.{Global}
 use Rattle.std.proofs.lemmas.List.{take_at}
 use Rattle.mk_graph.specs.Collected.{Collected, Reads}
 use Rattle.mk_graph.proofs.Collecting.{collected_none, collected_more}
-use Rattle.mk_graph.proofs.collect.collect.Goals as goal
+use Rattle.mk_graph.proofs.collect.collect_by.Goals as goal
 
 pub all-init : goal.all-init
 all-init c =

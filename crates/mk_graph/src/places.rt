@@ -1,0 +1,53 @@
+//! Tables of places in the list of suffixes, by names.
+ghost use Rattle.std.specs.Prelude.{◌≡◌, ◌&&◌, ◌||◌, ℕ, List, nat_eq, OnOk};
+ghost use Rattle.std.specs.List.{All};
+ghost use Rattle.mk_name.specs.Names.{Name, same_name};
+ghost use Rattle.mk_graph.specs.Places.{IsLeast, IsNext, in_set, stands_beside};
+
+use mk_name::name::Name;
+use std::alloc::{AllocError, Global};
+use std::collections::{BTreeMap, BTreeSet};
+
+/// Sets of places by names.
+pub(crate) type Table = BTreeMap<Name, BTreeSet<usize>>;
+
+/// Puts a place beside a name.
+pub(crate) fn put_beside(
+    alloc: Global,
+    table: &mut Table,
+    name: Name,
+    place: usize,
+) -> Result<(), AllocError>
+    ensures { OnOk result ((n : List ℕ) (p : ℕ) → stands_beside table.new n p
+        ≡ (stands_beside table.old n p || (same_name name n && nat_eq place p))) }
+{
+    let mut places = match table.remove(&name) {
+        Some(places) => places,
+        None => BTreeSet::new(alloc),
+    };
+    places.insert(place)?;
+    table.insert(name, places)?;
+    Ok(())
+}
+
+/// The least place from this one on.
+pub(crate) fn next_place(places: &BTreeSet<usize>, from: usize) -> Option<usize>
+    ensures { IsNext places.now from result }
+{
+    places.range(from..).next().copied()
+}
+
+/// The least place that both sets have. Each step passes over all places of one set before the next of the other.
+pub(crate) fn first_common(one: &BTreeSet<usize>, other: &BTreeSet<usize>) -> Option<usize>
+    ensures { IsLeast (λ p. in_set one.now p && in_set other.now p) result }
+{
+    let mut from = 0;
+    'leap: while let Some(place) = next_place(one, from) {
+        match next_place(other, place) {
+            Some(found) if found == place => return Some(place),
+            Some(later) => from = later,
+            None => return None,
+        }
+    }
+    None
+}
