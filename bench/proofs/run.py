@@ -5,7 +5,7 @@
 
 PROGRAM is the built program (crates/race/out/race). The inputs:
 
-  log       1,414 recipes that all append to one log, each behind the 141 before it: 998,991 pairs clash, and the
+  log       1,414 recipes that all append to one log, each behind the 120 before it: 998,991 pairs clash, and the
             certificate has a chain for each
   sparse    19,999 recipes of 50 paths each, of which no two share one: no pair clashes, and the certificate is empty
   paths     10 recipes of 100,000 paths each: 1,000,000 paths of footprints
@@ -25,7 +25,7 @@ import tempfile
 import time
 
 TOP = pathlib.Path(__file__).resolve().parents[2]
-BEHIND = 141
+BEHIND = 120
 
 
 def write(folder, rules, footprints, chains):
@@ -35,7 +35,7 @@ def write(folder, rules, footprints, chains):
         for target, prerequisites in rules:
             for i in range(0, max(len(prerequisites), 1), 4_000):
                 makefile.write(f"{target}: {' '.join(prerequisites[i:i + 4_000])}\n")
-            makefile.write("\tmake it\n")
+            makefile.write("\tm\n")
     (folder / "listing").write_text("")
     with open(folder / "footprints", "w") as lines:
         for target, reads, writes in footprints:
@@ -74,7 +74,7 @@ def lay_paths(folder):
 
 
 def lay_hostile(folder):
-    names = [f"r{i}" for i in range(19_999)]
+    names = [f"{i:x}" for i in range(19_999)]
     rules = [(name, names[max(0, i - BEHIND):i] if i < 1_415 else []) for i, name in enumerate(names)]
     lines = [(name, [], [name]) for name in names] + [("all", [], ["all"])]
     chains = [chain_between(a, b) for a in range(1_415) for b in range(a + 1, 1_415)][:1_000_000]

@@ -1,5 +1,5 @@
 -- Lemmas on answers over texts that are the same.
-use Rattle.std.proofs.Common.{◌≡◌, ◌≢◌, ◌∙◌, ℕ, Bool, true, false, List, Ok, Err, subst, sym, IsTrue}
+use Rattle.std.proofs.Common.{◌≡◌, ◌≢◌, ◌∙◌, ℕ, Bool, true, false, List, Ok, Err, subst, sym, refl, IsTrue}
 use Rattle.mk_name.specs.Gives.{HaltsAmong}
 use Rattle.mk_name.specs.Shown.{refused_text}
 use Rattle.mk_name.specs.Told.{Told}
@@ -80,5 +80,5 @@ unverified_is texts footprints proof halt fault status text verified is ends tol
 pub verdict_is : (texts : Texts) (footprints proof : List ℕ) (accepted : Bool) (status : Status) (text : List ℕ)
     → IsVerified texts footprints proof (Ok accepted) → (IsTrue accepted → ProofShows texts footprints proof)
     → status ≡ verdict_status accepted → text ≡ verdict_text accepted → IsVerifyAnswer texts footprints proof status text
-verdict_is texts footprints proof true status text verified shows ends told = rw ends (verified, shows tt, told)
+verdict_is texts footprints proof true status text verified shows ends told = rw ends (verified, shows refl, told)
 verdict_is texts footprints proof false status text verified shows ends told = rw ends (verified, told)

@@ -55,11 +55,16 @@ replay_app =
     with_rule (with_rule (with_rule (with_rule (with_build (new_app (codes "replay")))
     (option (codes "footprints"))) (option (codes "log"))) limit) tie
 
--- the program: it must be given one of its subcommands, or be asked for its version
+-- the program without its subcommands: it must be given one, or be asked for its version
+abbrev pub top_app : App
+top_app = record {
+  top = record (new_app (codes "race")).top { has_version = true; disable_help_subcommand = true; subcommand_required = true };
+  subs = [];
+}
+
+-- the program with its subcommands
 abbrev pub race_app : App
-race_app =
-    let top = record (new_app (codes "race")).top { has_version = true; disable_help_subcommand = true; subcommand_required = true } in
-    with_subcommand (with_subcommand (with_subcommand (record { top = top; subs = [] }) order_app.top) verify_app.top) replay_app.top
+race_app = with_subcommand (with_subcommand (with_subcommand top_app order_app.top) verify_app.top) replay_app.top
 
 -- what these words ask: the subcommand that they name, with the values that were found
 abbrev pub asked : List (Bor Text) → Option (Text × List Row)

@@ -97,7 +97,10 @@ fn order_answer(
         (map (λ pair. (pair.0.now, pair.1.now)) includes.now) text) answer.status answer.text.items) }
 {
     let operands = bytes_of(alloc, build.operands.as_slice())?;
-    order_over(alloc, &input_of(build, operands.as_slice(), includes, texts))
+    order_over(
+        alloc,
+        &input_of(build, operands.as_slice(), includes, texts),
+    )
 }
 
 /// Whether a proof is accepted for a build, or why the inputs are refused.

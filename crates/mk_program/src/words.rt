@@ -51,15 +51,23 @@ fn race_command<'a>(alloc: Global) -> Result<Command<'a>, AllocError>
     ensures app { IfOk result (λ command. app_of command ≡ spec.race_app) }
     ensures local { IfOk result (λ command. (fields_of command).has_globals ≡ false) }
 {
+    top_command(alloc)
+        .subcommand(order_command(alloc)?)?
+        .subcommand(verify_command(alloc)?)?
+        .subcommand(replay_command(alloc)?)
+}
+
+/// The program without its subcommands.
+fn top_command<'a>(alloc: Global) -> Command<'a>
+    ensures app { app_of result ≡ spec.top_app }
+    ensures local { (fields_of result).has_globals ≡ false }
+{
     Command::new(alloc, "race")
         .about(help::ABOUT)
         .after_help(help::DETAILS)
         .version(help::VERSION)
         .disable_help_subcommand(true)
         .subcommand_required(true)
-        .subcommand(order_command(alloc)?)?
-        .subcommand(verify_command(alloc)?)?
-        .subcommand(replay_command(alloc)?)
 }
 
 fn order_command<'a>(alloc: Global) -> Result<Command<'a>, AllocError>

@@ -26,8 +26,7 @@ pub const ROOT: &str =
 
 pub const BASE: &str = "A makefile with the rules and macros that come before those of MAKEFILE";
 
-pub const INCLUDES: &str =
-    "The paths of the texts that include lines may name, one a line";
+pub const INCLUDES: &str = "The paths of the texts that include lines may name, one a line";
 
 pub const OPERANDS: &str = "A goal, which is to be built, or NAME=VALUE, which defines a macro";
 

@@ -28,7 +28,7 @@ returns-clause-answer g c = λ includes text given hold.
     let told = c.in_ok-included.ensures.told includes (ap (includes_in (g.P.Opener.text c.args.opener.now)) c.includes_path.ensures ∙ given) in
     let inputs = c.as_slice.ensures.value ∙ c.in_ok-inputs.ensures in
     let held = subst (λ (files : List ℕ → Option (List ℕ)). Hold files c.as_slice.result.now text) (sym same)
-        (subst (λ (l : List InputPath). Hold (g.P.Opener.text c.args.opener.now) l text) (sym inputs) hold) in
+    (subst (λ (l : List InputPath). Hold (g.P.Opener.text c.args.opener.now) l text) (sym inputs) hold) in
     let are = subst (λ (l : List InputText). AreTexts l text) (sym c.as_slice-3.ensures.value) (c.in_ok-texts.ensures.told text held) in
     subst (λ (pairs : List Pair). IsAnswerOver c.args.request.now pairs text c.in_ok-answer_with.field-0.status c.in_ok-answer_with.field-0.text.items)
     (ap shown c.as_slice-2.ensures.value ∙ told) (c.in_ok-answer_with.ensures.answer text are)
