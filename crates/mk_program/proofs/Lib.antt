@@ -9,3 +9,4 @@ mod SerialAnswers
 mod Told
 mod Values
 pub mod Included
+pub mod Judged

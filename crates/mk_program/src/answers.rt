@@ -8,6 +8,7 @@ ghost use Rattle.mk_program.specs.Inputs.{AreTexts};
 ghost use Rattle.mk_program.specs.OutcomeText.{IsOutcomeText};
 ghost use Rattle.mk_program.specs.PlanText.{plan_text as text_of_plan};
 
+use crate::checking::check_answer;
 use crate::failures::{Failure, InputFile};
 use crate::includes::{IncludeText, pairs_of, read_includes};
 use crate::inputs::{InputText, read_inputs, text_of};
@@ -82,6 +83,7 @@ fn answer_over(
 {
     match request {
         Request::Order(build) => Ok(order_answer(alloc, build, includes, texts)?),
+        Request::Check(check) => Ok(check_answer(alloc, check, includes, texts)?),
         Request::Verify(verify) => Ok(verify_answer(alloc, verify, includes, texts)?),
         Request::Replay(replay) => Ok(replay_answer(alloc, replay, includes, texts)?),
         Request::Serialise(replay) => serialise_answer(alloc, replay, includes, texts),

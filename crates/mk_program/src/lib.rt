@@ -23,6 +23,7 @@
 #![tactic(auto)]
 
 mod answers;
+mod checking;
 mod failures;
 mod includes;
 mod inputs;

@@ -18,6 +18,14 @@ pub struct BuildArgs<'a> {
     pub operands: Vec<&'a str>,
 }
 
+/// What is checked: a build, the path of its footprints, and whether the proof is printed in place of the report.
+#[derive(Debug, Drop)]
+pub struct CheckArgs<'a> {
+    pub build: BuildArgs<'a>,
+    pub footprints: &'a str,
+    pub print_proof: bool,
+}
+
 /// What a proof is judged by: a build, and the paths of its footprints and of the proof.
 #[derive(Debug, Drop)]
 pub struct VerifyArgs<'a> {
@@ -41,6 +49,7 @@ pub struct ReplayArgs<'a> {
 #[derive(Debug, Drop)]
 pub enum Request<'a> {
     Order(BuildArgs<'a>),
+    Check(CheckArgs<'a>),
     Verify(VerifyArgs<'a>),
     Replay(ReplayArgs<'a>),
     Serialise(ReplayArgs<'a>),
@@ -52,6 +61,7 @@ pub fn includes_path<'a>(request: &Request<'a>) -> Option<&'a str>
 {
     match request {
         Request::Order(build) => build.includes,
+        Request::Check(check) => check.build.includes,
         Request::Verify(verify) => verify.build.includes,
         Request::Replay(replay) | Request::Serialise(replay) => replay.build.includes,
     }
@@ -65,6 +75,10 @@ pub fn inputs_of<'a>(alloc: Global, request: &Request<'a>) -> Result<Vec<InputPa
     let mut inputs = Vec::new(alloc);
     match request {
         Request::Order(build) => push_build(&mut inputs, build)?,
+        Request::Check(check) => {
+            push_build(&mut inputs, &check.build)?;
+            push_input(&mut inputs, InputFile::Footprints, check.footprints)?;
+        }
         Request::Verify(verify) => {
             push_build(&mut inputs, &verify.build)?;
             push_input(&mut inputs, InputFile::Footprints, verify.footprints)?;

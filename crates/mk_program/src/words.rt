@@ -1,15 +1,17 @@
 //! The words of the command line.
-ghost use Rattle.std.specs.Prelude.{◌≡◌, ◌⊎◌, IfOk, codes, false};
+ghost use Rattle.std.specs.Prelude.{◌≡◌, ◌⊎◌, IfOk, codes, false, option_map};
 ghost use Rattle.clap.specs.Words.{FailsBy, app_of, found_of, rows_of, rule_of};
 ghost use Rattle.clap.specs.declared.builder.command.Command.TheViews.{out-Command as fields_of};
 ghost use Rattle.mk_program.specs.CommandLine as spec;
 
+mod check_words;
 mod help;
 mod replay_words;
 mod serialise_words;
 mod verify_words;
 
 use crate::requests::{BuildArgs, Request};
+use check_words::{check_args, check_command};
 use clap::{Arg, ArgAction, ArgMatches, Command, Error};
 use replay_words::{replay_args, replay_command};
 use serialise_words::serialise_command;
@@ -35,13 +37,16 @@ fn request_of<'a>(
     name: &str,
     found: &ArgMatches<'a>,
 ) -> Result<Request<'a>, AllocError>
-    requires { (name.now ≡ codes "order") ⊎ (name.now ≡ codes "verify") ⊎ (name.now ≡ codes "replay")
-        ⊎ (name.now ≡ codes "serialise") }
+    requires { (name.now ≡ codes "order") ⊎ (name.now ≡ codes "check") ⊎ (name.now ≡ codes "verify")
+        ⊎ (name.now ≡ codes "replay") ⊎ (name.now ≡ codes "serialise") }
     ensures { IfOk result (λ request.
         spec.IsFor request name.now (rows_of (found_of found.now))) }
 {
     if name == "order" {
         return Ok(Request::Order(build_args(alloc, found)?));
+    }
+    if name == "check" {
+        return Ok(Request::Check(check_args(alloc, found)?));
     }
     if name == "verify" {
         return Ok(Request::Verify(verify_args(alloc, found)?));
@@ -59,6 +64,7 @@ fn race_command<'a>(alloc: Global) -> Result<Command<'a>, AllocError>
 {
     top_command(alloc)
         .subcommand(order_command(alloc)?)?
+        .subcommand(check_command(alloc)?)?
         .subcommand(verify_command(alloc)?)?
         .subcommand(replay_command(alloc)?)?
         .subcommand(serialise_command(alloc)?)
@@ -153,4 +159,14 @@ fn build_args<'a>(alloc: Global, found: &ArgMatches<'a>) -> Result<BuildArgs<'a>
         root: found.get_str("root").unwrap_or(""),
         operands: Vec::from_slice(alloc, found.get_strs("operands").unwrap_or(&[]))?,
     })
+}
+
+/// Whether a flag's value says that it is set.
+fn is_true(value: Option<&str>) -> bool
+    ensures { result ≡ spec.is_true (option_map (λ text. text.now) value.entry) }
+{
+    match value {
+        Some(text) => text == "true",
+        None => false,
+    }
 }

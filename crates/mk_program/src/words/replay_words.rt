@@ -4,7 +4,7 @@ ghost use Rattle.clap.specs.Words.{app_of, found_of, rows_of, rule_of};
 ghost use Rattle.clap.specs.declared.builder.command.Command.TheViews.{out-Command as fields_of};
 ghost use Rattle.mk_program.specs.CommandLine as spec;
 
-use super::{build_args, help, option, with_build};
+use super::{is_true, build_args, help, option, with_build};
 use crate::requests::ReplayArgs;
 use clap::builder::ValueParser;
 use clap::{Arg, ArgAction, ArgMatches, Command};
@@ -76,15 +76,5 @@ fn limit_of(value: Option<&str>) -> u16
     match value {
         Some(text) => text.parse::<u16>().unwrap_or(1),
         None => 1,
-    }
-}
-
-/// Whether the flag's value says that it is set.
-fn is_true(value: Option<&str>) -> bool
-    ensures { result ≡ spec.is_true (option_map (λ text. text.now) value.entry) }
-{
-    match value {
-        Some(text) => text == "true",
-        None => false,
     }
 }
