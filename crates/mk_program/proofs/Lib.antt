@@ -5,6 +5,7 @@ mod Locals
 mod OutcomeLines
 mod PlanLines
 mod Reading
+mod SerialAnswers
 mod Told
 mod Values
 pub mod Included

@@ -7,16 +7,19 @@ use Rattle.mk_name.specs.Shown.{line, refused_text}
 use Rattle.mk_name.specs.Told.{Told}
 use Rattle.mk_text.specs.Device.{AppendsBeginning}
 use Rattle.mk_race.specs.Played.{IsPlayed}
+use Rattle.mk_race.specs.Serialised.{IsLawfulBuild, IsSerialised}
 use Rattle.mk_race.specs.Stages.{IsPlanned, Texts}
 use Rattle.mk_race.specs.Verified.{IsVerified, ProofShows}
 use Rattle.mk_race.specs.declared.replaying.Played.{Played}
 use Rattle.mk_race.specs.declared.replaying.Played.TheVariants.{Allowed, NotAllowed}
 use Rattle.mk_race.specs.declared.planning.Planned.{Planned}
+use Rattle.mk_race.specs.declared.serialising.Serialised.{Serialised}
 use Rattle.mk_sched.specs.declared.refusal.Refusal.{Refusal}
 use Rattle.mk_sched.specs.declared.replay.Replayed.{Replayed}
 use Rattle.mk_program.specs.CommandLine.{Asks, HasMistake, asked, wrong}
 use Rattle.mk_program.specs.Includes.{IsIncludeFailure, Pair, includes_in}
 use Rattle.mk_program.specs.Inputs.{Hold, IsInputFailure}
+use Rattle.mk_program.specs.OrderText.{IsOrderText, order_status}
 use Rattle.mk_program.specs.OutcomeText.{IsOutcomeText}
 use Rattle.mk_program.specs.PlanText.{plan_text}
 use Rattle.mk_program.specs.Requests.{includes_path, inputs_of}
@@ -69,6 +72,20 @@ abbrev pub status_of : Played → Status
 status_of (Allowed replayed) = statuses.Done
 status_of (NotAllowed place refusal) = statuses.No
 
+-- what is told of a log that was read: its serial order, or why it has none; and what is put in order is the same build
+abbrev pub IsToldOrder : Texts → List ℕ → List ℕ → ℕ → Bool → Status → List ℕ → Type 0
+IsToldOrder texts footprints log limit tie status text =
+    (given : Serialised) × IsSerialised texts footprints log limit tie (Ok given) × IsLawfulBuild texts footprints log tie given
+    × (status ≡ order_status given.order) × IsOrderText given.jobs given.order text
+
+-- that, or the report of the fault that refuses the texts
+abbrev pub IsSerialiseAnswer : Texts → List ℕ → List ℕ → ℕ → Bool → Status → List ℕ → Type 0
+IsSerialiseAnswer texts footprints log limit tie statuses.Done text = IsToldOrder texts footprints log limit tie statuses.Done text
+IsSerialiseAnswer texts footprints log limit tie statuses.No text = IsToldOrder texts footprints log limit tie statuses.No text
+IsSerialiseAnswer texts footprints log limit tie statuses.Refused text =
+    (told : Told) × IsSerialised texts footprints log limit tie (Err told) × (text ≡ refused_text told)
+IsSerialiseAnswer texts footprints log limit tie statuses.Failed text = ⊥
+
 -- the texts that a build is planned from
 abbrev pub texts_for : BuildArgs → List Pair → (InputFile → List ℕ) → Texts
 texts_for build includes text = record {
@@ -87,6 +104,8 @@ IsAnswerOver (requests.Verify verify) includes text status answer =
     IsVerifyAnswer (texts_for verify.build includes text) (text inputs.Footprints) (text inputs.Proof) status answer
 IsAnswerOver (requests.Replay replay) includes text status answer =
     IsReplayAnswer (texts_for replay.build includes text) (text inputs.Footprints) (text inputs.Log) replay.limit replay.tie status answer
+IsAnswerOver (requests.Serialise replay) includes text status answer =
+    IsSerialiseAnswer (texts_for replay.build includes text) (text inputs.Footprints) (text inputs.Log) replay.limit replay.tie status answer
 
 -- the answer to a request, over what its files hold
 abbrev pub IsAnswer : Request → (List ℕ → Option (List ℕ)) → Status → List ℕ → Type 0
@@ -106,10 +125,21 @@ WritesAnswer words files status old new = (text : List ℕ) × Appends old new t
 abbrev pub WritesBeginning : List (Bor Text) → (List ℕ → Option (List ℕ)) → Option (List ℕ) → Option (List ℕ) → Type 0
 WritesBeginning words files old new = (status : Status) × (text : List ℕ) × AppendsBeginning old new text × IsAnswerTo words files status text
 
--- a failure of the files of a request: of its includes, where it has any, or of its inputs
+-- the request is for a log in serial order
+abbrev pub IsForSerial : Request → Type 0
+IsForSerial (requests.Order build) = ⊥
+IsForSerial (requests.Verify verify) = ⊥
+IsForSerial (requests.Replay replay) = ⊥
+IsForSerial (requests.Serialise replay) = Unit {0}
+
+-- why an answer is not told: memory is short, or a log that is to be written has a name that is no text
+abbrev pub IsUntold : Request → Failure → Type 0
+IsUntold request failure = (failure ≡ failures.Memory) ⊎ (IsForSerial request × (failure ≡ failures.NotText))
+
+-- a failure of a request: of its includes, where it has any, of its inputs, or of the answer
 abbrev pub IsRequestFailure : (List ℕ → Option Bool) → Request → Failure → Type 0
 IsRequestFailure opens request failure =
-    (IsSome (includes_path request) × IsIncludeFailure failure) ⊎ IsInputFailure opens (inputs_of request) failure
+    (IsSome (includes_path request) × IsIncludeFailure failure) ⊎ IsInputFailure opens (inputs_of request) failure ⊎ IsUntold request failure
 
 -- the failure may come of these words, where some files may be shut
 abbrev pub IsFailureOf : List (Bor Text) → (List ℕ → Option Bool) → Failure → Type 0
@@ -117,4 +147,5 @@ IsFailureOf words opens (failures.Read input) =
     (request : Request) × Asks request (asked words) × IsRequestFailure opens request (failures.Read input)
 IsFailureOf words opens failures.Write = Unit {0}
 IsFailureOf words opens failures.Memory = Unit {0}
+IsFailureOf words opens failures.NotText = (request : Request) × Asks request (asked words) × IsForSerial request
 IsFailureOf words opens (failures.Usage text) = HasMistake (wrong words)

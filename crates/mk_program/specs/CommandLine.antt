@@ -50,10 +50,17 @@ limit = record (option (codes "limit")) { required = false; parser = Some (Unsig
 abbrev pub tie : Rule
 tie = record (new_rule (codes "tie")) { long = Some (codes "tie"); action = Some SetTrue }
 
-abbrev pub replay_app : App
-replay_app =
-    with_rule (with_rule (with_rule (with_rule (with_build (new_app (codes "replay")))
+-- a command with the options and operands of those that read a log
+abbrev pub with_log : App → App
+with_log app =
+    with_rule (with_rule (with_rule (with_rule (with_build app)
     (option (codes "footprints"))) (option (codes "log"))) limit) tie
+
+abbrev pub replay_app : App
+replay_app = with_log (new_app (codes "replay"))
+
+abbrev pub serialise_app : App
+serialise_app = with_log (new_app (codes "serialise"))
 
 -- the program without its subcommands: it must be given one, or be asked for its version
 abbrev pub top_app : App
@@ -64,7 +71,9 @@ top_app = record {
 
 -- the program with its subcommands
 abbrev pub race_app : App
-race_app = with_subcommand (with_subcommand (with_subcommand top_app order_app.top) verify_app.top) replay_app.top
+race_app =
+    with_subcommand (with_subcommand (with_subcommand (with_subcommand top_app
+    order_app.top) verify_app.top) replay_app.top) serialise_app.top
 
 -- what these words ask: the subcommand that they name, with the values that were found
 abbrev pub asked : List (Bor Text) → Option (Text × List Row)
@@ -120,6 +129,7 @@ abbrev pub IsFor : Request → Text → List Row → Type 0
 IsFor (requests.Order build) name rows = (name ≡ codes "order") × HasValues build rows
 IsFor (requests.Verify verify) name rows = (name ≡ codes "verify") × HasVerify verify rows
 IsFor (requests.Replay replay) name rows = (name ≡ codes "replay") × HasReplay replay rows
+IsFor (requests.Serialise replay) name rows = (name ≡ codes "serialise") × HasReplay replay rows
 
 -- the request is for the subcommand that was found
 abbrev pub Asks : Request → Option (Text × List Row) → Type 0

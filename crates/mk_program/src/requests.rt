@@ -43,6 +43,7 @@ pub enum Request<'a> {
     Order(BuildArgs<'a>),
     Verify(VerifyArgs<'a>),
     Replay(ReplayArgs<'a>),
+    Serialise(ReplayArgs<'a>),
 }
 
 /// The path of the file of includes, where one is given.
@@ -52,7 +53,7 @@ pub fn includes_path<'a>(request: &Request<'a>) -> Option<&'a str>
     match request {
         Request::Order(build) => build.includes,
         Request::Verify(verify) => verify.build.includes,
-        Request::Replay(replay) => replay.build.includes,
+        Request::Replay(replay) | Request::Serialise(replay) => replay.build.includes,
     }
 }
 
@@ -69,13 +70,21 @@ pub fn inputs_of<'a>(alloc: Global, request: &Request<'a>) -> Result<Vec<InputPa
             push_input(&mut inputs, InputFile::Footprints, verify.footprints)?;
             push_input(&mut inputs, InputFile::Proof, verify.proof)?;
         }
-        Request::Replay(replay) => {
-            push_build(&mut inputs, &replay.build)?;
-            push_input(&mut inputs, InputFile::Footprints, replay.footprints)?;
-            push_input(&mut inputs, InputFile::Log, replay.log)?;
-        }
+        Request::Replay(replay) | Request::Serialise(replay) => push_replay(&mut inputs, replay)?,
     }
     Ok(inputs)
+}
+
+/// Puts the inputs of a log at the end.
+fn push_replay<'a>(
+    inputs: &mut Vec<InputPath<'a>>,
+    replay: &ReplayArgs<'a>,
+) -> Result<(), AllocError>
+    ensures { OnOk result (inputs.new.items ≡ inputs.old.items ++ spec.log_inputs replay.now) }
+{
+    push_build(inputs, &replay.build)?;
+    push_input(inputs, InputFile::Footprints, replay.footprints)?;
+    push_input(inputs, InputFile::Log, replay.log)
 }
 
 /// Puts the inputs that every subcommand reads at the end.

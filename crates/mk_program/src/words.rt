@@ -6,11 +6,13 @@ ghost use Rattle.mk_program.specs.CommandLine as spec;
 
 mod help;
 mod replay_words;
+mod serialise_words;
 mod verify_words;
 
 use crate::requests::{BuildArgs, Request};
 use clap::{Arg, ArgAction, ArgMatches, Command, Error};
 use replay_words::{replay_args, replay_command};
+use serialise_words::serialise_command;
 use std::alloc::{AllocError, Global};
 use verify_words::{verify_args, verify_command};
 
@@ -33,7 +35,8 @@ fn request_of<'a>(
     name: &str,
     found: &ArgMatches<'a>,
 ) -> Result<Request<'a>, AllocError>
-    requires { (name.now ≡ codes "order") ⊎ (name.now ≡ codes "verify") ⊎ (name.now ≡ codes "replay") }
+    requires { (name.now ≡ codes "order") ⊎ (name.now ≡ codes "verify") ⊎ (name.now ≡ codes "replay")
+        ⊎ (name.now ≡ codes "serialise") }
     ensures { IfOk result (λ request.
         spec.IsFor request name.now (rows_of (found_of found.now))) }
 {
@@ -43,7 +46,10 @@ fn request_of<'a>(
     if name == "verify" {
         return Ok(Request::Verify(verify_args(alloc, found)?));
     }
-    Ok(Request::Replay(replay_args(alloc, found)?))
+    if name == "replay" {
+        return Ok(Request::Replay(replay_args(alloc, found)?));
+    }
+    Ok(Request::Serialise(replay_args(alloc, found)?))
 }
 
 /// The program, with its subcommands.
@@ -54,7 +60,8 @@ fn race_command<'a>(alloc: Global) -> Result<Command<'a>, AllocError>
     top_command(alloc)
         .subcommand(order_command(alloc)?)?
         .subcommand(verify_command(alloc)?)?
-        .subcommand(replay_command(alloc)?)
+        .subcommand(replay_command(alloc)?)?
+        .subcommand(serialise_command(alloc)?)
 }
 
 /// The program without its subcommands.

@@ -1,15 +1,12 @@
-use Rattle.std.proofs.Common.{ap₂, ap, codes, false, rules, ◌≡◌, ◌∙◌}
+use Rattle.std.proofs.Common.{ap₂, ◌∙◌}
 use Rattle.std.proofs.lemmas.Result.{IfOk-weaker}
-use Rattle.clap.specs.Words.{app_of, new_app, with_rule}
-use Rattle.clap.specs.declared.builder.command.Command.TheViews.{out-Command as fields_of}
-use Rattle.mk_program.specs.CommandLine.{with_build}
+use Rattle.clap.specs.Words.{with_rule}
 use Rattle.mk_program.proofs.Locals.{stays}
-use Rattle.mk_program.proofs.words.replay_words.replay_command.Goals as goal
+use Rattle.mk_program.proofs.words.replay_words.with_log.Goals as goal
 
 pub returns-clause-app : goal.returns-clause-app
 returns-clause-app c =
-    let named : app_of c.after_help-command.result ≡ new_app (codes "replay") = search rules in
-    let build = c.in_ok-with_build.ensures.app ∙ ap with_build named in
+    let build = c.in_ok-with_build.ensures.app in
     let first = c.in_ok-arg.ensures.shape c.option.ensures.local ∙ ap₂ with_rule build c.option.ensures.rule in
     let second = c.in_ok-arg-2.ensures.shape c.option-2.ensures.local ∙ ap₂ with_rule first c.option-2.ensures.rule in
     let third = c.in_ok-arg-3.ensures.shape c.limit.ensures.local ∙ ap₂ with_rule second c.limit.ensures.rule in
@@ -17,9 +14,7 @@ returns-clause-app c =
 
 pub returns-clause-local : goal.returns-clause-local
 returns-clause-local c =
-    let own : (fields_of c.after_help-command.result).has_globals ≡ false = search rules in
-    let build = c.in_ok-with_build.ensures.local ∙ own in
     let first = stays _ _ _ c.in_ok-arg.ensures.globals c.option.ensures.local in
     let second = stays _ _ _ c.in_ok-arg-2.ensures.globals c.option-2.ensures.local in
     let third = stays _ _ _ c.in_ok-arg-3.ensures.globals c.limit.ensures.local in
-    IfOk-weaker c.arg-4.result _ _ (λ new h. stays _ _ _ h.globals c.tie.ensures.local ∙ third ∙ second ∙ first ∙ build) c.arg-4.ensures
+    IfOk-weaker c.arg-4.result _ _ (λ new h. stays _ _ _ h.globals c.tie.ensures.local ∙ third ∙ second ∙ first ∙ c.in_ok-with_build.ensures.local) c.arg-4.ensures
