@@ -1,10 +1,5 @@
 -- Lemmas on the answers to logs that are to be put in serial order.
-use Rattle.std.proofs.Common.{◌≡◌, ◌≢◌, ◌∙◌, ◌⊎◌, inl, inr, ℕ, Bool, List, Ok, Err, refl, subst, sym}
-use Rattle.mk_name.specs.Gives.{HaltsAmong}
-use Rattle.mk_name.specs.Shown.{refused_text}
-use Rattle.mk_name.specs.Told.{Told}
-use Rattle.mk_name.specs.declared.fault.Halt.{Halt}
-use Rattle.mk_name.specs.declared.fault.Halt.TheVariants.{Fault}
+use Rattle.std.proofs.Common.{◌≡◌, ◌≢◌, ◌∙◌, ◌⊎◌, inl, inr, ℕ, Bool, List, Ok, refl, subst, sym}
 use Rattle.mk_jobs.specs.Jobs.{Jobs}
 use Rattle.mk_log.specs.Logs.{Log}
 use Rattle.mk_race.specs.Serialised.{IsLawful, IsLawfulBuild, IsSerialised}
@@ -14,11 +9,10 @@ use Rattle.mk_race.specs.declared.serialising.Ordered.TheVariants.{Serial, NotAl
 use Rattle.mk_race.specs.declared.serialising.Serialised.{Serialised}
 use Rattle.mk_sched.specs.Stored.{store_of}
 use Rattle.mk_sched.proofs.SerialList.{all_inside}
-use Rattle.mk_program.specs.Answers.{IsSerialiseAnswer, IsToldOrder}
+use Rattle.mk_program.specs.Answers.{IsSerialiseAnswer}
 use Rattle.mk_program.specs.OrderText.{HasNodes, IsOrderText, order_status}
-use Rattle.mk_program.specs.declared.failures.Failure.{Failure}
 use Rattle.mk_program.specs.declared.statuses.Status.{Status}
-use Rattle.mk_program.specs.declared.statuses.Status.TheVariants.{Done, No, Failed, Refused}
+use Rattle.mk_program.specs.declared.statuses.Status.TheVariants.{Done, No, Failed}
 
 -- the answer over what was read is the one over the texts
 pub serial_told : (old new : Texts) (footprints footprints' log log' : List ℕ) (limit : ℕ) (tie : Bool) (status : Status) (text : List ℕ)
@@ -28,14 +22,6 @@ serial_told old new footprints footprints' log log' limit tie status text t f l 
     subst (λ (x : List ℕ). IsSerialiseAnswer new footprints' x limit tie status text) l
     (subst (λ (x : List ℕ). IsSerialiseAnswer new x log limit tie status text) f
     (subst (λ (x : Texts). IsSerialiseAnswer x footprints log limit tie status text) t h))
-
--- the report of a fault is the answer
-pub unserial_is : (texts : Texts) (footprints log : List ℕ) (limit limit' : ℕ) (tie : Bool) (halt : Halt) (fault : Told) (status : Status) (text : List ℕ)
-    → HaltsAmong halt (IsSerialised texts footprints log limit' tie) → halt ≡ Fault fault → limit' ≡ limit → status ≡ Refused → text ≡ refused_text fault
-    → IsSerialiseAnswer texts footprints log limit tie status text
-unserial_is texts footprints log limit limit' tie halt fault status text given is same ends told =
-    let at : HaltsAmong (Fault fault) (IsSerialised texts footprints log limit' tie) = subst (λ (h : Halt). HaltsAmong h (IsSerialised texts footprints log limit' tie)) is given in
-    rw ends (fault, subst (λ (n : ℕ). IsSerialised texts footprints log n tie (Err fault)) same at, told)
 
 -- what is told of a log ends as done or as no
 pub ends_as : (order : Ordered) → (order_status order ≡ Done) ⊎ (order_status order ≡ No)

@@ -1,5 +1,5 @@
 -- What is told of a log that is to be put in serial order.
-use Rattle.std.specs.Prelude.{ℕ, ◌≡◌, false, List, codes}
+use Rattle.std.specs.Prelude.{ℕ, ◌≡◌, List, codes}
 use Rattle.mk_name.specs.Shown.{line}
 use Rattle.mk_jobs.specs.Jobs.{Jobs}
 use Rattle.mk_log.specs.Logs.{Log}

@@ -1,6 +1,6 @@
 use Rattle.std.proofs.lemmas.Result.{IfOk-weaker}
 use Rattle.mk_race.specs.Stages.{texts_of}
-use Rattle.mk_program.proofs.SerialAnswers.{has_nodes, order_is, order_not_failed, unserial_is}
+use Rattle.mk_program.proofs.SerialAnswers.{has_nodes, order_is, order_not_failed}
 use Rattle.mk_program.proofs.serialising.serialise_over.Goals as goal
 
 pub told-requires : goal.told-requires
