@@ -127,9 +127,13 @@ fn is_answered(
     accepted: bool,
 ) -> Result<bool, Halt> {
     match jobs_of(alloc, made) {
-        Some(jobs) => Ok(is_accepted(alloc, &jobs, text.as_bytes())? == accepted),
+        Some(jobs) => has_answer(alloc, &jobs, text, accepted),
         None => Ok(false),
     }
+}
+
+fn has_answer(alloc: Global, jobs: &Jobs, text: &str, accepted: bool) -> Result<bool, Halt> {
+    Ok(is_accepted(alloc, jobs, text.as_bytes())? == accepted)
 }
 
 /// Whether the proof that is written so is accepted.

@@ -46,9 +46,13 @@ fn is_least(
     race: Option<(u32, u32)>,
 ) -> Result<bool, AllocError> {
     match jobs_of(alloc, made) {
-        Some(jobs) => Ok(walked(alloc, &jobs)? == race && looked_up(alloc, &jobs)? == race),
+        Some(jobs) => has_least(alloc, &jobs, race),
         None => Ok(false),
     }
+}
+
+fn has_least(alloc: Global, jobs: &Jobs, race: Option<(u32, u32)>) -> Result<bool, AllocError> {
+    Ok(walked(alloc, jobs)? == race && looked_up(alloc, jobs)? == race)
 }
 
 fn walked(alloc: Global, jobs: &Jobs) -> Result<Option<(u32, u32)>, AllocError> {

@@ -59,10 +59,22 @@ fn jobs_with_a_race(rt: HostRuntime) -> Result<(), Halt> {
 #[test]
 fn pairs_that_clash(rt: HostRuntime) -> Result<(), Halt> {
     let alloc = rt.alloc();
-    let jobs = jobs_of(alloc, &small::log_in_line()).expect(&rt, "well-formed");
-    let pairs = clashing_pairs(alloc, &jobs)?;
-    assert!(rt; pairs.as_slice() == [(1, 2), (1, 3), (2, 3)].as_slice());
+    assert!(rt; are_pairs(alloc, &small::log_in_line(), &[(1, 2), (1, 3), (2, 3)])?);
+    assert!(rt; are_pairs(alloc, &small::idle_configure(), &[])?);
     Ok(())
+}
+
+/// Whether these are the pairs that clash.
+fn are_pairs(alloc: Global, made: &[Made<'_>], pairs: &[(u32, u32)]) -> Result<bool, Halt> {
+    match jobs_of(alloc, made) {
+        Some(jobs) => has_pairs(alloc, &jobs, pairs),
+        None => Ok(false),
+    }
+}
+
+fn has_pairs(alloc: Global, jobs: &Jobs, pairs: &[(u32, u32)]) -> Result<bool, Halt> {
+    let found = clashing_pairs(alloc, jobs)?;
+    Ok(found.as_slice() == pairs)
 }
 
 /// Whether the verdict, by rows and by walks, is written so, and accepted.

@@ -16,7 +16,7 @@ use Rattle.mk_jobs.specs.Plan.{node_limit}
 use Rattle.mk_jobs.specs.Reaching.{uses_of}
 use Rattle.mk_jobs.specs.Shape.{IsWellFormed}
 use Rattle.mk_jobs.proofs.JobsLemmas.{before_less, clash_live}
-use Rattle.mk_proof.specs.Shapes.{AreShapedTimes, IsShapedTrace, greatest_node, greatest_time, node_of}
+use Rattle.mk_proof.specs.Shapes.{Trace, trace_of, AreShapedTimes, IsShapedTrace, greatest_node, greatest_time, node_of}
 use Rattle.mk_proof.specs.declared.step.Step.{Step}
 use Rattle.mk_proof.specs.declared.step.Step.TheVariants.{Finish, Skip, Start}
 use Rattle.mk_sched.proofs.Basics.{split}
@@ -142,7 +142,7 @@ tells_all jobs first second n early valid first_node second_node all long tells 
 
 -- ---- the trace
 
-pub trace_shaped : (jobs : Jobs) (early : ℕ → Bool) (first second : ℕ) (text : List ℕ) → IsWellFormed jobs → IsRace jobs first second → SpellsLeast jobs first second text
+trace_shaped : (jobs : Jobs) (early : ℕ → Bool) (first second : ℕ) (text : List ℕ) → IsWellFormed jobs → IsRace jobs first second → SpellsLeast jobs first second text
     → IsShapedTrace (race_trace jobs early first second text)
 trace_shaped jobs early first second text shape race spells =
     let live = clash_live race.clash.1 in
@@ -157,9 +157,9 @@ trace_shaped jobs early first second text shape race spells =
           (All-cons IsOfNode (Start first) (Start second ∷ []) (node first live.first_node) (All-cons IsOfNode (Start second) [] (node second live.second_node) (All-nil IsOfNode)));
     }
 
-pub trace_of_race : (jobs : Jobs) (early : ℕ → Bool) (first second : ℕ) (text : List ℕ) → IsRace jobs first second → SpellsLeast jobs first second text
+of_that_race : (jobs : Jobs) (early : ℕ → Bool) (first second : ℕ) (text : List ℕ) → IsRace jobs first second → SpellsLeast jobs first second text
     → TellsEarly jobs first second early → IsOfRace jobs (race_trace jobs early first second text)
-trace_of_race jobs early first second text race spells tells = record {
+of_that_race jobs early first second text race spells tells = record {
   early = early;
   path = spells.path;
   different = race.clash.1.different;
@@ -169,3 +169,23 @@ trace_of_race jobs early first second text race spells tells = record {
   tells = tells;
   is = ap (λ t. race_trace jobs early first second t) spells.spells;
 }
+
+-- these times, and the steps by this table, are those of the race
+pub record ArePartsOf (jobs : Jobs) (early : List Bool) (first second : ℕ) (times : List (ℕ × ℕ)) (steps : List Step) : Type 0 where
+  pub times_are : times ≡ falling_times jobs 0 (node_count jobs)
+  pub steps_are : steps ≡ early_steps jobs (λ n. get_or early n false) (node_count jobs) ++ Start first ∷ Start second ∷ []
+
+parts_are : (jobs : Jobs) (early : List Bool) (first second : ℕ) (text : List ℕ) (times : List (ℕ × ℕ)) (steps : List Step) → ArePartsOf jobs early first second times steps
+    → trace_of first second text times steps ≡ race_trace jobs (λ n. get_or early n false) first second text
+parts_are jobs early first second text times steps parts = λ i. trace_of first second text (parts.times_are i) (parts.steps_are i)
+
+pub parts_shaped : (jobs : Jobs) (early : List Bool) (first second : ℕ) (text : List ℕ) (times : List (ℕ × ℕ)) (steps : List Step) → IsWellFormed jobs
+    → IsRace jobs first second → SpellsLeast jobs first second text → ArePartsOf jobs early first second times steps → IsShapedTrace (trace_of first second text times steps)
+parts_shaped jobs early first second text times steps shape race spells parts =
+    subst IsShapedTrace (sym (parts_are jobs early first second text times steps parts)) (trace_shaped jobs (λ n. get_or early n false) first second text shape race spells)
+
+pub parts_of_race : (jobs : Jobs) (early : List Bool) (first second : ℕ) (text : List ℕ) (times : List (ℕ × ℕ)) (steps : List Step) (trace : Trace)
+    → IsRace jobs first second → SpellsLeast jobs first second text → TellsEarly jobs first second (λ n. get_or early n false)
+    → ArePartsOf jobs early first second times steps → trace ≡ trace_of first second text times steps → IsOfRace jobs trace
+parts_of_race jobs early first second text times steps trace race spells tells parts is =
+    subst (IsOfRace jobs) (sym (is ∙ parts_are jobs early first second text times steps parts)) (of_that_race jobs (λ n. get_or early n false) first second text race spells tells)

@@ -89,7 +89,8 @@ impl Jobs {
     }
 
     /// How many nodes there are, at most 20,000; they have at most 200,000 prerequisites together. Prerequisites have
-    /// smaller numbers than what needs them, and no recipe writes the name of a node but its own.
+    /// smaller numbers than what needs them, the name of each path has a byte, and no recipe writes the name of a node but
+    /// its own.
     pub fn count(&self) -> u32
         ensures count { result ≡ node_count self.now }
         ensures few { result ≤ node_limit }
