@@ -6,7 +6,7 @@ use Rattle.std.specs.Cmp.Lexicographic.{slice_cmp}
 use Rattle.std.specs.declared.collections.BTreeMap.{BTreeMap}
 use Rattle.std.specs.declared.collections.BTreeSet.{BTreeSet}
 use Rattle.std.specs.Global.{Global}
-use Rattle.std.specs.Option.{option_map_or}
+use Rattle.std.specs.Option.{is_some, option_map_or}
 use Rattle.std.specs.Ordering.{nat_cmp}
 use Rattle.mk_name.specs.Names.{Name, same_name, has}
 use Rattle.mk_graph.specs.Suffix.{from_last_period}
@@ -22,6 +22,14 @@ in_set places place = contains nat_cmp places place
 -- the place stands beside the name
 abbrev pub stands_beside : Table → Name → ℕ → Bool
 stands_beside table name place = option_map_or (λ places. in_set places place) (get (slice_cmp nat_cmp) table name) false
+
+-- the table has the name
+abbrev pub is_key : Table → Name → Bool
+is_key table name = is_some (get (slice_cmp nat_cmp) table name)
+
+-- no place stands beside any name
+abbrev pub IsBlank : Table → Type 0
+IsBlank table = (name : Name) (place : ℕ) → stands_beside table name place ≡ false
 
 -- the place of a suffix in the list
 abbrev pub place_of : List Name → Name → Option ℕ
@@ -50,9 +58,9 @@ IsOld suffixes old = (old ≡ []) ⊎ IsTrue (has same_name suffixes old)
 abbrev pub AreRulePlaces : List Name → List Name → Table → Type 0
 AreRulePlaces suffixes rules table = ArePlaces (λ old new. new ++ old) (IsOld suffixes) suffixes rules table
 
--- beside each name stand the places of the suffixes with which it is one of these names
+-- beside each name of the table stand the places of the suffixes with which it is one of these names
 abbrev pub AreNamePlaces : List Name → List Name → Table → Type 0
-AreNamePlaces suffixes names table = ArePlaces (λ stem s. stem ++ s) (λ stem. stem ≡ stem) suffixes names table
+AreNamePlaces suffixes names table = ArePlaces (λ stem s. stem ++ s) (λ stem. IsTrue (is_key table stem)) suffixes names table
 
 -- the least place from this one on in a set
 abbrev pub IsNext : BTreeSet ℕ Global → ℕ → Option ℕ → Type 0

@@ -146,6 +146,6 @@ pub fn collect(
         ((names : List Name) × AreNodes same_name (needs book.now listing.now) goals.now names ×
         (limit < length names))) }
 {
-    let index = source_index(alloc, book, listing)?;
+    let index = source_index(alloc, book, listing, goals)?;
     collect_by(alloc, book, listing, &index, goals, limit)
 }

@@ -79,12 +79,9 @@ fn source_place(
     let Some(rules) = index.rules.get(old) else {
         return Ok(None);
     };
-    match &index.names {
+    match index.names.get(stem) {
+        Some(there) => Ok(first_common(rules, there)),
         None => first_there(alloc, book, listing, stem, rules),
-        Some(names) => match names.get(stem) {
-            Some(there) => Ok(first_common(rules, there)),
-            None => Ok(None),
-        },
     }
 }
 

@@ -2,7 +2,7 @@
 ghost use Rattle.std.specs.Prelude.{◌≡◌, ◌&&◌, ◌||◌, ℕ, List, nat_eq, OnOk};
 ghost use Rattle.std.specs.List.{All};
 ghost use Rattle.mk_name.specs.Names.{Name, same_name};
-ghost use Rattle.mk_graph.specs.Places.{IsLeast, IsNext, in_set, stands_beside};
+ghost use Rattle.mk_graph.specs.Places.{IsLeast, IsNext, in_set, is_key, stands_beside};
 
 use mk_name::name::Name;
 use std::alloc::{AllocError, Global};
@@ -24,6 +24,20 @@ pub(crate) fn put_beside(
     let mut places = match table.remove(&name) {
         Some(places) => places,
         None => BTreeSet::new(alloc),
+    };
+    places.insert(place)?;
+    table.insert(name, places)?;
+    Ok(())
+}
+
+/// Puts a place beside a name, if the table has the name.
+pub(crate) fn put_known(table: &mut Table, name: Name, place: usize) -> Result<(), AllocError>
+    ensures keys { OnOk result ((n : List ℕ) → is_key table.new n ≡ is_key table.old n) }
+    ensures places { OnOk result ((n : List ℕ) (p : ℕ) → stands_beside table.new n p
+        ≡ (stands_beside table.old n p || (same_name name n && is_key table.old n && nat_eq place p))) }
+{
+    let Some(mut places) = table.remove(&name) else {
+        return Ok(());
     };
     places.insert(place)?;
     table.insert(name, places)?;

@@ -2,11 +2,11 @@ use Rattle.std.proofs.Common.{◌∙◌, List, [], ◌++◌, ap, subst, take}
 use Rattle.std.proofs.lemmas.List.{take_all}
 use Rattle.mk_name.specs.Names.{Name}
 use Rattle.mk_graph.specs.Places.{AreRulePlaces, IsOld}
-use Rattle.mk_graph.proofs.Tables.{none_are, rules_more}
+use Rattle.mk_graph.proofs.Tables.{blank, none_are, rules_more}
 use Rattle.mk_graph.proofs.index.rule_places.Goals as goal
 
 pub loop-rule-init : goal.loop-rule-init
-loop-rule-init c = none_are (λ old new. new ++ old) (IsOld c.args.book.now.suffixes) c.args.book.now.suffixes c.new-table.result c.new-table.ensures.empty
+loop-rule-init c = none_are (λ old new. new ++ old) (IsOld c.args.book.now.suffixes) c.args.book.now.suffixes c.new-table.result (blank c.new-table.result c.new-table.ensures.empty)
 
 pub loop-rule-preserved : goal.loop-rule-preserved
 loop-rule-preserved c =

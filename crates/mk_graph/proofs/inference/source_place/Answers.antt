@@ -1,9 +1,6 @@
-use Rattle.std.proofs.Common.{sym, subst, Option}
-use Rattle.std.specs.Prelude.{IfSome}
+use Rattle.std.proofs.Common.{sym}
 use Rattle.std.proofs.lemmas.Result.{IfOk-weaker}
-use Rattle.mk_graph.specs.Places.{AreNamePlaces, Table}
-use Rattle.mk_graph.specs.SourceIndex.{names_there}
-use Rattle.mk_graph.proofs.Tables.{least_common, least_looked, least_no_name, least_no_rule, places_within}
+use Rattle.mk_graph.proofs.Tables.{least_common, least_looked, least_no_rule, places_within}
 use Rattle.mk_graph.proofs.inference.source_place.Goals as goal
 
 pub returns-in_default : goal.returns-in_default
@@ -22,11 +19,5 @@ returns-in-None c =
 
 pub returns-in-Some-get : goal.returns-in-Some-get
 returns-in-Some-get c =
-    let there = subst (λ (o : Option Table). IfSome o (AreNamePlaces c.args.book.now.suffixes (names_there c.args.book.now c.args.listing.now))) c.in-Some-names.is c.requires.index.names in
-    least_common c.args.book.now c.args.listing.now c.args.index.now.rules c.args.stem.now c.args.old.now c.requires.index.rules c.requires.old c.in-Some-names.names there
+    least_common c.args.book.now c.args.listing.now c.args.index.now.rules c.args.stem.now c.args.old.now c.requires.index.rules c.requires.old c.args.index.now.names c.requires.index.names
     c.in-Some.rules.now c.in-Some-get.there.now c.first_common.result (sym c.in-Some.ensures.value) (sym c.in-Some-get.ensures.value) c.first_common.ensures
-
-pub returns-in-None-get : goal.returns-in-None-get
-returns-in-None-get c =
-    let there = subst (λ (o : Option Table). IfSome o (AreNamePlaces c.args.book.now.suffixes (names_there c.args.book.now c.args.listing.now))) c.in-Some-names.is c.requires.index.names in
-    least_no_name c.args.book.now c.args.listing.now c.args.index.now.rules c.args.stem.now c.args.old.now c.requires.index.rules c.requires.old c.in-Some-names.names there (sym c.in-None-get.ensures.value)
