@@ -58,10 +58,10 @@ pub struct Serialised {
     pub order: Ordered,
 }
 
-/// Puts the log of a build in serial order: the same files, and then each node's events together, in rising number and in
-/// their old order, the k-th put of the whole at the greatest time of the files plus k (nought where there are none). What
-/// is put in order is a complete run too, in which one node runs at a time; in it each node does the same as in the log, the
-/// same nodes start, and it leaves the same bytes at each name.
+/// Puts the log of a build in serial order: the same files, and then node after node, in rising number, all that the node
+/// did, as it did it. Puts get new times: the k-th of the whole log has the greatest time of the files plus k (nought where
+/// there are none). What is put in order is a complete run too, in which one node runs at a time; in it each node does the
+/// same as in the log, the same nodes start, and it leaves the same bytes at each name.
 ///
 /// The log has to be a run of the jobs, in which at most `limit` nodes run at once and with `tie` files of equal times
 /// count as newer; then it has to be complete; then the jobs have to be race-free; then there has to be room for the new
