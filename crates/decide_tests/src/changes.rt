@@ -59,12 +59,7 @@ fn is_alone_at(alloc: Global, jobs: &Jobs, place: usize) -> Result<bool, AllocEr
     Ok(true)
 }
 
-fn is_accepted_with(
-    alloc: Global,
-    jobs: &Jobs,
-    place: usize,
-    byte: u8,
-) -> Result<bool, AllocError>
+fn is_accepted_with(alloc: Global, jobs: &Jobs, place: usize, byte: u8) -> Result<bool, AllocError>
     requires { place < length PROOF.now }
 {
     let mut text = Vec::from_slice(alloc, PROOF)?;

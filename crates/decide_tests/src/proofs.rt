@@ -120,12 +120,7 @@ fn of_a_tree(rt: HostRuntime) -> Result<(), Halt> {
 }
 
 /// Whether the proof that is written so is accepted, or not, as is said.
-fn is_answered(
-    alloc: Global,
-    made: &[Made<'_>],
-    text: &str,
-    accepted: bool,
-) -> Result<bool, Halt> {
+fn is_answered(alloc: Global, made: &[Made<'_>], text: &str, accepted: bool) -> Result<bool, Halt> {
     match jobs_of(alloc, made) {
         Some(jobs) => has_answer(alloc, &jobs, text, accepted),
         None => Ok(false),

@@ -18,7 +18,13 @@ fn jobs_without_race(rt: HostRuntime) -> Result<(), Halt> {
     assert!(rt; is_decided(alloc, &small::temporary_ordered(), "certificate 1\n1 3 4\n")?);
     assert!(rt; is_decided(alloc, &small::idle_configure(), "certificate 0\n")?);
     assert!(rt; is_decided(alloc, &small::file_beside_tree(), "certificate 0\n")?);
-    assert!(rt; is_decided(alloc, &small::log_in_line(), "certificate 3\n1 2\n1 2 3\n2 3\n")?);
+    assert!(rt;
+        is_decided(
+            alloc,
+            &small::log_in_line(),
+            "certificate 3\n1 2\n1 2 3\n2 3\n"
+        )?
+    );
     Ok(())
 }
 

@@ -1,6 +1,5 @@
 //! Jobs of nodes and paths.
-use crate::nodes;
-use crate::rows;
+use crate::{nodes, rows};
 use mk_jobs::jobs::Jobs;
 use mk_jobs::maker::Maker;
 use mk_jobs::plan::{Plan, PlanNode};

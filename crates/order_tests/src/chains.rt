@@ -37,21 +37,17 @@ fn is_least_way(alloc: Global, jobs: &Jobs) -> Result<bool, AllocError> {
     if jobs.count() != 5 {
         return Ok(false);
     }
-    Ok(is_walked(alloc, jobs, 0, 4, &[0, 1, 3, 4])?
-        && is_looked_up(alloc, jobs, 0, 4, &[0, 1, 3, 4])?
-        && is_walked(alloc, jobs, 1, 2, &[])?
-        && is_looked_up(alloc, jobs, 1, 2, &[])?
-        && is_looked_up(alloc, jobs, 0, 0, &[])?)
+    Ok(
+        is_walked(alloc, jobs, 0, 4, &[0, 1, 3, 4])?
+            && is_looked_up(alloc, jobs, 0, 4, &[0, 1, 3, 4])?
+            && is_walked(alloc, jobs, 1, 2, &[])?
+            && is_looked_up(alloc, jobs, 1, 2, &[])?
+            && is_looked_up(alloc, jobs, 0, 0, &[])?,
+    )
 }
 
 /// Whether a walk finds this chain; no node where there is none.
-fn is_walked(
-    alloc: Global,
-    jobs: &Jobs,
-    a: u32,
-    b: u32,
-    nodes: &[u32],
-) -> Result<bool, AllocError>
+fn is_walked(alloc: Global, jobs: &Jobs, a: u32, b: u32, nodes: &[u32]) -> Result<bool, AllocError>
     requires jobs { node_count jobs.now ≡ 5 }
     requires first { a < 5 }
     requires last { b < 5 }

@@ -4,7 +4,7 @@ ghost use Rattle.clap.specs.Words.{app_of, found_of, rows_of, rule_of};
 ghost use Rattle.clap.specs.declared.builder.command.Command.TheViews.{out-Command as fields_of};
 ghost use Rattle.mk_program.specs.CommandLine as spec;
 
-use super::{is_true, build_args, help, option, with_build};
+use super::{build_args, help, is_true, option, with_build};
 use crate::requests::ReplayArgs;
 use clap::builder::ValueParser;
 use clap::{Arg, ArgAction, ArgMatches, Command};
