@@ -74,7 +74,8 @@ impl<'a> Made<'a> {
     }
 }
 
-/// The jobs of these nodes, below the root `/w`. There are none where they are not well-formed, or memory ran out.
+/// The jobs of these nodes, below the root `/w`, with one use of `.WAIT`, which orders nothing. There are none where they are not
+/// well-formed, or memory ran out.
 pub fn jobs_of(alloc: Global, made: &[Made<'_>]) -> Option<Jobs> {
     let nodes = nodes_of(alloc, made).ok()?;
     let reads = reads_of(alloc, made).ok()?;
@@ -100,7 +101,7 @@ fn of_parts(
     if !nodes::are_fit(nodes.as_slice()) {
         return None;
     }
-    let plan = Plan::new(alloc, nodes, 0).ok()?;
+    let plan = Plan::new(alloc, nodes, 1).ok()?;
     let root = Root::read(alloc, b"/w").ok()?;
     on_plan(alloc, plan, root, reads, writes)
 }
