@@ -31,6 +31,7 @@ NAMED = """
     cases/text/continued-lines cases/macros/late-macro-change
     cases/schedules/header-first-run cases/schedules/object-first-run cases/schedules/equal-times-with-tie
     cases/schedules/equal-times-without-tie cases/schedules/interleaved-run-of-two-objects
+    cases/serialise/interleaved-run cases/serialise/race cases/serialise/no-files cases/serialise/times-with-just-room
 """.split()
 PROCESSES = 2
 # A run that takes more seconds of a processor is ended.
