@@ -86,6 +86,24 @@ const OF_A_TREE: &[(&str, bool)] = &[
     ("certificate 0\n", false),
 ];
 
+/// Certificates, and whether they are accepted where one target without commands orders two recipes that write one file.
+const OF_A_CHAIN: &[(&str, bool)] = &[
+    ("certificate 1\n1 3 4\n", true),
+    ("certificate 0\n", false),
+    ("certificate 2\n1 3 4\n1 19999\n", false),
+    ("certificate 2\n1 3 4\n1 9\n", false),
+    ("certificate 1\n1 2 4\n", false),
+    ("certificate 1\n1 4\n", false),
+];
+
+/// Certificates, and whether they are accepted where a link reads two objects.
+const OF_A_LINK: &[(&str, bool)] = &[
+    ("certificate 2\n1 4\n3 4\n", true),
+    ("certificate 3\n0 1\n1 4\n3 4\n", true),
+    ("certificate 1\n3 4\n", false),
+    ("certificate 1\n1 4\n", false),
+];
+
 #[test]
 fn of_a_race(rt: HostRuntime) -> Result<(), Halt> {
     for (proof, accepted) in OF_A_RACE.iter() {
@@ -113,6 +131,28 @@ fn of_a_tree(rt: HostRuntime) -> Result<(), Halt> {
     for (proof, accepted) in OF_A_TREE.iter() {
         assert!(rt;
             is_answered(rt.alloc(), &small::file_in_tree(), proof, *accepted)?,
+            "{proof:?}"
+        );
+    }
+    Ok(())
+}
+
+#[test]
+fn of_a_chain(rt: HostRuntime) -> Result<(), Halt> {
+    for (proof, accepted) in OF_A_CHAIN.iter() {
+        assert!(rt;
+            is_answered(rt.alloc(), &small::temporary_ordered(), proof, *accepted)?,
+            "{proof:?}"
+        );
+    }
+    Ok(())
+}
+
+#[test]
+fn of_a_link(rt: HostRuntime) -> Result<(), Halt> {
+    for (proof, accepted) in OF_A_LINK.iter() {
+        assert!(rt;
+            is_answered(rt.alloc(), &small::two_objects(), proof, *accepted)?,
             "{proof:?}"
         );
     }

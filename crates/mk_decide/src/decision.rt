@@ -26,15 +26,15 @@ pub enum Verdict {
     /// other chain.
     Safe(Certificate),
     /// The two nodes of the trace race: they clash, and neither is before the other. No other race precedes theirs, by first and
-    /// then second number, and the path is the least on which they clash. By the times of the trace node n of N is N - n old,
-    /// where it is listed; its steps let the nodes before one of the two pass, in rising order, and then start both.
+    /// then second number, and the path is the least on which they clash. Of N nodes the listed node n has the time N - n. In
+    /// the steps all nodes before one of the two pass, in rising order, and then both start.
     Race(Trace),
 }
 
 /// Decides whether jobs are race-free (profile). If they are, they are determinate; if not, the trace holds, and is one that
-/// `accept_trace` takes. `before` must speak of the same jobs. Where
-/// more than `PAIR_LIMIT` pairs of nodes clash the fault is `TooManyPairs` in the jobs, at place 0. It goes over no pairs
-/// but those that clash.
+/// `accept_trace` takes. `before` must speak of the same jobs. Where more than `PAIR_LIMIT` pairs of nodes clash the fault
+/// is `TooManyPairs` in the jobs, at place 0. It goes over no pairs but those that clash, and asks `before` at most twice for
+/// each node besides.
 pub fn decide_with<B: Before>(alloc: Global, jobs: &Jobs, before: &mut B) -> Result<Verdict, Halt>
     requires same { B.jobs before.old ≡ jobs.now }
     ensures answer { IfOk result (IsVerdict jobs.now) }
