@@ -215,10 +215,6 @@ put_is old removed new name before after place taken put was more n p =
           ∙ sym (or-false (stands_beside old n p)) ∙ ap (λ b. stands_beside old n p || (b && nat_eq place p)) (sym f)
     ]
 
--- the places below this one are not common
-abbrev pub NoneBelow : BTreeSet ℕ Global → BTreeSet ℕ Global → ℕ → Type 0
-NoneBelow one other from = (p : ℕ) → p < from → (in_set one p && in_set other p) ≡ false
-
 -- what a note of a rule does, by the parts that were read
 pub single_read : (suffixes rules : List Name) (before after : Table) (rule front last : Name) → AllSuffixes suffixes → front ≡ before_last_period rule → last ≡ from_last_period rule → (length front == 0) ≡ true
     → NotesPlace suffixes [] last before after → AreRulePlaces suffixes rules before → AreRulePlaces suffixes (rules ++ rule ∷ []) after
