@@ -1,6 +1,6 @@
 -- The least place that two sets of places have.
-use Rattle.std.proofs.Common.{◌≡◌, ℕ, zero, suc, ◌<◌, Bool, true, false, cond, List, [], ◌∷◌, length, sym, ◌∙◌, ap, subst, refl, inl, inr, arith, find, Option, Some, None}
-use Rattle.std.specs.Prelude.{◌⊎◌, IsTrue, ◌||◌, ◌&&◌}
+use Rattle.std.proofs.Common.{◌≡◌, ℕ, suc, ◌<◌, Bool, true, false, List, [], ◌∷◌, sym, ◌∙◌, ap, subst, refl, inl, inr, arith, find, Option, Some, None}
+use Rattle.std.specs.Prelude.{◌⊎◌, ◌||◌, ◌&&◌}
 use Rattle.std.specs.BTreeMap.{is_at}
 use Rattle.std.specs.Cmp.{nat_cmp_is}
 use Rattle.std.specs.List.{All, list_any}

@@ -1,4 +1,4 @@
-use Rattle.std.proofs.Common.{◌&&◌, ℕ, sym, subst, Option}
+use Rattle.std.proofs.Common.{◌&&◌, sym, subst}
 use Rattle.mk_graph.specs.Places.{IsLeast, in_set}
 use Rattle.mk_graph.proofs.Sets.{found_least, least_same, turned}
 use Rattle.mk_graph.proofs.places.first_common.Goals as goal
