@@ -11,6 +11,7 @@ mod NodesOf
 mod Placing
 mod Rowing
 mod Steps
+mod Sets
 mod Sources
 mod SuffixRules
 mod Suffixes

@@ -1,6 +1,6 @@
 -- Tables of places.
-use Rattle.std.proofs.Common.{◌≡◌, ℕ, ◌+◌, ◌<◌, ◌≤◌, arith, Bool, true, false, cond, List, [], ◌∷◌, ◌++◌, sym, ◌∙◌, ap, subst, refl, inl, inr, append_assoc, get_or, take, Option, Some, None}
-use Rattle.std.specs.Prelude.{◌⊎◌, IsTrue, OnOk, Result, Ok, Err, ◌||◌, ◌&&◌, ◌==◌, nat_eq, length}
+use Rattle.std.proofs.Common.{◌≡◌, ℕ, ◌+◌, ◌<◌, arith, Bool, true, false, cond, List, [], ◌∷◌, ◌++◌, sym, ◌∙◌, ap, subst, refl, inl, inr, append_assoc, get_or, take, Option, Some, None}
+use Rattle.std.specs.Prelude.{IsTrue, OnOk, Result, Ok, Err, ◌||◌, ◌&&◌, ◌==◌, nat_eq, length}
 use Rattle.std.specs.BTreeMap.{get, is_at}
 use Rattle.std.specs.Map.{lookup}
 use Rattle.std.specs.List.{All, list_any}
@@ -9,19 +9,19 @@ use Rattle.std.specs.Cmp.Lexicographic.{slice_cmp, texts_ties}
 use Rattle.std.specs.Ordering.{is_eq, nat_cmp}
 use Rattle.std.specs.Global.{Global}
 use Rattle.std.specs.declared.collections.BTreeSet.{BTreeSet}
-use Rattle.std.proofs.lemmas.Bool.{and_from, and_parts, both_ways, cases_Bool, cases_lt, cond-false, cond-true, eqb-true, false_from_ne_true, or_cases, or_left, or_right}
+use Rattle.std.proofs.lemmas.Bool.{and_from, and_parts, both_ways, cases_Bool, cond-false, cond-true, eqb-true, false_from_ne_true, or_cases, or_left, or_right}
 use Rattle.std.proofs.Math.Bool.{or-false}
 use Rattle.std.proofs.lemmas.List.{append-nil, take_more}
 use Rattle.std.proofs.lemmas.List.Folds.{list_any-append}
 use Rattle.std.proofs.lemmas.Option.{same_Some}
 use Rattle.mk_name.specs.Names.{Name, same_name, has}
 use Rattle.mk_name.proofs.Names.{name_is_exact, nat_is_exact, in_left, in_push, in_push_cases}
-use Rattle.mk_rules.specs.Book.{Book, has_inference, is_target, targets_of}
+use Rattle.mk_rules.specs.Book.{Book, has_inference, targets_of}
 use Rattle.mk_rules.specs.Special.{is_suffix}
 use Rattle.mk_rules.proofs.Indexes.{has-targets_of}
 use Rattle.mk_jobs.specs.Numbered.{name_at}
 use Rattle.mk_graph.specs.Makers.{is_there}
-use Rattle.mk_graph.specs.Places.{AreNamePlaces, ArePlaces, AreRulePlaces, IsBlank, IsLeast, IsLeastSuffix, IsNext, IsOld, NotesPlace, Table, before_last_period, in_set, is_key, place_of, stands_beside}
+use Rattle.mk_graph.specs.Places.{AreNamePlaces, ArePlaces, AreRulePlaces, IsBlank, IsLeast, IsLeastSuffix, IsOld, NotesPlace, Table, before_last_period, in_set, is_key, place_of, stands_beside}
 use Rattle.mk_graph.specs.SourceIndex.{names_there}
 use Rattle.mk_graph.specs.Suffix.{from_last_period}
 use Rattle.mk_graph.proofs.Cuts.{front_of, last_of, parts_join, suffix_some}
@@ -214,10 +214,6 @@ put_is old removed new name before after place taken put was more n p =
           ap (λ o. option_map_or (λ places. in_set places p) o false) (put n ∙ cond-false _ (Some after) _ apart ∙ taken n ∙ cond-false _ None _ apart)
           ∙ sym (or-false (stands_beside old n p)) ∙ ap (λ b. stands_beside old n p || (b && nat_eq place p)) (sym f)
     ]
-
--- the places below this one are not common
-abbrev pub NoneBelow : BTreeSet ℕ Global → BTreeSet ℕ Global → ℕ → Type 0
-NoneBelow one other from = (p : ℕ) → p < from → (in_set one p && in_set other p) ≡ false
 
 -- what a note of a rule does, by the parts that were read
 pub single_read : (suffixes rules : List Name) (before after : Table) (rule front last : Name) → AllSuffixes suffixes → front ≡ before_last_period rule → last ≡ from_last_period rule → (length front == 0) ≡ true

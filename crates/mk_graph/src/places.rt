@@ -1,5 +1,5 @@
 //! Tables of places in the list of suffixes, by names.
-ghost use Rattle.std.specs.Prelude.{◌≡◌, ◌&&◌, ◌||◌, ℕ, List, nat_eq, OnOk};
+ghost use Rattle.std.specs.Prelude.{◌≡◌, ◌&&◌, ◌||◌, ℕ, List, find, nat_eq, OnOk};
 ghost use Rattle.std.specs.List.{All};
 ghost use Rattle.mk_name.specs.Names.{Name, same_name};
 ghost use Rattle.mk_graph.specs.Places.{IsLeast, IsNext, in_set, is_key, stands_beside};
@@ -51,17 +51,25 @@ pub(crate) fn next_place(places: &BTreeSet<usize>, from: usize) -> Option<usize>
     places.range(from..).next().copied()
 }
 
-/// The least place that both sets have. Each step passes over all places of one set before the next of the other.
-pub(crate) fn first_common(one: &BTreeSet<usize>, other: &BTreeSet<usize>) -> Option<usize>
-    ensures { IsLeast (λ p. in_set one.now p && in_set other.now p) result }
+/// The first place of one set that the other has too.
+fn first_in(few: &BTreeSet<usize>, many: &BTreeSet<usize>) -> Option<usize>
+    ensures { result ≡ find (in_set many.now) few.now.keys }
 {
-    let mut from = 0;
-    'leap: while let Some(place) = next_place(one, from) {
-        match next_place(other, place) {
-            Some(found) if found == place => return Some(place),
-            Some(later) => from = later,
-            None => return None,
+    for place in few {
+        if many.contains(place) {
+            return Some(*place);
         }
     }
     None
+}
+
+/// The least place that both sets have. The smaller is gone through, and the other asked.
+pub(crate) fn first_common(one: &BTreeSet<usize>, other: &BTreeSet<usize>) -> Option<usize>
+    ensures { IsLeast (λ p. in_set one.now p && in_set other.now p) result }
+{
+    if one.len() <= other.len() {
+        first_in(one, other)
+    } else {
+        first_in(other, one)
+    }
 }

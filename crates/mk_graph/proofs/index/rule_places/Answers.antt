@@ -1,4 +1,4 @@
-use Rattle.std.proofs.Common.{◌∙◌, List, [], ◌++◌, ap, subst, take}
+use Rattle.std.proofs.Common.{◌∙◌, List, ◌++◌, subst, take}
 use Rattle.std.proofs.lemmas.List.{take_all}
 use Rattle.mk_name.specs.Names.{Name}
 use Rattle.mk_graph.specs.Places.{AreRulePlaces, IsOld}

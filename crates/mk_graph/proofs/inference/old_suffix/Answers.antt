@@ -1,5 +1,4 @@
-use Rattle.std.proofs.Common.{◌∙◌, sym, ap, is_some, subst}
-use Rattle.mk_graph.specs.Places.{IsOld, place_of}
+use Rattle.std.proofs.Common.{◌∙◌, sym, ap, is_some}
 use Rattle.mk_graph.proofs.Sources.{old_is, old_known, old_none}
 use Rattle.mk_graph.proofs.inference.old_suffix.Goals as goal
 

@@ -1,4 +1,4 @@
-use Rattle.std.proofs.Common.{◌≡◌, ◌∙◌, ℕ, sym, ap, length, take, List, [], ◌++◌, get_or, Some, Option}
+use Rattle.std.proofs.Common.{rules, ◌≡◌, ◌∙◌, sym, ap, length, take, [], ◌++◌, get_or, Some}
 use Rattle.std.specs.Prelude.{◌-◌}
 use Rattle.std.specs.Option.{option_map}
 use Rattle.mk_name.specs.Names.{Name}
@@ -20,7 +20,7 @@ returns-in-Some c =
     c.as_bytes-in-Some.ensures ∙ suffix_read c.args.book.now.suffixes _ c.in_ok-place.field-0 c.in-Some.place c.index-suffixes-place.result c.in_ok-place.ensures found read in
     ap Some (c.in_ok-source-in-Some.ensures ∙ ap (λ n. take n name ++ c.as_bytes-in-Some.result.now) cut ∙ ap (λ s. take (length name - length old) name ++ s) suffix)
     ∙ ap (option_map (source_at c.args.book.now name old)) (sym found)
-    ∙ source_is c.args.book.now c.args.listing.now name c.in_ok-stem.stem old c.in_ok-place.field-0 (sym c.is_phony.ensures ∙ c.if-is_phony.false) c.in_ok-old.ensures.value stem c.in_ok-place.ensures
+    ∙ source_is c.args.book.now c.args.listing.now name c.in_ok-stem.stem old c.in_ok-place.field-0 (search rules) c.in_ok-old.ensures.value stem c.in_ok-place.ensures
 
 pub returns : goal.returns
 returns c =
@@ -30,4 +30,4 @@ returns c =
     c.saturating_sub-cut.ensures ∙ ap (λ (bs : Name). length bs - length c.as_bytes-2.result.now) c.as_bytes.ensures ∙ ap (λ (bs : Name). length name - length bs) c.as_bytes-2.ensures in
     let stem : c.in_ok-stem.stem ≡ take (length name - length old) name ++ [] = c.in_ok-stem.ensures ∙ ap (λ n. take n name ++ []) cut in
     ap (option_map (source_at c.args.book.now name old)) (sym c.in-None.is)
-    ∙ source_is c.args.book.now c.args.listing.now name c.in_ok-stem.stem old c.in_ok-place.field-0 (sym c.is_phony.ensures ∙ c.if-is_phony.false) c.in_ok-old.ensures.value stem c.in_ok-place.ensures
+    ∙ source_is c.args.book.now c.args.listing.now name c.in_ok-stem.stem old c.in_ok-place.field-0 (search rules) c.in_ok-old.ensures.value stem c.in_ok-place.ensures
