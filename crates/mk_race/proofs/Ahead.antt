@@ -1,5 +1,5 @@
 -- A build whose listing and footprints were read ahead.
-use Rattle.std.proofs.Common.{◌≡◌, ◌∙◌, ℕ, IfOk, List, [], Ok, Err, Result, refl, sym, subst}
+use Rattle.std.proofs.Common.{◌≡◌, ℕ, IfOk, List, [], Ok, Err, Result, refl, sym, subst}
 use Rattle.mk_name.specs.Names.{Name}
 use Rattle.mk_name.specs.Told.{Told}
 use Rattle.mk_name.specs.Gives.{HaltsAmong}
