@@ -2,7 +2,7 @@
 ghost use Rattle.std.specs.Prelude.{◌<◌, length};
 
 use crate::small;
-use made_jobs::making::{Made, jobs_of};
+use jobs_for_tests::making::{Made, jobs_of};
 use mk_cert::accepting::{accept, accept_trace};
 use mk_jobs::jobs::Jobs;
 use mk_name::fault::Halt;

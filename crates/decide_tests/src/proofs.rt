@@ -1,6 +1,6 @@
 //! Which proofs are accepted.
 use crate::small;
-use made_jobs::making::{Made, jobs_of};
+use jobs_for_tests::making::{Made, jobs_of};
 use mk_cert::accepting::{accept, accept_trace};
 use mk_jobs::jobs::Jobs;
 use mk_name::fault::Halt;

@@ -1,6 +1,6 @@
 //! What is decided about small jobs.
 use crate::small;
-use made_jobs::making::{Made, jobs_of};
+use jobs_for_tests::making::{Made, jobs_of};
 use mk_cert::accepting::{accept, accept_trace};
 use mk_decide::decision::{Verdict, decide, decide_with};
 use mk_decide::pairs::clashing_pairs;

@@ -8,7 +8,7 @@ use Rattle.std.proofs.lemmas.List.Sums.{sum_by-cons}
 use Rattle.mk_name.specs.Names.{IsDistinct, Name, has, same_name}
 use Rattle.mk_name.proofs.Names.{distinct_push, name_is_exact}
 use Rattle.mk_jobs.specs.Plan.{NeedsStandBefore, Node, edge_count, edge_limit, names_of, nobody}
-use Rattle.made_jobs.specs.Nodes.{AreFit, FitsBehind}
+use Rattle.jobs_for_tests.specs.Nodes.{AreFit, FitsBehind}
 
 -- of numbers that are all below one, each is
 pub all_below : (numbers : List ℕ) (end : ℕ) → list_all (λ p. nat_lt p end) numbers ≡ true → (p : ℕ) → IsTrue (has nat_eq numbers p) → p < end

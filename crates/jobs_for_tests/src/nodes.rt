@@ -2,7 +2,7 @@
 ghost use Rattle.std.specs.Prelude.{◌≡◌, ◌<◌, IsTrue, length, nat_lt};
 ghost use Rattle.std.specs.List.{list_all, list_any};
 ghost use Rattle.mk_name.specs.Names.{same_name};
-ghost use Rattle.made_jobs.specs.Nodes.{AreFit, FitsBehind};
+ghost use Rattle.jobs_for_tests.specs.Nodes.{AreFit, FitsBehind};
 
 use mk_jobs::plan::{NODE_LIMIT, PlanNode};
 use mk_name::name::Name;

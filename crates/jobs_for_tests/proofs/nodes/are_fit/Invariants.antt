@@ -1,6 +1,6 @@
 use Rattle.std.proofs.Common.{ℕ, ◌<◌}
-use Rattle.made_jobs.specs.Nodes.{FitsBehind}
-use Rattle.made_jobs.proofs.nodes.are_fit.Given as goal
+use Rattle.jobs_for_tests.specs.Nodes.{FitsBehind}
+use Rattle.jobs_for_tests.proofs.nodes.are_fit.Given as goal
 
 -- the nodes so far fit
 abbrev pub invariant-loop-place : goal.invariant-loop-place

@@ -1,7 +1,7 @@
 use Rattle.std.proofs.Common.{ℕ, ◌≡◌, ◌<◌, true}
 use Rattle.mk_path.specs.Paths.{covered}
 use Rattle.mk_jobs.specs.Plan.{node_at}
-use Rattle.made_jobs.proofs.rows.owns_alone.Given as goal
+use Rattle.jobs_for_tests.proofs.rows.owns_alone.Given as goal
 
 -- no name so far is covered but that of n
 abbrev pub invariant-loop-m : goal.invariant-loop-m

@@ -1,6 +1,6 @@
 use Rattle.std.proofs.Common.{ℕ, ◌≡◌, ◌+◌, ◌<◌, [], Less, false, get_or}
 use Rattle.mk_path.specs.Paths.{path_cmp}
-use Rattle.made_jobs.proofs.rows.rise.Given as goal
+use Rattle.jobs_for_tests.proofs.rows.rise.Given as goal
 
 -- each of the paths so far stands before the next
 abbrev pub invariant-loop-place : goal.invariant-loop-place

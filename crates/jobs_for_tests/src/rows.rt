@@ -2,7 +2,7 @@
 ghost use Rattle.std.specs.Prelude.{◌<◌, IsTrue, length};
 ghost use Rattle.mk_jobs.specs.Rows.{with_rows};
 ghost use Rattle.mk_jobs.specs.Shape.{AreNamed, IsRising, IsWellFormed};
-ghost use Rattle.made_jobs.specs.Rows.{OwnsAlone, RowFits};
+ghost use Rattle.jobs_for_tests.specs.Rows.{OwnsAlone, RowFits};
 
 use mk_jobs::plan::Plan;
 use mk_jobs::recipe::is_live;

@@ -1,6 +1,6 @@
 use Rattle.std.proofs.Common.{ℕ, ◌<◌, ◌≤◌, get_or, length}
 use Rattle.mk_path.specs.declared.path.Path.{Path}
-use Rattle.made_jobs.proofs.rows.are_named.Given as goal
+use Rattle.jobs_for_tests.proofs.rows.are_named.Given as goal
 
 -- the paths so far have names
 abbrev pub invariant-loop-path : goal.invariant-loop-path

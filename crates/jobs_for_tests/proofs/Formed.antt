@@ -19,7 +19,7 @@ use Rattle.mk_jobs.specs.Shape.{AreNamed, IsRising, IsWellFormed}
 use Rattle.mk_jobs.proofs.Accessors.{live_is, name_count, name_there, row_there}
 use Rattle.mk_jobs.proofs.JobsLemmas.{live_node, writer_live}
 use Rattle.mk_jobs.proofs.Numberings.{number_at}
-use Rattle.made_jobs.specs.Rows.{RowFits}
+use Rattle.jobs_for_tests.specs.Rows.{RowFits}
 
 pub rising_nil : IsRising []
 unfolding IsStrictlySortedBy

@@ -5,9 +5,9 @@ use Rattle.std.proofs.lemmas.Bool.{leb-true, not-true}
 use Rattle.std.proofs.lemmas.List.{get_or_default}
 use Rattle.mk_name.specs.Names.{same_name}
 use Rattle.mk_jobs.specs.Plan.{Node, nobody}
-use Rattle.made_jobs.proofs.Planned.{fits_from}
-use Rattle.made_jobs.proofs.nodes.fits_behind.Goals as goal
-use Rattle.made_jobs.proofs.nodes.fits_behind.Goals.{then-len-le-MOST_NEEDS, else-len-le-MOST_NEEDS}
+use Rattle.jobs_for_tests.proofs.Planned.{fits_from}
+use Rattle.jobs_for_tests.proofs.nodes.fits_behind.Goals as goal
+use Rattle.jobs_for_tests.proofs.nodes.fits_behind.Goals.{then-len-le-MOST_NEEDS, else-len-le-MOST_NEEDS}
 
 pub returns-then-are_below : goal.returns-then-are_below
 returns-then-are_below c = λ is. elim c.if-len-le-MOST_NEEDS.branch [

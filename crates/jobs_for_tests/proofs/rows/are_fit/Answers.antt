@@ -2,8 +2,8 @@ use Rattle.std.proofs.Common.{◌≡◌, ◌<◌, ◌≤◌, ◌∙◌, ℕ, len
 use Rattle.std.proofs.lemmas.List.{length-map}
 use Rattle.mk_jobs.specs.Plan.{node_limit}
 use Rattle.mk_jobs.specs.Rows.{with_rows}
-use Rattle.made_jobs.proofs.Formed.{formed, fit_whole, reads_row, row_more, writes_row}
-use Rattle.made_jobs.proofs.rows.are_fit.Goals as goal
+use Rattle.jobs_for_tests.proofs.Formed.{formed, fit_whole, reads_row, row_more, writes_row}
+use Rattle.jobs_for_tests.proofs.rows.are_fit.Goals as goal
 
 pub loop-n-preserved : goal.loop-n-preserved
 loop-n-preserved c =

@@ -1,7 +1,7 @@
 use Rattle.std.proofs.Common.{[], false, arith}
 use Rattle.std.proofs.lemmas.Map.Keys.{sorted_from_all_adjacent}
 use Rattle.mk_path.proofs.PathOrder.{path_cmp_total}
-use Rattle.made_jobs.proofs.rows.rise.Goals as goal
+use Rattle.jobs_for_tests.proofs.rows.rise.Goals as goal
 
 pub returns : goal.returns
 returns c = λ done.

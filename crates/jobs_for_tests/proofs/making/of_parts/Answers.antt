@@ -1,7 +1,7 @@
 use Rattle.std.proofs.Common.{refl, subst}
-use Rattle.made_jobs.specs.Nodes.{AreFit}
-use Rattle.made_jobs.proofs.Planned.{fit_before, fit_distinct, fit_edges}
-use Rattle.made_jobs.proofs.making.of_parts.Goals as goal
+use Rattle.jobs_for_tests.specs.Nodes.{AreFit}
+use Rattle.jobs_for_tests.proofs.Planned.{fit_before, fit_distinct, fit_edges}
+use Rattle.jobs_for_tests.proofs.making.of_parts.Goals as goal
 
 pub new-requires-clause-few_edges : goal.new-requires-clause-few_edges
 new-requires-clause-few_edges c = fit_edges c.args.nodes.items (subst AreFit c.as_slice.ensures.value (c.if-not-are_fit.ensures refl))

@@ -1,6 +1,6 @@
 use Rattle.std.proofs.Common.{◌∙◌, sym}
-use Rattle.made_jobs.proofs.Formed.{empty_fits}
-use Rattle.made_jobs.proofs.rows.fits.Goals as goal
+use Rattle.jobs_for_tests.proofs.Formed.{empty_fits}
+use Rattle.jobs_for_tests.proofs.rows.fits.Goals as goal
 
 pub returns-then-is_empty : goal.returns-then-is_empty
 returns-then-is_empty c = λ none.

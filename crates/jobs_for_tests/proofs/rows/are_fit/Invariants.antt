@@ -1,6 +1,6 @@
 use Rattle.mk_jobs.specs.Rows.{with_rows}
-use Rattle.made_jobs.proofs.Formed.{AreRowsFit}
-use Rattle.made_jobs.proofs.rows.are_fit.Given as goal
+use Rattle.jobs_for_tests.proofs.Formed.{AreRowsFit}
+use Rattle.jobs_for_tests.proofs.rows.are_fit.Given as goal
 
 -- the rows so far fit
 abbrev pub invariant-loop-n : goal.invariant-loop-n
