@@ -31,6 +31,8 @@ NAMED = """
     cases/text/continued-lines cases/macros/late-macro-change
     cases/schedules/header-first-run cases/schedules/object-first-run cases/schedules/equal-times-with-tie
     cases/schedules/equal-times-without-tie cases/schedules/interleaved-run-of-two-objects
+    cases/proofs/certificates/two-objects cases/proofs/certificates/chain-through-a-plain-target
+    cases/proofs/certificates/shared-folder cases/proofs/traces/generated-header cases/proofs/traces/shared-folder
     cases/serialise/interleaved-run cases/serialise/race cases/serialise/no-files cases/serialise/times-with-just-room
 """.split()
 PROCESSES = 2

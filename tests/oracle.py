@@ -196,7 +196,6 @@ class Build:
         rows = [b"file %s %d %s\n" % (shown(name), time, content.hex().encode() or b"-") for name, (content, time) in sorted(store.items())]
         return 0, told + b"".join(rows)
 
-
     def has_race(self):
         """Whether two recipes touch a path that one of them writes, and neither needs the other."""
         needed = {}
