@@ -10,9 +10,9 @@ mod NodeNames
 mod NodesOf
 mod Placing
 mod Rowing
-mod Steps
 mod Sets
 mod Sources
+mod Steps
 mod SuffixRules
 mod Suffixes
 mod Tables

@@ -14,7 +14,7 @@ use std::alloc::{AllocError, Global};
 fn is_unknown(book: &Rulebook, listing: &Listing, name: &Name) -> bool
     ensures { result ≡ is_unknown book.now listing.now name.now }
 {
-    !book.is_phony(name) && !book.is_target(name) && !listing.contains(name)
+    !listing.contains(name) && !book.is_phony(name) && !book.is_target(name)
 }
 
 /// What makes a name, by whether an inference rule does where no target rule has commands.
