@@ -1,34 +1,27 @@
 -- Rows of paths that fit make jobs of a plan.
-use Rattle.std.proofs.Common.{ℕ, zero, suc, ◌≡◌, ◌==◌, ◌+◌, ◌<◌, ◌≤◌, true, List, [], ◌∷◌, Vec, Contains, Some, length, get_or, refl, sym, ap, ◌∙◌, subst, inl, inr, arith}
+use Rattle.std.proofs.Common.{ℕ, ◌≡◌, ◌==◌, ◌+◌, ◌<◌, ◌≤◌, true, List, [], Vec, length, get_or, refl, sym, ap, ◌∙◌, subst, inl, inr, arith}
 use Rattle.std.specs.Global.{Global}
-use Rattle.std.specs.Prelude.{IsTrue, nat_eq, unwrap_or}
+use Rattle.std.specs.Prelude.{unwrap_or}
 use Rattle.std.specs.List.Sorted.{IsStrictlySortedBy}
-use Rattle.std.proofs.lemmas.Bool.{and_parts, cases_lt, eq-eqb, eqb-true, false≢true, or_left, or_right}
+use Rattle.std.proofs.lemmas.Bool.{and_parts, cases_lt, eqb-true, false≢true}
 use Rattle.std.proofs.lemmas.List.{nil_from_length}
 use Rattle.std.proofs.lemmas.List.Elements.{All-nil}
-use Rattle.std.proofs.lemmas.Option.{slice_get_past, unwrap_or-slice_get}
-use Rattle.mk_name.specs.Names.{IsDistinct, has, same_name}
+use Rattle.std.proofs.lemmas.Option.{slice_get_past}
+use Rattle.mk_name.specs.Names.{IsDistinct, same_name}
 use Rattle.mk_path.specs.declared.path.Path.{Path}
 use Rattle.mk_path.specs.Paths.{covered}
-use Rattle.mk_jobs.specs.Jobs.{IsPrerequisite, Jobs, may_write, name_of, node_count, prerequisites_of, reads_of, writes_of}
-use Rattle.mk_jobs.specs.Numbered.{number_of}
+use Rattle.mk_jobs.specs.Jobs.{Jobs, may_write, name_of, node_count, reads_of, writes_of}
 use Rattle.mk_jobs.specs.Plan as plans
 use Rattle.mk_jobs.specs.Plan.{NeedsStandBefore, Node, Plan, edge_count, edge_limit, names_of, nobody, node_limit}
 use Rattle.mk_jobs.specs.Rows.{with_rows}
 use Rattle.mk_jobs.specs.Shape.{AreNamed, IsRising, IsWellFormed}
-use Rattle.mk_jobs.proofs.Accessors.{live_is, name_count, name_there, row_there}
+use Rattle.mk_jobs.proofs.Accessors.{live_is, needs_smaller, row_there, same_place}
 use Rattle.mk_jobs.proofs.JobsLemmas.{live_node, writer_live}
-use Rattle.mk_jobs.proofs.Numberings.{number_at}
 use Rattle.jobs_for_tests.specs.Rows.{RowFits}
 
 pub rising_nil : IsRising []
 unfolding IsStrictlySortedBy
 rising_nil = tt
-
-contains_has : (xs : List ℕ) (x : ℕ) → Contains xs x → IsTrue (has nat_eq xs x)
-contains_has [] x (k, below, is) = absurd (omega (arith, below))
-contains_has (y ∷ ys) x (zero, below, is) = or_left (nat_eq y x) _ (eq-eqb y x is)
-contains_has (y ∷ ys) x (suc k, below, is) = or_right (nat_eq y x) _ (contains_has ys x (k, omega (arith, below), is))
 
 -- what is known of the jobs of a plan: the rows of each node fit
 pub record AreRowsFit (jobs : Jobs) (n : ℕ) : Type 0 where
@@ -50,28 +43,6 @@ module _ (jobs : Jobs) (few : length jobs.plan.nodes ≤ node_limit) (few_edges 
   unfolding writes_of
   writes_past n past = ap (λ o. unwrap_or o []) (slice_get_past jobs.writes n (omega arith))
 
-  same_place : (n m : ℕ) → n < node_count jobs → m < node_count jobs → name_of jobs n ≡ name_of jobs m → n ≡ m
-  same_place n m n_below m_below same =
-      let names = names_of jobs.plan.nodes in
-      let n_there : n < length names = omega (arith, n_below, name_count jobs) in
-      let m_there : m < length names = omega (arith, m_below, name_count jobs) in
-      let found : Some n ≡ Some m =
-      sym (number_at names n distinct n_there)
-      ∙ ap (number_of names) (name_there jobs n n_below ∙ same ∙ sym (name_there jobs m m_below))
-      ∙ number_at names m distinct m_there in
-      cc
-
-  needs_smaller : (n p : ℕ) → IsPrerequisite jobs p n → p < n
-  unfolding prerequisites_of
-  needs_smaller n p needs = elim (cases_lt n (length jobs.plan.nodes)) [
-    | inl below ↦
-        let there = subst (λ (d : Node). Contains d.prerequisites p) (unwrap_or-slice_get jobs.plan.nodes n nobody) needs in
-        rising n p nobody below (contains_has _ p there)
-    | inr past ↦
-        let there : Contains nobody.prerequisites p = subst (λ (d : Node). Contains d.prerequisites p) (ap (λ o. unwrap_or o nobody) (slice_get_past jobs.plan.nodes n past)) needs in
-        absurd (omega (arith, there.1))
-  ]
-
   covers_name : (n m : ℕ) → may_write jobs n (name_of jobs m) ≡ true → covered jobs.root (writes_of jobs n) (plans.node_at jobs.plan.nodes m).name ≡ true
   unfolding may_write name_of
   covers_name n m may = (and_parts _ _ may).1
@@ -89,8 +60,8 @@ module _ (jobs : Jobs) (few : length jobs.plan.nodes ≤ node_limit) (few_edges 
   formed = record {
     few = few_nodes;
     few_edges = few_edges;
-    distinct = same_place;
-    smaller = needs_smaller;
+    distinct = same_place jobs distinct;
+    smaller = needs_smaller jobs rising;
     all_reads = all_reads ∙ sym count_is;
     all_writes = all_writes ∙ sym count_is;
     reads_rise = λ n. elim (cases_lt n (length jobs.plan.nodes)) [

@@ -1,9 +1,9 @@
 -- From the nodes of a plan to jobs: the first fault, or rows that are well-formed.
-use Rattle.std.proofs.Common.{◌≡◌, ℕ, zero, suc, ◌+◌, ◌<◌, ◌≤◌, true, false, not, ◌&&◌, List, [], ◌∷◌, ◌++◌, Option, None, Some, length, get_or, take, drop, slice_get, sym, ap, ap₂, subst, ◌∙◌, refl, arith, map, inl, inr, Vec}
-use Rattle.std.specs.Prelude.{Result, Ok, Err, find, unwrap_or, Contains, IsTrue, nat_eq}
+use Rattle.std.proofs.Common.{◌≡◌, ℕ, ◌+◌, ◌<◌, ◌≤◌, true, false, not, ◌&&◌, List, [], ◌∷◌, ◌++◌, Option, None, Some, length, get_or, take, drop, slice_get, sym, ap, ap₂, subst, ◌∙◌, refl, arith, map, inl, inr, Vec}
+use Rattle.std.specs.Prelude.{Result, Ok, Err, find, unwrap_or}
 use Rattle.std.specs.List.{cons_option, enumerate_from, filter_map}
 use Rattle.std.specs.Option.{option_map_or, option_map}
-use Rattle.std.proofs.lemmas.Bool.{and_parts, both_ways, cases_Bool, cases_lt, cond-true, cond-false, eq-eqb, or_cases, or_right, or_left}
+use Rattle.std.proofs.lemmas.Bool.{and_parts, both_ways, cases_Bool, cases_lt, cond-true, cond-false, or_cases}
 use Rattle.std.proofs.lemmas.List.{drop_all, drop_more, take_more, take_all, map_push, get_or-map, length-map}
 use Rattle.std.proofs.lemmas.List.FromFn.{get_or-enumerate_from, length-enumerate_from}
 use Rattle.std.proofs.lemmas.List.Elements.{All-nil}
@@ -19,16 +19,15 @@ use Rattle.mk_name.specs.declared.fault.Halt.TheVariants as halts
 use Rattle.mk_name.proofs.Names.{name_is_exact}
 use Rattle.mk_path.specs.Paths.{covered}
 use Rattle.mk_path.specs.declared.path.Path.{Path}
-use Rattle.mk_jobs.specs.Numbered.{number_of}
 use Rattle.mk_jobs.specs.Plan.{Plan, Node, names_of, nobody, NeedsStandBefore, edge_count, edge_limit, node_limit}
-use Rattle.mk_jobs.proofs.Numberings.{has_at, number_at}
+use Rattle.mk_jobs.proofs.Numberings.{has_at}
 use Rattle.mk_path.specs.Taken.{is_taken}
 use Rattle.mk_foot.specs.Attached.{HasAll, attached_beside, first_fault, footprint_of, jobs_with, node_answer, node_fault, recipe_fault, told}
 use Rattle.mk_foot.specs.Footprints.{Footprint, Footprints, footprint_at, no_footprint}
-use Rattle.mk_jobs.specs.Jobs.{Jobs, IsPrerequisite, node_at, node_count, name_of, is_live, reads_of, writes_of, prerequisites_of, may_write}
+use Rattle.mk_jobs.specs.Jobs.{Jobs, node_at, node_count, name_of, is_live, reads_of, writes_of, may_write}
 use Rattle.mk_jobs.specs.Recipes.{is_live_node}
 use Rattle.mk_jobs.specs.Shape.{AreNamed, IsRising, IsWellFormed}
-use Rattle.mk_jobs.proofs.Accessors.{live_is, name_there, name_count}
+use Rattle.mk_jobs.proofs.Accessors.{live_is, name_count, name_there, needs_smaller, same_place}
 use Rattle.mk_jobs.proofs.JobsLemmas.{live_node}
 
 -- what a value or a fault says of the fault before it
@@ -200,37 +199,6 @@ module _ (plan : Plan) (owned : List Name) (footprints : Footprints)
   idle_nothing : (n : ℕ) → is_live jobs n ≡ false → footprint_of footprints (get_or plan.nodes n nobody) ≡ no_footprint
   idle_nothing n idle = cond-false (is_live_node (get_or plan.nodes n nobody)) _ _ (live_at n ∙ idle)
 
-  same_place : (n m : ℕ) → n < node_count jobs → m < node_count jobs → name_of jobs n ≡ name_of jobs m → n ≡ m
-  unfolding jobs
-  same_place n m n_below m_below same =
-      let names = names_of plan.nodes in
-      let n_there : n < length names = omega (arith, n_below, name_count jobs) in
-      let m_there : m < length names = omega (arith, m_below, name_count jobs) in
-      let found : Some n ≡ Some m =
-      sym (number_at names n distinct n_there)
-      ∙ ap (number_of names) (name_there jobs n n_below ∙ same ∙ sym (name_there jobs m m_below))
-      ∙ number_at names m distinct m_there in
-      cc
-
-  contains_has : (xs : List ℕ) (x : ℕ) → Contains xs x → IsTrue (has nat_eq xs x)
-  contains_has [] x (k, below, is) = absurd (omega (arith, below))
-  contains_has (y ∷ ys) x (zero, below, is) = or_left (nat_eq y x) _ (eq-eqb y x is)
-  contains_has (y ∷ ys) x (suc k, below, is) = or_right (nat_eq y x) _ (contains_has ys x (k, omega (arith, below), is))
-
-  needs_smaller : (n p : ℕ) → IsPrerequisite jobs p n → p < n
-  unfolding prerequisites_of jobs
-  needs_smaller n p needs =
-      let there : Contains (get_or plan.nodes n nobody).prerequisites p = subst (λ (d : Node). Contains d.prerequisites p) (node_is n) needs in
-      elim (cases_lt n (length plan.nodes)) [
-        | inl below ↦ rising n p nobody below (contains_has _ p there)
-        | inr past ↦
-            let nobody_there : Contains nobody.prerequisites p = subst (λ (d : Node). Contains d.prerequisites p) (unwrap_or_past plan.nodes n past) needs in
-            absurd (omega (arith, nobody_there.1))
-      ]
-    where
-      unwrap_or_past : (nodes : List Node) (i : ℕ) → length nodes ≤ i → unwrap_or (slice_get nodes i) nobody ≡ nobody
-      unwrap_or_past nodes i past = ap (λ o. unwrap_or o nobody) (slice_get_past nodes i past)
-
   -- of names none of which is taken, one that stands there is not taken
   not_taken : (own : Name) (writes : List Path) (names : List Name) (x : Name) → find (is_taken footprints.root writes own) names ≡ None
       → has same_name names x ≡ true → is_taken footprints.root writes own x ≡ false
@@ -293,8 +261,8 @@ module _ (plan : Plan) (owned : List Name) (footprints : Footprints)
   shape_is = record {
     few = jobs_few;
     few_edges = few_edges;
-    distinct = same_place;
-    smaller = needs_smaller;
+    distinct = same_place (jobs_with footprints plan) distinct;
+    smaller = needs_smaller (jobs_with footprints plan) rising;
     all_reads = all_rows (λ (d : Node). (footprint_of footprints d).reads);
     all_writes = all_rows (λ (d : Node). (footprint_of footprints d).writes);
     reads_rise = λ n. elim (cases_lt n (length plan.nodes)) [

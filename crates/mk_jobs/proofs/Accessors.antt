@@ -1,17 +1,17 @@
 -- The queries of a plan, as the jobs on it see them.
-use Rattle.std.proofs.Common.{ℕ, ◌≡◌, ◌<◌, List, [], length, get_or, Vec, sym, ap, ◌∙◌, subst, refl, Some, None, Option, arith}
-use Rattle.std.specs.Prelude.{map, slice_get, unwrap_or, IsTrue}
+use Rattle.std.proofs.Common.{ℕ, zero, suc, ◌≡◌, ◌<◌, List, [], ◌∷◌, Contains, length, get_or, Vec, sym, ap, ◌∙◌, subst, refl, Some, None, Option, inl, inr, arith}
+use Rattle.std.specs.Prelude.{map, nat_eq, slice_get, unwrap_or, IsTrue}
 use Rattle.std.specs.Global.{Global}
-use Rattle.std.proofs.lemmas.Bool.{both_ways}
-use Rattle.std.proofs.lemmas.Option.{unwrap_or-slice_get}
+use Rattle.std.proofs.lemmas.Bool.{both_ways, cases_lt, eq-eqb, or_left, or_right}
+use Rattle.std.proofs.lemmas.Option.{slice_get_past, unwrap_or-slice_get}
 use Rattle.std.proofs.lemmas.List.{get_or-map, length-map}
-use Rattle.mk_name.specs.Names.{Name, has, same_name}
+use Rattle.mk_name.specs.Names.{IsDistinct, Name, has, same_name}
 use Rattle.mk_path.specs.declared.path.Path.{Path}
 use Rattle.mk_jobs.specs.Plan as plans
-use Rattle.mk_jobs.specs.Plan.{Plan, Node, names_of, nobody}
+use Rattle.mk_jobs.specs.Plan.{NeedsStandBefore, Plan, Node, names_of, nobody}
 use Rattle.mk_jobs.specs.Numbered.{name_at, number_of}
-use Rattle.mk_jobs.proofs.Numberings.{number_some, number_none, has_at}
-use Rattle.mk_jobs.specs.Jobs.{Jobs, node_at, node_count, name_of, prerequisites_of, IsNumberOf, is_live, has_recipe, is_phony, is_listed}
+use Rattle.mk_jobs.proofs.Numberings.{number_at, number_some, number_none, has_at}
+use Rattle.mk_jobs.specs.Jobs.{Jobs, node_at, node_count, name_of, prerequisites_of, IsNumberOf, IsPrerequisite, is_live, has_recipe, is_phony, is_listed}
 use Rattle.mk_jobs.specs.Shape.{IsWellFormed}
 use Rattle.mk_jobs.specs.Recipes.{is_live_node}
 
@@ -71,3 +71,32 @@ row_there rows n row below is =
 pub row_has : (rows : List (Vec Path Global)) (jobs : Jobs) (n : ℕ) → length (map (λ (r : Vec Path Global). r.items) rows) ≡ node_count jobs
     → n < node_count jobs → n < length rows
 row_has rows jobs n all below = omega (arith, all, below, length-map rows (λ (r : Vec Path Global). r.items))
+
+-- where no name stands twice, two nodes of one name are one
+pub same_place : (jobs : Jobs) → IsDistinct same_name (names_of jobs.plan.nodes) → (n m : ℕ) → n < node_count jobs → m < node_count jobs
+    → name_of jobs n ≡ name_of jobs m → n ≡ m
+same_place jobs distinct n m n_below m_below same =
+    let names = names_of jobs.plan.nodes in
+    let n_there : n < length names = omega (arith, n_below, name_count jobs) in
+    let m_there : m < length names = omega (arith, m_below, name_count jobs) in
+    let found : Some n ≡ Some m =
+    sym (number_at names n distinct n_there)
+    ∙ ap (number_of names) (name_there jobs n n_below ∙ same ∙ sym (name_there jobs m m_below))
+    ∙ number_at names m distinct m_there in
+    cc
+
+contains_has : (xs : List ℕ) (x : ℕ) → Contains xs x → IsTrue (has nat_eq xs x)
+contains_has [] x (k, below, is) = absurd (omega (arith, below))
+contains_has (y ∷ ys) x (zero, below, is) = or_left (nat_eq y x) _ (eq-eqb y x is)
+contains_has (y ∷ ys) x (suc k, below, is) = or_right (nat_eq y x) _ (contains_has ys x (k, omega (arith, below), is))
+
+-- where each node stands behind what it needs, prerequisites have smaller numbers
+pub needs_smaller : (jobs : Jobs) → NeedsStandBefore jobs.plan.nodes → (n p : ℕ) → IsPrerequisite jobs p n → p < n
+unfolding prerequisites_of
+needs_smaller jobs rising n p needs = elim (cases_lt n (length jobs.plan.nodes)) [
+  | inl below ↦ rising n p nobody below (contains_has _ p (subst (λ (d : Node). Contains d.prerequisites p) (unwrap_or-slice_get jobs.plan.nodes n nobody) needs))
+  | inr past ↦
+      let there : Contains nobody.prerequisites p =
+      subst (λ (d : Node). Contains d.prerequisites p) (ap (λ o. unwrap_or o nobody) (slice_get_past jobs.plan.nodes n past)) needs in
+      absurd (omega (arith, there.1))
+]

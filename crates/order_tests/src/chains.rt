@@ -1,9 +1,10 @@
 //! Chains over two ways from one node to another.
-ghost use Rattle.std.specs.Prelude.{◌≡◌, ◌<◌};
+ghost use Rattle.std.specs.Prelude.{◌≡◌, ◌<◌, IfOk};
 ghost use Rattle.mk_jobs.specs.Jobs.{node_count};
 
 use jobs_for_tests::making::{Made, jobs_of};
 use mk_jobs::jobs::Jobs;
+use mk_order::before::Before;
 use mk_order::chains::chain;
 use mk_order::rows::Rows;
 use mk_order::walk::Walk;
@@ -37,57 +38,48 @@ fn is_least_way(alloc: Global, jobs: &Jobs) -> Result<bool, AllocError> {
     if jobs.count() != 5 {
         return Ok(false);
     }
-    Ok(
-        is_walked(alloc, jobs, 0, 4, &[0, 1, 3, 4])?
-            && is_looked_up(alloc, jobs, 0, 4, &[0, 1, 3, 4])?
-            && is_walked(alloc, jobs, 1, 2, &[])?
-            && is_looked_up(alloc, jobs, 1, 2, &[])?
-            && is_looked_up(alloc, jobs, 0, 0, &[])?,
-    )
+    Ok(is_walked(alloc, jobs)? && is_looked_up(alloc, jobs)?)
 }
 
-/// Whether a walk finds this chain; no node where there is none.
-fn is_walked(alloc: Global, jobs: &Jobs, a: u32, b: u32, nodes: &[u32]) -> Result<bool, AllocError>
-    requires jobs { node_count jobs.now ≡ 5 }
-    requires first { a < 5 }
-    requires last { b < 5 }
+fn is_walked(alloc: Global, jobs: &Jobs) -> Result<bool, AllocError>
+    requires { node_count jobs.now ≡ 5 }
 {
-    let found = walked(alloc, jobs, a, b)?;
-    Ok(found.as_slice() == nodes)
+    let mut walk = Walk::new(alloc, jobs)?;
+    has_chains(alloc, jobs, &mut walk)
 }
 
-/// Whether rows find this chain; no node where there is none.
-fn is_looked_up(
+fn is_looked_up(alloc: Global, jobs: &Jobs) -> Result<bool, AllocError>
+    requires { node_count jobs.now ≡ 5 }
+{
+    let mut rows = Rows::new(alloc, jobs)?;
+    has_chains(alloc, jobs, &mut rows)
+}
+
+fn has_chains<B: Before>(alloc: Global, jobs: &Jobs, before: &mut B) -> Result<bool, AllocError>
+    requires same { B.jobs before.old ≡ jobs.now }
+    requires count { node_count jobs.now ≡ 5 }
+{
+    Ok(has_chain(alloc, jobs, before, 0, 4, &[0, 1, 3, 4])?
+        && has_chain(alloc, jobs, before, 1, 2, &[])?
+        && has_chain(alloc, jobs, before, 0, 0, &[])?)
+}
+
+/// Whether this is the chain from a to b; no node where there is none.
+fn has_chain<B: Before>(
     alloc: Global,
     jobs: &Jobs,
+    before: &mut B,
     a: u32,
     b: u32,
     nodes: &[u32],
 ) -> Result<bool, AllocError>
-    requires jobs { node_count jobs.now ≡ 5 }
-    requires first { a < 5 }
-    requires last { b < 5 }
+    requires same { B.jobs before.old ≡ jobs.now }
+    requires first { a < node_count jobs.now }
+    requires last { b < node_count jobs.now }
+    ensures keeps { IfOk result (λ found. B.jobs before.new ≡ B.jobs before.old) }
 {
-    let found = looked_up(alloc, jobs, a, b)?;
-    Ok(found.as_slice() == nodes)
-}
-
-/// The chain that a walk finds; no node where there is none.
-fn walked(alloc: Global, jobs: &Jobs, a: u32, b: u32) -> Result<Vec<u32>, AllocError>
-    requires jobs { node_count jobs.now ≡ 5 }
-    requires first { a < 5 }
-    requires last { b < 5 }
-{
-    let mut walk = Walk::new(alloc, jobs)?;
-    Ok(chain(alloc, jobs, &mut walk, a, b)?.unwrap_or(Vec::new(alloc)))
-}
-
-/// The chain that rows find; no node where there is none.
-fn looked_up(alloc: Global, jobs: &Jobs, a: u32, b: u32) -> Result<Vec<u32>, AllocError>
-    requires jobs { node_count jobs.now ≡ 5 }
-    requires first { a < 5 }
-    requires last { b < 5 }
-{
-    let mut rows = Rows::new(alloc, jobs)?;
-    Ok(chain(alloc, jobs, &mut rows, a, b)?.unwrap_or(Vec::new(alloc)))
+    match chain(alloc, jobs, before, a, b)? {
+        Some(found) => Ok(found.as_slice() == nodes),
+        None => Ok(nodes.is_empty()),
+    }
 }

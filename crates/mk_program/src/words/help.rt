@@ -84,8 +84,8 @@ starts and finishes. Name the one as a prerequisite of the other, or let each ha
 With --print-proof the certificate or the trace comes in place of the report, as `race verify` reads it.
 
 Example, a header that is generated, and used by a recipe that does not say so:
-  $ printf 'all: gen.h a.o\n\ngen.h: gen.sh\n\tsh gen.sh\na.o: a.c\n\tcc -c a.c\n' > makefile
-  $ printf 'gen.sh\na.c\n' > listing
+  $ printf 'all: gen.h a.o\\ngen.h: gen.sh\\n\\tsh gen.sh\\na.o: a.c\\n\\tcc -c a.c\\n' > makefile
+  $ printf 'gen.sh\\na.c\\n' > listing
   $ echo '{\"target\":\"gen.h\",\"reads\":[\"gen.sh\"],\"writes\":[\"gen.h\"]}' > footprints
   $ echo '{\"target\":\"a.o\",\"reads\":[\"a.c\",\"gen.h\"],\"writes\":[\"a.o\"]}' >> footprints
   $ race check --makefile makefile --listing listing --root \"$PWD\" --footprints footprints
@@ -222,7 +222,7 @@ stands where there is no number left for the times of new puts. Inputs that are 
 and names.
 
 Example, in the log of two jobs `b` starts and ends before `a` has written:
-  $ printf 'all: a b\n\na:\n\tdate >a\nb:\n\tdate >b\n' > makefile
+  $ printf 'all: a b\\na:\\n\\tdate >a\\nb:\\n\\tdate >b\\n' > makefile
   $ : > listing
   $ echo '{\"target\":\"a\",\"reads\":[],\"writes\":[\"a\"]}' > footprints
   $ echo '{\"target\":\"b\",\"reads\":[],\"writes\":[\"b\"]}' >> footprints
