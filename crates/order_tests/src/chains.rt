@@ -59,9 +59,11 @@ fn has_chains<B: Before>(alloc: Global, jobs: &Jobs, before: &mut B) -> Result<b
     requires same { B.jobs before.old ≡ jobs.now }
     requires count { node_count jobs.now ≡ 5 }
 {
-    Ok(has_chain(alloc, jobs, before, 0, 4, &[0, 1, 3, 4])?
-        && has_chain(alloc, jobs, before, 1, 2, &[])?
-        && has_chain(alloc, jobs, before, 0, 0, &[])?)
+    Ok(
+        has_chain(alloc, jobs, before, 0, 4, &[0, 1, 3, 4])?
+            && has_chain(alloc, jobs, before, 1, 2, &[])?
+            && has_chain(alloc, jobs, before, 0, 0, &[])?,
+    )
 }
 
 /// Whether this is the chain from a to b; no node where there is none.
