@@ -1,5 +1,5 @@
 -- Pairs of nodes that clash.
-use Rattle.std.specs.Prelude.{ℕ, ◌<◌, ◌↔◌, List, [], length}
+use Rattle.std.specs.Prelude.{ℕ, ◌<◌, ◌≤◌, ◌↔◌, List, [], length}
 use Rattle.std.specs.List.{Contains}
 use Rattle.std.specs.List.Sorted.{IsStrictlySortedBy}
 use Rattle.mk_name.specs.Told.{Told}
@@ -24,6 +24,12 @@ pub record ArePairs (jobs : Jobs) (pairs : List (ℕ × ℕ)) : Type 0 where
 -- in each pair the numbers rise and the nodes clash
 abbrev pub OnlyClashing : Jobs → List (ℕ × ℕ) → Type 0
 OnlyClashing jobs pairs = (a b : ℕ) → Contains pairs (a, b) → (a < b) × Clash jobs a b
+
+-- no more pairs clash than may: these are all of them
+pub record HasFewPairs (jobs : Jobs) : Type 0 where
+  pub pairs : List (ℕ × ℕ)
+  pub all : ArePairs jobs pairs
+  pub few : length pairs ≤ pair_limit
 
 -- more pairs clash than may
 pub record HasManyPairs (jobs : Jobs) : Type 0 where

@@ -6,7 +6,7 @@ ghost use Rattle.mk_sched.specs.Laws.{IsDeterminate};
 ghost use Rattle.mk_cert.specs.Sure.{IsSure};
 ghost use Rattle.mk_cert.specs.Traces.{TraceHolds};
 ghost use Rattle.mk_decide.specs.Decisions.{IfRace, IsSafe, IsVerdict};
-ghost use Rattle.mk_decide.specs.Pairs.{ArePairs, HasManyPairs, pair_limit, too_many};
+ghost use Rattle.mk_decide.specs.Pairs.{ArePairs, HasFewPairs, HasManyPairs, pair_limit, too_many};
 
 use crate::chains::{certificate_of, first_race};
 use crate::pairs::clashing_pairs;
@@ -41,6 +41,7 @@ pub fn decide_with<B: Before>(alloc: Global, jobs: &Jobs, before: &mut B) -> Res
     ensures determinate { IfOk result (λ verdict. IsSafe verdict → IsDeterminate jobs.now) }
     ensures holds { IfOk result (λ verdict. IfRace verdict (TraceHolds jobs.now)) }
     ensures sure { IfOk result (λ verdict. IfRace verdict (IsSure jobs.now)) }
+    ensures few { IfOk result (λ verdict. HasFewPairs jobs.now) }
     ensures many { IfErr result (λ halt.
         HaltsAmong {Y = ℕ} halt (λ answer. (answer ≡ Err too_many) × HasManyPairs jobs.now)) }
     ensures keeps { IfOk result (λ verdict. B.jobs before.new ≡ B.jobs before.old) }
@@ -79,6 +80,7 @@ pub fn decide(alloc: Global, jobs: &Jobs) -> Result<Verdict, Halt>
     ensures determinate { IfOk result (λ verdict. IsSafe verdict → IsDeterminate jobs.now) }
     ensures holds { IfOk result (λ verdict. IfRace verdict (TraceHolds jobs.now)) }
     ensures sure { IfOk result (λ verdict. IfRace verdict (IsSure jobs.now)) }
+    ensures few { IfOk result (λ verdict. HasFewPairs jobs.now) }
     ensures many { IfErr result (λ halt.
         HaltsAmong {Y = ℕ} halt (λ answer. (answer ≡ Err too_many) × HasManyPairs jobs.now)) }
 {

@@ -9,17 +9,18 @@ use Rattle.mk_sched.specs.Runs.{IsComplete, IsRun, RecipesAgree}
 use Rattle.mk_sched.specs.Stores.{AgreesWithListing, Store}
 use Rattle.mk_cert.specs.Traces.{TraceHolds}
 use Rattle.mk_decide.specs.Decisions.{IsVerdict}
-use Rattle.mk_decide.specs.Pairs.{HasManyPairs, too_many}
+use Rattle.mk_decide.specs.Pairs.{HasFewPairs, HasManyPairs, too_many}
 use Rattle.mk_decide.specs.declared.decision.Verdict.TheVariants as verdicts
 use Rattle.mk_report.specs.declared.answer.Answer.{Answer}
 use Rattle.mk_report.specs.declared.answer.Answer.TheVariants.{Safe, Race, Refused}
 use Rattle.mk_race.specs.Stages.{IsPrepared, Texts}
 use Rattle.mk_race.specs.declared.preparing.Prepared.{Prepared}
 
--- what is decided of jobs, told with them: safe by a certificate, or the trace of a race; refused, where too many pairs clash
+-- what is decided of jobs, told with them: safe by a certificate, or the trace of a race, where not too many pairs clash; else
+-- they are refused
 abbrev pub IsDecided : Jobs → Answer → Type 0
-IsDecided jobs (Safe given chains) = (given ≡ jobs) × IsVerdict jobs (verdicts.Safe chains)
-IsDecided jobs (Race given trace) = (given ≡ jobs) × IsVerdict jobs (verdicts.Race trace)
+IsDecided jobs (Safe given chains) = (given ≡ jobs) × HasFewPairs jobs × IsVerdict jobs (verdicts.Safe chains)
+IsDecided jobs (Race given trace) = (given ≡ jobs) × HasFewPairs jobs × IsVerdict jobs (verdicts.Race trace)
 IsDecided jobs (Refused told) = (told ≡ too_many) × HasManyPairs jobs
 
 -- a build is refused with its fault; without one its jobs are decided

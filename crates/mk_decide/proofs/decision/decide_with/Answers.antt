@@ -9,3 +9,6 @@ returns-clause-holds g c = race_holds c.args.jobs.now c.in_ok-verdict.verdict c.
 
 pub returns-clause-sure : goal.returns-clause-sure
 returns-clause-sure g c = race_sure c.args.jobs.now c.in_ok-verdict.verdict c.count-count.ensures.shape c.in_ok-verdict.ensures.answer
+
+pub returns-clause-few : goal.returns-clause-few
+returns-clause-few g c = record { pairs = c.in_ok-pairs.pairs.items; all = c.in_ok-pairs.ensures.pairs; few = c.in_ok-pairs.ensures.few }
