@@ -160,7 +160,7 @@ stands where there is no number left for the times of new puts. Inputs that are 
 and names.
 
 Example, in the log of two jobs `b` starts and ends before `a` has written:
-  $ printf 'all: a b\n\na:\n\tdate >a\nb:\n\tdate >b\n' > makefile
+  $ printf 'all: a b\\n\\na:\\n\\tdate >a\\nb:\\n\\tdate >b\\n' > makefile
   $ : > listing
   $ echo '{\"target\":\"a\",\"reads\":[],\"writes\":[\"a\"]}' > footprints
   $ echo '{\"target\":\"b\",\"reads\":[],\"writes\":[\"b\"]}' >> footprints
