@@ -1,3 +1,4 @@
-//! The stages from the texts of a build to its jobs, and the replay of a log.
+//! The stages from the texts of a build to its jobs, and what is said of a log.
 mod preparing;
 mod replaying;
+mod serialising;
