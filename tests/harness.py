@@ -31,6 +31,9 @@ NAMED = """
     cases/text/continued-lines cases/macros/late-macro-change
     cases/schedules/header-first-run cases/schedules/object-first-run cases/schedules/equal-times-with-tie
     cases/schedules/equal-times-without-tie cases/schedules/interleaved-run-of-two-objects
+    cases/proofs/certificates/two-objects cases/proofs/certificates/chain-through-a-plain-target
+    cases/proofs/certificates/shared-folder cases/proofs/traces/generated-header cases/proofs/traces/shared-folder
+    cases/serialise/interleaved-run cases/serialise/race cases/serialise/no-files cases/serialise/times-with-just-room
 """.split()
 PROCESSES = 2
 # A run that takes more seconds of a processor is ended.
@@ -116,14 +119,21 @@ class Runner:
         return str(path)
 
 
+class Words(list):
+    """The words of a run, with absolute paths; `folder` is where it runs, from which a file of includes names its files."""
+
+
 def rooms(case, folder):
-    """The words of a case, with absolute paths, and its inputs made where they are not kept."""
+    """The words of a case, and its inputs made where they are not kept."""
     place = case.folder
     if case.has("make-input"):
         place = pathlib.Path(folder) / case.name
         shutil.copytree(case.folder, place)
         subprocess.run([sys.executable, str(place / "make-input"), str(place)], check=True)
-    return test.absolute(case.words(), place)
+    place = (place / (case.read("run-in") or b"").decode().strip()).resolve()
+    words = Words(test.absolute(case.words(), place))
+    words.folder = place
+    return words
 
 
 def turns(count, most):
@@ -134,9 +144,11 @@ def turns(count, most):
 
 
 def sources_of(words, path):
-    """The inputs that a path stands for among the words, as the program names them."""
+    """The inputs that a path stands for among the words, as the program names them. A file that no word names is an include."""
     path, options = os.path.realpath(path), zip(words, words[1:])
-    return {it[2:] for it, word in options if it in test.FILE_OPTIONS and os.path.realpath(word) == path}
+    named = {it[2:] for it, word in options if it in test.FILE_OPTIONS and os.path.realpath(word) == path}
+    included = "--includes" in words and named <= {"includes"}
+    return named - {"includes"} | ({"include"} if included else set())
 
 
 def arguments(doc):
@@ -176,6 +188,7 @@ def start_worker(*how):
 def do_check(job):
     title, check, what = job
     before = RUNNER.runs
+    os.chdir(next(it.folder for it in what if isinstance(it, Words)) if what else TOP)
     try:
         wrong = list(check(RUNNER, *what))
     except Exception as error:

@@ -1,8 +1,9 @@
-"""What a small build's replays must tell, written apart from the program and from its definitions, out of docs/FORMATS.md.
+"""What a small build's replays and serial logs must be, written apart from the program and from its definitions, out of docs/FORMATS.md.
 
 It is slow and plain, and takes of the program only the graph, as `race order` prints it.
 """
 import collections
+import itertools
 import json
 import re
 
@@ -194,6 +195,49 @@ class Build:
         told = b"allowed complete\n" if len(passed) == len(self.nodes) else b"allowed incomplete\n"
         rows = [b"file %s %d %s\n" % (shown(name), time, content.hex().encode() or b"-") for name, (content, time) in sorted(store.items())]
         return 0, told + b"".join(rows)
+
+    def has_race(self):
+        """Whether two recipes touch a path that one of them writes, and neither needs the other."""
+        needed = {}
+        for node in self.nodes:
+            needed[node.name] = set(node.before).union(*(needed[name] for name in node.before))
+        for one, other in itertools.combinations([node.name for node in self.nodes if node.recipe], 2):
+            pairs = itertools.chain(
+                itertools.product(self.writes[one], self.reads[other] + self.writes[other]),
+                itertools.product(self.reads[one], self.writes[other]),
+            )
+            if one not in needed[other] and any(self.covers(a, b) or self.covers(b, a) for a, b in pairs):
+                return True
+        return False
+
+    def serialise(self, log, limit, tie):
+        """The status and the output of `race serialise` on a build without a race."""
+        status, told = self.replay(log, limit, tie)
+        if status:
+            return status, told
+        if not told.startswith(b"allowed complete\n"):
+            return 1, b"not complete\n"
+        store, events = self.read_log(log)
+        time = max((time for _, time in store.values()), default=0)
+        if time + len(events) > GREATEST_TIME:
+            return 1, b"not complete: times too large\n"
+        lines = [{"do": "file", "path": name.decode(), "bytes": content.hex(), "time": time} for name, (content, time) in sorted(store.items())]
+        for it in sorted(events, key=lambda it: self.numbers[it.node]):
+            time += it.do == "put"
+            lines.append(written(it, time))
+        return 0, "".join(json.dumps(it, ensure_ascii=False, separators=(",", ":"), sort_keys=True) + "\n" for it in lines).encode()
+
+
+def written(event, time):
+    """The object of an event; a put has this time."""
+    it = {"do": event.do, "node": event.node.decode()}
+    if event.do in ("look", "put", "erase"):
+        it["path"] = event.path.decode()
+    if event.do == "look":
+        it["bytes"] = None if event.bytes == b"absent" else event.bytes.removeprefix(b"found ").hex()
+    if event.do == "put":
+        it.update(bytes=event.bytes.hex(), time=time)
+    return it
 
 
 def shown(name):

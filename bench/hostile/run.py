@@ -60,6 +60,43 @@ def suffixes(names, count):
     return make
 
 
+def one_stem(part):
+    """Listed names of one stem, to each of whose suffixes three rules lead from suffixes that no name has."""
+    ends = ["." + short(i) for i in range(int(100_000 * part))]
+    count = int(19_999 * part)
+    listed = ["s" + end for end in ends[:count]]
+    rules = [f"{ends[count + i]}{ends[i % count]}:;\n" for i in range(3 * count)]
+    return {
+        "base": entries(".SUFFIXES", ends),
+        "makefile": entries("all", listed) + "".join(rules),
+        "listing": "".join(f"{name}\n" for name in listed),
+    }
+
+
+def one_suffix(part):
+    """Listed names of one suffix, to which 77,000 rules lead from suffixes that no name has."""
+    ends = ["." + short(i) for i in range(int(99_999 * part))]
+    listed = [f"n{short(i)}.o" for i in range(int(19_999 * part))]
+    return {
+        "base": entries(".SUFFIXES", [*ends, ".o"]),
+        "makefile": entries("all", listed) + "".join(f"{end}.o:;\n" for end in ends[: int(77_000 * part)]),
+        "listing": "".join(f"{name}\n" for name in listed),
+    }
+
+
+def never_met(part):
+    """499 stems under 40 suffixes, to each of which 1,900 rules lead, and 2,000 listed names of each stem between them."""
+    stems, olds = [f"s{short(i)[1:]}" for i in range(499)], ["." + short(i)[2:] for i in range(40)]
+    ends = ["." + short(i)[1:] for i in range(int(4_000 * part))]
+    listed = [stem + old for stem in stems for old in olds]
+    rules = [f"{end}{old}:;\n" for old in olds for end in ends[: int(3_800 * part) : 2]]
+    return {
+        "base": entries(".SUFFIXES", olds + ends),
+        "makefile": entries("all", listed) + "".join(rules),
+        "listing": "".join(f"{name}\n" for name in listed) + "".join(f"{stem}{end}\n" for stem in stems for end in ends[1::2]),
+    }
+
+
 def nested(part):
     """Macros whose values stand in one another, each beside a text of 60,000 bytes."""
     count = int(4_990 * part)
@@ -188,7 +225,10 @@ def large_file(part):
 
 INPUTS = {
     "suffixes, 5,000 names, 2,000 suffixes": suffixes(5_000, 2_000),
-    "suffixes, 15,000 names, 100,000 suffixes": suffixes(15_000, 100_000),
+    "suffixes, 19,999 names, 100,000 suffixes": suffixes(19_999, 100_000),
+    "suffixes, 19,999 names of one stem": one_stem,
+    "suffixes, 19,999 names of one suffix": one_suffix,
+    "suffixes, rules and names that never meet": never_met,
     "nested values": nested,
     "immediate macros": immediate,
     "additions to one macro": additions,

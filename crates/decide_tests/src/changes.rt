@@ -2,7 +2,7 @@
 ghost use Rattle.std.specs.Prelude.{◌<◌, length};
 
 use crate::small;
-use made_jobs::making::{Made, jobs_of};
+use jobs_for_tests::making::{Made, jobs_of};
 use mk_cert::accepting::{accept, accept_trace};
 use mk_jobs::jobs::Jobs;
 use mk_name::fault::Halt;
@@ -59,12 +59,7 @@ fn is_alone_at(alloc: Global, jobs: &Jobs, place: usize) -> Result<bool, AllocEr
     Ok(true)
 }
 
-fn is_accepted_with(
-    alloc: Global,
-    jobs: &Jobs,
-    place: usize,
-    byte: u8,
-) -> Result<bool, AllocError>
+fn is_accepted_with(alloc: Global, jobs: &Jobs, place: usize, byte: u8) -> Result<bool, AllocError>
     requires { place < length PROOF.now }
 {
     let mut text = Vec::from_slice(alloc, PROOF)?;

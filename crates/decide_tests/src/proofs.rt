@@ -1,6 +1,6 @@
 //! Which proofs are accepted.
 use crate::small;
-use made_jobs::making::{Made, jobs_of};
+use jobs_for_tests::making::{Made, jobs_of};
 use mk_cert::accepting::{accept, accept_trace};
 use mk_jobs::jobs::Jobs;
 use mk_name::fault::Halt;
@@ -160,12 +160,7 @@ fn of_a_link(rt: HostRuntime) -> Result<(), Halt> {
 }
 
 /// Whether the proof that is written so is accepted, or not, as is said.
-fn is_answered(
-    alloc: Global,
-    made: &[Made<'_>],
-    text: &str,
-    accepted: bool,
-) -> Result<bool, Halt> {
+fn is_answered(alloc: Global, made: &[Made<'_>], text: &str, accepted: bool) -> Result<bool, Halt> {
     match jobs_of(alloc, made) {
         Some(jobs) => has_answer(alloc, &jobs, text, accepted),
         None => Ok(false),

@@ -1,6 +1,6 @@
 //! The least race of small jobs, with a walk and with rows, and the least path on which two nodes clash.
 use crate::small;
-use made_jobs::making::{Made, jobs_of};
+use jobs_for_tests::making::{Made, jobs_of};
 use mk_decide::least::least_race;
 use mk_jobs::jobs::Jobs;
 use mk_order::rows::Rows;

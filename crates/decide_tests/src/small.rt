@@ -1,5 +1,5 @@
 //! Small jobs.
-use made_jobs::making::Made;
+use jobs_for_tests::making::Made;
 
 /// Two objects and a link.
 pub(crate) fn two_objects() -> [Made<'static>; 5] {

@@ -1,6 +1,6 @@
 //! What is decided about small jobs.
 use crate::small;
-use made_jobs::making::{Made, jobs_of};
+use jobs_for_tests::making::{Made, jobs_of};
 use mk_cert::accepting::{accept, accept_trace};
 use mk_decide::decision::{Verdict, decide, decide_with};
 use mk_decide::pairs::clashing_pairs;
@@ -18,7 +18,13 @@ fn jobs_without_race(rt: HostRuntime) -> Result<(), Halt> {
     assert!(rt; is_decided(alloc, &small::temporary_ordered(), "certificate 1\n1 3 4\n")?);
     assert!(rt; is_decided(alloc, &small::idle_configure(), "certificate 0\n")?);
     assert!(rt; is_decided(alloc, &small::file_beside_tree(), "certificate 0\n")?);
-    assert!(rt; is_decided(alloc, &small::log_in_line(), "certificate 3\n1 2\n1 2 3\n2 3\n")?);
+    assert!(rt;
+        is_decided(
+            alloc,
+            &small::log_in_line(),
+            "certificate 3\n1 2\n1 2 3\n2 3\n"
+        )?
+    );
     Ok(())
 }
 

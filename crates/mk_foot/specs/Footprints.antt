@@ -1,5 +1,5 @@
 -- The footprints of targets: what their lines say together, or the first line at fault.
-use Rattle.std.specs.Prelude.{◌≡◌, ℕ, ◌+◌, List, [], ◌∷◌, ◌++◌, Option, None, Some, Result, Ok, Err, filter, fold, length, nat_lt, slice_get, take, unwrap_or, if◌then◌else◌}
+use Rattle.std.specs.Prelude.{◌≡◌, ℕ, ◌+◌, ◌-◌, ◌^◌, List, [], ◌∷◌, ◌++◌, Option, None, Some, Result, Ok, Err, filter, fold, length, min, nat_lt, slice_get, take, unwrap_or, if◌then◌else◌}
 use Rattle.std.specs.List.{enumerate_from, filter_map, flat_map, sum_by}
 use Rattle.std.specs.BTreeSet.{insert_key}
 use Rattle.std.specs.Cmp.Lexicographic.{slice_cmp}
@@ -89,8 +89,16 @@ path_count lines = sum_by (λ (line : Line). length line.reads + length line.wri
 abbrev pub path_limit : ℕ
 path_limit = 1000000
 
+-- a fault of the footprints at a place, without names
+abbrev pub told_at : Kind → ℕ → Told
+told_at kind place = record { kind = kind; source = sources.Footprints; place = place; names = [] }
+
+-- the greatest place: what would pass it stays there
+abbrev pub greatest_place : ℕ
+greatest_place = 2 ^ 64 - 1
+
 abbrev pub told : Kind → ℕ → Told
-told kind place = record { kind = kind; source = sources.Footprints; place = place; names = [] }
+told kind place = told_at kind (min place greatest_place)
 
 -- the fault of a physical line, given what it says and how many paths there are with its own
 abbrev pub fault_by : Option (List Line) → ℕ → ℕ → Option Told

@@ -1,4 +1,5 @@
 pub mod Attached
+pub mod FootReader
 pub mod Footprints
 pub mod Json
 pub mod Lines

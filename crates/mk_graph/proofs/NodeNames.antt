@@ -1,10 +1,10 @@
 -- The names of a plan's nodes, and the places of what they need.
-use Rattle.std.proofs.Common.{◌≡◌, ℕ, ◌+◌, ◌<◌, false, List, [], ◌∷◌, ◌++◌, length, get_or, take, sym, ◌∙◌, ap, subst, inl, inr, refl, arith, append_assoc, Some}
+use Rattle.std.proofs.Common.{◌≡◌, ℕ, ◌<◌, List, [], ◌∷◌, length, get_or, take, sym, ◌∙◌, ap, subst, inl, inr, refl, arith, Some}
 use Rattle.std.specs.Prelude.{IsTrue, nat_eq, map, Vec, IfOk, Result, Ok, Err}
 use Rattle.std.specs.Global.{Global}
 use Rattle.std.proofs.lemmas.Bool.{both_ways, false_from_ne_true}
-use Rattle.std.proofs.lemmas.List.{append-nil, get_or-map, get_or-take, length-map, length-take-le, map_more}
-use Rattle.mk_name.specs.Names.{Name, same_name, has, kept, IsDistinct}
+use Rattle.std.proofs.lemmas.List.{get_or-map, get_or-take, length-map, length-take-le}
+use Rattle.mk_name.specs.Names.{Name, same_name, has, IsDistinct}
 use Rattle.mk_name.proofs.Names.{name_is_exact, nat_is_exact, in_head, in_tail, in_cons_cases}
 use Rattle.mk_graph.specs.Assembled.{node_of, IsAssembled, IsNumbering}
 use Rattle.mk_rules.specs.Book.{Book}

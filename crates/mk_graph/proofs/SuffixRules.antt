@@ -1,10 +1,10 @@
 -- The suffix of a name, by its last component.
-use Rattle.std.proofs.Common.{◌≡◌, ℕ, ◌⊎◌, Bool, true, false, cond, List, [], ◌∷◌, ◌++◌, drop, sym, ◌∙◌, ap, subst, refl, inl, inr, append_assoc}
+use Rattle.std.proofs.Common.{◌≡◌, ℕ, Bool, true, false, cond, List, [], ◌∷◌, ◌++◌, drop, sym, ◌∙◌, ap, refl, inl, inr, append_assoc}
 use Rattle.std.specs.Prelude.{◌≢◌, ◌||◌, ◌&&◌, not}
 use Rattle.std.specs.List.{list_any}
-use Rattle.std.proofs.lemmas.Bool.{cases_Bool, cond-true, cond-false, false_from_ne_true, or_parts, or_right}
+use Rattle.std.proofs.lemmas.Bool.{cond-true, cond-false, false_from_ne_true, or_right}
 use Rattle.std.proofs.lemmas.List.Folds.{list_any-append}
-use Rattle.mk_graph.specs.Suffix.{is_period, is_slash, last_component, from_last_period, suffix_of}
+use Rattle.mk_graph.specs.Suffix.{is_period, is_slash, last_component, from_last_period}
 use Rattle.mk_graph.specs.SuffixRule.{IsFolder, SuffixIsRule}
 
 -- a text without a slash is its own last component
@@ -40,7 +40,7 @@ no_period (b ∷ bs) h =
     true_is_not e = cc
 
 -- from the last period on
-last_period : (before after : List ℕ) → list_any is_period after ≡ false → from_last_period (before ++ 46 ∷ after) ≡ 46 ∷ after
+pub last_period : (before after : List ℕ) → list_any is_period after ≡ false → from_last_period (before ++ 46 ∷ after) ≡ 46 ∷ after
 last_period [] after h = ap (λ x. cond (not x && true) (46 ∷ after) (from_last_period after)) h
 last_period (b ∷ bs) after h =
     ap (λ x. cond (not x && is_period b) (b ∷ (bs ++ 46 ∷ after)) (from_last_period (bs ++ 46 ∷ after))) (list_any-append is_period bs (46 ∷ after) ∙ or_true (list_any is_period bs))

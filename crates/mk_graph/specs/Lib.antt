@@ -4,8 +4,10 @@ pub mod Collected
 pub mod Graph
 pub mod Least
 pub mod Makers
+pub mod Places
 pub mod Rows
 pub mod Seen
+pub mod SourceIndex
 pub mod Steps
 pub mod Suffix
 pub mod SuffixRule

@@ -6,8 +6,10 @@ ghost use Rattle.mk_name.specs.Names.{Name, kept, same_name};
 ghost use Rattle.mk_graph.specs.Collected.{Collected, Reads, SourceStands};
 ghost use Rattle.mk_graph.specs.Graph.{AreNodes};
 ghost use Rattle.mk_graph.specs.Makers.{inferred_source, needs};
+ghost use Rattle.mk_graph.specs.SourceIndex.{IsSourceIndex};
 ghost use Rattle.mk_jobs.specs.Numbered.{name_at};
 
+use crate::index::{SourceIndex, source_index};
 use crate::inference::inferred_source;
 use mk_jobs::numbering::Numbering;
 use mk_name::name::Name;
@@ -67,29 +69,33 @@ fn read_source(
     alloc: Global,
     book: &Rulebook,
     listing: &Listing,
+    index: &SourceIndex,
     names: &mut Numbering,
     number: usize,
 ) -> Result<Option<usize>, AllocError>
-    requires { number < length names.old }
+    requires index { IsSourceIndex book.now listing.now index.now }
+    requires number { number < length names.old }
     ensures kept { let source = inferred_source book.now listing.now (name_at names.old number) in
         OnOk result (names.new ≡ kept same_name names.old (option_to_list source)) }
     ensures stands { let source = inferred_source book.now listing.now (name_at names.old number) in
         IfOk result (λ found. SourceStands names.new found source) }
 {
-    match inferred_source(alloc, book, listing, names.name(number))? {
+    match inferred_source(alloc, book, listing, index, names.name(number))? {
         Some(source) => Ok(Some(names.put(alloc, &source)?)),
         None => Ok(None),
     }
 }
 
-/// All that the goals need, or nothing where this is more than `limit` names. The only error is want of memory.
-pub fn collect(
+/// All that the goals need, or nothing where this is more than `limit` names, by an index of the sources.
+fn collect_by(
     alloc: Global,
     book: &Rulebook,
     listing: &Listing,
+    index: &SourceIndex,
     goals: &[Name],
     limit: usize,
 ) -> Result<Option<Found>, AllocError>
+    requires index { IsSourceIndex book.now listing.now index.now }
     ensures found { IfOk result
         (λ found. IfSome found
         (λ f. Collected book.now listing.now goals.now f.names f.entries.items f.sources.items
@@ -111,7 +117,7 @@ pub fn collect(
         }
         let places = book.rules_of(names.name(read));
         read_entries(alloc, book, places, &mut names, &mut entries)?;
-        sources.push(read_source(alloc, book, listing, &mut names, read)?)?;
+        sources.push(read_source(alloc, book, listing, index, &mut names, read)?)?;
         read += 1;
     }
     Ok(Some(Found {
@@ -120,4 +126,26 @@ pub fn collect(
         sources,
         goals: starts,
     }))
+}
+
+/// All that the goals need, or nothing where this is more than `limit` names. The only error is want of memory.
+pub fn collect(
+    alloc: Global,
+    book: &Rulebook,
+    listing: &Listing,
+    goals: &[Name],
+    limit: usize,
+) -> Result<Option<Found>, AllocError>
+    ensures found { IfOk result
+        (λ found. IfSome found
+        (λ f. Collected book.now listing.now goals.now f.names f.entries.items f.sources.items
+        f.goals.items (length f.names))) }
+    ensures few { IfOk result (λ found. IfSome found (λ f. length f.names ≤ limit)) }
+    ensures too_large { IfOk result
+        (λ found. IfNone found
+        ((names : List Name) × AreNodes same_name (needs book.now listing.now) goals.now names ×
+        (limit < length names))) }
+{
+    let index = source_index(alloc, book, listing, goals)?;
+    collect_by(alloc, book, listing, &index, goals, limit)
 }

@@ -1,13 +1,20 @@
 //! The sources of names by inference rules.
-ghost use Rattle.std.specs.Prelude.{◌≡◌, IfOk, if◌then◌else◌, Some, None};
+ghost use Rattle.std.specs.Prelude.{◌≡◌, ◌++◌, ◌&&◌, ◌<◌, ℕ, length, IfOk, IsTrue};
 ghost use Rattle.mk_name.specs.Names.{has, same_name};
-ghost use Rattle.mk_graph.specs.Makers.{can_serve, inferred_source, is_there, old_suffix, source_of, with_suffix};
+ghost use Rattle.mk_rules.specs.Book.{has_inference};
+ghost use Rattle.mk_jobs.specs.Numbered.{name_at};
+ghost use Rattle.mk_graph.specs.Makers.{inferred_source, is_there, old_suffix, source_of};
+ghost use Rattle.mk_graph.specs.Places.{IsLeast, IsLeastSuffix, IsOld, in_set};
+ghost use Rattle.mk_graph.specs.SourceIndex.{IsSourceIndex};
 
+use crate::index::SourceIndex;
+use crate::places::{first_common, next_place};
 use crate::suffix::suffix_of;
 use mk_name::name::Name;
 use mk_rules::rulebook::Rulebook;
 use mk_text::listing::Listing;
 use std::alloc::{AllocError, Global};
+use std::collections::BTreeSet;
 
 /// Whether the name exists: the listing has it, or it is a target of a target rule.
 fn is_there(book: &Rulebook, listing: &Listing, name: &Name) -> bool
@@ -16,49 +23,65 @@ fn is_there(book: &Rulebook, listing: &Listing, name: &Name) -> bool
     listing.contains(name) || book.is_target(name)
 }
 
-/// Whether the list of suffixes has this one.
-fn has_suffix(book: &Rulebook, suffix: &[u8]) -> bool
-    ensures { result ≡ has same_name book.now.suffixes suffix.now }
-{
-    book.suffixes().iter().any(|name| name.as_bytes() == suffix)
-}
-
 /// The suffix that inference changes: the name's own, if the list has it; else none.
-fn old_suffix<'a>(book: &Rulebook, name: &'a Name) -> &'a [u8]
-    ensures { result.now ≡ old_suffix book.now name.now }
+fn old_suffix(alloc: Global, book: &Rulebook, name: &Name) -> Result<Name, AllocError>
+    ensures value { IfOk result (λ old. old ≡ old_suffix book.now name.now) }
+    ensures known { IfOk result (IsOld book.now.suffixes) }
 {
-    let suffix = suffix_of(name);
-    if has_suffix(book, suffix) {
-        suffix
+    let suffix = Name::from_bytes(Vec::from_slice(alloc, suffix_of(name))?);
+    if book.suffix_place(&suffix).is_some() {
+        Ok(suffix)
     } else {
-        &[]
+        Ok(Name::from_bytes(Vec::new(alloc)))
     }
 }
 
-/// The name with a new suffix in place of the old one, if that name and an inference rule from the new suffix to the
-/// old one are there.
-fn source_with(
+/// The least of the places whose suffix makes an existing name of the stem.
+fn first_there(
     alloc: Global,
     book: &Rulebook,
     listing: &Listing,
-    name: &Name,
-    old: &[u8],
-    new: &Name,
-) -> Result<Option<Name>, AllocError>
-    ensures { IfOk result (λ source. source ≡
-        (if can_serve book.now listing.now name.now old.now new.now
-        then Some (with_suffix name.now old.now new.now) else None)) }
+    stem: &Name,
+    places: &BTreeSet<usize>,
+) -> Result<Option<usize>, AllocError>
+    requires { (p : ℕ) → IsTrue (in_set places.now p) → p < length book.now.suffixes }
+    ensures { IfOk result
+        (IsLeast (λ p. in_set places.now p
+        && is_there book.now listing.now (stem.now ++ name_at book.now.suffixes p))) }
 {
-    let rule = new.with_tail(alloc, new.as_bytes().len(), old)?;
-    if !book.has_inference(&rule) {
-        return Ok(None);
+    let suffixes = book.suffixes();
+    let mut from = 0;
+    'places: while let Some(place) = next_place(places, from) {
+        let name = stem.with_tail(alloc, stem.as_bytes().len(), suffixes[place].as_bytes())?;
+        if is_there(book, listing, &name) {
+            return Ok(Some(place));
+        }
+        from = place + 1;
     }
-    let stem = name.as_bytes().len().saturating_sub(old.len());
-    let source = name.with_tail(alloc, stem, new.as_bytes())?;
-    if is_there(book, listing, &source) {
-        Ok(Some(source))
-    } else {
-        Ok(None)
+    Ok(None)
+}
+
+/// The least place of a suffix from which a rule leads to the old one and which makes an existing name of the stem.
+fn source_place(
+    alloc: Global,
+    book: &Rulebook,
+    listing: &Listing,
+    index: &SourceIndex,
+    stem: &Name,
+    old: &Name,
+) -> Result<Option<usize>, AllocError>
+    requires index { IsSourceIndex book.now listing.now index.now }
+    requires old { IsOld book.now.suffixes old.now }
+    ensures { IfOk result
+        (IsLeastSuffix book.now.suffixes (λ s. has_inference book.now (s ++ old.now)
+        && is_there book.now listing.now (stem.now ++ s))) }
+{
+    let Some(rules) = index.rules.get(old) else {
+        return Ok(None);
+    };
+    match index.names.get(stem) {
+        Some(there) => Ok(first_common(rules, there)),
+        None => first_there(alloc, book, listing, stem, rules),
     }
 }
 
@@ -67,35 +90,44 @@ fn source_of(
     alloc: Global,
     book: &Rulebook,
     listing: &Listing,
+    index: &SourceIndex,
     name: &Name,
 ) -> Result<Option<Name>, AllocError>
+    requires { IsSourceIndex book.now listing.now index.now }
     ensures { IfOk result (λ source. source ≡ source_of book.now listing.now name.now) }
 {
     if book.is_phony(name) {
         return Ok(None);
     }
-    let old = old_suffix(book, name);
-    for new in book.suffixes() {
-        let source = source_with(alloc, book, listing, name, old, new)?;
-        if source.is_some() {
-            return Ok(source);
+    let old = old_suffix(alloc, book, name)?;
+    let cut = name.as_bytes().len().saturating_sub(old.as_bytes().len());
+    let stem = name.with_tail(alloc, cut, &[])?;
+    match source_place(alloc, book, listing, index, &stem, &old)? {
+        Some(place) => {
+            let source = name.with_tail(alloc, cut, book.suffixes()[place].as_bytes())?;
+            Ok(Some(source))
         }
+        None => Ok(None),
     }
-    Ok(None)
 }
 
 /// The source that an inference rule makes a name from; none where a target rule of it has commands, or where it is
 /// phony ("Inference Rules"). The only error is want of memory.
-pub fn inferred_source(
+pub(crate) fn inferred_source(
     alloc: Global,
     book: &Rulebook,
     listing: &Listing,
+    index: &SourceIndex,
     name: &Name,
 ) -> Result<Option<Name>, AllocError>
+    requires { IsSourceIndex book.now listing.now index.now }
     ensures { IfOk result (λ source. source ≡ inferred_source book.now listing.now name.now) }
 {
+    if index.rules.is_empty() {
+        return Ok(None);
+    }
     if book.has_recipe(name) {
         return Ok(None);
     }
-    source_of(alloc, book, listing, name)
+    source_of(alloc, book, listing, index, name)
 }

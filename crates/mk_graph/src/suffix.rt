@@ -16,7 +16,7 @@ fn last_component(name: &[u8]) -> &[u8]
 }
 
 /// The text from the last period on; nothing where there is none.
-fn from_last_period(text: &[u8]) -> &[u8]
+pub(crate) fn from_last_period(text: &[u8]) -> &[u8]
     ensures { result.now ≡ from_last_period text.now }
 {
     match memrchr(b'.', text) {

@@ -51,8 +51,8 @@ impl<'t> Includes<'t> {
         Ok(())
     }
 
-    /// The texts of these pairs of a path and a text, each under the path's plain name. Of two pairs with
-    /// one plain name the first counts.
+    /// The texts of these pairs of a path and a text, each under the path's plain name. Where several
+    /// paths have the same plain name, the text of the first stands.
     ///
     /// The first path that `plain_path` refuses is `BadName` in the source `Includes`, at the number of its
     /// pair from 1, without names. A text's own faults are no error here: who names the text tells them.

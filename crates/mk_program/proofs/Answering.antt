@@ -1,5 +1,5 @@
 -- Lemmas on answers over texts that are the same.
-use Rattle.std.proofs.Common.{◌≡◌, ◌≢◌, ◌∙◌, ℕ, Bool, true, false, List, Ok, Err, subst, sym}
+use Rattle.std.proofs.Common.{◌≡◌, ◌≢◌, ◌∙◌, ℕ, Bool, true, false, List, Ok, Err, subst, sym, refl, IsTrue}
 use Rattle.mk_name.specs.Gives.{HaltsAmong}
 use Rattle.mk_name.specs.Shown.{refused_text}
 use Rattle.mk_name.specs.Told.{Told}
@@ -7,7 +7,7 @@ use Rattle.mk_name.specs.declared.fault.Halt.{Halt}
 use Rattle.mk_name.specs.declared.fault.Halt.TheVariants.{Fault}
 use Rattle.mk_race.specs.Played.{IsPlayed}
 use Rattle.mk_race.specs.Stages.{IsPlanned, Texts}
-use Rattle.mk_race.specs.Verified.{IsVerified}
+use Rattle.mk_race.specs.Verified.{IsVerified, ProofShows}
 use Rattle.mk_race.specs.declared.planning.Planned.{Planned}
 use Rattle.mk_race.specs.declared.replaying.Played.{Played}
 use Rattle.mk_race.specs.declared.replaying.Played.TheVariants.{Allowed, NotAllowed}
@@ -78,7 +78,7 @@ unverified_is texts footprints proof halt fault status text verified is ends tol
 
 -- what is told of a proof that was judged is its answer
 pub verdict_is : (texts : Texts) (footprints proof : List ℕ) (accepted : Bool) (status : Status) (text : List ℕ)
-    → IsVerified texts footprints proof (Ok accepted) → status ≡ verdict_status accepted → text ≡ verdict_text accepted
-    → IsVerifyAnswer texts footprints proof status text
-verdict_is texts footprints proof true status text verified ends told = rw ends (verified, told)
-verdict_is texts footprints proof false status text verified ends told = rw ends (verified, told)
+    → IsVerified texts footprints proof (Ok accepted) → (IsTrue accepted → ProofShows texts footprints proof)
+    → status ≡ verdict_status accepted → text ≡ verdict_text accepted → IsVerifyAnswer texts footprints proof status text
+verdict_is texts footprints proof true status text verified shows ends told = rw ends (verified, shows refl, told)
+verdict_is texts footprints proof false status text verified shows ends told = rw ends (verified, told)

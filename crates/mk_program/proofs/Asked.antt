@@ -9,27 +9,34 @@ use Rattle.clap.specs.Simple.{App, Shape, argument_words, built_leaf, entered, i
 use Rattle.mk_program.specs.CommandLine as spec
 use Rattle.mk_program.specs.declared.requests.Request.{Request}
 
--- a parse that enters one of three subcommands enters the first, the second or the third
-entered_name : (a : App) (s t u : Shape) (stop : Option (Text × List Text)) (found : Text × List Row)
-    → a.subs ≡ s ∷ (t ∷ (u ∷ [])) → entered a stop ≡ Some found → (found.0 ≡ s.name) ⊎ (found.0 ≡ t.name) ⊎ (found.0 ≡ u.name)
-entered_name a s t u None found all e = absurd (none-some found e)
-entered_name a s t u (Some p) found all e =
-    go (answers_to p.0 (label_of s)) (answers_to p.0 (label_of t)) (answers_to p.0 (label_of u)) (ap (λ (subs : List Shape). entered (record a { subs = subs }) (Some p)) (sym all) ∙ e)
+-- a parse that enters one of five subcommands enters the first, the second, the third, the fourth or the fifth
+entered_name : (a : App) (s t u v w : Shape) (stop : Option (Text × List Text)) (found : Text × List Row)
+    → a.subs ≡ s ∷ (t ∷ (u ∷ (v ∷ (w ∷ [])))) → entered a stop ≡ Some found
+    → (found.0 ≡ s.name) ⊎ (found.0 ≡ t.name) ⊎ (found.0 ≡ u.name) ⊎ (found.0 ≡ v.name) ⊎ (found.0 ≡ w.name)
+entered_name a s t u v w None found all e = absurd (none-some found e)
+entered_name a s t u v w (Some p) found all e =
+    go (answers_to p.0 (label_of s)) (answers_to p.0 (label_of t)) (answers_to p.0 (label_of u)) (answers_to p.0 (label_of v)) (answers_to p.0 (label_of w))
+    (ap (λ (subs : List Shape). entered (record a { subs = subs }) (Some p)) (sym all) ∙ e)
   where
-    go : (b d f : Bool) → option_map (λ (x : Shape). rows_at x p.1) (cond b (Some s) (cond d (Some t) (cond f (Some u) None))) ≡ Some found
-        → (found.0 ≡ s.name) ⊎ (found.0 ≡ t.name) ⊎ (found.0 ≡ u.name)
-    go true d f e = inl (ap (λ (x : Text × List Row). x.0) (sym (same_Some _ _ e)))
-    go false true f e = inr (inl (ap (λ (x : Text × List Row). x.0) (sym (same_Some _ _ e))))
-    go false false true e = inr (inr (ap (λ (x : Text × List Row). x.0) (sym (same_Some _ _ e))))
-    go false false false e = absurd (none-some found e)
+    go : (b d f h k : Bool)
+        → option_map (λ (x : Shape). rows_at x p.1) (cond b (Some s) (cond d (Some t) (cond f (Some u) (cond h (Some v) (cond k (Some w) None))))) ≡ Some found
+        → (found.0 ≡ s.name) ⊎ (found.0 ≡ t.name) ⊎ (found.0 ≡ u.name) ⊎ (found.0 ≡ v.name) ⊎ (found.0 ≡ w.name)
+    go true d f h k e = inl (ap (λ (x : Text × List Row). x.0) (sym (same_Some _ _ e)))
+    go false true f h k e = inr (inl (ap (λ (x : Text × List Row). x.0) (sym (same_Some _ _ e))))
+    go false false true h k e = inr (inr (inl (ap (λ (x : Text × List Row). x.0) (sym (same_Some _ _ e)))))
+    go false false false true k e = inr (inr (inr (inl (ap (λ (x : Text × List Row). x.0) (sym (same_Some _ _ e))))))
+    go false false false false true e = inr (inr (inr (inr (ap (λ (x : Text × List Row). x.0) (sym (same_Some _ _ e))))))
+    go false false false false false e = absurd (none-some found e)
 
 -- the subcommand that the words name is one of the program's
 pub one_named : (words : List Text) (found : Text × List Row) → subcommand_of spec.race_app words ≡ Some found
-    → (found.0 ≡ codes "order") ⊎ (found.0 ≡ codes "verify") ⊎ (found.0 ≡ codes "replay")
+    → (found.0 ≡ codes "order") ⊎ (found.0 ≡ codes "check") ⊎ (found.0 ≡ codes "verify") ⊎ (found.0 ≡ codes "replay") ⊎ (found.0 ≡ codes "serialise")
 one_named words found e =
     let top = with_leaf_noted (marked_built spec.race_app.top) in
     let stop = stop_after (built spec.race_app).top.rules (names_of (built spec.race_app)) (argument_words spec.race_app words) in
-    entered_name (built spec.race_app) (built_leaf (inherited top spec.order_app.top)) (built_leaf (inherited top spec.verify_app.top)) (built_leaf (inherited top spec.replay_app.top)) stop found refl e
+    entered_name (built spec.race_app) (built_leaf (inherited top spec.order_app.top)) (built_leaf (inherited top spec.check_app.top))
+    (built_leaf (inherited top spec.verify_app.top)) (built_leaf (inherited top spec.replay_app.top)) (built_leaf (inherited top spec.serialise_app.top))
+    stop found refl e
 
 map_map : {X Y Z : Type 0} (f : Y → Z) (g : X → Y) (o : Option X) → option_map f (option_map g o) ≡ option_map (λ (x : X). f (g x)) o
 map_map f g None = refl

@@ -5,6 +5,8 @@ mod Locals
 mod OutcomeLines
 mod PlanLines
 mod Reading
+mod SerialAnswers
 mod Told
 mod Values
 pub mod Included
+pub mod Judged

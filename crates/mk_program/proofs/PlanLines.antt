@@ -1,5 +1,5 @@
 -- Lemmas on the lines of a plan.
-use Rattle.std.proofs.Common.{eq-eqb, ◌||◌, get_or, true, false, nat_eq, inl, inr, length, ◌<◌, ◌≤◌, Option, None, zero-add, ◌≡◌, ◌∙◌, ℕ, zero, suc, ◌+◌, List, [], ◌∷◌, ◌++◌, take, Some, ap, sym, refl, arith, append-nil, append_assoc, add-one}
+use Rattle.std.proofs.Common.{eq-eqb, ◌||◌, get_or, true, nat_eq, inl, inr, length, ◌<◌, ◌≤◌, Option, None, zero-add, ◌≡◌, ◌∙◌, ℕ, zero, suc, ◌+◌, List, [], ◌∷◌, ◌++◌, take, Some, ap, sym, refl, arith, append-nil, append_assoc, add-one}
 use Rattle.std.specs.Prelude.{slice_get, option_map, IfSome, unwrap_or}
 use Rattle.std.specs.Fmt.{decimal}
 use Rattle.std.specs.List.{enumerate_from, flat_map}

@@ -9,6 +9,7 @@ use Rattle.clap.specs.declared.builder.value_parser.ValueParser.TheVariants.{Uns
 use Rattle.clap.specs.declared.error.kind.ErrorKind.{ErrorKind}
 use Rattle.clap.specs.declared.error.kind.ErrorKind.TheVariants.{DisplayHelp, DisplayVersion}
 use Rattle.mk_program.specs.declared.requests.BuildArgs.{BuildArgs}
+use Rattle.mk_program.specs.declared.requests.CheckArgs.{CheckArgs}
 use Rattle.mk_program.specs.declared.requests.ReplayArgs.{ReplayArgs}
 use Rattle.mk_program.specs.declared.requests.VerifyArgs.{VerifyArgs}
 use Rattle.mk_program.specs.declared.requests.Request.{Request}
@@ -39,6 +40,13 @@ with_build app =
 abbrev pub order_app : App
 order_app = with_build (new_app (codes "order"))
 
+-- a flag: the proof is printed in place of the report
+abbrev pub print_proof : Rule
+print_proof = record (new_rule (codes "print-proof")) { long = Some (codes "print-proof"); action = Some SetTrue }
+
+abbrev pub check_app : App
+check_app = with_rule (with_rule (with_build (new_app (codes "check"))) (option (codes "footprints"))) print_proof
+
 abbrev pub verify_app : App
 verify_app = with_rule (with_rule (with_build (new_app (codes "verify"))) (option (codes "footprints"))) (option (codes "proof"))
 
@@ -50,16 +58,30 @@ limit = record (option (codes "limit")) { required = false; parser = Some (Unsig
 abbrev pub tie : Rule
 tie = record (new_rule (codes "tie")) { long = Some (codes "tie"); action = Some SetTrue }
 
-abbrev pub replay_app : App
-replay_app =
-    with_rule (with_rule (with_rule (with_rule (with_build (new_app (codes "replay")))
+-- a command with the options and operands of those that read a log
+abbrev pub with_log : App → App
+with_log app =
+    with_rule (with_rule (with_rule (with_rule (with_build app)
     (option (codes "footprints"))) (option (codes "log"))) limit) tie
 
--- the program: it must be given one of its subcommands, or be asked for its version
+abbrev pub replay_app : App
+replay_app = with_log (new_app (codes "replay"))
+
+abbrev pub serialise_app : App
+serialise_app = with_log (new_app (codes "serialise"))
+
+-- the program without its subcommands: it must be given one, or be asked for its version
+abbrev pub top_app : App
+top_app = record {
+  top = record (new_app (codes "race")).top { has_version = true; disable_help_subcommand = true; subcommand_required = true };
+  subs = [];
+}
+
+-- the program with its subcommands
 abbrev pub race_app : App
 race_app =
-    let top = record (new_app (codes "race")).top { has_version = true; disable_help_subcommand = true; subcommand_required = true } in
-    with_subcommand (with_subcommand (with_subcommand (record { top = top; subs = [] }) order_app.top) verify_app.top) replay_app.top
+    with_subcommand (with_subcommand (with_subcommand (with_subcommand (with_subcommand top_app
+    order_app.top) check_app.top) verify_app.top) replay_app.top) serialise_app.top
 
 -- what these words ask: the subcommand that they name, with the values that were found
 abbrev pub asked : List (Bor Text) → Option (Text × List Row)
@@ -96,6 +118,12 @@ abbrev pub is_true : Option Text → Bool
 is_true None = false
 is_true (Some text) = bytes_eq text (codes "true")
 
+-- the check and its build have the values that were found
+pub record HasCheck (check : CheckArgs) (rows : List Row) : Type 0 where
+  pub build : HasValues check.build rows
+  pub footprints : check.footprints.now ≡ value_of (codes "footprints") rows
+  pub print_proof : check.print_proof ≡ is_true (first_of (codes "print-proof") rows)
+
 -- the proof and its build have the values that were found
 pub record HasVerify (verify : VerifyArgs) (rows : List Row) : Type 0 where
   pub build : HasValues verify.build rows
@@ -113,8 +141,10 @@ pub record HasReplay (replay : ReplayArgs) (rows : List Row) : Type 0 where
 -- the request is for the subcommand of this name, with the values that were found
 abbrev pub IsFor : Request → Text → List Row → Type 0
 IsFor (requests.Order build) name rows = (name ≡ codes "order") × HasValues build rows
+IsFor (requests.Check check) name rows = (name ≡ codes "check") × HasCheck check rows
 IsFor (requests.Verify verify) name rows = (name ≡ codes "verify") × HasVerify verify rows
 IsFor (requests.Replay replay) name rows = (name ≡ codes "replay") × HasReplay replay rows
+IsFor (requests.Serialise replay) name rows = (name ≡ codes "serialise") × HasReplay replay rows
 
 -- the request is for the subcommand that was found
 abbrev pub Asks : Request → Option (Text × List Row) → Type 0

@@ -22,6 +22,7 @@ abbrev pub failure_text : Failure → List ℕ
 failure_text (failures.Read input) = codes "race: read failed: " ++ word_of input
 failure_text failures.Write = codes "race: write failed"
 failure_text failures.Memory = codes "race: out of memory"
+failure_text failures.NotText = codes "race: not text"
 failure_text (failures.Usage text) = string_bytes text
 
 -- the line of the failure was written behind what stood there; or that of memory, where it is too short to tell another

@@ -52,4 +52,5 @@ abbrev pub IsInputFailure : (List ℕ → Option Bool) → List InputPath → Fa
 IsInputFailure opens inputs (failures.Read input) = IsFirstShut opens inputs input ⊎ IsUnread opens inputs input
 IsInputFailure opens inputs failures.Write = ⊥
 IsInputFailure opens inputs failures.Memory = Unit {0}
+IsInputFailure opens inputs failures.NotText = ⊥
 IsInputFailure opens inputs (failures.Usage text) = ⊥

@@ -3,6 +3,7 @@ pub mod CommandLine
 pub mod Failures
 pub mod Includes
 pub mod Inputs
+pub mod OrderText
 pub mod OutcomeText
 pub mod PlanText
 pub mod Requests

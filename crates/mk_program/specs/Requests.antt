@@ -5,6 +5,7 @@ use Rattle.mk_program.specs.declared.failures.InputFile.{InputFile}
 use Rattle.mk_program.specs.declared.failures.InputFile.TheVariants as inputs
 use Rattle.mk_program.specs.declared.inputs.InputPath.{InputPath}
 use Rattle.mk_program.specs.declared.requests.BuildArgs.{BuildArgs}
+use Rattle.mk_program.specs.declared.requests.ReplayArgs.{ReplayArgs}
 use Rattle.mk_program.specs.declared.requests.Request.{Request}
 use Rattle.mk_program.specs.declared.requests.Request.TheVariants as requests
 
@@ -24,13 +25,21 @@ build_inputs build = base_input build.base ++ input_at inputs.Makefile build.mak
 -- the path of the file of includes, where one is given
 abbrev pub includes_path : Request → Option (List ℕ)
 includes_path (requests.Order build) = option_map (λ path. path.now) build.includes
+includes_path (requests.Check check) = option_map (λ path. path.now) check.build.includes
 includes_path (requests.Verify verify) = option_map (λ path. path.now) verify.build.includes
 includes_path (requests.Replay replay) = option_map (λ path. path.now) replay.build.includes
+includes_path (requests.Serialise replay) = option_map (λ path. path.now) replay.build.includes
+
+-- what is read for a log
+abbrev pub log_inputs : ReplayArgs → List InputPath
+log_inputs replay =
+    build_inputs replay.build ++ input_at inputs.Footprints replay.footprints ++ input_at inputs.Log replay.log
 
 -- the inputs but for the includes
 abbrev pub inputs_of : Request → List InputPath
 inputs_of (requests.Order build) = build_inputs build
+inputs_of (requests.Check check) = build_inputs check.build ++ input_at inputs.Footprints check.footprints
 inputs_of (requests.Verify verify) =
     build_inputs verify.build ++ input_at inputs.Footprints verify.footprints ++ input_at inputs.Proof verify.proof
-inputs_of (requests.Replay replay) =
-    build_inputs replay.build ++ input_at inputs.Footprints replay.footprints ++ input_at inputs.Log replay.log
+inputs_of (requests.Replay replay) = log_inputs replay
+inputs_of (requests.Serialise replay) = log_inputs replay

@@ -8,6 +8,7 @@ ghost use Rattle.mk_program.specs.Inputs.{AreTexts};
 ghost use Rattle.mk_program.specs.OutcomeText.{IsOutcomeText};
 ghost use Rattle.mk_program.specs.PlanText.{plan_text as text_of_plan};
 
+use crate::checking::check_answer;
 use crate::failures::{Failure, InputFile};
 use crate::includes::{IncludeText, pairs_of, read_includes};
 use crate::inputs::{InputText, read_inputs, text_of};
@@ -15,6 +16,7 @@ use crate::openers::Opener;
 use crate::outcome_lines::outcome_text;
 use crate::plan_lines::plan_text;
 use crate::requests::{BuildArgs, ReplayArgs, Request, VerifyArgs, includes_path, inputs_of};
+use crate::serialising::serialise_answer;
 use crate::statuses::Status;
 use mk_jobs::plan::Plan;
 use mk_name::fault::{Fault, Halt};
@@ -47,17 +49,18 @@ pub fn answer_of<P: Opener>(
     let included = read_includes(alloc, opener, includes_path(request))?;
     let inputs = inputs_of(alloc, request)?;
     let texts = read_inputs(alloc, opener, inputs.as_slice())?;
-    Ok(answer_with(alloc, request, included.as_slice(), texts.as_slice())?)
+    answer_with(alloc, request, included.as_slice(), texts.as_slice())
 }
 
-/// The answer to a request over the texts of its includes and of its inputs. The only error is want of memory.
+/// The answer to a request over the texts of its includes and of its inputs.
 fn answer_with(
     alloc: Global,
     request: &Request<'_>,
     included: &[IncludeText],
     texts: &[InputText],
-) -> Result<Answer, AllocError>
+) -> Result<Answer, Failure>
     ensures status { IfOk result (λ answer. answer.status ≢ Status.Failed) }
+    ensures failure { IfErr result (spec.IsUntold request.now) }
     ensures answer { IfOk result (λ answer. (text : InputFile → List ℕ) → AreTexts texts.now text
         → spec.IsAnswerOver request.now (shown included.now) text answer.status answer.text.items) }
 {
@@ -65,22 +68,25 @@ fn answer_with(
     answer_over(alloc, request, pairs.as_slice(), texts)
 }
 
-/// The answer to a request over the pairs of its includes and the texts of its inputs. The only error is want of memory.
+/// The answer to a request over the pairs of its includes and the texts of its inputs.
 fn answer_over(
     alloc: Global,
     request: &Request<'_>,
     includes: &[(&[u8], &[u8])],
     texts: &[InputText],
-) -> Result<Answer, AllocError>
+) -> Result<Answer, Failure>
     ensures status { IfOk result (λ answer. answer.status ≢ Status.Failed) }
+    ensures failure { IfErr result (spec.IsUntold request.now) }
     ensures answer { IfOk result (λ answer. (text : InputFile → List ℕ) → AreTexts texts.now text
         → spec.IsAnswerOver request.now (map (λ pair. (pair.0.now, pair.1.now)) includes.now) text
         answer.status answer.text.items) }
 {
     match request {
-        Request::Order(build) => order_answer(alloc, build, includes, texts),
-        Request::Verify(verify) => verify_answer(alloc, verify, includes, texts),
-        Request::Replay(replay) => replay_answer(alloc, replay, includes, texts),
+        Request::Order(build) => Ok(order_answer(alloc, build, includes, texts)?),
+        Request::Check(check) => Ok(check_answer(alloc, check, includes, texts)?),
+        Request::Verify(verify) => Ok(verify_answer(alloc, verify, includes, texts)?),
+        Request::Replay(replay) => Ok(replay_answer(alloc, replay, includes, texts)?),
+        Request::Serialise(replay) => serialise_answer(alloc, replay, includes, texts),
     }
 }
 
@@ -97,7 +103,10 @@ fn order_answer(
         (map (λ pair. (pair.0.now, pair.1.now)) includes.now) text) answer.status answer.text.items) }
 {
     let operands = bytes_of(alloc, build.operands.as_slice())?;
-    order_over(alloc, &input_of(build, operands.as_slice(), includes, texts))
+    order_over(
+        alloc,
+        &input_of(build, operands.as_slice(), includes, texts),
+    )
 }
 
 /// Whether a proof is accepted for a build, or why the inputs are refused.
@@ -140,7 +149,7 @@ fn replay_answer(
 }
 
 /// What a build is judged by: its root and operands as they were given, and the texts that were read.
-fn input_of<'a>(
+pub(crate) fn input_of<'a>(
     build: &BuildArgs<'a>,
     operands: &'a [&'a [u8]],
     includes: &'a [(&'a [u8], &'a [u8])],
@@ -248,7 +257,7 @@ fn outcome_answer(alloc: Global, played: &Played) -> Result<Answer, AllocError>
 }
 
 /// The report of a fault.
-fn refused(alloc: Global, fault: &Fault) -> Result<Answer, AllocError>
+pub(crate) fn refused(alloc: Global, fault: &Fault) -> Result<Answer, AllocError>
     ensures { IfOk result (λ answer. (answer.status ≡ Status.Refused)
         × (answer.text.items ≡ refused_text fault.now)) }
 {
@@ -269,7 +278,7 @@ fn status_of(played: &Played) -> Status
 }
 
 /// The bytes of some texts. The only error is want of memory.
-fn bytes_of<'a>(alloc: Global, texts: &[&'a str]) -> Result<Vec<&'a [u8]>, AllocError>
+pub(crate) fn bytes_of<'a>(alloc: Global, texts: &[&'a str]) -> Result<Vec<&'a [u8]>, AllocError>
     ensures { IfOk result (λ list. map (λ bytes. bytes.now) list.items
         ≡ map (λ text. text.now) texts.now) }
 {

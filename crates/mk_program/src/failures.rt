@@ -46,6 +46,8 @@ pub enum Failure {
     Write,
     /// Memory ran out.
     Memory,
+    /// A name in a log that is to be written is no text.
+    NotText,
     /// The words are wrong; the text says how.
     Usage(String),
 }
@@ -60,6 +62,7 @@ impl fmt::Display for Failure {
             Failure::Read(input) => write!(f, "race: read failed: {input}"),
             Failure::Write => f.write_str("race: write failed"),
             Failure::Memory => f.write_str("race: out of memory"),
+            Failure::NotText => f.write_str("race: not text"),
             Failure::Usage(text) => f.write_str(text.as_str()),
         }
     }

@@ -107,11 +107,7 @@ fn read_line<P: Opener>(
 }
 
 /// The text of the file of this path.
-fn read_file<P: Opener>(
-    alloc: Global,
-    opener: &mut P,
-    path: &str,
-) -> Result<Vec<u8>, Failure>
+fn read_file<P: Opener>(alloc: Global, opener: &mut P, path: &str) -> Result<Vec<u8>, Failure>
     ensures told { IfOk result (λ text. (bytes : List ℕ)
         → P.text opener.old path.now ≡ Some bytes → text.items ≡ bytes) }
     ensures failure { IfErr result spec.IsIncludeFailure }

@@ -83,7 +83,10 @@ fn open_all<P: Opener>(
 }
 
 /// Opens the file of an input. The error is `Failure::Read` of that input.
-pub(crate) fn opened<P: Opener>(opener: &mut P, known: &InputPath<'_>) -> Result<OpenInput<P::File>, Failure>
+pub(crate) fn opened<P: Opener>(
+    opener: &mut P,
+    known: &InputPath<'_>,
+) -> Result<OpenInput<P::File>, Failure>
     ensures input { IfOk result (λ file. file.input ≡ known.now.input) }
     ensures works { IfOk result (λ file. P.File.has_failed file.file ≡ false) }
     ensures whole { IfOk result (λ file. (bytes : List ℕ)
@@ -127,7 +130,10 @@ fn read_files<I: Intake + Drop>(
 }
 
 /// The text of an open input, read to its end. The errors are `Failure::Read` of that input and `Failure::Memory`.
-pub(crate) fn text_in<I: Intake + Drop>(alloc: Global, given: OpenInput<I>) -> Result<InputText, Failure>
+pub(crate) fn text_in<I: Intake + Drop>(
+    alloc: Global,
+    given: OpenInput<I>,
+) -> Result<InputText, Failure>
     requires { I.has_failed given.file ≡ false }
     ensures input { IfOk result (λ known. known.input ≡ given.input) }
     ensures text { IfOk result (λ known. IfSome (I.left given.file) (λ bytes. known.text.items ≡ bytes)) }

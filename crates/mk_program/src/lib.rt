@@ -15,7 +15,7 @@
 //! - `Inputs.antt`: that the files hold the texts of the inputs (`Hold`), and which input fails (`IsInputFailure`): the first
 //!   that cannot be opened, or one that cannot be read though all were opened;
 //! - `Answers.antt`: the answer to a request over what its files hold (`IsAnswer`), and that it was written (`WritesAnswer`);
-//! - `PlanText.antt` and `OutcomeText.antt`: the texts of `race order` and of `race replay`;
+//! - `PlanText.antt`, `OutcomeText.antt` and `OrderText.antt`: the texts of `race order`, of `race replay` and of `race serialise`;
 //! - `Failures.antt` and `Statuses.antt`: the line of a failure, and the statuses as numbers.
 //!
 //! A subcommand more is a variant of `requests::Request` with its inputs in `requests::inputs_of`, its words in `words`,
@@ -23,14 +23,17 @@
 #![tactic(auto)]
 
 mod answers;
+mod checking;
 mod failures;
 mod includes;
 mod inputs;
 mod openers;
+mod order_lines;
 mod outcome_lines;
 mod plan_lines;
 mod requests;
 mod running;
+mod serialising;
 mod statuses;
 mod words;
 

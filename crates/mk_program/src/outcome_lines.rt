@@ -22,7 +22,12 @@ pub fn outcome_text(alloc: Global, played: &Played) -> Result<Vec<u8>, AllocErro
     }
 }
 
-fn not_allowed_text(alloc: Global, place: u64, refusal: Refusal) -> Result<Vec<u8>, AllocError>
+/// That a log is no run, why and where. The only error is want of memory.
+pub(crate) fn not_allowed_text(
+    alloc: Global,
+    place: u64,
+    refusal: Refusal,
+) -> Result<Vec<u8>, AllocError>
     ensures { IfOk result (λ text. text.items ≡ spec.not_allowed_text place refusal) }
 {
     let number = refusal.number();

@@ -18,6 +18,14 @@ pub struct BuildArgs<'a> {
     pub operands: Vec<&'a str>,
 }
 
+/// What is checked: a build, the path of its footprints, and whether the proof is printed in place of the report.
+#[derive(Debug, Drop)]
+pub struct CheckArgs<'a> {
+    pub build: BuildArgs<'a>,
+    pub footprints: &'a str,
+    pub print_proof: bool,
+}
+
 /// What a proof is judged by: a build, and the paths of its footprints and of the proof.
 #[derive(Debug, Drop)]
 pub struct VerifyArgs<'a> {
@@ -41,8 +49,10 @@ pub struct ReplayArgs<'a> {
 #[derive(Debug, Drop)]
 pub enum Request<'a> {
     Order(BuildArgs<'a>),
+    Check(CheckArgs<'a>),
     Verify(VerifyArgs<'a>),
     Replay(ReplayArgs<'a>),
+    Serialise(ReplayArgs<'a>),
 }
 
 /// The path of the file of includes, where one is given.
@@ -51,8 +61,9 @@ pub fn includes_path<'a>(request: &Request<'a>) -> Option<&'a str>
 {
     match request {
         Request::Order(build) => build.includes,
+        Request::Check(check) => check.build.includes,
         Request::Verify(verify) => verify.build.includes,
-        Request::Replay(replay) => replay.build.includes,
+        Request::Replay(replay) | Request::Serialise(replay) => replay.build.includes,
     }
 }
 
@@ -64,18 +75,30 @@ pub fn inputs_of<'a>(alloc: Global, request: &Request<'a>) -> Result<Vec<InputPa
     let mut inputs = Vec::new(alloc);
     match request {
         Request::Order(build) => push_build(&mut inputs, build)?,
+        Request::Check(check) => {
+            push_build(&mut inputs, &check.build)?;
+            push_input(&mut inputs, InputFile::Footprints, check.footprints)?;
+        }
         Request::Verify(verify) => {
             push_build(&mut inputs, &verify.build)?;
             push_input(&mut inputs, InputFile::Footprints, verify.footprints)?;
             push_input(&mut inputs, InputFile::Proof, verify.proof)?;
         }
-        Request::Replay(replay) => {
-            push_build(&mut inputs, &replay.build)?;
-            push_input(&mut inputs, InputFile::Footprints, replay.footprints)?;
-            push_input(&mut inputs, InputFile::Log, replay.log)?;
-        }
+        Request::Replay(replay) | Request::Serialise(replay) => push_replay(&mut inputs, replay)?,
     }
     Ok(inputs)
+}
+
+/// Puts the inputs of a log at the end.
+fn push_replay<'a>(
+    inputs: &mut Vec<InputPath<'a>>,
+    replay: &ReplayArgs<'a>,
+) -> Result<(), AllocError>
+    ensures { OnOk result (inputs.new.items ≡ inputs.old.items ++ spec.log_inputs replay.now) }
+{
+    push_build(inputs, &replay.build)?;
+    push_input(inputs, InputFile::Footprints, replay.footprints)?;
+    push_input(inputs, InputFile::Log, replay.log)
 }
 
 /// Puts the inputs that every subcommand reads at the end.

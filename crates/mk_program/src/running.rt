@@ -4,7 +4,7 @@ ghost use Rattle.std.specs.Global.{Global};
 ghost use Rattle.clap.specs.Words.{kind_of};
 ghost use Rattle.mk_name.specs.Shown.{line};
 ghost use Rattle.mk_program.specs.Answers as spec;
-ghost use Rattle.mk_program.specs.CommandLine.{IsAnswerable, IsCall, wrong};
+ghost use Rattle.mk_program.specs.CommandLine.{IsAnswerable, IsCall, asked, wrong};
 ghost use Rattle.mk_program.specs.Failures.{TellsFailure, failure_text};
 
 use crate::answers::{Answer, answer_of};
@@ -37,6 +37,9 @@ pub fn race_words<'a, P: Opener, O: Outlet, E: Outlet>(
     ensures no { result ≡ Status.No → spec.WritesAnswer
         words.entry.now (P.text opener.old) result (O.written out.old) (O.written out.new) }
     ensures usage { result ≢ Status.Failed → IsAnswerable (wrong words.entry.now) }
+    // The yes: where the words ask to check a build and the program ends with 0, no schedule of the build shows in its files.
+    ensures safe { wrong words.entry.now ≡ [] → spec.AskToCheck (asked words.entry.now)
+        → result ≡ Status.Done → spec.SaysSafe words.entry.now (P.text opener.old) }
     // What is not the whole answer is nothing, or what a device took before it failed.
     ensures nothing { result ≡ Status.Failed → O.has_failed out.new ≡ false → out.new ≡ out.old }
     ensures beginning { wrong words.entry.now ≡ [] → O.has_failed out.new ≡ true

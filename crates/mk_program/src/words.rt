@@ -1,16 +1,20 @@
 //! The words of the command line.
-ghost use Rattle.std.specs.Prelude.{◌≡◌, ◌⊎◌, IfOk, codes, false};
+ghost use Rattle.std.specs.Prelude.{◌≡◌, ◌⊎◌, IfOk, codes, false, option_map};
 ghost use Rattle.clap.specs.Words.{FailsBy, app_of, found_of, rows_of, rule_of};
 ghost use Rattle.clap.specs.declared.builder.command.Command.TheViews.{out-Command as fields_of};
 ghost use Rattle.mk_program.specs.CommandLine as spec;
 
+mod check_words;
 mod help;
 mod replay_words;
+mod serialise_words;
 mod verify_words;
 
 use crate::requests::{BuildArgs, Request};
+use check_words::{check_args, check_command};
 use clap::{Arg, ArgAction, ArgMatches, Command, Error};
 use replay_words::{replay_args, replay_command};
+use serialise_words::serialise_command;
 use std::alloc::{AllocError, Global};
 use verify_words::{verify_args, verify_command};
 
@@ -33,17 +37,24 @@ fn request_of<'a>(
     name: &str,
     found: &ArgMatches<'a>,
 ) -> Result<Request<'a>, AllocError>
-    requires { (name.now ≡ codes "order") ⊎ (name.now ≡ codes "verify") ⊎ (name.now ≡ codes "replay") }
+    requires { (name.now ≡ codes "order") ⊎ (name.now ≡ codes "check") ⊎ (name.now ≡ codes "verify")
+        ⊎ (name.now ≡ codes "replay") ⊎ (name.now ≡ codes "serialise") }
     ensures { IfOk result (λ request.
         spec.IsFor request name.now (rows_of (found_of found.now))) }
 {
     if name == "order" {
         return Ok(Request::Order(build_args(alloc, found)?));
     }
+    if name == "check" {
+        return Ok(Request::Check(check_args(alloc, found)?));
+    }
     if name == "verify" {
         return Ok(Request::Verify(verify_args(alloc, found)?));
     }
-    Ok(Request::Replay(replay_args(alloc, found)?))
+    if name == "replay" {
+        return Ok(Request::Replay(replay_args(alloc, found)?));
+    }
+    Ok(Request::Serialise(replay_args(alloc, found)?))
 }
 
 /// The program, with its subcommands.
@@ -51,15 +62,25 @@ fn race_command<'a>(alloc: Global) -> Result<Command<'a>, AllocError>
     ensures app { IfOk result (λ command. app_of command ≡ spec.race_app) }
     ensures local { IfOk result (λ command. (fields_of command).has_globals ≡ false) }
 {
+    top_command(alloc)
+        .subcommand(order_command(alloc)?)?
+        .subcommand(check_command(alloc)?)?
+        .subcommand(verify_command(alloc)?)?
+        .subcommand(replay_command(alloc)?)?
+        .subcommand(serialise_command(alloc)?)
+}
+
+/// The program without its subcommands.
+fn top_command<'a>(alloc: Global) -> Command<'a>
+    ensures app { app_of result ≡ spec.top_app }
+    ensures local { (fields_of result).has_globals ≡ false }
+{
     Command::new(alloc, "race")
         .about(help::ABOUT)
         .after_help(help::DETAILS)
         .version(help::VERSION)
         .disable_help_subcommand(true)
         .subcommand_required(true)
-        .subcommand(order_command(alloc)?)?
-        .subcommand(verify_command(alloc)?)?
-        .subcommand(replay_command(alloc)?)
 }
 
 fn order_command<'a>(alloc: Global) -> Result<Command<'a>, AllocError>
@@ -138,4 +159,14 @@ fn build_args<'a>(alloc: Global, found: &ArgMatches<'a>) -> Result<BuildArgs<'a>
         root: found.get_str("root").unwrap_or(""),
         operands: Vec::from_slice(alloc, found.get_strs("operands").unwrap_or(&[]))?,
     })
+}
+
+/// Whether a flag's value says that it is set.
+fn is_true(value: Option<&str>) -> bool
+    ensures { result ≡ spec.is_true (option_map (λ text. text.now) value.entry) }
+{
+    match value {
+        Some(text) => text == "true",
+        None => false,
+    }
 }

@@ -1,4 +1,7 @@
+mod Ahead
+mod Alike
 mod GoalsLemmas
+mod InOrder
 mod Listed
 mod ProofTexts
 mod Staging

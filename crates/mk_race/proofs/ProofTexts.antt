@@ -1,20 +1,18 @@
 -- Proofs by their texts, and what jobs say of them.
-use Rattle.std.proofs.Common.{◌≡◌, ◌==◌, ◌∙◌, ◌↔◌, ℕ, Bool, List, Ok, Err, false, true, ap, refl, sym, slice_index_or, IsTrue}
-use Rattle.std.proofs.lemmas.Bool.{false≢true}
-use Rattle.mk_name.specs.Gives.{HaltsAmong}
+use Rattle.std.proofs.Common.{◌≡◌, ◌↔◌, ℕ, Bool, IfOk, List, Ok, Err, Result, refl, IsTrue}
+use Rattle.mk_name.specs.Gives.{Answers, HaltsAmong}
 use Rattle.mk_name.specs.declared.fault.Halt.{Halt}
 use Rattle.mk_name.specs.declared.fault.Halt.TheVariants as halts
 use Rattle.mk_jobs.specs.Jobs.{Jobs}
-use Rattle.mk_sched.specs.Laws.{IsDeterminate}
-use Rattle.mk_proof.specs.ProofText.{IsRead, proof_text}
+use Rattle.mk_proof.specs.ProofText.{IsRead}
 use Rattle.mk_proof.specs.Shapes.{Trace}
 use Rattle.mk_proof.specs.declared.proof.Proof.{Proof}
 use Rattle.mk_proof.specs.declared.proof.Proof.TheVariants as proofs
-use Rattle.mk_race.specs.Verified.{IsCertificateText, IsDeterminateProof, IsGood, IsVerifiedOn}
-
--- the text of a certificate is no text of a trace
-kinds_differ : (chains : List (List ℕ)) (trace : Trace) → proof_text (proofs.Certificate chains) ≡ proof_text (proofs.Trace trace) → ⊥
-kinds_differ chains trace same = false≢true (ap (λ text. slice_index_or text 0 0 == 116) same)
+use Rattle.mk_cert.specs.Sure.{IsSure}
+use Rattle.mk_cert.specs.Traces.{TraceHolds}
+use Rattle.mk_race.specs.Stages.{IsPrepared, Texts}
+use Rattle.mk_race.specs.Verified.{IsJudged, IsVerifiedOn, ProofShows}
+use Rattle.mk_race.specs.declared.preparing.Prepared.{Prepared}
 
 -- a halt of the proof is one of the whole
 pub proof_unread : (jobs : Jobs) (text : List ℕ) (halt : Halt) → HaltsAmong halt (IsRead text) → HaltsAmong halt (IsVerifiedOn jobs text)
@@ -23,12 +21,30 @@ proof_unread jobs text (halts.Fault told) h = (Err told, h, refl)
 
 -- what the jobs say of a proof is what they say of its text
 pub verified_on : (jobs : Jobs) (text : List ℕ) (proof : Proof) (accepted : Bool) → IsRead text (Ok proof)
-    → IsTrue accepted ↔ IsGood jobs proof → IsVerifiedOn jobs text (Ok accepted)
-verified_on jobs text proof accepted read good = (Ok proof, read, good)
+    → IsJudged jobs proof accepted → IsVerifiedOn jobs text (Ok accepted)
+verified_on jobs text proof accepted read judged = (Ok proof, read, judged)
 
--- an accepted certificate makes the jobs determinate
-pub determinate_on : (jobs : Jobs) (text : List ℕ) (proof : Proof) → IsRead text (Ok proof) → IsDeterminateProof jobs proof
-    → IsCertificateText text → IsDeterminate jobs
-determinate_on jobs text (proofs.Certificate chains) read says certificate = says
-determinate_on jobs text (proofs.Trace trace) read says certificate =
-    absurd (kinds_differ certificate.0 trace (certificate.1.1 ∙ sym read.1))
+-- what `accept_trace` answers of a trace
+pub trace_judged : {E : Type 0} (jobs : Jobs) (proof : Proof) (trace : Trace) → proof ≡ proofs.Trace trace → (result : Result Bool E)
+    → IfOk result (λ accepted. IsTrue accepted ↔ IsSure jobs trace) → IfOk result (λ accepted. IsTrue accepted → TraceHolds jobs trace)
+    → IfOk result (IsJudged jobs proof)
+trace_judged jobs proof trace same (Ok accepted) sure holds = rw same (record { exact = sure; shown = holds })
+trace_judged jobs proof trace same (Err error) sure holds = tt
+
+-- what the proof of an accepted text shows is so
+pub shows_on : (texts : Texts) (footprints text : List ℕ) (prepared : Prepared) (accepted : Bool) → IsPrepared texts footprints (Ok prepared)
+    → IsVerifiedOn prepared.jobs text (Ok accepted) → IsTrue accepted → ProofShows texts footprints text
+shows_on texts footprints text prepared accepted build (Ok proof, read, judged) holds = record {
+  prepared = prepared;
+  proof = proof;
+  build = build;
+  read = read;
+  shown = judged.shown holds;
+}
+shows_on texts footprints text prepared accepted build (Err told, read, same) holds = cc
+
+-- so it is where the jobs answer
+pub answer_shows : (texts : Texts) (footprints text : List ℕ) (prepared : Prepared) (result : Result Bool Halt) → IsPrepared texts footprints (Ok prepared)
+    → Answers result (IsVerifiedOn prepared.jobs text) → IfOk result (λ accepted. IsTrue accepted → ProofShows texts footprints text)
+answer_shows texts footprints text prepared (Ok accepted) build verified = shows_on texts footprints text prepared accepted build verified
+answer_shows texts footprints text prepared (Err halt) build verified = tt

@@ -1,4 +1,4 @@
--- What a proof is to a build: whether its jobs accept it.
+-- What a proof is to a build: whether its jobs accept it, and what it shows of them then.
 use Rattle.std.specs.Prelude.{◌↔◌, ℕ, Bool, List, Result, Ok, Err, IsTrue}
 use Rattle.mk_name.specs.Told.{Told}
 use Rattle.mk_jobs.specs.Jobs.{Jobs}
@@ -7,6 +7,7 @@ use Rattle.mk_proof.specs.declared.proof.Proof.{Proof}
 use Rattle.mk_proof.specs.declared.proof.Proof.TheVariants.{Certificate, Trace}
 use Rattle.mk_cert.specs.Certificates.{IsCertificate}
 use Rattle.mk_cert.specs.Sure.{IsSure}
+use Rattle.mk_cert.specs.Traces.{TraceHolds}
 use Rattle.mk_sched.specs.Laws.{IsDeterminate}
 use Rattle.mk_race.specs.Stages.{IsPrepared, Texts, ThenAny}
 use Rattle.mk_race.specs.declared.preparing.Prepared.{Prepared}
@@ -16,9 +17,19 @@ abbrev pub IsGood : Jobs → Proof → Type 0
 IsGood jobs (Certificate chains) = IsCertificate jobs chains
 IsGood jobs (Trace trace) = IsSure jobs trace
 
--- just the good proofs are accepted
+-- what a good proof shows: a certificate, that any two complete runs whose recipes agree leave the same; a trace, that it holds
+abbrev pub Shows : Jobs → Proof → Type 0
+Shows jobs (Certificate chains) = IsDeterminate jobs
+Shows jobs (Trace trace) = TraceHolds jobs trace
+
+-- just the good proofs are accepted, and what they show is so
+pub record IsJudged (jobs : Jobs) (proof : Proof) (accepted : Bool) : Type 0 where
+  pub exact : IsTrue accepted ↔ IsGood jobs proof
+  pub shown : IsTrue accepted → Shows jobs proof
+
+-- no proof that was read is a fault
 abbrev pub IsVerdict : Jobs → Proof → Result Bool Told → Type 0
-IsVerdict jobs proof (Ok accepted) = IsTrue accepted ↔ IsGood jobs proof
+IsVerdict jobs proof (Ok accepted) = IsJudged jobs proof accepted
 IsVerdict jobs proof (Err told) = ⊥
 
 -- the text of a proof, and then whether these jobs accept it
@@ -29,15 +40,10 @@ IsVerifiedOn jobs text = ThenAny (IsRead text) (λ proof. IsVerdict jobs proof)
 abbrev pub IsVerified : Texts → List ℕ → List ℕ → Result Bool Told → Type 0
 IsVerified texts footprints proof = ThenAny (IsPrepared texts footprints) (λ prepared. IsVerifiedOn prepared.jobs proof)
 
--- the text is that of a certificate
-abbrev pub IsCertificateText : List ℕ → Type 0
-IsCertificateText text = (chains : List (List ℕ)) × IsRead text (Ok (Certificate chains))
-
--- the texts of a build mean jobs that are determinate: any two complete runs of them whose recipes agree leave the same
-abbrev pub IsDeterminateBuild : Texts → List ℕ → Type 0
-IsDeterminateBuild texts footprints = (prepared : Prepared) × IsPrepared texts footprints (Ok prepared) × IsDeterminate prepared.jobs
-
--- what an accepted proof says: a certificate, that the jobs are determinate
-abbrev pub IsDeterminateProof : Jobs → Proof → Type 0
-IsDeterminateProof jobs (Certificate chains) = IsDeterminate jobs
-IsDeterminateProof jobs (Trace trace) = Unit {0}
+-- the texts of a build mean jobs, the text of a proof means a proof, and what that shows is so of these jobs
+pub record ProofShows (texts : Texts) (footprints text : List ℕ) : Type 0 where
+  pub prepared : Prepared
+  pub proof : Proof
+  pub build : IsPrepared texts footprints (Ok prepared)
+  pub read : IsRead text (Ok proof)
+  pub shown : Shows prepared.jobs proof

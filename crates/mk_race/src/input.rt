@@ -18,3 +18,16 @@ pub struct Input<'a> {
     /// The operands of the command line: goals, and macros where they hold a `=`.
     pub operands: &'a [&'a [u8]],
 }
+
+/// What the command line says of a build, and the texts for its include lines.
+#[derive(Clone, Copy, Debug)]
+pub struct Settings<'a> {
+    /// The folder that relative paths start from.
+    pub root: &'a [u8],
+    /// The operands of the command line: goals, and macros where they hold a `=`.
+    pub operands: &'a [&'a [u8]],
+    /// The texts that include lines may name, each behind its path.
+    pub includes: &'a [(&'a [u8], &'a [u8])],
+    /// Whether the text of the proof is asked for in place of the report.
+    pub proof: bool,
+}

@@ -5,26 +5,37 @@
 //!
 //! - [`plan_of`] gives [`Planned`]: the root, the listing, the rules of both makefiles and the plan of what the goals need.
 //! - [`prepare`] reads footprints too, and gives [`Prepared`]: the root, the listing and the jobs.
+//! - [`judge`] decides those jobs, and gives the [`Answer`](mk_report::answer::Answer) of the build; [`judge_parts`] does it
+//!   for a listing and footprints that were read ahead.
 //! - [`verify_proof`] reads footprints and a proof, and says whether the jobs accept it.
 //! - [`replay_log`] reads a log too, and says whether its events are a run of the jobs, and what they leave ([`Played`]).
+//! - [`serialise_log`] reads a log too, and puts its events in serial order where they are a complete run of race-free jobs
+//!   ([`Serialised`]).
 //!
 //! Each gives the first fault of its texts instead, in the order in which the stages read them, or that memory ran out.
 //!
 //! What comes out is defined in `specs/`: `Stages.antt` has the order of the stages and the answers of the first two,
-//! `Settings.antt` what operands say, `Verified.antt` the answer to a proof, and `Played.antt` that to a log. The module
-//! `laws` says what the jobs of a build have to do with its listing (`Laws.antt`).
+//! `Settings.antt` what operands say, `Judged.antt` the answer of a build, `Parts.antt` the same of a listing and footprints
+//! that were read ahead, `Verified.antt` the answer to a proof, `Played.antt` that to a log, and `Serialised.antt` what comes
+//! of a log in serial order. The module `laws` says what the jobs of a build have to do with its listing (`Laws.antt`).
 #![tactic(auto)]
 
 pub mod input;
+pub mod judging;
 pub mod laws;
+pub mod parts;
 pub mod planning;
 pub mod preparing;
 pub mod replaying;
+pub mod serialising;
 pub mod settings;
 pub mod verifying;
 
 pub use crate::input::Input;
+pub use crate::judging::judge;
+pub use crate::parts::judge_parts;
 pub use crate::planning::{Planned, plan_of};
 pub use crate::preparing::{Prepared, prepare};
 pub use crate::replaying::{Played, replay_log};
+pub use crate::serialising::{Ordered, Serialised, serialise_log};
 pub use crate::verifying::verify_proof;

@@ -38,9 +38,9 @@ pub struct Planned {
 
 /// The rules of a build, and their plan.
 #[derive(Debug, Drop)]
-struct Graphed {
-    book: Rulebook,
-    plan: Plan,
+pub(crate) struct Graphed {
+    pub(crate) book: Rulebook,
+    pub(crate) plan: Plan,
 }
 
 /// The plan of what the goals of a build need. Footprints are not read.
@@ -68,7 +68,7 @@ pub fn plan_of(alloc: Global, input: &Input<'_>) -> Result<Planned, Halt>
 }
 
 /// The rules of a build, and the plan of what these goals need.
-fn graph_of(
+pub(crate) fn graph_of(
     alloc: Global,
     input: &Input<'_>,
     root: &Root,

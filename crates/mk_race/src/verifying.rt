@@ -1,9 +1,8 @@
 //! From the texts of a build and of a proof to whether the proof is accepted.
-ghost use Rattle.std.specs.Prelude.{◌↔◌, IfOk, IsTrue};
+ghost use Rattle.std.specs.Prelude.{IfOk, IsTrue};
 ghost use Rattle.mk_name.specs.Gives.{Answers};
 ghost use Rattle.mk_race.specs.Stages.{texts_of};
-ghost use Rattle.mk_race.specs.Verified.{IsCertificateText, IsDeterminateBuild, IsDeterminateProof, IsGood, IsVerified, IsVerifiedOn};
-ghost use Rattle.mk_sched.specs.Laws.{IsDeterminate};
+ghost use Rattle.mk_race.specs.Verified.{IsJudged, IsVerified, IsVerifiedOn, ProofShows};
 
 use crate::input::Input;
 use crate::preparing::prepare;
@@ -24,8 +23,8 @@ pub fn verify_proof(alloc: Global, input: &Input<'_>, proof: &[u8]) -> Result<bo
     ensures answer { Answers result
         (IsVerified (texts_of input.now) input.now.footprints.now proof.now) }
     // The headline: where a certificate is accepted, no schedule of the build's recipes shows in the files.
-    ensures determinate { IfOk result (λ accepted. IsTrue accepted → IsCertificateText proof.now
-        → IsDeterminateBuild (texts_of input.now) input.now.footprints.now) }
+    ensures shows { IfOk result (λ accepted. IsTrue accepted
+        → ProofShows (texts_of input.now) input.now.footprints.now proof.now) }
 {
     let prepared = prepare(alloc, input)?;
     verify_on(alloc, &prepared.jobs, proof)
@@ -33,9 +32,7 @@ pub fn verify_proof(alloc: Global, input: &Input<'_>, proof: &[u8]) -> Result<bo
 
 /// Whether these jobs accept the proof of a text.
 fn verify_on(alloc: Global, jobs: &Jobs, text: &[u8]) -> Result<bool, Halt>
-    ensures answer { Answers result (IsVerifiedOn jobs.now text.now) }
-    ensures determinate { IfOk result (λ accepted. IsTrue accepted → IsCertificateText text.now
-        → IsDeterminate jobs.now) }
+    ensures { Answers result (IsVerifiedOn jobs.now text.now) }
 {
     let proof = read_proof(alloc, text)?;
     let accepted = judge(alloc, jobs, &proof)?;
@@ -44,9 +41,7 @@ fn verify_on(alloc: Global, jobs: &Jobs, text: &[u8]) -> Result<bool, Halt>
 
 /// Whether these jobs accept a proof. The only error is want of memory.
 fn judge(alloc: Global, jobs: &Jobs, proof: &Proof) -> Result<bool, AllocError>
-    ensures good { IfOk result (λ accepted. IsTrue accepted ↔ IsGood jobs.now proof.now) }
-    ensures determinate { IfOk result (λ accepted. IsTrue accepted
-        → IsDeterminateProof jobs.now proof.now) }
+    ensures { IfOk result (IsJudged jobs.now proof.now) }
 {
     match proof {
         Proof::Certificate(certificate) => Ok(accept(jobs, certificate)),

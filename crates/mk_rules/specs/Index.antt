@@ -1,12 +1,19 @@
 -- How a rulebook finds the entries of a name.
-use Rattle.std.specs.Prelude.{◌≡◌, ℕ, List, [], ◌∷◌, ◌++◌, length, map}
+use Rattle.std.specs.Prelude.{◌≡◌, ℕ, true, List, [], ◌∷◌, ◌++◌, length, map}
+use Rattle.std.specs.List.{All}
 use Rattle.mk_name.specs.Names.{Name}
 use Rattle.mk_rules.specs.Book.{Entry, places_of, targets_of}
+use Rattle.mk_rules.specs.Special.{is_suffix}
 
 -- the targets in first-seen order, and beside each the places of its entries
 pub record IsIndexed (entries : List Entry) (targets : List Name) (places : List (List ℕ)) : Type 0 where
   pub order : targets ≡ targets_of entries
   pub rows : places ≡ map (places_of entries) targets
+
+-- what a rulebook holds: an index of its entries, and a list of suffixes
+pub record IsBook (entries : List Entry) (targets : List Name) (places : List (List ℕ)) (suffixes : List Name) : Type 0 where
+  pub index : IsIndexed entries targets places
+  pub each : All (λ s. is_suffix s ≡ true) suffixes
 
 -- the entry with one more target
 abbrev pub with_target : Entry → Name → Entry

@@ -1,7 +1,8 @@
 //! The book of rules: what the makefiles say of each name.
-ghost use Rattle.std.specs.Prelude.{◌≡◌, ◌<◌, true, length, map, slice_get, take, find, Some, IfOk, IfErr};
+ghost use Rattle.std.specs.Prelude.{◌≡◌, ◌<◌, true, length, map, slice_get, take, find, position, Some, IfOk, IfErr};
 ghost use Rattle.std.specs.List.{All};
 ghost use Rattle.std.specs.Option.{option_copied, option_map};
+ghost use Rattle.mk_name.specs.Names.{same_name};
 ghost use Rattle.mk_rules.specs.Special.{is_suffix};
 ghost use Rattle.mk_name.specs.declared.fault.Halt.TheVariants.{Memory};
 ghost use Rattle.mk_rules.specs.Book.{book_of, default_goal, has_inference, has_recipe, is_phony, is_target, may_be_goal, places_of, prerequisites_of, recipe_place, second_recipe, second_target, targets_of};
@@ -67,7 +68,7 @@ pub struct Rulebook {
 impl Model for Rulebook {
     ghost use Rattle.std.specs.Prelude.{map};
     ghost use Rattle.mk_rules.specs.Book.{Book};
-    ghost use Rattle.mk_rules.specs.Index.{IsIndexed};
+    ghost use Rattle.mk_rules.specs.Index.{IsBook};
 
     ghost Value = { Book };
 
@@ -81,7 +82,7 @@ impl Model for Rulebook {
     } };
 
     ghost invariant = { λ a.
-        IsIndexed a.rules.items a.targets.keys (map (λ row. row.items) a.places.items) };
+        IsBook a.rules.items a.targets.keys (map (λ row. row.items) a.places.items) a.specials.suffixes.keys };
 }
 
 impl Rulebook {
@@ -104,6 +105,7 @@ impl Rulebook {
         rules: Vec<Rule>,
         specials: Specials,
     ) -> Result<Rulebook, AllocError>
+        requires { All (λ s. is_suffix s ≡ true) specials.suffixes.keys }
         ensures { IfOk result (λ book. book ≡ record {
           rules = rules.items;
           suffixes = specials.suffixes.keys;
@@ -289,9 +291,25 @@ impl Rulebook {
         self.specials.inference.contains(name)
     }
 
-    /// The list of suffixes that `.SUFFIXES` makes, as it stands in the end.
+    /// The names of the inference rules, in first-seen order ("Inference Rules").
+    pub fn inference_rules(&self) -> &[Name]
+        ensures { result.now ≡ self.now.inference }
+    {
+        self.specials.inference.as_slice()
+    }
+
+    /// The place of a suffix in the list that `.SUFFIXES` makes, from 0.
+    pub fn suffix_place(&self, name: &Name) -> Option<usize>
+        ensures { result ≡ position (same_name name.now) self.now.suffixes }
+    {
+        self.specials.suffixes.get_index_of(name)
+    }
+
+    /// The list of suffixes that `.SUFFIXES` makes, as it stands in the end. Each is a period with something behind it
+    /// in which no other period and no slash stands.
     pub fn suffixes(&self) -> &[Name]
-        ensures { result.now ≡ self.now.suffixes }
+        ensures list { result.now ≡ self.now.suffixes }
+        ensures each { All (λ s. is_suffix s ≡ true) self.now.suffixes }
     {
         self.specials.suffixes.as_slice()
     }

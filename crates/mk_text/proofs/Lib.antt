@@ -1,6 +1,8 @@
 mod Blanks
 mod Cuts
+pub mod FedLines
 pub mod Joins
+pub mod ListReading
 pub mod ListingLines
 pub mod Ordered
 mod Outsides

@@ -1,7 +1,9 @@
 pub mod Blocks
 pub mod Device
 pub mod GivesLines
+pub mod Fed
 pub mod Listing
+pub mod ListReader
 pub mod LogicalLine
 pub mod LogicalLines
 pub mod Outside

@@ -6,7 +6,8 @@
 //!   first physical line, its text and the parts of that ([`parts::Parts`], `specs/LogicalLine.antt`).
 //! - [`Root`](root::Root) is the directory that relative paths start from; [`plain_word`] and [`plain_path`]
 //!   give the plain name of a word of a makefile and of a path: `specs/Spelling.antt`.
-//! - [`Listing`](listing::Listing) holds the names of the files that exist: `specs/Listing.antt`.
+//! - [`Listing`](listing::Listing) holds the names of the files that exist: `specs/Listing.antt`;
+//!   [`ListReader`](list_reader::ListReader) reads one that comes in pieces: `specs/ListReader.antt`.
 //! - [`lexical`] has what other readers cut texts by: blanks, macros' names, physical lines.
 //! - [`Intake`] and [`Outlet`] are devices that give and take bytes; [`read_all`] and [`write_all`] use them
 //!   up; [`Feed`](feed::Feed) and [`Spout`](spout::Spout) make them of std's readers and writers:
@@ -25,6 +26,7 @@ pub mod lexical;
 mod limits;
 pub mod line;
 pub mod lines;
+pub mod list_reader;
 pub mod listing;
 pub mod parts;
 mod references;

@@ -8,7 +8,7 @@ ghost use Rattle.mk_name.specs.Gives.{Gives, Halts};
 ghost use Rattle.mk_text.specs.Listing.{in_order, listing_of, line_names, with_names};
 ghost use Rattle.mk_name.specs.Names.{has, same_name};
 
-use crate::lexical::split_line;
+use crate::list_reader::ListReader;
 use crate::root::Root;
 use crate::spelling::plain_path;
 use mk_name::fault::{Halt, Source};
@@ -38,16 +38,17 @@ impl Listing {
     pub fn read(alloc: Global, text: &[u8], root: &Root) -> Result<Listing, Halt>
         ensures { Gives result (listing_of root.now text.now) }
     {
-        let mut names = BTreeSet::new(alloc);
-        let mut place = 1;
-        let mut rest = Some(text);
-        'lines: while let Some(text) = rest {
-            let (line, later) = split_line(text);
-            add_line(&mut names, alloc, line, place, root)?;
-            place = place.saturating_add(1);
-            rest = later;
-        }
-        Ok(Listing { names })
+        let mut reader = ListReader::new(alloc, root.copy(alloc)?);
+        // `finish` answers the same fault.
+        let _fed = reader.feed(text);
+        reader.finish()
+    }
+
+    /// The listing of these names.
+    pub(crate) fn of_names(names: BTreeSet<Name>) -> Listing
+        ensures { result ≡ names.keys }
+    {
+        Listing { names }
     }
 
     /// Whether the file exists.
@@ -55,6 +56,13 @@ impl Listing {
         ensures { result ≡ has same_name self.now name.now }
     {
         self.names.contains(name)
+    }
+
+    /// The names of the files that exist, rising byte by byte.
+    pub fn names(&self) -> &BTreeSet<Name>
+        ensures { result.now.keys ≡ self.now }
+    {
+        &self.names
     }
 
     /// Whether each of the files that exist is a key of the map.
@@ -71,7 +79,7 @@ impl Listing {
 }
 
 /// Puts the name of a line among the others.
-fn add_line(
+pub(crate) fn add_line(
     names: &mut BTreeSet<Name>,
     alloc: Global,
     line: &[u8],

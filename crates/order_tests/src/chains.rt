@@ -2,7 +2,7 @@
 ghost use Rattle.std.specs.Prelude.{◌≡◌, ◌<◌, IfOk};
 ghost use Rattle.mk_jobs.specs.Jobs.{node_count};
 
-use made_jobs::making::{Made, jobs_of};
+use jobs_for_tests::making::{Made, jobs_of};
 use mk_jobs::jobs::Jobs;
 use mk_order::before::Before;
 use mk_order::chains::chain;
@@ -59,9 +59,11 @@ fn has_chains<B: Before>(alloc: Global, jobs: &Jobs, before: &mut B) -> Result<b
     requires same { B.jobs before.old ≡ jobs.now }
     requires count { node_count jobs.now ≡ 5 }
 {
-    Ok(has_chain(alloc, jobs, before, 0, 4, &[0, 1, 3, 4])?
-        && has_chain(alloc, jobs, before, 1, 2, &[])?
-        && has_chain(alloc, jobs, before, 0, 0, &[])?)
+    Ok(
+        has_chain(alloc, jobs, before, 0, 4, &[0, 1, 3, 4])?
+            && has_chain(alloc, jobs, before, 1, 2, &[])?
+            && has_chain(alloc, jobs, before, 0, 0, &[])?,
+    )
 }
 
 /// Whether this is the chain from a to b; no node where there is none.

@@ -2,7 +2,7 @@
 ghost use Rattle.std.specs.Prelude.{◌≤◌, ◌<◌};
 ghost use Rattle.mk_jobs.specs.Jobs.{node_count};
 
-use made_jobs::making::line_of;
+use jobs_for_tests::making::line_of;
 use mk_jobs::jobs::Jobs;
 use mk_order::before::Before;
 use mk_order::rows::Rows;

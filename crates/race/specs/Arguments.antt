@@ -8,4 +8,5 @@ abbrev pub IsNotText : Failure → List ℕ → Type 0
 IsNotText (failures.Read input) told = ⊥
 IsNotText failures.Write told = ⊥
 IsNotText failures.Memory told = ⊥
+IsNotText failures.NotText told = ⊥
 IsNotText (failures.Usage text) told = string_bytes text ≡ told

@@ -6,14 +6,16 @@ pub const ABOUT: &str = "\
 Reads a makefile as POSIX `make` does, and says what a build of it does, with a view to `make -j`.";
 
 pub const DETAILS: &str = "\
-`race order` prints the serial order of a build. `race verify` says whether a proof is good for a build: where it accepts a
-certificate, every run of the recipes leaves the same files. `race replay` says whether a log of a build is a run that
-`make -j` may make. `race order` and `race replay` end with 0 also on a build whose recipes race.
+`race check` says whether the recipes of a build may run in parallel, or which two of them race. `race order` prints the
+serial order of a build. `race verify` says whether a proof is good for a build: where it accepts a certificate, every run of
+the recipes leaves the same files. `race replay` says whether a log of a build is a run that
+`make -j` may make. `race serialise` writes the log of a parallel build as that of the same build with one job. `race order`
+and `race replay` end with 0 also on a build whose recipes race.
 
 Statuses:
-  0  order: the order is printed; verify: the proof is accepted; replay: the log is a run, complete or not; the help or the
-     version is printed
-  1  verify: the proof is not accepted; replay: the log is no run
+  0  check: the build is safe; order: the order is printed; verify: the proof is accepted; replay: the log is a run, complete or not; serialise: the
+     new log is printed; the help or the version is printed
+  1  check: two recipes race; verify: the proof is not accepted; replay: the log is no run; serialise: it is none or not complete, or recipes race
   2  the inputs are refused: the report says where and why
   3  a file cannot be read or written, memory is short, or the words are wrong: a line on the standard error says which";
 
@@ -26,8 +28,7 @@ pub const ROOT: &str =
 
 pub const BASE: &str = "A makefile with the rules and macros that come before those of MAKEFILE";
 
-pub const INCLUDES: &str =
-    "The paths of the texts that include lines may name, one a line";
+pub const INCLUDES: &str = "The paths of the texts that include lines may name, one a line";
 
 pub const OPERANDS: &str = "A goal, which is to be built, or NAME=VALUE, which defines a macro";
 
@@ -60,6 +61,67 @@ Statuses:
   2  the makefile, the base, an included text, the listing, the root or an operand is refused
   3  a file cannot be read or written, memory is short, or the words are wrong
 ";
+
+pub const CHECK_ABOUT: &str =
+    "Says whether the recipes of a build may run in parallel, or which two of them race.";
+
+pub const CHECK_DETAILS: &str = "\
+MAKEFILE, BASE, FILE, LISTING, DIR and the operands are those of `race order`. FOOTPRINTS is the path of a file that has for
+each recipe that may run an object of JSON on a line of its own: its target, and the paths that it reads and writes, where a
+path that ends in `/` stands for all that is below it too.
+
+`safe`: any two recipes that touch one file, which one of them writes, are put in order by prerequisites. However many
+recipes `make -j` runs at once, it leaves the same files as one recipe at a time, as far as FOOTPRINTS says all that the
+recipes read and write. Then come the numbers of nodes, of recipes that may run, of those that cannot, of .WAIT and of the
+pairs in question, and for each pair a line `order PATH : NAME NAME ..` with the prerequisites that put it in order.
+
+`race`: two recipes touch one file, one of them writes it, and nothing keeps them apart. After the numbers come the PATH, what
+the two do to it, and how they come to run at once: the times of the files that are there, and then what is skipped,
+starts and finishes. Name the one as a prerequisite of the other, or let each have a file of its own.
+
+`refused`: the inputs have a fault; its name, its place and names follow. docs/FAULTS.md has what each means.
+
+With --print-proof the certificate or the trace comes in place of the report, as `race verify` reads it.
+
+Example, a header that is generated, and used by a recipe that does not say so:
+  $ printf 'all: gen.h a.o\n\ngen.h: gen.sh\n\tsh gen.sh\na.o: a.c\n\tcc -c a.c\n' > makefile
+  $ printf 'gen.sh\na.c\n' > listing
+  $ echo '{\"target\":\"gen.h\",\"reads\":[\"gen.sh\"],\"writes\":[\"gen.h\"]}' > footprints
+  $ echo '{\"target\":\"a.o\",\"reads\":[\"a.c\",\"gen.h\"],\"writes\":[\"a.o\"]}' >> footprints
+  $ race check --makefile makefile --listing listing --root \"$PWD\" --footprints footprints
+  race
+  nodes 5
+  recipes 2
+  idle 0
+  waits 0
+  path gen.h
+  first gen.h writes
+  second a.o reads
+  time gen.sh 5
+  time a.c 3
+  skip gen.sh
+  skip a.c
+  start gen.h
+  start a.o
+  $ echo 'a.o: gen.h' >> makefile
+  $ race check --makefile makefile --listing listing --root \"$PWD\" --footprints footprints
+  safe
+  nodes 5
+  recipes 2
+  idle 0
+  waits 0
+  pairs 1
+  order gen.h : gen.h a.o
+
+Statuses:
+  0  the build is safe: `make -j` may be used on it
+  1  two recipes race: mend the makefile, and check again
+  2  the makefile, the base, an included text, the listing, the root, an operand or the footprints is refused, or more than
+     1,000,000 pairs of recipes meet on a path: mend what the report names
+  3  a file cannot be read or written, memory is short, or the words are wrong: nothing is said of the build
+";
+
+pub const PRINT_PROOF: &str = "Print the certificate or the trace in place of the report";
 
 pub const VERIFY_ABOUT: &str =
     "Says whether a proof is good for a build: that its recipes may run in parallel, or that two of them race.";
@@ -137,6 +199,54 @@ Statuses:
   0  the log is a run, complete or not, whether or not the recipes race
   1  it is not
   2  the makefile, the base, an included text, the listing, the root, an operand, the footprints or the log is refused
+  3  a file cannot be read or written, memory is short, or the words are wrong
+";
+
+pub const SERIALISE_ABOUT: &str =
+    "Writes the log of a parallel build as the log of the same build with one job.";
+
+pub const SERIALISE_DETAILS: &str = "\
+The files and options are those of `race replay`. LOG has to be a whole build, in which every NODE was skipped or finished,
+and no two recipes may race. What comes out is a log again: the same files, and then node after node in the order of `race
+order` all that the node did, in its old order. The first put has the time behind the greatest of the files, and each further
+put the next.
+
+The new log is a build with one job from the same files. In it the same recipes run, each looks at the same bytes and writes
+the same, and the files end with the same bytes. So what went wrong in the parallel build goes wrong in this one, where one
+recipe can be watched at a time.
+
+A log that is no run gives the line of `race replay`, one of a build that is not whole `not complete`. Where two recipes
+race, `race`, the number of nodes, of recipes that may run, of those that cannot and of .WAIT, then the path on which two
+of them meet, both recipes, and the times and steps that lead to their running at once. `not complete: times too large`
+stands where there is no number left for the times of new puts. Inputs that are refused give `refused`, the fault, its place
+and names.
+
+Example, in the log of two jobs `b` starts and ends before `a` has written:
+  $ printf 'all: a b\n\na:\n\tdate >a\nb:\n\tdate >b\n' > makefile
+  $ : > listing
+  $ echo '{\"target\":\"a\",\"reads\":[],\"writes\":[\"a\"]}' > footprints
+  $ echo '{\"target\":\"b\",\"reads\":[],\"writes\":[\"b\"]}' >> footprints
+  $ echo '{\"do\":\"start\",\"node\":\"a\"}' > log
+  $ echo '{\"do\":\"start\",\"node\":\"b\"}' >> log
+  $ echo '{\"do\":\"put\",\"node\":\"b\",\"path\":\"b\",\"bytes\":\"3131\",\"time\":7}' >> log
+  $ echo '{\"do\":\"finish\",\"node\":\"b\"}' >> log
+  $ echo '{\"do\":\"put\",\"node\":\"a\",\"path\":\"a\",\"bytes\":\"3132\",\"time\":9}' >> log
+  $ echo '{\"do\":\"finish\",\"node\":\"a\"}' >> log
+  $ echo '{\"do\":\"skip\",\"node\":\"all\"}' >> log
+  $ race serialise --makefile makefile --listing listing --root \"$PWD\" --footprints footprints --log log --limit 2
+  {\"do\":\"start\",\"node\":\"a\"}
+  {\"bytes\":\"3132\",\"do\":\"put\",\"node\":\"a\",\"path\":\"a\",\"time\":1}
+  {\"do\":\"finish\",\"node\":\"a\"}
+  {\"do\":\"start\",\"node\":\"b\"}
+  {\"bytes\":\"3131\",\"do\":\"put\",\"node\":\"b\",\"path\":\"b\",\"time\":2}
+  {\"do\":\"finish\",\"node\":\"b\"}
+  {\"do\":\"skip\",\"node\":\"all\"}
+
+Statuses:
+  0  the new log is printed
+  1  the log is no run, or not complete, or its recipes race, or its times are too large
+  2  the makefile, the base, an included text, the listing, the root, an operand, the footprints or the log is refused, or
+     more than 1,000,000 pairs of recipes meet on a path
   3  a file cannot be read or written, memory is short, or the words are wrong
 ";
 

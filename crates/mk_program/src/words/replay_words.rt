@@ -1,10 +1,10 @@
-//! The words of `race replay`.
+//! The words of `race replay`, which are those of all subcommands that read a log.
 ghost use Rattle.std.specs.Prelude.{◌≡◌, IfOk, false, option_map, ℕ};
 ghost use Rattle.clap.specs.Words.{app_of, found_of, rows_of, rule_of};
 ghost use Rattle.clap.specs.declared.builder.command.Command.TheViews.{out-Command as fields_of};
 ghost use Rattle.mk_program.specs.CommandLine as spec;
 
-use super::{build_args, help, option, with_build};
+use super::{build_args, help, is_true, option, with_build};
 use crate::requests::ReplayArgs;
 use clap::builder::ValueParser;
 use clap::{Arg, ArgAction, ArgMatches, Command};
@@ -18,6 +18,15 @@ pub(super) fn replay_command<'a>(alloc: Global) -> Result<Command<'a>, AllocErro
     let command = Command::new(alloc, "replay")
         .about(help::REPLAY_ABOUT)
         .after_help(help::REPLAY_DETAILS);
+    with_log(alloc, command)
+}
+
+/// The command with the options and operands of those that read a log.
+pub(super) fn with_log<'a>(alloc: Global, command: Command<'a>) -> Result<Command<'a>, AllocError>
+    ensures app { IfOk result (λ new. app_of new ≡ spec.with_log (app_of command.entry)) }
+    ensures local { IfOk result (λ new.
+        (fields_of new).has_globals ≡ (fields_of command.entry).has_globals) }
+{
     with_build(alloc, command)?
         .arg(option(alloc, "footprints", "FOOTPRINTS", help::FOOTPRINTS))?
         .arg(option(alloc, "log", "LOG", help::LOG))?
@@ -44,7 +53,7 @@ fn tie<'a>(alloc: Global) -> Arg<'a>
         .help(help::TIE)
 }
 
-/// The replay that these matches of the subcommand ask for. The only error is want of memory.
+/// What these matches of a subcommand that reads a log ask for. The only error is want of memory.
 pub(super) fn replay_args<'a>(
     alloc: Global,
     found: &ArgMatches<'a>,
@@ -67,15 +76,5 @@ fn limit_of(value: Option<&str>) -> u16
     match value {
         Some(text) => text.parse::<u16>().unwrap_or(1),
         None => 1,
-    }
-}
-
-/// Whether the flag's value says that it is set.
-fn is_true(value: Option<&str>) -> bool
-    ensures { result ≡ spec.is_true (option_map (λ text. text.now) value.entry) }
-{
-    match value {
-        Some(text) => text == "true",
-        None => false,
     }
 }

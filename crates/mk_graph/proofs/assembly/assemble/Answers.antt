@@ -1,11 +1,7 @@
-use Rattle.std.proofs.Common.{◌∙◌, sym, subst, ap, List, ℕ, get_or, map, ◌≡◌}
-use Rattle.std.specs.Prelude.{IfOk, Result, Ok, Err}
-use Rattle.std.specs.declared.alloc.AllocError.{AllocError}
+use Rattle.std.proofs.Common.{◌∙◌, sym, subst, ap, List, ℕ}
 use Rattle.mk_name.specs.Names.{Name, same_name, IsDistinct}
-use Rattle.mk_jobs.specs.Numbered.{name_at}
-use Rattle.mk_jobs.specs.Plan.{Plan, names_of}
-use Rattle.mk_graph.specs.Assembled.{IsAssembled, IsNumbering, node_of}
-use Rattle.mk_graph.specs.Rows.{row}
+use Rattle.mk_jobs.specs.Plan.{names_of}
+use Rattle.mk_graph.specs.Assembled.{IsNumbering}
 use Rattle.mk_graph.proofs.NodeNames.{distinct_names, names_of_nodes, nodes_rising, assembled_is}
 use Rattle.mk_graph.proofs.assembly.assemble.Goals as goal
 

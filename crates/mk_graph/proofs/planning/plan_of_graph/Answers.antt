@@ -1,18 +1,16 @@
 use Rattle.std.proofs.Common.{◌∙◌, sym, ap, subst, length, List, ℕ, [], ◌∷◌, ◌++◌, Option}
-use Rattle.std.specs.Prelude.{Vec, Err}
-use Rattle.std.specs.Global.{Global}
+use Rattle.std.specs.Prelude.{Err}
 use Rattle.mk_name.specs.Names.{Name, same_name}
 use Rattle.mk_name.specs.declared.fault.Halt.{Halt}
 use Rattle.mk_name.specs.declared.fault.Kind.TheVariants as kinds
 use Rattle.mk_name.specs.Gives.{HaltsAmong}
 use Rattle.mk_jobs.specs.Numbered.{name_at}
 use Rattle.mk_graph.specs.Answer.{Comes, no_rule, cycle, planned, graph_fault}
-use Rattle.mk_graph.specs.Collected.{IsGraph}
 use Rattle.mk_graph.specs.Graph.{IsCycle}
 use Rattle.mk_graph.specs.Least.{upto, IsLeastPassing}
 use Rattle.mk_graph.specs.Makers.{is_unmade, needs}
 use Rattle.mk_graph.specs.Rows.{row, IsRing}
-use Rattle.mk_graph.specs.Walk.{IsWalked, IsOrder}
+use Rattle.mk_graph.specs.Walk.{IsWalked}
 use Rattle.mk_graph.specs.declared.serial.Walked.{Walked}
 use Rattle.mk_graph.proofs.Answering.{graph_at, passing_none, in_range, row_within, ring_within, order_within, order_distinct, order_at, order_few, order_few_edges, all_made, least_is}
 use Rattle.mk_graph.proofs.Cycles.{cycle_is}

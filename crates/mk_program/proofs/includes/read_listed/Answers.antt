@@ -1,7 +1,7 @@
-use Rattle.std.proofs.Common.{[], ◌++◌, Some, List, ℕ, ◌∙◌, ap, refl}
+use Rattle.std.proofs.Common.{[], ◌++◌, ◌∙◌, ap, refl}
 use Rattle.std.specs.Option.{option_map_or}
 use Rattle.mk_text.specs.Blocks.{physical_lines}
-use Rattle.mk_program.specs.Includes.{Pair, pairs_of, shown}
+use Rattle.mk_program.specs.Includes.{shown}
 use Rattle.mk_program.proofs.Included.{line_more, none_more}
 use Rattle.mk_program.proofs.includes.read_listed.Goals as goal
 

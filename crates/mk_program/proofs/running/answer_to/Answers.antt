@@ -11,8 +11,8 @@ pub returns-in-Ok-clause-refused : goal.returns-in-Ok-clause-refused
 returns-in-Ok-clause-refused g c =
     IfOk-weaker c.answer_of.result _ _ (λ answer h is. (c.in-Ok.request, c.in-Ok.ensures.values, h)) c.answer_of.ensures.answer
 
-pub returns-in-Ok-clause-not_allowed : goal.returns-in-Ok-clause-not_allowed
-returns-in-Ok-clause-not_allowed g c =
+pub returns-in-Ok-clause-no : goal.returns-in-Ok-clause-no
+returns-in-Ok-clause-no g c =
     IfOk-weaker c.answer_of.result _ _ (λ answer h is. (c.in-Ok.request, c.in-Ok.ensures.values, h)) c.answer_of.ensures.answer
 
 pub returns-in-Ok-clause-write : goal.returns-in-Ok-clause-write

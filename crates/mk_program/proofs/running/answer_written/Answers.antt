@@ -4,9 +4,9 @@ pub returns-in-Ok-clause-refused : goal.returns-in-Ok-clause-refused
 returns-in-Ok-clause-refused g c =
     λ is. (c.in_ok-answer.answer.text.items, rw c.as_slice.ensures.value at c.in-Ok.ensures.all, c.in_ok-answer.ensures.refused is)
 
-pub returns-in-Ok-clause-not_allowed : goal.returns-in-Ok-clause-not_allowed
-returns-in-Ok-clause-not_allowed g c =
-    λ is. (c.in_ok-answer.answer.text.items, rw c.as_slice.ensures.value at c.in-Ok.ensures.all, c.in_ok-answer.ensures.not_allowed is)
+pub returns-in-Ok-clause-no : goal.returns-in-Ok-clause-no
+returns-in-Ok-clause-no g c =
+    λ is. (c.in_ok-answer.answer.text.items, rw c.as_slice.ensures.value at c.in-Ok.ensures.all, c.in_ok-answer.ensures.no is)
 
 pub returns-in-Ok-clause-answer : goal.returns-in-Ok-clause-answer
 returns-in-Ok-clause-answer g c =

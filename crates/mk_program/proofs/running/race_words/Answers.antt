@@ -1,4 +1,7 @@
-use Rattle.std.proofs.Common.{Err, ap}
+use Rattle.std.proofs.Common.{Err, ap, subst}
+use Rattle.mk_program.specs.Answers.{IsAnswerTo}
+use Rattle.mk_program.specs.declared.statuses.Status.{Status}
+use Rattle.mk_program.proofs.Judged.{says_safe}
 use Rattle.mk_program.proofs.Failing.{errors_same}
 use Rattle.mk_program.proofs.running.race_words.Goals as goal
 
@@ -6,3 +9,9 @@ pub returns-in-Err-clause-told : goal.returns-in-Err-clause-told
 returns-in-Err-clause-told g c =
     let write = c.in-Err.ensures.write in
     λ is works. (c.in-Err.failure, c.in-Err.ensures.failure, (λ e. write.0 (ap Err e), λ fails. errors_same _ _ (write.1 fails)), c.fail.ensures.told works)
+
+pub returns-in-Ok-clause-safe : goal.returns-in-Ok-clause-safe
+returns-in-Ok-clause-safe g c =
+    λ right check done. let told = c.in-Ok.ensures.answer right in
+    says_safe c.args.words.now (g.P.Opener.text c.args.opener.now) told.0 check
+    (subst (λ (s : Status). IsAnswerTo c.args.words.now (g.P.Opener.text c.args.opener.now) s told.0) done told.2)

@@ -1,0 +1,8 @@
+//! Tests of the answer of a build and of its report, and of listings and footprints that come in pieces, by public calls. They
+//! stand in a crate of their own, so that no library is proved a second time for its tests.
+#![tactic(auto)]
+
+#[cfg(test)]
+mod pieces;
+#[cfg(test)]
+mod reports;

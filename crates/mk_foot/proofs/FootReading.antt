@@ -1,0 +1,220 @@
+-- A reader of footprints, line by line.
+use Rattle.std.proofs.Common.{◌≡◌, ℕ, ◌+◌, ◌<◌, ◌≤◌, true, false, cond, List, [], ◌∷◌, ◌++◌, Option, None, Some, length, take, slice_get, refl, sym, ap, ap₂, subst, ◌∙◌, arith, append_assoc, nat_lt}
+use Rattle.std.specs.Prelude.{is_some, min, unwrap_or, ◌≢◌}
+use Rattle.std.specs.List.{cons_option, enumerate_from, filter_map}
+use Rattle.std.specs.Option.{option_to_list}
+use Rattle.std.proofs.lemmas.Bool.{cond-true, cond-false, false≢true, lt-ltb, le-ltb}
+use Rattle.std.proofs.lemmas.List.{append-nil, length-append, take_all, take_at}
+use Rattle.std.proofs.lemmas.List.Elements.{filter_map-append}
+use Rattle.std.proofs.lemmas.List.Sums.{sum_by-append, sum_by-cons}
+use Rattle.std.proofs.lemmas.Grind.{flat_map-append}
+use Rattle.mk_name.specs.Told.{Told}
+use Rattle.mk_name.specs.declared.fault.Kind.{Kind}
+use Rattle.mk_name.specs.declared.fault.Kind.TheVariants.{BadFootprint, FootprintsTooLarge}
+use Rattle.mk_text.specs.Blocks.{physical_lines}
+use Rattle.mk_text.specs.Fed.{IsCut}
+use Rattle.mk_text.proofs.FedLines.{joined, joined_open, lines_joined}
+use Rattle.mk_foot.specs.declared.foot_reader.Stop.{Stop}
+use Rattle.mk_foot.specs.declared.foot_reader.Stop.TheVariants.{Memory, Fault}
+use Rattle.mk_foot.specs.Lines.{Line, lines_in}
+use Rattle.mk_foot.specs.Footprints.{AreFootprints, Footprints, fault_at, fault_by, first_fault, greatest_place, lines_of, path_count, path_limit, told, told_at}
+use Rattle.mk_foot.specs.FootReader.{AreGood, HasRead, HasReadBy, HasReadLines, HasStopped, IsUnderWay, Reader}
+
+-- ---- the first fault of some lines and one more
+
+length_push : (front : List (List ℕ)) (x : List ℕ) → length (front ++ x ∷ []) ≡ length front + 1
+length_push front x = omega (arith, length-append front (x ∷ []))
+
+-- some lines up to one more
+up_to : (front : List (List ℕ)) (x : List ℕ) (rest : List (List ℕ)) → take (length front + 1) ((front ++ x ∷ []) ++ rest) ≡ front ++ x ∷ []
+up_to front x rest = take_at (front ++ x ∷ []) rest (length front + 1) (length_push front x)
+
+whole : (front : List (List ℕ)) (x : List ℕ) (more : List (List ℕ)) → (front ++ x ∷ more) ≡ (front ++ x ∷ []) ++ more
+whole front x more = sym (append_assoc front (x ∷ []) more)
+
+-- the fault of a line goes by the lines up to it alone
+here_alike : (root : List ℕ) (front : List (List ℕ)) (x : List ℕ) (more tail : List (List ℕ))
+    → fault_at root ((front ++ x ∷ more) ++ tail) (length front + 1, x) ≡ fault_at root (front ++ x ∷ more) (length front + 1, x)
+here_alike root front x more tail =
+    ap (λ (ls : List (List ℕ)). fault_by (lines_in root x) (path_count (lines_of root ls)) (length front + 1))
+    (ap (take (length front + 1)) (ap (λ ls. ls ++ tail) (whole front x more) ∙ append_assoc (front ++ x ∷ []) more tail) ∙ up_to front x (more ++ tail)
+    ∙ sym (ap (take (length front + 1)) (whole front x more) ∙ up_to front x more))
+
+-- the faults of these lines, which stand behind others, with a tail and without
+abbrev AreAlike : List ℕ → List (List ℕ) → List (List ℕ) → List (List ℕ) → Type 0
+AreAlike root front more tail =
+    filter_map (fault_at root ((front ++ more) ++ tail)) (enumerate_from (length front + 1) more) ≡ filter_map (fault_at root (front ++ more)) (enumerate_from (length front + 1) more)
+
+later_alike : (root : List ℕ) (front : List (List ℕ)) (x : List ℕ) (more tail : List (List ℕ)) → AreAlike root (front ++ x ∷ []) more tail
+    → filter_map (fault_at root ((front ++ x ∷ more) ++ tail)) (enumerate_from (length front + 1 + 1) more)
+    ≡ filter_map (fault_at root (front ++ x ∷ more)) (enumerate_from (length front + 1 + 1) more)
+later_alike root front x more tail alike =
+    ap₂ (λ (ls : List (List ℕ)) n. filter_map (fault_at root (ls ++ tail)) (enumerate_from n more)) (whole front x more) (ap (λ n. n + 1) (sym (length_push front x)))
+    ∙ alike
+    ∙ ap₂ (λ (ls : List (List ℕ)) n. filter_map (fault_at root ls) (enumerate_from n more)) (sym (whole front x more)) (ap (λ n. n + 1) (length_push front x))
+
+faults_alike : (root : List ℕ) (front more tail : List (List ℕ)) → AreAlike root front more tail
+faults_alike root front [] tail = refl
+faults_alike root front (x ∷ more) tail =
+    ap₂ cons_option (here_alike root front x more tail) (later_alike root front x more tail (faults_alike root (front ++ x ∷ []) more tail))
+
+enumerate_push : (n : ℕ) (lines : List (List ℕ)) (x : List ℕ) → enumerate_from n (lines ++ x ∷ []) ≡ enumerate_from n lines ++ (n + length lines, x) ∷ []
+enumerate_push n [] x = ap (λ m. (m, x) ∷ []) (omega arith)
+enumerate_push n (l ∷ lines) x = ap (λ ls. (n, l) ∷ ls) (enumerate_push (n + 1) lines x ∙ ap (λ m. enumerate_from (n + 1) lines ++ (m, x) ∷ []) (omega arith))
+
+faults_push : (root : List ℕ) (ended : List (List ℕ)) (x : List ℕ)
+    → filter_map (fault_at root (ended ++ x ∷ [])) (enumerate_from 1 (ended ++ x ∷ []))
+    ≡ filter_map (fault_at root ended) (enumerate_from 1 ended) ++ option_to_list (fault_at root (ended ++ x ∷ []) (length ended + 1, x))
+faults_push root ended x =
+    ap (filter_map (fault_at root (ended ++ x ∷ []))) (enumerate_push 1 ended x)
+    ∙ filter_map-append (fault_at root (ended ++ x ∷ [])) (enumerate_from 1 ended) ((1 + length ended, x) ∷ [])
+    ∙ ap₂ (λ fs gs. fs ++ gs) (faults_alike root [] ended (x ∷ []))
+    (one (fault_at root (ended ++ x ∷ []) (1 + length ended, x)) ∙ ap (λ n. option_to_list (fault_at root (ended ++ x ∷ []) (n, x))) (omega arith))
+  where
+    one : (o : Option Told) → cons_option o [] ≡ option_to_list o
+    one None = refl
+    one (Some t) = refl
+
+first_of : (faults : List Told) (o : Option Told) → slice_get faults 0 ≡ None → slice_get (faults ++ option_to_list o) 0 ≡ o
+first_of [] None none = refl
+first_of [] (Some t) none = refl
+first_of (f ∷ fs) o none = absurd (let e : Some f ≡ None = none in cc)
+
+still_first : (faults more : List Told) (t : Told) → slice_get faults 0 ≡ Some t → slice_get (faults ++ more) 0 ≡ Some t
+still_first [] more t some = absurd (let e : ◌≡◌ {A = Option Told} None (Some t) = some in cc)
+still_first (f ∷ fs) more t some = some
+
+-- a fault stays the first
+pub fault_stays : (root : List ℕ) (ended : List (List ℕ)) (x : List ℕ) (t : Told) → first_fault root ended ≡ Some t → first_fault root (ended ++ x ∷ []) ≡ Some t
+fault_stays root ended x t is = ap (λ fs. slice_get fs 0) (faults_push root ended x) ∙ still_first _ _ t is
+
+-- behind good lines the fault of the next one is the first
+fault_next : (root : List ℕ) (ended : List (List ℕ)) (x : List ℕ) → first_fault root ended ≡ None
+    → first_fault root (ended ++ x ∷ []) ≡ fault_at root (ended ++ x ∷ []) (length ended + 1, x)
+fault_next root ended x good = ap (λ fs. slice_get fs 0) (faults_push root ended x) ∙ first_of _ _ good
+
+-- ---- what one more line says
+
+-- what a line says below a root goes by the root's text
+pub said_below : (root below text : List ℕ) (o : Option (List Line)) → below ≡ root → lines_in below text ≡ o → lines_in root text ≡ o
+said_below root below text o same is = ap (λ r. lines_in r text) (sym same) ∙ is
+
+pub one_line : (line : Line) → path_count (line ∷ []) ≡ length line.reads + length line.writes
+one_line line = omega (arith, sum_by-cons (λ (l : Line). length l.reads + length l.writes) line [])
+
+module _ (root : List ℕ) (ended : List (List ℕ)) (x : List ℕ) where
+  whole_take : take (length ended + 1) (ended ++ x ∷ []) ≡ ended ++ x ∷ []
+  whole_take = take_all (length ended + 1) (ended ++ x ∷ []) (omega (arith, length_push ended x))
+
+  lines_more : (said : List Line) → lines_in root x ≡ Some said → lines_of root (ended ++ x ∷ []) ≡ lines_of root ended ++ said
+  lines_more said e =
+      flat_map-append (λ t. unwrap_or (lines_in root t) []) ended (x ∷ [])
+      ∙ ap (λ ls. lines_of root ended ++ ls) (append-nil (unwrap_or (lines_in root x) []) ∙ ap (λ o. unwrap_or o []) e)
+
+  counted : (paths : ℕ) (said : List Line) → lines_in root x ≡ Some said → paths ≡ path_count (lines_of root ended)
+      → path_count (lines_of root (ended ++ x ∷ [])) ≡ paths + path_count said
+  counted paths said e count =
+      ap path_count (lines_more said e)
+      ∙ sum_by-append (λ (l : Line). length l.reads + length l.writes) (lines_of root ended) said
+      ∙ ap (λ n. n + path_count said) (sym count)
+
+  module _ (footprints : Footprints) (paths place : ℕ) (before : AreGood root ended footprints paths) (place_is : place ≡ min (length ended + 1) greatest_place) where
+    fault_here : (o : Option (List Line)) → lines_in root x ≡ o → first_fault root (ended ++ x ∷ []) ≡ fault_by o (path_count (lines_of root (ended ++ x ∷ []))) (length ended + 1)
+    fault_here o e =
+        fault_next root ended x before.good
+        ∙ ap (λ (ls : List (List ℕ)). fault_by (lines_in root x) (path_count (lines_of root ls)) (length ended + 1)) whole_take
+        ∙ ap (λ p. fault_by p (path_count (lines_of root (ended ++ x ∷ []))) (length ended + 1)) e
+
+    pub bad_first : lines_in root x ≡ None → first_fault root (ended ++ x ∷ []) ≡ Some (told_at BadFootprint place)
+    bad_first e = fault_here None e ∙ ap (λ p. Some (told_at BadFootprint p)) (sym place_is)
+
+    pub large_first : (line : Line) → lines_in root x ≡ Some (line ∷ []) → path_limit < paths + (length line.reads + length line.writes)
+        → first_fault root (ended ++ x ∷ []) ≡ Some (told_at FootprintsTooLarge place)
+    large_first line e over =
+        fault_here (Some (line ∷ [])) e
+        ∙ ap (λ n. cond (nat_lt path_limit n) (Some (told FootprintsTooLarge (length ended + 1))) None) (counted paths (line ∷ []) e before.count)
+        ∙ cond-true (nat_lt path_limit (paths + path_count (line ∷ []))) _ _ (lt-ltb path_limit (paths + path_count (line ∷ [])) (omega (arith, over, one_line line)))
+        ∙ ap (λ p. Some (told_at FootprintsTooLarge p)) (sym place_is)
+
+    pub good_more : (said : List Line) (count : ℕ) (new : Footprints) → lines_in root x ≡ Some said → count ≡ paths + path_count said → count ≤ path_limit
+        → AreFootprints root new (lines_of root ended ++ said) → AreGood root (ended ++ x ∷ []) new count
+    good_more said count new e is few united = record {
+      good =
+          fault_here (Some said) e
+          ∙ ap (λ n. cond (nat_lt path_limit n) (Some (told FootprintsTooLarge (length ended + 1))) None) (counted paths said e before.count ∙ sym is)
+          ∙ cond-false (nat_lt path_limit count) _ _ (le-ltb path_limit count few);
+      united = subst (λ (ls : List Line). AreFootprints root new ls) (sym (lines_more said e)) united;
+      count = is ∙ sym (counted paths said e before.count);
+      few = few;
+    }
+
+-- a call that stops but for memory by a fault
+pub stops_by : (stop : Stop) (root : List ℕ) (lines : List (List ℕ)) (kind : Kind) (place : ℕ) → (stop ≢ Memory → stop ≡ Fault kind place)
+    → (stop ≢ Memory → first_fault root lines ≡ Some (told_at kind place)) → HasStopped root lines stop
+stops_by Memory root lines kind place is holds = tt
+stops_by (Fault given at) root lines kind place is holds =
+    let other : Fault given at ≢ Memory = λ e. cc in
+    let same : Fault given at ≡ Fault kind place = is other in
+    subst (HasStopped root lines) (sym same) (holds other)
+
+-- ---- the reader
+
+pub reads_none : (root : List ℕ) (footprints : Footprints) (open_line : List ℕ) → AreFootprints root footprints [] → open_line ≡ []
+    → HasRead root [] (record { footprints = footprints; paths = 0; place = 0; open_line = open_line; stop = None })
+reads_none root footprints open_line united no_bytes = record {
+  ended = [];
+  open_line = [];
+  cut = record { whole = refl };
+  read = record { lines = record { good = refl; united = united; count = refl; few = omega arith }; place = refl; begun = no_bytes };
+}
+
+stopped_keeps : (stop : Option Stop) (root : List ℕ) (ended : List (List ℕ)) (line more : List ℕ) (reader : Reader) → is_some stop ≡ true
+    → HasReadBy stop root ended line reader → HasReadBy stop root ended more reader
+stopped_keeps None root ended line more reader some read = absurd (false≢true some)
+stopped_keeps (Some Memory) root ended line more reader some read = tt
+stopped_keeps (Some (Fault kind place)) root ended line more reader some read = read
+
+pub keeps_stopped : (root : List ℕ) (ended : List (List ℕ)) (line more : List ℕ) (reader : Reader) → is_some reader.stop ≡ true
+    → HasReadLines root ended line reader → HasReadLines root ended more reader
+keeps_stopped root ended line more reader = stopped_keeps reader.stop root ended line more reader
+
+stopped_ends : (stop : Option Stop) (root : List ℕ) (ended : List (List ℕ)) (line : List ℕ) (reader : Reader) → is_some stop ≡ true
+    → HasReadBy stop root ended line reader → HasReadBy stop root (ended ++ line ∷ []) [] reader
+stopped_ends None root ended line reader some read = absurd (false≢true some)
+stopped_ends (Some Memory) root ended line reader some read = tt
+stopped_ends (Some (Fault kind place)) root ended line reader some read = fault_stays root ended line (told_at kind place) read
+
+pub ends_stopped : (root : List ℕ) (ended : List (List ℕ)) (line : List ℕ) (reader : Reader) → is_some reader.stop ≡ true
+    → HasReadLines root ended line reader → HasReadLines root (ended ++ line ∷ []) [] reader
+ends_stopped root ended line reader = stopped_ends reader.stop root ended line reader
+
+way_by : (stop : Option Stop) (root : List ℕ) (ended : List (List ℕ)) (line : List ℕ) (reader : Reader) → is_some stop ≡ false
+    → HasReadBy stop root ended line reader → IsUnderWay root ended line reader
+way_by None root ended line reader none read = read
+way_by (Some stop) root ended line reader none read = absurd (false≢true (sym none))
+
+pub under_way : (root : List ℕ) (ended : List (List ℕ)) (line : List ℕ) (reader : Reader) → is_some reader.stop ≡ false
+    → HasReadLines root ended line reader → IsUnderWay root ended line reader
+under_way root ended line reader = way_by reader.stop root ended line reader
+
+by_way : (stop : Option Stop) (root : List ℕ) (ended : List (List ℕ)) (line : List ℕ) (reader : Reader) → is_some stop ≡ false
+    → IsUnderWay root ended line reader → HasReadBy stop root ended line reader
+by_way None root ended line reader none read = read
+by_way (Some stop) root ended line reader none read = absurd (false≢true (sym none))
+
+pub goes_on : (root : List ℕ) (ended : List (List ℕ)) (line : List ℕ) (reader : Reader) → is_some reader.stop ≡ false
+    → IsUnderWay root ended line reader → HasReadLines root ended line reader
+goes_on root ended line reader = by_way reader.stop root ended line reader
+
+-- what is read of a text, with the lines that are left
+pub record ReadsOn (root : List ℕ) (all left : List (List ℕ)) (reader : Reader) : Type 0 where
+  pub ended : List (List ℕ)
+  pub open_line : List ℕ
+  pub whole : ended ++ open_line ∷ left ≡ all
+  pub read : HasReadLines root ended open_line reader
+
+-- the lines of a piece behind a text
+pub piece_lines : (text piece first : List ℕ) (left ended : List (List ℕ)) (open_line : List ℕ) → IsCut text ended open_line → physical_lines piece ≡ first ∷ left
+    → ended ++ (open_line ++ first) ∷ left ≡ physical_lines (text ++ piece)
+piece_lines text piece first left ended open_line cut is =
+    sym (joined_open ended open_line first left) ∙ ap₂ joined (sym cut.whole) (sym is) ∙ sym (lines_joined text piece)

@@ -1,0 +1,61 @@
+-- Lemmas on the answers to logs that are to be put in serial order.
+use Rattle.std.proofs.Common.{◌≡◌, ◌≢◌, ◌∙◌, ◌⊎◌, inl, inr, ℕ, Bool, List, Ok, refl, subst, sym}
+use Rattle.mk_jobs.specs.Jobs.{Jobs}
+use Rattle.mk_log.specs.Logs.{Log}
+use Rattle.mk_race.specs.Serialised.{IsLawful, IsLawfulBuild, IsSerialised}
+use Rattle.mk_race.specs.Stages.{Texts}
+use Rattle.mk_race.specs.declared.serialising.Ordered.{Ordered}
+use Rattle.mk_race.specs.declared.serialising.Ordered.TheVariants.{Serial, NotAllowed, NotComplete, Race, NoRoom}
+use Rattle.mk_race.specs.declared.serialising.Serialised.{Serialised}
+use Rattle.mk_sched.specs.Stored.{store_of}
+use Rattle.mk_sched.proofs.SerialList.{all_inside}
+use Rattle.mk_program.specs.Answers.{IsSerialiseAnswer}
+use Rattle.mk_program.specs.OrderText.{HasNodes, IsOrderText, order_status}
+use Rattle.mk_program.specs.declared.statuses.Status.{Status}
+use Rattle.mk_program.specs.declared.statuses.Status.TheVariants.{Done, No, Failed}
+
+-- the answer over what was read is the one over the texts
+pub serial_told : (old new : Texts) (footprints footprints' log log' : List ℕ) (limit : ℕ) (tie : Bool) (status : Status) (text : List ℕ)
+    → old ≡ new → footprints ≡ footprints' → log ≡ log' → IsSerialiseAnswer old footprints log limit tie status text
+    → IsSerialiseAnswer new footprints' log' limit tie status text
+serial_told old new footprints footprints' log log' limit tie status text t f l h =
+    subst (λ (x : List ℕ). IsSerialiseAnswer new footprints' x limit tie status text) l
+    (subst (λ (x : List ℕ). IsSerialiseAnswer new x log limit tie status text) f
+    (subst (λ (x : Texts). IsSerialiseAnswer x footprints log limit tie status text) t h))
+
+-- what is told of a log ends as done or as no
+pub ends_as : (order : Ordered) → (order_status order ≡ Done) ⊎ (order_status order ≡ No)
+ends_as (Serial list) = inl refl
+ends_as (NotAllowed place refusal) = inr refl
+ends_as NotComplete = inr refl
+ends_as (Race trace) = inr refl
+ends_as NoRoom = inr refl
+
+pub order_not_failed : (order : Ordered) (status : Status) → status ≡ order_status order → status ≢ Failed
+order_not_failed order status ends failed = elim (ends_as order) [
+  | inl done ↦ let e : ◌≡◌ {A = Status} Done Failed = sym done ∙ sym ends ∙ failed in cc
+  | inr refused ↦ let e : ◌≡◌ {A = Status} No Failed = sym refused ∙ sym ends ∙ failed in cc
+]
+
+-- what is told of a log is its answer
+pub order_is : (texts : Texts) (footprints log : List ℕ) (limit limit' : ℕ) (tie : Bool) (given : Serialised) (status : Status) (text : List ℕ)
+    → IsSerialised texts footprints log limit' tie (Ok given) → IsLawfulBuild texts footprints log tie given → limit' ≡ limit → status ≡ order_status given.order
+    → IsOrderText given.jobs given.order text → IsSerialiseAnswer texts footprints log limit tie status text
+order_is texts footprints log limit limit' tie given status text is law same ends told =
+    let at : IsSerialised texts footprints log limit tie (Ok given) = subst (λ (n : ℕ). IsSerialised texts footprints log n tie (Ok given)) same is in
+    elim (ends_as given.order) [
+      | inl done ↦ subst (λ (s : Status). IsSerialiseAnswer texts footprints log limit tie s text) (sym (ends ∙ done)) (given, at, law, sym done, told)
+      | inr refused ↦ subst (λ (s : Status). IsSerialiseAnswer texts footprints log limit tie s text) (sym (ends ∙ refused)) (given, at, law, sym refused, told)
+    ]
+
+nodes_in : (jobs : Jobs) (tie : Bool) (log : Log) (order : Ordered) → IsLawful jobs tie log order → HasNodes jobs order
+nodes_in jobs tie log (Serial list) same = all_inside jobs tie 1 (store_of log.store) list.events same.law.serial.run
+nodes_in jobs tie log (NotAllowed place refusal) same = tt
+nodes_in jobs tie log NotComplete same = tt
+nodes_in jobs tie log (Race trace) same = tt
+nodes_in jobs tie log NoRoom same = tt
+
+-- the events of a log in serial order are of nodes
+pub has_nodes : (texts : Texts) (footprints log : List ℕ) (tie : Bool) (given : Serialised) → IsLawfulBuild texts footprints log tie given → HasNodes given.jobs given.order
+has_nodes texts footprints log tie given law =
+    subst (λ (jobs : Jobs). HasNodes jobs given.order) (sym law.jobs) (nodes_in law.prepared.jobs tie law.lawful.read given.order law.lawful.lawful)

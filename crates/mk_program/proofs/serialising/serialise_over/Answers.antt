@@ -1,0 +1,15 @@
+use Rattle.std.proofs.lemmas.Result.{IfOk-weaker}
+use Rattle.mk_race.specs.Stages.{texts_of}
+use Rattle.mk_program.proofs.SerialAnswers.{has_nodes, order_is, order_not_failed}
+use Rattle.mk_program.proofs.serialising.serialise_over.Goals as goal
+
+pub told-requires : goal.told-requires
+told-requires c = has_nodes (texts_of c.args.input.now) c.args.input.now.footprints.now c.args.log.now c.args.tie c.in-Ok.given c.in-Ok.ensures.law
+
+pub returns-in-Ok-clause-status : goal.returns-in-Ok-clause-status
+returns-in-Ok-clause-status c = IfOk-weaker c.told.result _ _ (λ answer h. order_not_failed c.in-Ok.given.order answer.status h.0) c.told.ensures.answer
+
+pub returns-in-Ok-clause-answer : goal.returns-in-Ok-clause-answer
+returns-in-Ok-clause-answer c =
+    IfOk-weaker c.told.result _ _ (λ answer h. order_is (texts_of c.args.input.now) c.args.input.now.footprints.now c.args.log.now c.args.limit _ c.args.tie
+    c.in-Ok.given _ _ c.in-Ok.ensures.answer c.in-Ok.ensures.law c.from.ensures h.0 h.1) c.told.ensures.answer

@@ -1,0 +1,85 @@
+//! The answers to `race serialise`.
+ghost use Rattle.std.specs.Prelude.{◌≡◌, ◌≢◌, ◌⊎◌, IfErr, IfOk, List, map, ℕ};
+ghost use Rattle.mk_race.specs.Stages.{texts_of};
+ghost use Rattle.mk_program.specs.Answers as spec;
+ghost use Rattle.mk_program.specs.Inputs.{AreTexts};
+ghost use Rattle.mk_program.specs.OrderText.{HasNodes, IsOrderText, order_status};
+
+use crate::answers::{Answer, bytes_of, input_of, refused};
+use crate::failures::{Failure, InputFile};
+use crate::inputs::{InputText, text_of};
+use crate::order_lines::order_text;
+use crate::requests::ReplayArgs;
+use crate::statuses::Status;
+use mk_name::fault::Halt;
+use mk_race::input::Input;
+use mk_race::serialising::{Ordered, Serialised, serialise_log};
+use std::alloc::Global;
+
+/// A log in serial order, or why it has none, or why the inputs are refused. The errors are `Failure::NotText` and want of
+/// memory.
+pub(crate) fn serialise_answer(
+    alloc: Global,
+    replay: &ReplayArgs<'_>,
+    includes: &[(&[u8], &[u8])],
+    texts: &[InputText],
+) -> Result<Answer, Failure>
+    ensures status { IfOk result (λ answer. answer.status ≢ Status.Failed) }
+    ensures answer { IfOk result (λ answer. (text : InputFile → List ℕ) → AreTexts texts.now text
+        → spec.IsSerialiseAnswer (spec.texts_for replay.now.build
+        (map (λ pair. (pair.0.now, pair.1.now)) includes.now) text) (text InputFile.Footprints)
+        (text InputFile.Log) replay.now.limit replay.now.tie answer.status answer.text.items) }
+    ensures failure { IfErr result (λ failure.
+        (failure ≡ Failure.Memory) ⊎ (failure ≡ Failure.NotText)) }
+{
+    let build = &replay.build;
+    let operands = bytes_of(alloc, build.operands.as_slice())?;
+    let input = input_of(build, operands.as_slice(), includes, texts);
+    let log = text_of(texts, InputFile::Log);
+    serialise_over(alloc, &input, log, replay.limit, replay.tie)
+}
+
+/// What comes of a log that is to be put in serial order, or the report of the first fault of the build and the log.
+fn serialise_over(
+    alloc: Global,
+    input: &Input<'_>,
+    log: &[u8],
+    limit: u16,
+    tie: bool,
+) -> Result<Answer, Failure>
+    ensures status { IfOk result (λ answer. answer.status ≢ Status.Failed) }
+    ensures answer { IfOk result (λ answer. spec.IsSerialiseAnswer (texts_of input.now)
+        input.now.footprints.now log.now limit tie answer.status answer.text.items) }
+    ensures failure { IfErr result (λ failure.
+        (failure ≡ Failure.Memory) ⊎ (failure ≡ Failure.NotText)) }
+{
+    match serialise_log(alloc, input, log, u32::from(limit), tie) {
+        Ok(given) => told(alloc, &given),
+        Err(Halt::Fault(fault)) => Ok(refused(alloc, &fault)?),
+        Err(Halt::Memory) => Err(Failure::Memory),
+    }
+}
+
+/// What comes of a log, told. The events of a log in serial order must be of nodes.
+fn told(alloc: Global, given: &Serialised) -> Result<Answer, Failure>
+    requires { HasNodes given.now.jobs given.now.order }
+    ensures answer { IfOk result (λ answer. (answer.status ≡ order_status given.now.order)
+        × IsOrderText given.now.jobs given.now.order answer.text.items) }
+    ensures failure { IfErr result (λ failure.
+        (failure ≡ Failure.Memory) ⊎ (failure ≡ Failure.NotText)) }
+{
+    Ok(Answer {
+        status: status_of(&given.order),
+        text: order_text(alloc, &given.jobs, &given.order)?,
+    })
+}
+
+/// How the program ends.
+fn status_of(order: &Ordered) -> Status
+    ensures { result ≡ order_status order.now }
+{
+    match order {
+        Ordered::Serial(_) => Status::Done,
+        _ => Status::No,
+    }
+}

@@ -1,0 +1,48 @@
+//! The words of `race check`.
+ghost use Rattle.std.specs.Prelude.{◌≡◌, IfOk, false};
+ghost use Rattle.clap.specs.Words.{app_of, found_of, rows_of, rule_of};
+ghost use Rattle.clap.specs.declared.builder.command.Command.TheViews.{out-Command as fields_of};
+ghost use Rattle.mk_program.specs.CommandLine as spec;
+
+use super::{build_args, help, is_true, option, with_build};
+use crate::requests::CheckArgs;
+use clap::{Arg, ArgAction, ArgMatches, Command};
+use std::alloc::{AllocError, Global};
+
+/// The subcommand, with its options and operands.
+pub(super) fn check_command<'a>(alloc: Global) -> Result<Command<'a>, AllocError>
+    ensures app { IfOk result (λ command. app_of command ≡ spec.check_app) }
+    ensures local { IfOk result (λ command. (fields_of command).has_globals ≡ false) }
+{
+    let command = Command::new(alloc, "check")
+        .about(help::CHECK_ABOUT)
+        .after_help(help::CHECK_DETAILS);
+    with_build(alloc, command)?
+        .arg(option(alloc, "footprints", "FOOTPRINTS", help::FOOTPRINTS))?
+        .arg(print_proof(alloc))
+}
+
+/// The flag that the proof is printed in place of the report.
+fn print_proof<'a>(alloc: Global) -> Arg<'a>
+    ensures rule { rule_of result ≡ spec.print_proof }
+    ensures local { result.global ≡ false }
+{
+    Arg::new(alloc, "print-proof")
+        .long("print-proof")
+        .action(ArgAction::SetTrue)
+        .help(help::PRINT_PROOF)
+}
+
+/// The check that these matches of the subcommand ask for. The only error is want of memory.
+pub(super) fn check_args<'a>(
+    alloc: Global,
+    found: &ArgMatches<'a>,
+) -> Result<CheckArgs<'a>, AllocError>
+    ensures { IfOk result (λ check. spec.HasCheck check (rows_of (found_of found.now))) }
+{
+    Ok(CheckArgs {
+        build: build_args(alloc, found)?,
+        footprints: found.get_str("footprints").unwrap_or(""),
+        print_proof: is_true(found.get_str("print-proof")),
+    })
+}

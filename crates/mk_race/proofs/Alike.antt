@@ -1,0 +1,25 @@
+-- What the answer that a build is safe says.
+use Rattle.std.proofs.Common.{ℕ, IfOk, List, Ok, Err, Result}
+use Rattle.mk_sched.specs.Laws.{IsDeterminate}
+use Rattle.mk_report.specs.declared.answer.Answer.{Answer}
+use Rattle.mk_race.specs.Judged.{IsSafe, NoScheduleShows, RunsAlike}
+use Rattle.mk_race.specs.Stages.{IsPrepared, Texts}
+use Rattle.mk_race.specs.declared.preparing.Prepared.{Prepared}
+use Rattle.mk_race.proofs.Listed.{store_agrees}
+
+-- a store that agrees with the listing agrees with the jobs, so the runs of determinate jobs are alike
+pub runs_alike : (texts : Texts) (footprints : List ℕ) (prepared : Prepared) → IsPrepared texts footprints (Ok prepared)
+    → IsDeterminate prepared.jobs → RunsAlike prepared
+runs_alike texts footprints prepared build determinate opening tie limit other a b agrees =
+    determinate opening tie limit other a b (store_agrees texts footprints prepared opening build agrees)
+
+-- where the answer on the jobs of a build makes them determinate, no schedule of the build shows
+pub headline_of : {E : Type 0} (texts : Texts) (footprints : List ℕ) (prepared : Prepared) (result : Result Answer E)
+    → IsPrepared texts footprints (Ok prepared) → IfOk result (λ answer. IsSafe answer → IsDeterminate prepared.jobs)
+    → IfOk result (λ answer. IsSafe answer → NoScheduleShows texts footprints)
+headline_of texts footprints prepared (Ok answer) build determinate = λ safe. record {
+  prepared = prepared;
+  build = build;
+  alike = runs_alike texts footprints prepared build (determinate safe);
+}
+headline_of texts footprints prepared (Err error) build determinate = tt

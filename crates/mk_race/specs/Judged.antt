@@ -1,0 +1,59 @@
+-- The answer of a build, and what it says of the build's runs where it is that the build is safe.
+use Rattle.std.specs.Prelude.{ℕ, ◌≡◌, Bool, List, Result, Ok, Err}
+use Rattle.mk_name.specs.Names.{has, same_name}
+use Rattle.mk_name.specs.Told.{Told}
+use Rattle.mk_jobs.specs.Jobs.{Jobs}
+use Rattle.mk_sched.specs.Events.{Event}
+use Rattle.mk_sched.specs.Laws.{SameOutcome}
+use Rattle.mk_sched.specs.Runs.{IsComplete, IsRun, RecipesAgree}
+use Rattle.mk_sched.specs.Stores.{AgreesWithListing, Store}
+use Rattle.mk_cert.specs.Traces.{TraceHolds}
+use Rattle.mk_decide.specs.Decisions.{IsVerdict}
+use Rattle.mk_decide.specs.Pairs.{HasManyPairs, too_many}
+use Rattle.mk_decide.specs.declared.decision.Verdict.TheVariants as verdicts
+use Rattle.mk_report.specs.declared.answer.Answer.{Answer}
+use Rattle.mk_report.specs.declared.answer.Answer.TheVariants.{Safe, Race, Refused}
+use Rattle.mk_race.specs.Stages.{IsPrepared, Texts}
+use Rattle.mk_race.specs.declared.preparing.Prepared.{Prepared}
+
+-- what is decided of jobs, told with them: safe by a certificate, or the trace of a race; refused, where too many pairs clash
+abbrev pub IsDecided : Jobs → Answer → Type 0
+IsDecided jobs (Safe given chains) = (given ≡ jobs) × IsVerdict jobs (verdicts.Safe chains)
+IsDecided jobs (Race given trace) = (given ≡ jobs) × IsVerdict jobs (verdicts.Race trace)
+IsDecided jobs (Refused told) = (told ≡ too_many) × HasManyPairs jobs
+
+-- a build is refused with its fault; without one its jobs are decided
+abbrev pub IsAnswerTo : Result Prepared Told → Answer → Type 0
+IsAnswerTo (Ok prepared) answer = IsDecided prepared.jobs answer
+IsAnswerTo (Err told) answer = answer ≡ Refused told
+
+-- the answer of a build: the stages give its jobs or their first fault, and then it is answered
+abbrev pub IsAnswered : Texts → List ℕ → Answer → Type 0
+IsAnswered texts footprints answer = (given : Result Prepared Told) × IsPrepared texts footprints given × IsAnswerTo given answer
+
+-- the answer is that the build is safe
+abbrev pub IsSafe : Answer → Type 0
+IsSafe (Safe jobs chains) = Unit {0}
+IsSafe (Race jobs trace) = ⊥
+IsSafe (Refused told) = ⊥
+
+-- the trace of a race holds of its jobs
+abbrev pub HoldsOfRace : Answer → Type 0
+HoldsOfRace (Safe jobs chains) = Unit {0}
+HoldsOfRace (Race jobs trace) = TraceHolds jobs trace
+HoldsOfRace (Refused told) = Unit {0}
+
+-- any two complete runs of the jobs whose recipes agree, from one store that has the files of the listing and no other, have
+-- the same outcome
+abbrev pub RunsAlike : Prepared → Type 0
+RunsAlike prepared =
+    (opening : Store) (tie : Bool) (limit other : ℕ) (a b : List Event)
+    → AgreesWithListing (has same_name prepared.listing) opening
+    → IsRun prepared.jobs tie limit opening a → IsRun prepared.jobs tie other opening b
+    → IsComplete prepared.jobs a → IsComplete prepared.jobs b → RecipesAgree a b → SameOutcome prepared.jobs opening a b
+
+-- no schedule of a build shows in its files: its texts mean jobs and a listing, and the runs of these are alike
+pub record NoScheduleShows (texts : Texts) (footprints : List ℕ) : Type 0 where
+  pub prepared : Prepared
+  pub build : IsPrepared texts footprints (Ok prepared)
+  pub alike : RunsAlike prepared

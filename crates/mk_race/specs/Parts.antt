@@ -1,0 +1,46 @@
+-- The answer of a build whose listing and footprints were read ahead, each as its fault or what it says.
+use Rattle.std.specs.Prelude.{ℕ, ◌≡◌, List, map, Result, Ok}
+use Rattle.mk_name.specs.Names.{Name}
+use Rattle.mk_name.specs.Told.{Told}
+use Rattle.mk_text.specs.Listing.{listing_of}
+use Rattle.mk_text.specs.Spelling.{root_of}
+use Rattle.mk_include.specs.Includes.{includes_of}
+use Rattle.mk_macro.specs.Operands.{operand_macros}
+use Rattle.mk_rules.specs.Book.{targets_of}
+use Rattle.mk_foot.specs.Attached.{attached}
+use Rattle.mk_foot.specs.Footprints.{Footprints, IsRead}
+use Rattle.mk_jobs.specs.Jobs.{Jobs}
+use Rattle.mk_race.specs.Settings.{goals_of}
+use Rattle.mk_race.specs.Stages.{IsGraphed, Texts, Then, ThenAny}
+use Rattle.mk_race.specs.declared.input.Settings.{Settings}
+use Rattle.mk_race.specs.declared.planning.Graphed.{Graphed}
+
+-- the texts of a build with these settings, these makefiles and this listing
+abbrev pub texts_with : Settings → List ℕ → List ℕ → List ℕ → Texts
+texts_with settings base makefile listing = record {
+  root = settings.root.now;
+  operands = map (λ operand. operand.now) settings.operands.now;
+  base = base;
+  makefile = makefile;
+  includes = map (λ pair. (pair.0.now, pair.1.now)) settings.includes.now;
+  listing = listing;
+}
+
+-- what was read ahead is what these texts say below the root
+pub record AreReadFrom (texts : Texts) (lines : List ℕ) (listed : Result (List Name) Told) (read : Result Footprints Told) : Type 0 where
+  pub listing : (root : List ℕ) → root_of texts.root ≡ Ok root → listing_of root texts.listing ≡ listed
+  pub footprints : (root : List ℕ) → root_of texts.root ≡ Ok root → IsRead root lines read
+
+-- the root, the operands, the paths of the texts for include lines, the listing that was read, and then the book and the plan
+abbrev pub IsGraphedWith : Texts → Result (List Name) Told → Result Graphed Told → Type 0
+IsGraphedWith texts listed =
+    Then (root_of texts.root) (λ root. Then (goals_of root texts.operands) (λ goals. Then (operand_macros texts.operands) (λ macros.
+    Then (includes_of root texts.includes) (λ included. Then listed (λ names. IsGraphed texts root goals included macros names)))))
+
+-- the footprints that were read, and then the jobs of them and a plan
+abbrev pub IsAttached : Graphed → Result Footprints Told → Result Jobs Told → Type 0
+IsAttached graphed read = Then read (λ footprints answer. answer ≡ attached graphed.plan (targets_of graphed.book.rules) footprints)
+
+-- the plan, and then the jobs
+abbrev pub AreJobsWith : Texts → Result (List Name) Told → Result Footprints Told → Result Jobs Told → Type 0
+AreJobsWith texts listed read = ThenAny (IsGraphedWith texts listed) (λ graphed. IsAttached graphed read)

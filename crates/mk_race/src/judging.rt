@@ -1,0 +1,59 @@
+//! From the texts of a build to the answer whether it may run its recipes side by side.
+ghost use Rattle.std.specs.Prelude.{◌≡◌, IfOk};
+ghost use Rattle.mk_name.specs.Told.{Told};
+ghost use Rattle.mk_name.specs.declared.fault.Halt.TheVariants as halts;
+ghost use Rattle.mk_report.specs.declared.answer.Answer.TheVariants as answers;
+ghost use Rattle.mk_sched.specs.Laws.{IsDeterminate};
+ghost use Rattle.mk_race.specs.Judged.{HoldsOfRace, IsAnswered, IsDecided, IsSafe, NoScheduleShows};
+ghost use Rattle.mk_race.specs.Stages.{texts_of};
+
+use crate::input::Input;
+use crate::preparing::{Prepared, prepare};
+use mk_decide::decision::{Verdict, decide};
+use mk_jobs::jobs::Jobs;
+use mk_name::fault::Halt;
+use mk_report::answer::Answer;
+use std::alloc::{AllocError, Global};
+
+/// The answer of a build: safe, where any two of its recipes that are in each other's way are put in order by prerequisites,
+/// with a certificate of that; a race, with the trace of the least one; or refused, with the first fault of its texts.
+///
+/// The first fault is that of the jobs (see [`prepare`](crate::prepare)), and then `TooManyPairs` in the jobs at place 0,
+/// where more than 1,000,000 pairs of recipes clash. The only error is want of memory.
+pub fn judge(alloc: Global, input: &Input<'_>) -> Result<Answer, AllocError>
+    ensures answer { IfOk result (IsAnswered (texts_of input.now) input.now.footprints.now) }
+    // The headline: where the answer is that the build is safe, no schedule of its recipes shows in the files.
+    ensures headline { IfOk result (λ answer. IsSafe answer
+        → NoScheduleShows (texts_of input.now) input.now.footprints.now) }
+    // Where it is a race, a run from any store that fits can follow the trace, and then both recipes run.
+    ensures holds { IfOk result HoldsOfRace }
+{
+    match prepare(alloc, input) {
+        Ok(Prepared { jobs, .. }) => decided(alloc, jobs),
+        Err(halt) => refused(halt),
+    }
+}
+
+/// What is decided of jobs, told with them. The only error is want of memory.
+pub(crate) fn decided(alloc: Global, jobs: Jobs) -> Result<Answer, AllocError>
+    ensures answer { IfOk result (IsDecided jobs) }
+    ensures determinate { IfOk result (λ answer. IsSafe answer → IsDeterminate jobs) }
+    ensures holds { IfOk result HoldsOfRace }
+{
+    match decide(alloc, &jobs) {
+        Ok(Verdict::Safe(certificate)) => Ok(Answer::Safe(jobs, certificate)),
+        Ok(Verdict::Race(trace)) => Ok(Answer::Race(jobs, trace)),
+        Err(halt) => refused(halt),
+    }
+}
+
+/// What is refused with a fault; want of memory is no answer.
+pub(crate) fn refused(halt: Halt) -> Result<Answer, AllocError>
+    ensures { IfOk result (λ answer. (told : Told) × (halt ≡ halts.Fault told)
+        × (answer ≡ answers.Refused told)) }
+{
+    match halt {
+        Halt::Fault(fault) => Ok(Answer::Refused(fault)),
+        Halt::Memory => Err(AllocError),
+    }
+}

@@ -1,0 +1,23 @@
+-- Numbers that are no nodes.
+use Rattle.std.proofs.Common.{ℕ, ◌≡◌, ◌≤◌, false, [], length, refl, sym, ap, subst}
+use Rattle.std.specs.List.{list_any}
+use Rattle.std.proofs.lemmas.Option.{slice_get_past}
+use Rattle.mk_path.specs.declared.path.Path.{Path}
+use Rattle.mk_path.specs.Paths.{is_over}
+use Rattle.mk_jobs.specs.Jobs.{Jobs, name_of, node_count, writes_of}
+use Rattle.mk_jobs.specs.Shape.{IsWellFormed}
+use Rattle.mk_report.specs.ReportText.{writes_whole}
+
+-- what is no node has no name
+pub no_name : (jobs : Jobs) (n : ℕ) → node_count jobs ≤ n → name_of jobs n ≡ []
+unfolding node_count name_of
+no_name jobs n past = rw (slice_get_past jobs.plan.nodes n past, name_of) refl
+
+-- it writes nothing
+no_path : (jobs : Jobs) (n : ℕ) → length jobs.writes ≤ n → writes_of jobs n ≡ []
+unfolding writes_of
+no_path jobs n past = rw (slice_get_past jobs.writes n past) refl
+
+pub nothing_whole : (jobs : Jobs) (n : ℕ) (path : Path) → IsWellFormed jobs → node_count jobs ≤ n → writes_whole jobs n path ≡ false
+nothing_whole jobs n path shape past =
+    ap (λ paths. list_any (λ written. is_over jobs.root written path) paths) (no_path jobs n (subst (λ k. k ≤ n) (sym shape.all_writes) past))
