@@ -1,4 +1,6 @@
 //! Jobs of nodes and paths.
+ghost use Rattle.std.specs.Prelude.{◌≡◌, IfSome, false, true};
+
 use crate::{nodes, rows};
 use mk_jobs::jobs::Jobs;
 use mk_jobs::maker::Maker;
@@ -21,7 +23,10 @@ pub struct Made<'a> {
 
 impl<'a> Made<'a> {
     /// A file that is listed.
-    pub fn file(name: &'a str) -> Made<'a> {
+    pub fn file(name: &'a str) -> Made<'a>
+        ensures listed { result.listed ≡ true }
+        ensures maker { result.maker ≡ Maker.Nothing }
+    {
         Made {
             name,
             needs: &[],
@@ -33,7 +38,10 @@ impl<'a> Made<'a> {
     }
 
     /// A target without commands.
-    pub fn plain(name: &'a str, needs: &'a [u32]) -> Made<'a> {
+    pub fn plain(name: &'a str, needs: &'a [u32]) -> Made<'a>
+        ensures listed { result.listed ≡ false }
+        ensures maker { result.maker ≡ Maker.Nothing }
+    {
         Made {
             name,
             needs,
@@ -50,7 +58,10 @@ impl<'a> Made<'a> {
         needs: &'a [u32],
         reads: &'a [&'a str],
         writes: &'a [&'a str],
-    ) -> Made<'a> {
+    ) -> Made<'a>
+        ensures listed { result.listed ≡ false }
+        ensures maker { result.maker ≡ Maker.Rule }
+    {
         Made {
             name,
             needs,
@@ -62,7 +73,10 @@ impl<'a> Made<'a> {
     }
 
     /// A target with commands that is listed and needs nothing, so that its commands can never run.
-    pub fn idle(name: &'a str) -> Made<'a> {
+    pub fn idle(name: &'a str) -> Made<'a>
+        ensures listed { result.listed ≡ true }
+        ensures maker { result.maker ≡ Maker.Rule }
+    {
         Made {
             name,
             needs: &[],
@@ -76,7 +90,9 @@ impl<'a> Made<'a> {
 
 /// The jobs of these nodes, below the root `/w`, with one use of `.WAIT`, which orders nothing. There are none where they are not
 /// well-formed, or memory ran out.
-pub fn jobs_of(alloc: Global, made: &[Made<'_>]) -> Option<Jobs> {
+pub fn jobs_of(alloc: Global, made: &[Made<'_>]) -> Option<Jobs>
+    ensures waits { IfSome result (λ jobs. jobs.plan.wait_uses ≡ 1) }
+{
     let nodes = nodes_of(alloc, made).ok()?;
     let reads = reads_of(alloc, made).ok()?;
     let writes = writes_of(alloc, made).ok()?;
@@ -85,7 +101,9 @@ pub fn jobs_of(alloc: Global, made: &[Made<'_>]) -> Option<Jobs> {
 
 /// The jobs of a line of nodes without recipes, each of which but the first needs the one before it. There are none where they
 /// are too many, or memory ran out.
-pub fn line_of(alloc: Global, count: u32) -> Option<Jobs> {
+pub fn line_of(alloc: Global, count: u32) -> Option<Jobs>
+    ensures waits { IfSome result (λ jobs. jobs.plan.wait_uses ≡ 1) }
+{
     let nodes = line_nodes(alloc, count).ok()?;
     let reads = no_paths(alloc, count).ok()?;
     let writes = no_paths(alloc, count).ok()?;
@@ -97,7 +115,9 @@ fn of_parts(
     nodes: Vec<PlanNode>,
     reads: Vec<Vec<Path>>,
     writes: Vec<Vec<Path>>,
-) -> Option<Jobs> {
+) -> Option<Jobs>
+    ensures { IfSome result (λ jobs. jobs.plan.wait_uses ≡ 1) }
+{
     if !nodes::are_fit(nodes.as_slice()) {
         return None;
     }
@@ -112,7 +132,9 @@ fn on_plan(
     root: Root,
     reads: Vec<Vec<Path>>,
     writes: Vec<Vec<Path>>,
-) -> Option<Jobs> {
+) -> Option<Jobs>
+    ensures { IfSome result (λ jobs. jobs.plan ≡ plan) }
+{
     if !rows::are_fit(&plan, &root, reads.as_slice(), writes.as_slice()) {
         return None;
     }
