@@ -30,7 +30,7 @@ pub record IsWhole (jobs : Jobs) (listed : List Name) (limit : ℕ) (tie : Bool)
   pub is_run : IsRunOf jobs listed limit tie log
   pub complete : IsComplete jobs (past_of log.events)
 
--- there is room for the time of each put behind those of the log's files
+-- behind the time of each of the log's files there is a later one for each event
 abbrev pub HasTimes : Log → Type 0
 HasTimes log = HasRoom (store_of log.store) (length log.events)
 
