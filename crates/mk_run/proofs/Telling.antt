@@ -1,5 +1,6 @@
 -- What is told of an answer to texts that were read in pieces.
-use Rattle.std.proofs.Common.{◌≡◌, ◌∙◌, ℕ, IfOk, List, Ok, Err, Result, sym}
+use Rattle.std.proofs.Common.{◌≡◌, ◌∙◌, ◌++◌, ℕ, IfOk, List, None, Ok, Err, Option, Result, Some, ap, subst, sym}
+use Rattle.std.proofs.lemmas.List.{append-nil}
 use Rattle.mk_name.specs.Names.{Name}
 use Rattle.mk_name.specs.Told.{Told}
 use Rattle.mk_foot.specs.Footprints.{Footprints}
@@ -9,7 +10,7 @@ use Rattle.mk_report.specs.declared.answer.Answer.TheVariants as answers
 use Rattle.mk_race.specs.Judged.{IsAnswered, IsSafe, NoScheduleShows}
 use Rattle.mk_race.specs.Parts.{AreReadFrom, texts_with}
 use Rattle.mk_race.specs.declared.input.Settings.{Settings}
-use Rattle.mk_run.specs.Run.{IsFootprinted, IsListed, Tells, outcome_of}
+use Rattle.mk_run.specs.Run.{GaveAll, Given, IsFootprinted, IsListed, Tells, outcome_of, texts_given}
 use Rattle.mk_run.specs.declared.outcome.Outcome.{Outcome}
 use Rattle.mk_run.specs.declared.outcome.Outcome.TheVariants.{Safe, Race, Refused}
 
@@ -38,3 +39,26 @@ module _ (settings : Settings) (base makefile : List ℕ) (listed : Result (List
         headline = λ safe. headline (safe_answer answer (sym said.0 ∙ safe)) listing lines from;
       }
   tells (Err error) outcome text answered headline said = tt
+
+-- what a device gave is all that it held
+pub all_given : (old new : Option (List ℕ)) (bytes held : List ℕ) → GaveAll old new bytes → old ≡ Some held → bytes ≡ held
+all_given None new bytes held all is = absurd (let e : ◌≡◌ {A = Option (List ℕ)} None (Some held) = is in cc)
+all_given (Some x) None bytes held all is = absurd all.gave
+all_given (Some x) (Some y) bytes held all is =
+    let e : ◌≡◌ {A = Option (List ℕ)} (Some x) (Some held) = is in
+    let same : x ≡ held = cc in
+    sym (append-nil bytes) ∙ ap (λ l. bytes ++ l) (sym all.end) ∙ sym all.gave ∙ same
+
+-- the headline of what devices gave is that of what they held
+pub headline_held : (settings : Settings) (given held : Given) (outcome : Outcome) (text : List ℕ) → Tells settings given outcome text → outcome ≡ Safe
+    → given.base ≡ held.base → given.makefile ≡ held.makefile → given.listing ≡ held.listing → given.footprints ≡ held.footprints
+    → NoScheduleShows (texts_given settings held) held.footprints
+headline_held settings given held outcome text told safe base makefile listing footprints =
+    subst (λ (f : List ℕ). NoScheduleShows (texts_with settings held.base held.makefile held.listing) f) footprints
+    (subst (λ (l : List ℕ). NoScheduleShows (texts_with settings held.base held.makefile l) given.footprints) listing
+    (subst (λ (m : List ℕ). NoScheduleShows (texts_with settings held.base m given.listing) given.footprints) makefile
+    (subst (λ (b : List ℕ). NoScheduleShows (texts_with settings b given.makefile given.listing) given.footprints) base (told.headline safe))))
+
+-- values of one answer
+pub ok_same : {E : Type 0} (a b : Outcome) → ◌≡◌ {A = Result Outcome E} (Ok a) (Ok b) → a ≡ b
+ok_same a b same = cc

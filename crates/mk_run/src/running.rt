@@ -1,7 +1,8 @@
 //! From four devices to a written report.
-ghost use Rattle.std.specs.Prelude.{◌≡◌, ◌≢◌, IfErr, IfOk, IsErrOf, List, OnOk, false, ℕ};
+ghost use Rattle.std.specs.Prelude.{◌≡◌, ◌≢◌, IfErr, IfOk, IsErrOf, List, Ok, OnOk, Some, false, ℕ};
 ghost use Rattle.std.specs.Io.KnownBytes.{Appends};
 ghost use Rattle.mk_text.specs.Device.{AppendsBeginning};
+ghost use Rattle.mk_race.specs.Judged.{NoScheduleShows};
 ghost use Rattle.mk_report.specs.Reports.{IsReport};
 ghost use Rattle.mk_run.specs.Run as spec;
 ghost use Rattle.mk_run.specs.Run.{GaveAll, Given, HasStopped, none_failed};
@@ -53,6 +54,11 @@ pub fn run<B: Intake, M: Intake, L: Intake, F: Intake, O: Outlet>(
         × GaveAll (F.left footprints.old) (F.left footprints.new) given.footprints
         × (text : List ℕ) × spec.Tells settings.now given outcome text
         × Appends (O.written out.old) (O.written out.new) text) }
+    // The headline: where the devices tell their bytes and the build is safe, no schedule of it shows in its files.
+    ensures headline { result ≡ Ok Outcome.Safe → (given : Given)
+        → B.left base.old ≡ Some given.base → M.left makefile.old ≡ Some given.makefile
+        → L.left listing.old ≡ Some given.listing → F.left footprints.old ≡ Some given.footprints
+        → NoScheduleShows (spec.texts_given settings.now given) given.footprints }
     // A device has failed exactly where a stop tells it.
     ensures works { OnOk result (none_failed ≡ record {
       base = B.has_failed base.new;
