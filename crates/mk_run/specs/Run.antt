@@ -1,0 +1,97 @@
+-- What a run reads from its devices, and what it tells.
+use Rattle.std.specs.Prelude.{◌≡◌, ◌⊎◌, ℕ, Bool, true, false, List, Option, Result, Ok}
+use Rattle.std.specs.Io.KnownBytes.{Consumes, IsAtEnd}
+use Rattle.mk_name.specs.Names.{Name}
+use Rattle.mk_name.specs.Told.{Told}
+use Rattle.mk_name.specs.declared.fault.Source.{Source}
+use Rattle.mk_name.specs.declared.fault.Source.TheVariants as sources
+use Rattle.mk_text.specs.Listing.{listing_of}
+use Rattle.mk_text.specs.Spelling.{root_of}
+use Rattle.mk_text.specs.declared.device.ReadStop.{ReadStop}
+use Rattle.mk_text.specs.declared.device.ReadStop.TheVariants as stops
+use Rattle.mk_foot.specs.Footprints.{Footprints, IsRead}
+use Rattle.mk_report.specs.Reports.{IsReport}
+use Rattle.mk_report.specs.declared.answer.Answer.{Answer}
+use Rattle.mk_report.specs.declared.answer.Answer.TheVariants as answers
+use Rattle.mk_race.specs.Judged.{IsAnswered, NoScheduleShows}
+use Rattle.mk_race.specs.Parts.{texts_with}
+use Rattle.mk_race.specs.Stages.{Texts}
+use Rattle.mk_race.specs.declared.input.Settings.{Settings}
+use Rattle.mk_run.specs.declared.outcome.IoStop.{IoStop}
+use Rattle.mk_run.specs.declared.outcome.IoStop.TheVariants.{Read, Write, Memory}
+use Rattle.mk_run.specs.declared.outcome.Outcome.{Outcome}
+use Rattle.mk_run.specs.declared.outcome.Outcome.TheVariants.{Safe, Race, Refused}
+
+-- a device was read to its end, and gave these bytes: where it tells what it has left, they are all that it had
+pub record GaveAll (old new : Option (List ℕ)) (bytes : List ℕ) : Type 0 where
+  pub gave : Consumes old new bytes
+  pub end : IsAtEnd new
+
+-- why a text was not read
+abbrev pub unread : Source → ReadStop → IoStop
+unread source stops.Broken = Read source
+unread source stops.Memory = Memory
+
+-- a text was not read: its device failed and that is told, or memory ran out
+abbrev pub IsUnread : Source → IoStop → Bool → Type 0
+IsUnread source stop failed = ((stop ≡ Read source) × (failed ≡ true)) ⊎ ((stop ≡ Memory) × (failed ≡ false))
+
+-- which devices have failed
+pub record Failed : Type 0 where
+  pub base : Bool
+  pub makefile : Bool
+  pub listing : Bool
+  pub footprints : Bool
+  pub out : Bool
+
+abbrev pub none_failed : Failed
+none_failed = record { base = false; makefile = false; listing = false; footprints = false; out = false }
+
+-- a stop tells the device that failed, and no other has; where it tells want of memory, none has
+abbrev pub HasStopped : IoStop → Failed → Type 0
+HasStopped (Read sources.Base) failed = failed ≡ record none_failed { base = true }
+HasStopped (Read sources.Makefile) failed = failed ≡ record none_failed { makefile = true }
+HasStopped (Read sources.Listing) failed = failed ≡ record none_failed { listing = true }
+HasStopped (Read sources.Footprints) failed = failed ≡ record none_failed { footprints = true }
+HasStopped (Read sources.Settings) failed = ⊥
+HasStopped (Read sources.Graph) failed = ⊥
+HasStopped (Read sources.Jobs) failed = ⊥
+HasStopped (Read sources.Log) failed = ⊥
+HasStopped (Read sources.Proof) failed = ⊥
+HasStopped (Read sources.Includes) failed = ⊥
+HasStopped (Read (sources.Include name)) failed = ⊥
+HasStopped Write failed = failed ≡ record none_failed { out = true }
+HasStopped Memory failed = failed ≡ none_failed
+
+-- the kind of an answer
+abbrev pub outcome_of : Answer → Outcome
+outcome_of (answers.Safe jobs chains) = Safe
+outcome_of (answers.Race jobs trace) = Race
+outcome_of (answers.Refused told) = Refused
+
+-- what was read of a text that says this below the root, if the root is good
+abbrev pub IsListed : List ℕ → List ℕ → Result (List Name) Told → Type 0
+IsListed root text listed = (below : List ℕ) → root_of root ≡ Ok below → listing_of below text ≡ listed
+
+abbrev pub IsFootprinted : List ℕ → List ℕ → Result Footprints Told → Type 0
+IsFootprinted root text read = (below : List ℕ) → root_of root ≡ Ok below → IsRead below text read
+
+-- the bytes that the devices gave
+pub record Given : Type 0 where
+  pub base : List ℕ
+  pub makefile : List ℕ
+  pub listing : List ℕ
+  pub footprints : List ℕ
+
+-- the texts of a build with these settings and these bytes
+abbrev pub texts_given : Settings → Given → Texts
+texts_given settings given = texts_with settings given.base given.makefile given.listing
+
+-- a text tells of these bytes: it is the report of an answer to them, of this kind; and where that is that the build is safe,
+-- no schedule of the build shows in its files
+pub record Tells (settings : Settings) (given : Given) (outcome : Outcome) (text : List ℕ) : Type 0 where
+  pub answer : Answer
+  pub answered : IsAnswered (texts_given settings given) given.footprints answer
+  pub outcome_is : outcome ≡ outcome_of answer
+  pub report : IsReport answer settings.proof text
+  pub headline : outcome ≡ Safe → NoScheduleShows (texts_given settings given) given.footprints

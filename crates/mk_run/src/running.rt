@@ -1,0 +1,203 @@
+//! From four devices to a written report.
+ghost use Rattle.std.specs.Prelude.{◌≡◌, ◌≢◌, IfErr, IfOk, IsErrOf, List, Ok, OnOk, Some, false, ℕ};
+ghost use Rattle.std.specs.Io.KnownBytes.{Appends};
+ghost use Rattle.mk_text.specs.Device.{AppendsBeginning};
+ghost use Rattle.mk_race.specs.Judged.{NoScheduleShows};
+ghost use Rattle.mk_report.specs.Reports.{IsReport};
+ghost use Rattle.mk_run.specs.Run as spec;
+ghost use Rattle.mk_run.specs.Run.{GaveAll, Given, HasStopped, none_failed};
+
+use crate::inputs::{Lists, Makefiles, read_lists, read_makefiles};
+use crate::outcome::{IoStop, Outcome, outcome_of};
+use mk_race::input::Settings;
+use mk_race::parts::judge_parts;
+use mk_report::answer::{Answer, report};
+use mk_text::device::{Intake, Outlet, write_all};
+use std::alloc::{AllocError, Global};
+
+/// What is told of a build: the kind of its answer, and the report.
+#[derive(Debug, Drop)]
+struct Told {
+    outcome: Outcome,
+    text: Vec<u8>,
+}
+
+/// Reads the base, the makefile, the listing and the footprints of a build to their ends, in this order, judges them, and
+/// writes the report of the answer, or its proof, once. The outcome is the kind of the answer.
+///
+/// The makefiles are kept whole, also where they have more than the 1,048,576 bytes that a text may have (`TextTooLarge`).
+/// The listing and the footprints are read in pieces of at most 65,536 bytes. A fault of theirs, of the root or of an operand
+/// is answered after all four were read.
+///
+/// `IoStop::Read` of a text, in the sources `Base`, `Makefile`, `Listing` and `Footprints`, comes exactly where its device
+/// fails, and `IoStop::Write` exactly where `out` does; a device that has failed is not used again. The only other error is
+/// want of memory. Nothing is written before all is read and judged.
+pub fn run<B: Intake, M: Intake, L: Intake, F: Intake, O: Outlet>(
+    alloc: Global,
+    base: &mut B,
+    makefile: &mut M,
+    listing: &mut L,
+    footprints: &mut F,
+    out: &mut O,
+    settings: &Settings<'_>,
+) -> Result<Outcome, IoStop>
+    requires base_works { B.has_failed base.old ≡ false }
+    requires makefile_works { M.has_failed makefile.old ≡ false }
+    requires listing_works { L.has_failed listing.old ≡ false }
+    requires footprints_work { F.has_failed footprints.old ≡ false }
+    requires out_works { O.has_failed out.old ≡ false }
+    // Each device was read to its end, and what was written is the report of an answer to what they gave.
+    ensures told { IfOk result (λ outcome. (given : Given)
+        × GaveAll (B.left base.old) (B.left base.new) given.base
+        × GaveAll (M.left makefile.old) (M.left makefile.new) given.makefile
+        × GaveAll (L.left listing.old) (L.left listing.new) given.listing
+        × GaveAll (F.left footprints.old) (F.left footprints.new) given.footprints
+        × (text : List ℕ) × spec.Tells settings.now given outcome text
+        × Appends (O.written out.old) (O.written out.new) text) }
+    // The headline: where the devices tell their bytes and the build is safe, no schedule of it shows in its files.
+    ensures headline { result ≡ Ok Outcome.Safe → (given : Given)
+        → B.left base.old ≡ Some given.base → M.left makefile.old ≡ Some given.makefile
+        → L.left listing.old ≡ Some given.listing → F.left footprints.old ≡ Some given.footprints
+        → NoScheduleShows (spec.texts_given settings.now given) given.footprints }
+    // A device has failed exactly where a stop tells it.
+    ensures works { OnOk result (none_failed ≡ record {
+      base = B.has_failed base.new;
+      makefile = M.has_failed makefile.new;
+      listing = L.has_failed listing.new;
+      footprints = F.has_failed footprints.new;
+      out = O.has_failed out.new;
+    }) }
+    ensures stop { IfErr result (λ stop. HasStopped stop (record {
+      base = B.has_failed base.new;
+      makefile = M.has_failed makefile.new;
+      listing = L.has_failed listing.new;
+      footprints = F.has_failed footprints.new;
+      out = O.has_failed out.new;
+    })) }
+    // What is not the whole report is nothing, or what the device took of it before it failed.
+    ensures nothing { IfErr result (λ stop. stop ≢ IoStop.Write → out.new ≡ out.old) }
+    ensures beginning { IsErrOf result IoStop.Write → (given : Given)
+        × GaveAll (B.left base.old) (B.left base.new) given.base
+        × GaveAll (M.left makefile.old) (M.left makefile.new) given.makefile
+        × GaveAll (L.left listing.old) (L.left listing.new) given.listing
+        × GaveAll (F.left footprints.old) (F.left footprints.new) given.footprints
+        × (outcome : Outcome) × (text : List ℕ) × spec.Tells settings.now given outcome text
+        × AppendsBeginning (O.written out.old) (O.written out.new) text }
+{
+    let told = told_of(alloc, base, makefile, listing, footprints, settings)?;
+    match write_all(out, told.text.as_slice()) {
+        Ok(()) => Ok(told.outcome),
+        Err(_) => Err(IoStop::Write),
+    }
+}
+
+/// What is told of the build that four devices give.
+fn told_of<B: Intake, M: Intake, L: Intake, F: Intake>(
+    alloc: Global,
+    base: &mut B,
+    makefile: &mut M,
+    listing: &mut L,
+    footprints: &mut F,
+    settings: &Settings<'_>,
+) -> Result<Told, IoStop>
+    requires base_works { B.has_failed base.old ≡ false }
+    requires makefile_works { M.has_failed makefile.old ≡ false }
+    requires listing_works { L.has_failed listing.old ≡ false }
+    requires footprints_work { F.has_failed footprints.old ≡ false }
+    ensures told { IfOk result (λ told. (given : Given)
+        × GaveAll (B.left base.old) (B.left base.new) given.base
+        × GaveAll (M.left makefile.old) (M.left makefile.new) given.makefile
+        × GaveAll (L.left listing.old) (L.left listing.new) given.listing
+        × GaveAll (F.left footprints.old) (F.left footprints.new) given.footprints
+        × spec.Tells settings.now given told.outcome told.text.items) }
+    ensures works { OnOk result (none_failed ≡ record none_failed {
+      base = B.has_failed base.new;
+      makefile = M.has_failed makefile.new;
+      listing = L.has_failed listing.new;
+      footprints = F.has_failed footprints.new;
+    }) }
+    ensures stop { IfErr result (λ stop. (stop ≢ IoStop.Write) × HasStopped stop (record none_failed {
+      base = B.has_failed base.new;
+      makefile = M.has_failed makefile.new;
+      listing = L.has_failed listing.new;
+      footprints = F.has_failed footprints.new;
+    })) }
+{
+    let makefiles = read_makefiles(alloc, base, makefile)?;
+    told_with(alloc, &makefiles, listing, footprints, settings)
+}
+
+/// What is told of the build of these makefiles, and of what two devices give.
+fn told_with<L: Intake, F: Intake>(
+    alloc: Global,
+    makefiles: &Makefiles,
+    listing: &mut L,
+    footprints: &mut F,
+    settings: &Settings<'_>,
+) -> Result<Told, IoStop>
+    requires listing_works { L.has_failed listing.old ≡ false }
+    requires footprints_work { F.has_failed footprints.old ≡ false }
+    ensures told { IfOk result (λ told. (listed lines : List ℕ)
+        × GaveAll (L.left listing.old) (L.left listing.new) listed
+        × GaveAll (F.left footprints.old) (F.left footprints.new) lines
+        × spec.Tells settings.now (record {
+          base = makefiles.now.base.items;
+          makefile = makefiles.now.makefile.items;
+          listing = listed;
+          footprints = lines;
+        })
+        told.outcome told.text.items) }
+    ensures works { OnOk result (none_failed ≡ record none_failed {
+      listing = L.has_failed listing.new;
+      footprints = F.has_failed footprints.new;
+    }) }
+    ensures stop { IfErr result (λ stop. (stop ≢ IoStop.Write) × HasStopped stop (record none_failed {
+      listing = L.has_failed listing.new;
+      footprints = F.has_failed footprints.new;
+    })) }
+{
+    let lists = read_lists(alloc, settings.root, listing, footprints)?;
+    match judged(alloc, makefiles, lists, settings) {
+        Ok(told) => Ok(told),
+        Err(_) => Err(IoStop::Memory),
+    }
+}
+
+/// What is told of the build of these makefiles and lists.
+fn judged(
+    alloc: Global,
+    makefiles: &Makefiles,
+    lists: Lists,
+    settings: &Settings<'_>,
+) -> Result<Told, AllocError>
+    ensures { IfOk result (λ told. (listed lines : List ℕ)
+        → spec.IsListed settings.now.root.now listed lists.listing
+        → spec.IsFootprinted settings.now.root.now lines lists.footprints
+        → spec.Tells settings.now (record {
+          base = makefiles.now.base.items;
+          makefile = makefiles.now.makefile.items;
+          listing = listed;
+          footprints = lines;
+        })
+        told.outcome told.text.items) }
+{
+    let Lists {
+        listing,
+        footprints,
+    } = lists;
+    let base = makefiles.base.as_slice();
+    let makefile = makefiles.makefile.as_slice();
+    let answer = judge_parts(alloc, settings, base, makefile, listing, footprints)?;
+    tell(alloc, &answer, settings.proof)
+}
+
+/// What is told of an answer.
+fn tell(alloc: Global, answer: &Answer, proof: bool) -> Result<Told, AllocError>
+    ensures { IfOk result (λ told. (told.outcome ≡ spec.outcome_of answer.now)
+        × IsReport answer.now proof told.text.items) }
+{
+    Ok(Told {
+        outcome: outcome_of(answer),
+        text: report(alloc, answer, proof)?,
+    })
+}
