@@ -1,7 +1,7 @@
 -- Ways up from a number.
-use Rattle.std.proofs.Common.{ℕ, ◌≡◌, ◌⊎◌, List, [], ◌∷◌, Option, Some, None, IfSome, IfNone, Contains, refl, sym, ap, subst, ◌∙◌, inl, inr, arith}
+use Rattle.std.proofs.Common.{ℕ, ◌≡◌, ◌<◌, ◌⊎◌, List, [], ◌∷◌, Option, Some, None, IfSome, IfNone, Contains, refl, sym, ap, subst, ◌∙◌, inl, inr, arith}
 use Rattle.mk_path.specs.Table.{row_of}
-use Rattle.mk_path.specs.Ups.{Ups, IsUp, here, higher, IsUpOf, IsHeldOver, above}
+use Rattle.mk_path.specs.Ups.{Ups, IsUp, here, higher, IsUpOf, IsHeldOver, above, rank_at}
 
 -- what stands above t stands above what t stands above
 pub up_trans : (ups : Ups) (x t : ℕ) {q : ℕ} → IsUp ups x t → IsUp ups t q → IsUp ups x q
@@ -30,6 +30,17 @@ up_next ups x t (Some u) some none up = elim (up_cases ups x up) [ inl same ↦ 
 -- the next one stands above what the number stands above
 pub up_more : (ups : Ups) (t u : ℕ) (o : Option ℕ) → u ≡ above ups t → IsUpOf ups t o → IsUpOf ups u o
 up_more ups t u o is up = up_of_trans ups u t o (subst (λ n. IsUp ups n t) (sym is) (higher {q = t} here)) up
+
+-- a number of high rank is passed by a step up from it
+pub passed_more : (ups : Ups) (t u limit : ℕ) (o : Option ℕ) → u ≡ above ups t → limit < rank_at ups t
+    → ((x : ℕ) → IsUpOf ups x o → IsUp ups x t ⊎ (limit < rank_at ups x)) → (x : ℕ) → IsUpOf ups x o → IsUp ups x u ⊎ (limit < rank_at ups x)
+passed_more ups t u limit o is high passed x up = elim (passed x up) [
+  | inr more ↦ inr more
+  | inl there ↦ elim (up_cases ups x there) [
+    | inl same ↦ inr (subst (λ n. limit < rank_at ups n) (sym same) high)
+    | inr next ↦ inl (subst (λ n. IsUp ups x n) (sym is) next)
+  ]
+]
 
 -- who holds a number above this one
 pub held_one : (ups : Ups) (holders : List (List ℕ)) (q t a : ℕ) → IsUp ups t q → Contains (row_of holders t) a → IsHeldOver ups holders (q ∷ []) a

@@ -8,10 +8,11 @@ use Rattle.std.specs.Ordering.{eq_by_cmp, is_eq}
 use Rattle.std.proofs.lemmas.Bool.{and_parts, both_ways}
 use Rattle.std.proofs.lemmas.Cmp.{eq_by_cmp_equiv, on_total}
 use Rattle.std.proofs.lemmas.List.{get_or-map, length-map, get_or_default}
-use Rattle.std.proofs.lemmas.List.Elements.{Contains-append_left, Contains-append_right}
+use Rattle.std.proofs.lemmas.List.Elements.{All-contains_itself, Contains-append_left, Contains-append_right}
 use Rattle.std.proofs.lemmas.List.Folds.{list_any_at}
+use Rattle.std.proofs.lemmas.List.Filters.{All-dedup}
 use Rattle.std.proofs.lemmas.List.Kept.{Any-dedup, IsStrictlySortedBy-dedup}
-use Rattle.std.proofs.lemmas.List.Sorted.{Contains-permutation}
+use Rattle.std.proofs.lemmas.List.Sorted.{Contains-permutation, IsPermutation-sym}
 use Rattle.mk_name.specs.Names.{same_name}
 use Rattle.mk_name.proofs.Names.{name_is_exact}
 use mathlib.Core.Bool.{beq}
@@ -139,6 +140,15 @@ kept_in_order same ties old sorted new moved is p there =
     let kept : Any (λ y. same b.ref y ≡ true) (dedup same sorted) = Any-dedup (equivalence same ties) sorted b.ref (Contains-permutation old sorted b.ref moved b.there) in
     let one : b.ref.now ≡ kept.1.now = same_path_is b.ref.now kept.1.now (path_ties b.ref.now kept.1.now ∙ sym (ties b.ref kept.1) ∙ kept.4) in
     subst (λ (ps : List (Bor Path)). Contains (map behind ps) p) (sym is) (some_behind (dedup same sorted) kept.1 p (kept.0, kept.2, kept.3) (sym one ∙ b.is))
+
+pub only_in_order : (same : Bor Path → Bor Path → Bool) → (old sorted new : List (Bor Path)) → IsPermutation old sorted → new ≡ dedup same sorted
+    → (p : Path) → Contains (map behind new) p → Contains (map behind old) p
+only_in_order same old sorted new moved is p there =
+    let b = behind_some new p there in
+    let left : Contains (dedup same sorted) b.ref = subst (λ (ps : List (Bor Path)). Contains ps b.ref) is b.there in
+    let all = All-dedup same (Contains sorted) sorted (All-contains_itself sorted) in
+    let one : Contains sorted b.ref = subst (Contains sorted) left.2 (all left.0 b.ref left.1) in
+    some_behind old b.ref p (Contains-permutation sorted old b.ref (IsPermutation-sym old sorted moved) one) b.is
 
 pub rise_in_order : (same : Bor Path → Bor Path → Bool) → ((p q : Bor Path) → same p q ≡ eq_by_cmp order p q) → (sorted new : List (Bor Path)) → IsSorted order sorted
     → new ≡ dedup same sorted → IsStrictlySortedBy path_cmp (map behind new)

@@ -14,11 +14,13 @@ use std::alloc::{AllocError, Global};
 /// The greatest rank of a path.
 const RANK_LIMIT: usize = 4294967295;
 
-/// The ways up from the numbers of some paths to the trees over them. The only error is want of memory, which is told too
-/// where a name is so long that its rank has no 32 bits.
+/// The ways up from the numbers of some paths to the trees over them. A path's rank is how many bytes its name has, spelled
+/// from the top, and one more for a file. The only error is want of memory, which is told too where a name is so long that
+/// its rank has no 32 bits.
 pub fn ways_up(alloc: Global, root: &Root, paths: &[&Path]) -> Result<Ups, AllocError>
     requires { ArePaths (map (λ path. path.now) paths.now) }
-    ensures { IfOk result (λ ups. AreWaysUp root.now (map (λ path. path.now) paths.now) ups) }
+    ensures ways { IfOk result (λ ups. AreWaysUp root.now (map (λ path. path.now) paths.now) ups) }
+    ensures ranks { IfOk result (λ ups. AreRanks (top_of root.now) (map (λ path. path.now) paths.now) (length paths.now) ups.ranks) }
 {
     let next = next_above(alloc, root, paths)?;
     let ranks = ranks(alloc, root, paths)?;

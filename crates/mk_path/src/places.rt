@@ -24,6 +24,8 @@ pub fn distinct<'a>(
     ensures few { IfOk result (λ paths. length paths.items < number_limit) }
     ensures reads { IfOk result (λ paths. AreHeld (map (λ path. path.now) paths.items) reads.now) }
     ensures writes { IfOk result (λ paths. AreHeld (map (λ path. path.now) paths.items) writes.now) }
+    ensures only { IfOk result (λ paths. (p : Path) → Contains (map (λ path. path.now) paths.items) p
+        → Contains (flat_map (λ row. row.items) reads.now ++ flat_map (λ row. row.items) writes.now) p) }
 {
     let mut paths = Vec::new(alloc);
     add_rows(&mut paths, reads)?;
@@ -39,6 +41,7 @@ pub fn distinct<'a>(
 fn put_in_order(paths: &mut Vec<&Path>)
     ensures rise { IsStrictlySortedBy path_cmp (map (λ path. path.now) paths.new.items) }
     ensures kept { (p : Path) → Contains (map (λ path. path.now) paths.old.items) p → Contains (map (λ path. path.now) paths.new.items) p }
+    ensures only { (p : Path) → Contains (map (λ path. path.now) paths.new.items) p → Contains (map (λ path. path.now) paths.old.items) p }
 {
     paths.sort_unstable();
     paths.dedup();

@@ -1,6 +1,6 @@
 //! The way up from a number: which one stands next above it.
-ghost use Rattle.std.specs.Prelude.{◌≡◌, ◌<◌, IfNone, IfSome};
-ghost use Rattle.mk_path.specs.Ups.{AreRanked, IsUpOf, above, number_count, rank_at};
+ghost use Rattle.std.specs.Prelude.{ℕ, ◌≡◌, ◌<◌, ◌≤◌, ◌⊎◌, IfNone, IfSome, None};
+ghost use Rattle.mk_path.specs.Ups.{AreRanked, IsUp, IsUpOf, above, number_count, rank_at};
 
 use std::marker::Model;
 
@@ -51,11 +51,15 @@ impl Ups {
         self.ranks[t as usize]
     }
 
-    /// Goes up from a number, if there is one, as long as the rank is above this limit.
+    /// The first number, from one on upwards, whose rank is not above this limit, or the topmost one where all are above it.
+    /// None just where there is none to go up from.
     pub fn rise(&self, from: Option<u32>, limit: u32) -> Option<u32>
         requires { IfSome from (λ q. q < number_count self.now) }
         ensures up { IfSome result (λ t. IsUpOf self.now t from) }
         ensures within { IfSome result (λ t. t < number_count self.now) }
+        ensures stops { IfSome result (λ t. (rank_at self.now t ≤ limit) ⊎ (above self.now t ≡ t)) }
+        ensures passed { IfSome result (λ t. (u : ℕ) → IsUpOf self.now u from → IsUp self.now u t ⊎ (limit < rank_at self.now u)) }
+        ensures none { IfNone result (from ≡ None) }
     {
         let mut t = from?;
         while self.rank(t) > limit {

@@ -10,7 +10,7 @@ use Rattle.mk_sched.specs.Steps.{past_of}
 use Rattle.mk_sched.specs.Stored.{store_of}
 use Rattle.mk_sched.specs.Stores.{AgreesWithListing}
 use Rattle.mk_decide.specs.LeastTraces.{IsOfLeastRace}
-use Rattle.mk_decide.specs.Pairs.{HasManyPairs, too_many}
+use Rattle.mk_decide.specs.Pairs.{HasFewPairs, HasManyPairs, too_many}
 use Rattle.mk_log.specs.Logs.{Log}
 use Rattle.mk_log.specs.Reading.{IsRead}
 use Rattle.mk_race.specs.Played.{IsNotAllowed}
@@ -39,20 +39,22 @@ pub record IsInSerialOrder (jobs : Jobs) (log list : Log) : Type 0 where
   pub files : list.store ≡ log.store
   pub events : past_of list.events ≡ serial (latest log.store) (past_of log.events) (node_count jobs)
 
--- a complete run of race-free jobs with room for times, put in serial order
+-- a complete run of race-free jobs, of which not too many pairs clash, with room for times, put in serial order
 pub record IsPutInOrder (jobs : Jobs) (listed : List Name) (limit : ℕ) (tie : Bool) (log list : Log) : Type 0 where
   pub whole : IsWhole jobs listed limit tie log
+  pub few : HasFewPairs jobs
   pub race_free : IsRaceFree jobs
   pub room : HasTimes log
   pub in_order : IsInSerialOrder jobs log list
 
--- what comes of a log: it has to be a run, that has to be complete, the jobs have to be race-free, and there has to be room
+-- what comes of a log: it has to be a run, that has to be complete, not too many pairs may clash, the jobs have to be race-free,
+-- and there has to be room
 abbrev pub IsOrder : Jobs → List Name → ℕ → Bool → Log → Result Ordered Told → Type 0
 IsOrder jobs listed limit tie log (Ok (NotAllowed place refusal)) = IsNotAllowed jobs listed limit tie log place refusal
 IsOrder jobs listed limit tie log (Ok NotComplete) = IsRunOf jobs listed limit tie log × (IsComplete jobs (past_of log.events) → ⊥)
 IsOrder jobs listed limit tie log (Err told) = IsWhole jobs listed limit tie log × (told ≡ too_many) × HasManyPairs jobs
-IsOrder jobs listed limit tie log (Ok (Race trace)) = IsWhole jobs listed limit tie log × IsOfLeastRace jobs trace
-IsOrder jobs listed limit tie log (Ok NoRoom) = IsWhole jobs listed limit tie log × IsRaceFree jobs × (HasTimes log → ⊥)
+IsOrder jobs listed limit tie log (Ok (Race trace)) = IsWhole jobs listed limit tie log × HasFewPairs jobs × IsOfLeastRace jobs trace
+IsOrder jobs listed limit tie log (Ok NoRoom) = IsWhole jobs listed limit tie log × HasFewPairs jobs × IsRaceFree jobs × (HasTimes log → ⊥)
 IsOrder jobs listed limit tie log (Ok (Serial list)) = IsPutInOrder jobs listed limit tie log list
 
 -- the log below the root, and then what comes of it

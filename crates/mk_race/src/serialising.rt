@@ -7,6 +7,7 @@ ghost use Rattle.mk_sched.specs.Serialising.{IsWholeRun};
 ghost use Rattle.mk_sched.specs.Steps.{past_of};
 ghost use Rattle.mk_sched.specs.Stored.{store_of};
 ghost use Rattle.mk_sched.specs.Stores.{AgreesWith};
+ghost use Rattle.mk_decide.specs.Pairs.{HasFewPairs};
 ghost use Rattle.mk_race.specs.Serialised as spec;
 ghost use Rattle.mk_race.specs.Serialised.{IsLawful, IsLawfulBuild, IsLawfulOn, IsOrder, IsOrderOn, IsSerialised, IsWhole};
 ghost use Rattle.mk_race.specs.Stages.{texts_of};
@@ -64,8 +65,8 @@ pub struct Serialised {
 /// same as in the log, the same nodes start, and it leaves the same bytes at each name.
 ///
 /// The log has to be a run of the jobs, in which at most `limit` nodes run at once and with `tie` files of equal times
-/// count as newer; then it has to be complete; then the jobs have to be race-free; then there has to be room for the new
-/// times. The first of these that fails is answered.
+/// count as newer; then it has to be complete; then not too many pairs of nodes may clash; then the jobs have to be
+/// race-free; then there has to be room for the new times. The first of these that fails is answered.
 ///
 /// The first fault is answered: those of the jobs (see [`prepare`](crate::prepare)), then of the log by its lines, and for
 /// a complete run `TooManyPairs` in the jobs, at place 0, where more than 1,000,000 pairs of nodes clash. The only other
@@ -162,6 +163,7 @@ fn whole_order(alloc: Global, jobs: &Jobs, log: Log, tie: bool) -> Result<Ordere
 fn free_order(alloc: Global, jobs: &Jobs, log: Log, tie: bool) -> Result<Ordered, Halt>
     requires whole { IsWholeRun jobs.now tie (store_of log.store) (past_of log.events) }
     requires agrees { AgreesWith jobs.now (store_of log.store) }
+    requires few { HasFewPairs jobs.now }
     requires race_free { IsRaceFree jobs.now }
     ensures answer { (listed : List SpecName) (limit : ℕ) → IsWhole jobs.now listed limit tie log
         → Answers result (IsOrder jobs.now listed limit tie log) }

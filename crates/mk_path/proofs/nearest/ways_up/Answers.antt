@@ -17,8 +17,8 @@ new-requires c =
     are_ranked root paths c.requires next ranks (subst (λ n. AreNearest root paths n next) all c.in_ok-next.ensures)
     (subst (λ n. AreRanks (top_of root) paths n ranks) all c.in_ok-ranks.ensures)
 
-pub returns : goal.returns
-returns c =
+pub returns-clause-ways : goal.returns-clause-ways
+returns-clause-ways c =
     let root = c.args.root.now in
     let paths = map behind c.args.paths.now in
     let all = sym (length-map c.args.paths.now behind) in

@@ -26,7 +26,7 @@ invariant_of-result c =
       writers = c.in_ok-writers.writers;
       readers = c.in_ok-readers.readers;
     } in
-    is_whole c.args.root.now paths c.args.reads.now c.args.writes.now index c.requires.paths c.in_ok-ups.ensures c.in_ok-reads.ensures c.in_ok-writes.ensures
+    is_whole c.args.root.now paths c.args.reads.now c.args.writes.now index c.requires.paths c.in_ok-ups.ensures.ways c.in_ok-reads.ensures c.in_ok-writes.ensures
     (c.in_ok-writers.ensures.count ∙ sym long) (λ t n below. c.in_ok-writers.ensures.hold t n (omega (arith, below, long)))
     (c.in_ok-readers.ensures.count ∙ sym long) (λ t n below. c.in_ok-readers.ensures.hold t n (omega (arith, below, long))) c.requires.rise c.requires.same
 
@@ -44,6 +44,6 @@ returns-clause-indexed c =
       writers = c.in_ok-writers.writers;
       readers = c.in_ok-readers.readers;
     } in
-    is_indexed c.args.root.now paths c.args.reads.now c.args.writes.now index c.requires.paths c.in_ok-ups.ensures c.in_ok-reads.ensures c.in_ok-writes.ensures
+    is_indexed c.args.root.now paths c.args.reads.now c.args.writes.now index c.requires.paths c.in_ok-ups.ensures.ways c.in_ok-reads.ensures c.in_ok-writes.ensures
     (c.in_ok-writers.ensures.count ∙ sym long) (λ t n below. c.in_ok-writers.ensures.hold t n (omega (arith, below, long)))
     (c.in_ok-readers.ensures.count ∙ sym long) (λ t n below. c.in_ok-readers.ensures.hold t n (omega (arith, below, long)))
