@@ -264,7 +264,8 @@ def run(args, make_input, part):
         words = ["replay" if "log" in texts else "order", "--root", "/w"]
         words += [word for name in texts for word in ("--" + name, name)] + operands_of
         del texts
-        limits = f'ulimit -v {int(args.gigabytes * MEGABYTE)} -t {args.seconds}; exec time -q -f "%M %U %S" -o memory "$@"'
+        limits = f"ulimit -v {int(args.gigabytes * MEGABYTE)}; ulimit -t {args.seconds};"
+        limits += ' exec time -q -f "%M %U %S" -o memory "$@"'
         how = {"stdin": subprocess.DEVNULL, "stdout": subprocess.DEVNULL, "stderr": subprocess.DEVNULL}
         status = subprocess.run(["sh", "-c", limits, "sh", args.program, *words], cwd=folder, check=False, **how).returncode
         memory, *seconds = pathlib.Path(folder, "memory").read_text().split()[-3:]
