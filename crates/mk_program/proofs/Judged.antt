@@ -1,5 +1,5 @@
 -- Lemmas on the answers to a check.
-use Rattle.std.proofs.Common.{◌≡◌, ◌≢◌, ◌∙◌, ◌==◌, ℕ, Bool, true, false, List, Option, Some, None, ap, subst, sym, refl, codes, slice_index_or}
+use Rattle.std.proofs.Common.{◌≡◌, ◌≢◌, ◌∙◌, ◌==◌, ℕ, Bool, false, List, Option, Some, None, ap, subst, sym, refl, codes, slice_index_or}
 use Rattle.std.proofs.lemmas.Bool.{false≢true}
 use Rattle.std.specs.Borrow.{Bor}
 use Rattle.clap.specs.Words.{Row, Text}
@@ -10,7 +10,6 @@ use Rattle.mk_race.specs.Judged.{HoldsOfRace, IsAnswered, IsSafe, NoScheduleShow
 use Rattle.mk_race.specs.Stages.{Texts}
 use Rattle.mk_program.specs.Answers.{AskToCheck, IsAnswerTo, IsCheckAnswer, SaysSafe, judged_status}
 use Rattle.mk_program.specs.CommandLine.{Asks, asked}
-use Rattle.mk_program.specs.declared.requests.Request.{Request}
 use Rattle.mk_program.specs.declared.requests.Request.TheVariants as requests
 use Rattle.mk_program.specs.declared.statuses.Status.{Status}
 use Rattle.mk_program.specs.declared.statuses.Status.TheVariants.{Done, Failed, No, Refused}

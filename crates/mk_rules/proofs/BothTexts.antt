@@ -1,5 +1,5 @@
 -- The lines of two texts, read one after the other, and their book.
-use Rattle.std.proofs.Common.{◌≡◌, ℕ, suc, List, [], ◌∷◌, ◌++◌, Result, Ok, Err, refl}
+use Rattle.std.proofs.Common.{ℕ, suc, List, ◌++◌, Result, Ok, Err, refl}
 use Rattle.mk_name.specs.Gives.{Answers, HaltsAmong}
 use Rattle.mk_name.specs.declared.fault.Halt.{Halt}
 use Rattle.mk_name.specs.declared.fault.Halt.TheVariants as halts

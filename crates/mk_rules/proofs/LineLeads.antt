@@ -1,5 +1,5 @@
 -- What a line leads to, by its kind.
-use Rattle.std.proofs.Common.{◌≡◌, ℕ, suc, List, [], ◌∷◌, ◌++◌, Result, Ok, Err, refl, sym, ◌∙◌, subst, ap}
+use Rattle.std.proofs.Common.{◌≡◌, ℕ, suc, List, [], ◌∷◌, ◌++◌, Result, Ok, Err, refl, sym, subst, ap}
 use Rattle.mk_name.specs.Gives.{HaltsAmong}
 use Rattle.mk_name.specs.Told.{Told}
 use Rattle.mk_name.specs.declared.fault.Halt.{Halt}

@@ -1,4 +1,4 @@
-use Rattle.std.proofs.Common.{◌+◌, suc, [], map, refl, ap, ◌∙◌, sym}
+use Rattle.std.proofs.Common.{◌+◌, suc, [], map, refl, ap, ◌∙◌}
 use Rattle.std.proofs.lemmas.List.{drop_all, drop_more}
 use Rattle.std.proofs.lemmas.Result.{err_from_is_err_and}
 use Rattle.mk_macro.specs.Macros.{macros_of}
