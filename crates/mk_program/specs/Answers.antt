@@ -5,7 +5,7 @@ use Rattle.std.specs.Io.KnownBytes.{Appends}
 use Rattle.clap.specs.Words.{Row, Text}
 use Rattle.mk_name.specs.Shown.{line, refused_text}
 use Rattle.mk_name.specs.Told.{Told}
-use Rattle.mk_text.specs.Device.{AppendsBeginning}
+use Rattle.mk_device.specs.Device.{AppendsBeginning}
 use Rattle.mk_cert.specs.Traces.{TraceHolds}
 use Rattle.mk_jobs.specs.Jobs.{Jobs}
 use Rattle.mk_proof.specs.Shapes.{Trace}

@@ -5,7 +5,7 @@ ghost use Rattle.mk_program.specs.Inputs as spec;
 
 use crate::failures::{Failure, InputFile};
 use crate::openers::Opener;
-use mk_text::device::{Intake, ReadStop, read_all};
+use mk_device::device::{Intake, ReadStop, read_all};
 use std::alloc::Global;
 
 /// An input, and the path of its file.

@@ -1,7 +1,7 @@
 //! How files are opened.
 ghost use Rattle.std.specs.Prelude.{◌≡◌, Bool, false, IfOk, is_ok, List, Option, Some, ℕ};
 
-use mk_text::device::{Broken, Intake};
+use mk_device::device::{Broken, Intake};
 
 /// What opens files.
 pub trait Opener {

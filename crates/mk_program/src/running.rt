@@ -13,7 +13,7 @@ use crate::openers::Opener;
 use crate::statuses::Status;
 use crate::words::read_words;
 use clap::error::ErrorKind;
-use mk_text::device::{Outlet, write_all};
+use mk_device::device::{Outlet, write_all};
 use std::alloc::{AllocError, Global};
 
 /// Runs the program on the words of the command line, of which the first is its own name. The answer, the help or the

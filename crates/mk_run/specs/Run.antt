@@ -7,8 +7,8 @@ use Rattle.mk_name.specs.declared.fault.Source.{Source}
 use Rattle.mk_name.specs.declared.fault.Source.TheVariants as sources
 use Rattle.mk_text.specs.Listing.{listing_of}
 use Rattle.mk_text.specs.Spelling.{root_of}
-use Rattle.mk_text.specs.declared.device.ReadStop.{ReadStop}
-use Rattle.mk_text.specs.declared.device.ReadStop.TheVariants as stops
+use Rattle.mk_device.specs.declared.device.ReadStop.{ReadStop}
+use Rattle.mk_device.specs.declared.device.ReadStop.TheVariants as stops
 use Rattle.mk_foot.specs.Footprints.{Footprints, IsRead}
 use Rattle.mk_report.specs.Reports.{IsReport}
 use Rattle.mk_report.specs.declared.answer.Answer.{Answer}

@@ -8,7 +8,7 @@ use crate::inputs::read_past;
 use mk_foot::foot_reader::FootReader;
 use mk_foot::footprints::Footprints;
 use mk_name::fault::{Fault, Halt};
-use mk_text::device::{Broken, Intake, ReadStop};
+use mk_device::device::{Broken, Intake, ReadStop};
 use mk_text::root::Root;
 use std::alloc::Global;
 

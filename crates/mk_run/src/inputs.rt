@@ -7,7 +7,7 @@ use crate::listing::read_listing;
 use crate::outcome::{IoStop, unread};
 use mk_foot::footprints::Footprints;
 use mk_name::fault::{Fault, Source};
-use mk_text::device::{Broken, Intake, read_all};
+use mk_device::device::{Broken, Intake, read_all};
 use mk_text::listing::Listing;
 use std::alloc::Global;
 

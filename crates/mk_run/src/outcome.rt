@@ -4,7 +4,7 @@ ghost use Rattle.mk_run.specs.Run as spec;
 
 use mk_name::fault::Source;
 use mk_report::answer::Answer;
-use mk_text::device::ReadStop;
+use mk_device::device::ReadStop;
 
 /// What kind of answer was reported.
 #[derive(Clone, Copy, Debug, PartialEq, Eq)]

@@ -1,7 +1,7 @@
 //! From four devices to a written report.
 ghost use Rattle.std.specs.Prelude.{◌≡◌, ◌≢◌, IfErr, IfOk, IsErrOf, List, Ok, OnOk, Some, false, ℕ};
 ghost use Rattle.std.specs.Io.KnownBytes.{Appends};
-ghost use Rattle.mk_text.specs.Device.{AppendsBeginning};
+ghost use Rattle.mk_device.specs.Device.{AppendsBeginning};
 ghost use Rattle.mk_race.specs.Judged.{NoScheduleShows};
 ghost use Rattle.mk_report.specs.Reports.{IsReport};
 ghost use Rattle.mk_run.specs.Run as spec;
@@ -12,7 +12,7 @@ use crate::outcome::{IoStop, Outcome, outcome_of};
 use mk_race::input::Settings;
 use mk_race::parts::judge_parts;
 use mk_report::answer::{Answer, report};
-use mk_text::device::{Intake, Outlet, write_all};
+use mk_device::device::{Intake, Outlet, write_all};
 use std::alloc::{AllocError, Global};
 
 /// What is told of a build: the kind of its answer, and the report.

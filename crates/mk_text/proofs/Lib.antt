@@ -14,4 +14,3 @@ mod Searches
 mod Sequence
 mod Sorting
 mod Stand
-mod Written

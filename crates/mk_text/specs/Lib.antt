@@ -1,5 +1,4 @@
 pub mod Blocks
-pub mod Device
 pub mod GivesLines
 pub mod Fed
 pub mod Listing

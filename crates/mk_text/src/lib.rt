@@ -1,5 +1,4 @@
-//! What stands in texts: physical and logical lines, the plain spelling of names, the listing; and the
-//! devices that texts come from and go to.
+//! What stands in texts: physical and logical lines, the plain spelling of names, the listing.
 //!
 //! - [`lines::lines`] cuts the text of a makefile into its logical lines ([`line::Line`]), or gives the
 //!   first fault. `specs/Blocks.antt` and `specs/LogicalLines.antt` define them; a line tells its kind, its
@@ -9,19 +8,15 @@
 //! - [`Listing`](listing::Listing) holds the names of the files that exist: `specs/Listing.antt`;
 //!   [`ListReader`](list_reader::ListReader) reads one that comes in pieces: `specs/ListReader.antt`.
 //! - [`lexical`] has what other readers cut texts by: blanks, macros' names, physical lines.
-//! - [`Intake`] and [`Outlet`] are devices that give and take bytes; [`read_all`] and [`write_all`] use them
-//!   up; [`Feed`](feed::Feed) and [`Spout`](spout::Spout) make them of std's readers and writers:
-//!   `specs/Device.antt`.
 //!
-//! The modules of faults, names and the report are those of `mk_name`, passed on.
+//! The modules of faults, names and the report are those of `mk_name`, passed on, and those of devices are `mk_device`'s.
 #![tactic(auto)]
 
+pub use mk_device::{Broken, Intake, Outlet, ReadStop, device, feed, read_all, spout, write_all};
 pub use mk_name::{fault, name, report};
 
 mod blocks;
 mod components;
-pub mod device;
-pub mod feed;
 pub mod lexical;
 mod limits;
 pub mod line;
@@ -33,10 +28,8 @@ mod references;
 pub mod root;
 mod sort;
 pub mod spelling;
-pub mod spout;
 mod words;
 
-pub use device::{Broken, Intake, Outlet, ReadStop, read_all, write_all};
 pub use line::{LineKind, Operator};
 pub use lines::TEXT_LIMIT;
 pub use parts::{Assignment, EntryParts, IncludeParts};

@@ -2,7 +2,7 @@
 use crate::outcomes::{Outcome, run};
 use crate::shelf::{Book, Page, Shelf};
 use mk_program::{Status, race_words};
-use mk_text::spout::Spout;
+use mk_device::spout::Spout;
 use std::alloc::Global;
 use std::io;
 use std::io::{ErrorKind, Write};

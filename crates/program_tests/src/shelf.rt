@@ -3,8 +3,8 @@ ghost use Rattle.std.specs.Prelude.{◌≡◌, Some};
 ghost use Rattle.program_tests.specs.Shelf as spec;
 
 use mk_program::Opener;
-use mk_text::device::Broken;
-use mk_text::feed::Feed;
+use mk_device::device::Broken;
+use mk_device::feed::Feed;
 use std::io;
 use std::io::{ErrorKind, Read};
 

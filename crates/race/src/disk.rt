@@ -2,8 +2,8 @@
 ghost use Rattle.std.specs.Prelude.{None};
 
 use mk_program::Opener;
-use mk_text::device::Broken;
-use mk_text::feed::Feed;
+use mk_device::device::Broken;
+use mk_device::feed::Feed;
 use std::fs;
 use std::fs::File;
 

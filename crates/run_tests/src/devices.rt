@@ -1,7 +1,7 @@
 //! Devices over memory that give or take one byte a call, and fail after some.
 ghost use Rattle.std.specs.Prelude.{◌≡◌, Some, false, length};
 
-use mk_text::device::{Broken, Intake, Outlet};
+use mk_device::device::{Broken, Intake, Outlet};
 use std::alloc::Global;
 
 /// Gives one byte a read, and fails after some.

@@ -1,9 +1,9 @@
 //! Devices over memory that give or take one byte a call, and fail after some.
 ghost use Rattle.std.specs.Prelude.{None, Some, length};
 
-use mk_text::device::{Broken, Intake, Outlet, ReadStop, read_all, write_all};
-use mk_text::feed::Feed;
-use mk_text::spout::Spout;
+use mk_device::device::{Broken, Intake, Outlet, ReadStop, read_all, write_all};
+use mk_device::feed::Feed;
+use mk_device::spout::Spout;
 use std::alloc::Global;
 use std::io;
 use std::io::{BufWriter, ErrorKind, Read, Write};

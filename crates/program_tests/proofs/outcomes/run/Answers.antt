@@ -1,5 +1,5 @@
 use Rattle.std.proofs.Common.{◌∙◌, Some, ap}
-use Rattle.mk_text.specs.Device.{Taking}
+use Rattle.mk_device.specs.Device.{Taking}
 use Rattle.program_tests.proofs.Shelving.{written_is}
 use Rattle.program_tests.proofs.outcomes.run.Goals as goal
 

@@ -1,6 +1,6 @@
 use Rattle.std.proofs.Common.{◌≡◌, false, ◌-◌, ◌≤◌, length, take}
 use Rattle.std.specs.Io.KnownBytes.{Appends}
-use Rattle.mk_text.proofs.device.write_all.Given as goal
+use Rattle.mk_device.proofs.device.write_all.Given as goal
 
 -- so many of the bytes were written
 abbrev pub invariant-writes : goal.invariant-writes

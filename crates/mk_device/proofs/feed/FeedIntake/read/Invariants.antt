@@ -1,6 +1,6 @@
 use Rattle.std.proofs.Common.{◌≡◌, false, ◌≤◌}
 use Rattle.std.specs.Io.KnownBytes.{Keeps}
-use Rattle.mk_text.proofs.feed.FeedIntake.read.Given as goal
+use Rattle.mk_device.proofs.feed.FeedIntake.read.Given as goal
 
 -- reads that were interrupted took nothing
 abbrev pub invariant-tries : goal.invariant-tries

@@ -15,7 +15,7 @@ pub struct Feed<R: Read> {
 }
 
 impl<R: Read> Model for Feed<R> {
-    ghost use Rattle.mk_text.specs.Device.{Giving};
+    ghost use Rattle.mk_device.specs.Device.{Giving};
 
     ghost Value = { Giving };
 

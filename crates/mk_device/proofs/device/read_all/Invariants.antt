@@ -1,6 +1,6 @@
 use Rattle.std.proofs.Common.{◌≡◌, false}
 use Rattle.std.specs.Io.KnownBytes.{Consumes}
-use Rattle.mk_text.proofs.device.read_all.Given as goal
+use Rattle.mk_device.proofs.device.read_all.Given as goal
 
 -- what was read is what the device had and has no more
 abbrev pub invariant-reads : goal.invariant-reads

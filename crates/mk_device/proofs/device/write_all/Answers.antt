@@ -1,8 +1,8 @@
 use Rattle.std.proofs.Common.{arith}
 use Rattle.std.proofs.lemmas.List.{length-drop}
 use Rattle.std.proofs.lemmas.Result.{err_from_is_err_and}
-use Rattle.mk_text.proofs.Written.{written_more}
-use Rattle.mk_text.proofs.device.write_all.Goals as goal
+use Rattle.mk_device.proofs.Written.{written_more}
+use Rattle.mk_device.proofs.device.write_all.Goals as goal
 
 pub returns-in_err-taken-clause-beginning : goal.returns-in_err-taken-clause-beginning
 returns-in_err-taken-clause-beginning g c =

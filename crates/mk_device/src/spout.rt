@@ -16,7 +16,7 @@ pub struct Spout<W: Write> {
 }
 
 impl<W: Write> Model for Spout<W> {
-    ghost use Rattle.mk_text.specs.Device.{Taking};
+    ghost use Rattle.mk_device.specs.Device.{Taking};
 
     ghost Value = { Taking };
 

@@ -1,7 +1,7 @@
 //! Devices: what bytes are read from, and what they are written to.
 ghost use Rattle.std.specs.Prelude.{◌≡◌, ◌<◌, ◌≤◌, ◌↔◌, ℕ, Bool, true, false, is_err, List, Option, length, take, IfOk, OnOk, OnErr, IfSome, IsErrOf};
 ghost use Rattle.std.specs.Io.KnownBytes.{Appends, Consumes, IsAtEnd};
-ghost use Rattle.mk_text.specs.Device.{AppendsBeginning};
+ghost use Rattle.mk_device.specs.Device.{AppendsBeginning};
 
 use std::alloc::{AllocError, Global};
 
@@ -60,7 +60,7 @@ pub enum ReadStop {
 }
 
 impl From<AllocError> for ReadStop {
-    ghost use Rattle.mk_text.specs.declared.device.ReadStop.TheVariants as stops;
+    ghost use Rattle.mk_device.specs.declared.device.ReadStop.TheVariants as stops;
 
     ghost from_gives = { λ _ stop. stop ≡ stops.Memory };
 
@@ -70,7 +70,7 @@ impl From<AllocError> for ReadStop {
 }
 
 impl From<Broken> for ReadStop {
-    ghost use Rattle.mk_text.specs.declared.device.ReadStop.TheVariants as stops;
+    ghost use Rattle.mk_device.specs.declared.device.ReadStop.TheVariants as stops;
 
     ghost from_gives = { λ _ stop. stop ≡ stops.Broken };
 
