@@ -188,7 +188,8 @@ def start_worker(*how):
 def do_check(job):
     title, check, what = job
     before = RUNNER.runs
-    os.chdir(next(it.folder for it in what if isinstance(it, Words)) if what else TOP)
+    # (an include file is named from where a run stands)
+    os.chdir(next((it.folder for it in what if isinstance(it, Words)), RUNNER.folder) if what else TOP)
     try:
         wrong = list(check(RUNNER, *what))
     except Exception as error:
