@@ -1,7 +1,11 @@
 -- The items of a text, one after another.
-use Rattle.std.proofs.Common.{◌≡◌, ℕ, zero, suc, ◌+◌, ◌≤◌, List, [], ◌∷◌, length, get_or, drop, refl, ◌∙◌, ap, arith, ◌==◌}
+use Rattle.std.proofs.Common.{◌≡◌, ℕ, zero, suc, ◌+◌, ◌<◌, ◌≤◌, false, List, [], ◌∷◌, ◌++◌, Option, Some, None, length, map, get_or, take, drop, refl, ◌∙◌, ap, arith, ◌==◌}
 use Rattle.std.specs.List.{position_or_len}
+use Rattle.std.specs.Option.{unwrap_or}
+use Rattle.std.proofs.lemmas.Bool.{false_from_ne_true}
+use Rattle.memchr.specs.Find.{IsFirstByte}
 use Rattle.mk_text.specs.Outside.{dollar}
+use Rattle.mk_macro.specs.Reference.{Plain}
 use Rattle.mk_macro.specs.References.{behind, dollar_item, dollar_length, items_behind, items_of, item_at, more_bytes}
 
 -- the first bytes are passed over
@@ -17,6 +21,23 @@ items_more b text = ap (λ items. item_at b text ∷ items) (items_skip (more_by
 pub items_from : (text : List ℕ) → 1 ≤ length text → items_of text ≡ item_at (get_or text 0 0) (drop 1 text) ∷ items_of (drop (more_bytes (get_or text 0 0) (drop 1 text)) (drop 1 text))
 items_from [] h = absurd (omega arith)
 items_from (b ∷ text) h = items_more b text
+
+-- bytes before the first dollar sign stand for themselves
+pub items_plain : (n : ℕ) (text : List ℕ) → n ≤ length text → ((i : ℕ) → i < n → (get_or text i 0 == dollar) ≡ false) → items_of text ≡ map Plain (take n text) ++ items_of (drop n text)
+items_plain zero text inside plain = refl
+items_plain (suc n) [] inside plain = absurd (omega arith)
+items_plain (suc n) (b ∷ text) inside plain =
+    let no : (b == dollar) ≡ false = plain 0 (omega arith) in
+    items_more b text ∙ rw no (ap (λ items. Plain b ∷ items) (items_plain n text (omega arith) (λ i below. plain (suc i) (omega arith))))
+
+pub plain_front : (text : List ℕ) (place : Option ℕ) → IsFirstByte (λ b. b == dollar) text place
+    → items_of text ≡ map Plain (take (unwrap_or place (length text)) text) ++ items_of (drop (unwrap_or place (length text)) text)
+plain_front text (Some n) first = items_plain n text (omega (arith, first.0.high)) (λ i below. false_from_ne_true (get_or text i 0 == dollar) (first.0.before i (omega arith) below))
+plain_front text None none = items_plain (length text) text (omega arith) (λ i below. false_from_ne_true (get_or text i 0 == dollar) (none i (omega arith) below))
+
+pub plain_inside : (text : List ℕ) (place : Option ℕ) → IsFirstByte (λ b. b == dollar) text place → unwrap_or place (length text) ≤ length text
+plain_inside text (Some n) first = omega (arith, first.0.high)
+plain_inside text None none = omega arith
 
 -- the items of a text that begins with a dollar sign
 pub items_dollar : (text : List ℕ) → 1 ≤ length text → get_or text 0 0 ≡ dollar → items_of text ≡ dollar_item (drop 1 text) ∷ items_of (drop (dollar_length (drop 1 text)) (drop 1 text))

@@ -1,18 +1,16 @@
 -- The steps of an expansion: what its stack, its output and what is left of a text stand for.
-use Rattle.std.proofs.Common.{◌≡◌, ℕ, ◌+◌, ◌<◌, ◌≤◌, true, List, [], ◌∷◌, ◌++◌, Option, Some, None, Ok, Err, length, map, refl, sym, ◌∙◌, ap, subst, arith, append_assoc, length-append}
-use Rattle.std.proofs.lemmas.Bool.{le-ltb, lt-ltb}
+use Rattle.std.proofs.Common.{◌≡◌, ℕ, ◌+◌, ◌<◌, ◌≤◌, inl, inr, true, List, [], ◌∷◌, ◌++◌, Option, Some, None, Ok, Err, length, map, refl, sym, ◌∙◌, ap, subst, arith, append_assoc, length-append}
+use Rattle.std.proofs.lemmas.Bool.{cases_lt, le-ltb, lt-ltb}
 use Rattle.std.proofs.lemmas.List.{append-nil}
 use Rattle.mk_name.specs.Names.{Name}
 use Rattle.mk_name.specs.Told.{Told}
 use Rattle.mk_name.specs.declared.fault.Kind.TheVariants.{ExpansionTooLarge}
-use Rattle.mk_macro.specs.declared.item.Item.{Item}
-use Rattle.mk_macro.specs.declared.item.Item.TheVariants.{Refers}
 use Rattle.mk_macro.specs.declared.open.Open.{Open}
 use Rattle.mk_macro.specs.Expansion.{Expands, Gives, Outcome, byte_limit, is_late, joined, macro_fault, refusal}
-use Rattle.mk_macro.specs.Expansion.{nothing, failed, one_more, late}
+use Rattle.mk_macro.specs.Expansion.{nothing, failed, one_more, byte, late}
 use Rattle.mk_macro.specs.Layer.{Holds, Output, Puts, Text, grown}
 use Rattle.mk_macro.specs.Macros.{Definition, Macros}
-use Rattle.mk_macro.specs.Reference.{Change, Reference}
+use Rattle.mk_macro.specs.Reference.{Change, Item, Reference, Plain, Refers}
 use Rattle.mk_macro.specs.References.{items_of}
 use Rattle.mk_macro.specs.Substitution.{changed}
 
@@ -114,11 +112,12 @@ pub too_long : {m : Macros} {text : List ℕ} {output : Output} {left : List Ite
     → Expands m [] (items_of text) 0 (Err too_large)
 too_long {next = next} opens given s g h = fails opens s g (joined_long s.inner.own given next h)
 
--- an item gives a text
-gives_more : {m : Macros} {text : List ℕ} {left : List Item} {item : Item} {count next : ℕ} (opens : List Open) (items : List Item) (k : ℕ) (inner : Text) (texts : List Text) (given : List ℕ) (after : Output)
-    → Level m text opens inner.change texts items k → Progress m (names opens) items k inner.own count (item ∷ left) → Gives m (names opens) item count (the given next) → Holds after (grown inner given) texts
+-- some items give a text
+run_done : {m : Macros} {text : List ℕ} {left : List Item} {count next : ℕ} (opens : List Open) (items : List Item) (k : ℕ) (inner : Text) (texts : List Text) (given : List ℕ) (after : Output) (run : List Item)
+    → Level m text opens inner.change texts items k → (p : Progress m (names opens) items k inner.own count (run ++ left))
+    → (length inner.own + length given ≤ byte_limit → Expands m (names opens) (p.seen ++ run) k (the (inner.own ++ given) next)) → Holds after (grown inner given) texts
     → Stands m text opens after left next
-gives_more {left = left} {item = item} {next = next} opens items k inner texts given after level p g holds =
+run_done {left = left} opens items k inner texts given after run level p so_far holds =
     let within = holds.within in
     let is = holds.size_is in
     let parts = length-append inner.own given in
@@ -129,16 +128,62 @@ gives_more {left = left} {item = item} {next = next} opens items k inner texts g
       texts = texts;
       level = level;
       progress = record {
-        seen = p.seen ++ item ∷ [];
-        all = p.all ∙ sym (append_assoc p.seen (item ∷ []) left);
-        so_far = more_seen p g (sym (joined_short inner.own given next (omega arith)));
+        seen = p.seen ++ run;
+        all = p.all ∙ sym (append_assoc p.seen run left);
+        so_far = so_far (omega arith);
       };
       holds = holds;
     }
 
+-- one item does
+gives_more : {m : Macros} {text : List ℕ} {left : List Item} {item : Item} {count next : ℕ} (opens : List Open) (items : List Item) (k : ℕ) (inner : Text) (texts : List Text) (given : List ℕ) (after : Output)
+    → Level m text opens inner.change texts items k → Progress m (names opens) items k inner.own count (item ∷ left) → Gives m (names opens) item count (the given next) → Holds after (grown inner given) texts
+    → Stands m text opens after left next
+gives_more {item = item} {next = next} opens items k inner texts given after level p g holds =
+    run_done opens items k inner texts given after (item ∷ []) level p (λ short. more_seen p g (sym (joined_short inner.own given next short))) holds
+
 pub goes_on : {m : Macros} {text : List ℕ} {output : Output} {left : List Item} {item : Item} {count next : ℕ} (opens : List Open) (given : List ℕ) (after : Output)
     → Stands m text opens output (item ∷ left) count → Gives m (names opens) item count (the given next) → Puts output after given → Stands m text opens after left next
 goes_on opens given after s g puts = gives_more opens s.items s.k s.inner s.texts given after s.level s.progress g (puts s.inner s.texts s.holds)
+
+-- bytes that stand for themselves, an item each
+module _ {m : Macros} {busy : List Name} {k count : ℕ} where
+  byte_seen : (seen : List Item) (own : List ℕ) (b : ℕ) → Expands m busy seen k (the own count) → length own + 1 ≤ byte_limit → Expands m busy (seen ++ Plain b ∷ []) k (the (own ++ b ∷ []) count)
+  byte_seen seen own b e short = one_more e byte refl (sym (joined_short own (b ∷ []) count short))
+
+  bytes_seen : (seen : List Item) (own bytes : List ℕ) → Expands m busy seen k (the own count) → length own + length bytes ≤ byte_limit → Expands m busy (seen ++ map Plain bytes) k (the (own ++ bytes) count)
+  bytes_seen seen own [] e short =
+      subst (λ (items : List Item). Expands m busy items k (the (own ++ []) count)) (sym (append-nil seen)) (subst (λ (xs : List ℕ). Expands m busy seen k (the xs count)) (sym (append-nil own)) e)
+  bytes_seen seen own (b ∷ bytes) e short =
+      let parts = length-append own (b ∷ []) in
+      subst (λ (items : List Item). Expands m busy items k (the (own ++ b ∷ bytes) count)) (append_assoc seen (Plain b ∷ []) (map Plain bytes))
+      (subst (λ (xs : List ℕ). Expands m busy ((seen ++ Plain b ∷ []) ++ map Plain bytes) k (the xs count)) (append_assoc own (b ∷ []) bytes)
+      (bytes_seen (seen ++ Plain b ∷ []) (own ++ b ∷ []) bytes (byte_seen seen own b e (omega arith)) (omega arith)))
+
+  bytes_over : (seen : List Item) (own bytes : List ℕ) → Expands m busy seen k (the own count) → length own ≤ byte_limit → byte_limit < length own + length bytes → Expands m busy (seen ++ map Plain bytes) k (Err too_large)
+  bytes_over seen own [] e short long = absurd (omega arith)
+  bytes_over seen own (b ∷ bytes) e short long =
+      let parts = length-append own (b ∷ []) in
+      subst (λ (items : List Item). Expands m busy items k (Err too_large)) (append_assoc seen (Plain b ∷ []) (map Plain bytes))
+      (elim (cases_lt byte_limit (length own + 1)) [
+        | inl over ↦ fault_stays (seen ++ Plain b ∷ []) (map Plain bytes) (one_more e byte refl (sym (joined_long own (b ∷ []) count over)))
+        | inr fits ↦ bytes_over (seen ++ Plain b ∷ []) (own ++ b ∷ []) bytes (byte_seen seen own b e fits) (omega arith) (omega arith)
+      ])
+
+module _ {m : Macros} {text : List ℕ} {output : Output} {count : ℕ} (left : List Item) (opens : List Open) (bytes : List ℕ) (s : Stands m text opens output (map Plain bytes ++ left) count) where
+  pub bytes_on : (after : Output) → Puts output after bytes → Stands m text opens after left count
+  bytes_on after puts =
+      run_done opens s.items s.k s.inner s.texts bytes after (map Plain bytes) s.level s.progress
+      (λ short. bytes_seen s.progress.seen s.inner.own bytes s.progress.so_far short) (puts s.inner s.texts s.holds)
+
+  pub bytes_too_long : byte_limit < length s.inner.own + length bytes → Expands m [] (items_of text) 0 (Err too_large)
+  bytes_too_long long =
+      let p = s.progress in
+      let is = s.holds.size_is in
+      let within = s.holds.within in
+      level_fault text opens s.inner.change s.texts s.items s.k s.level
+      (subst (λ (items : List Item). Expands m (names opens) items s.k (Err too_large)) (append_assoc p.seen (map Plain bytes) left ∙ sym p.all)
+      (fault_stays (p.seen ++ map Plain bytes) left (bytes_over p.seen s.inner.own bytes p.so_far (omega arith) long)))
 
 -- the beginning
 pub begins : (m : Macros) (text : List ℕ) (output : Output) → Holds output (record { change = None; own = [] }) [] → Stands m text [] output (items_of text) 0

@@ -6,12 +6,10 @@ use Rattle.std.proofs.lemmas.List.{append-nil}
 use Rattle.mk_name.specs.Names.{Name, has, same_name}
 use Rattle.mk_name.specs.Told.{Told}
 use Rattle.mk_name.specs.declared.fault.Kind.TheVariants.{ExpansionTooLarge, InternalMacro, MacroLoop}
-use Rattle.mk_macro.specs.declared.item.Item.{Item}
-use Rattle.mk_macro.specs.declared.item.Item.TheVariants.{Plain, Refers, Broken}
 use Rattle.mk_macro.specs.Expansion.{Expands, Gives, IsExpansion, Outcome, byte_limit, is_internal, is_late, joined, macro_fault, reference_limit, referred, refusal, text_of}
 use Rattle.mk_macro.specs.Expansion.{nothing, failed, one_more, byte, broken, refused, undefined, itself, late}
 use Rattle.mk_macro.specs.Macros.{Definition, Macros}
-use Rattle.mk_macro.specs.Reference.{Reference}
+use Rattle.mk_macro.specs.Reference.{Item, Reference, Plain, Refers, Broken}
 use Rattle.mk_macro.specs.References.{items_of}
 
 -- an outcome counts no reference away

@@ -3,10 +3,10 @@ use Rattle.std.proofs.Common.{◌≡◌, ℕ, ◌+◌, true, false, List, [], �
 use Rattle.std.proofs.lemmas.Bool.{false≢true}
 use Rattle.mk_name.specs.Names.{Name}
 use Rattle.mk_name.specs.Told.{Told}
-use Rattle.mk_macro.specs.declared.item.Item.{Item}
 use Rattle.mk_macro.specs.Expansion.{Expanded, Expands, Gives, IsExpansion, Outcome, is_late, joined, referred, text_of}
 use Rattle.mk_macro.specs.Expansion.{nothing, failed, one_more, byte, broken, refused, undefined, itself, late}
 use Rattle.mk_macro.specs.Macros.{Definition, Macros}
+use Rattle.mk_macro.specs.Reference.{Item}
 use Rattle.mk_macro.specs.References.{items_of}
 
 -- lists with one more item at their ends

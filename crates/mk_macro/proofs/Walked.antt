@@ -1,5 +1,5 @@
 -- The ways through the loop of an expansion.
-use Rattle.std.proofs.Common.{◌≡◌, ℕ, ◌+◌, ◌<◌, false, List, [], ◌∷◌, ◌++◌, Option, Some, None, Result, Ok, Err, length, refl, sym, ◌∙◌, ap, subst}
+use Rattle.std.proofs.Common.{◌≡◌, ℕ, ◌+◌, ◌<◌, false, List, [], ◌∷◌, ◌++◌, Option, Some, None, Result, Ok, Err, length, map, refl, sym, ◌∙◌, ap, subst}
 use Rattle.std.specs.Prelude.{Vec, reverse}
 use Rattle.std.specs.Global.{Global}
 use Rattle.std.specs.Result.{IsErrAnd}
@@ -11,18 +11,16 @@ use Rattle.mk_name.specs.declared.fault.Halt.{Halt}
 use Rattle.mk_name.specs.declared.fault.Halt.TheVariants as halts
 use Rattle.mk_name.specs.declared.fault.Kind.TheVariants.{BadReference}
 use Rattle.mk_macro.specs.Answers.{AnswersText}
-use Rattle.mk_macro.specs.declared.item.Item.{Item}
-use Rattle.mk_macro.specs.declared.item.Item.TheVariants.{Plain, Refers, Broken}
 use Rattle.mk_macro.specs.declared.open.Open.{Open}
 use Rattle.mk_macro.specs.Expansion.{Expands, IsExpansion, byte_limit, is_late, macro_fault, refusal}
-use Rattle.mk_macro.specs.Expansion.{byte, broken, refused, undefined, itself}
+use Rattle.mk_macro.specs.Expansion.{broken, refused, undefined, itself}
 use Rattle.mk_macro.specs.Layer.{Holds, Output, Puts, Text, grown}
 use Rattle.mk_macro.specs.Limits.{IsOver, IsRefusal, IsReferred, IsOverReferred, IsTooMuch}
 use Rattle.mk_macro.specs.Macros.{Definition, Macros}
-use Rattle.mk_macro.specs.Reference.{Change, Reference}
+use Rattle.mk_macro.specs.Reference.{Change, Item, Reference, Plain, Refers, Broken}
 use Rattle.mk_macro.specs.References.{items_of}
 use Rattle.mk_macro.specs.Substitution.{changed}
-use Rattle.mk_macro.proofs.Steps.{Level, Stands, closes, closes_long, enters, fails, finishes, goes_on, names, the, too_large, too_long}
+use Rattle.mk_macro.proofs.Steps.{Level, Stands, bytes_on, bytes_too_long, closes, closes_long, enters, fails, finishes, goes_on, names, the, too_large, too_long}
 
 -- answers
 pub fault_answer : (m : Macros) (text : List ℕ) (f : Told) → Expands m [] (items_of text) 0 (Err f) → IsExpansion m text (Err f)
@@ -69,16 +67,16 @@ opens_are : {m : Macros} {text : List ℕ} {output : Output} {left : List Item} 
 opens_are {m} {text} {output} {left} {count} e s = subst (λ (os : List Open). Stands m text os output left count) e s
 
 module _ {m : Macros} {text : List ℕ} {output : Output} {left : List Item} {count : ℕ} (opens : List Open) (s : Stands m text opens output (left) count) where
-  -- a byte
-  pub plain_on : (b : ℕ) (behind : List ℕ) (after : Output) → left ≡ Plain b ∷ items_of behind → Puts output after (b ∷ []) → Stands m text opens after (items_of behind) count
-  plain_on b behind after e puts = goes_on opens (b ∷ []) after (left_is e s) byte puts
+  -- bytes
+  pub plain_on : (bytes behind : List ℕ) (after : Output) → left ≡ map Plain bytes ++ items_of behind → Puts output after bytes → Stands m text opens after (items_of behind) count
+  plain_on bytes behind after e puts = bytes_on (items_of behind) opens bytes (left_is e s) after puts
 
-  pub plain_over : (result : Result (Vec ℕ Global) Halt) (halt : Halt) (b : ℕ) (behind : List ℕ) → left ≡ Plain b ∷ items_of behind → IsErrAnd result (λ y. y ≡ halt) → IsTooMuch output (b ∷ []) halt
+  pub plain_over : (result : Result (Vec ℕ Global) Halt) (halt : Halt) (bytes behind : List ℕ) → left ≡ map Plain bytes ++ items_of behind → IsErrAnd result (λ y. y ≡ halt) → IsTooMuch output bytes halt
       → AnswersText result (IsExpansion m text)
-  plain_over result halt b behind e same over =
+  plain_over result halt bytes behind e same over =
       let now = left_is e s in
       over_answer (IsExpansion m text) result halt byte_limit _ same (over now.inner now.texts now.holds)
-      (λ h. fault_answer m text too_large (too_long opens (b ∷ []) now byte h))
+      (λ h. fault_answer m text too_large (bytes_too_long (items_of behind) opens bytes now h))
 
   -- a broken reference
   pub broken_fails : (later : List Item) → left ≡ Broken ∷ later → IsExpansion m text (Err (macro_fault BadReference []))

@@ -8,10 +8,8 @@ use Rattle.mk_name.specs.declared.fault.Kind.TheVariants.{MacroLoop, BadReferenc
 use Rattle.mk_name.specs.declared.fault.Source.TheVariants.{Makefile}
 use Rattle.mk_macro.specs.declared.definition.Manner.{Manner}
 use Rattle.mk_macro.specs.declared.definition.Manner.TheVariants.{Delayed, Immediate, Given}
-use Rattle.mk_macro.specs.declared.item.Item.{Item}
-use Rattle.mk_macro.specs.declared.item.Item.TheVariants.{Plain, Refers, Broken}
 use Rattle.mk_macro.specs.Macros.{Macros, Definition}
-use Rattle.mk_macro.specs.Reference.{Reference}
+use Rattle.mk_macro.specs.Reference.{Reference, Item, Plain, Refers, Broken}
 use Rattle.mk_macro.specs.References.{items_of}
 use Rattle.mk_macro.specs.Substitution.{changed}
 

@@ -2,9 +2,9 @@
 use Rattle.std.specs.Prelude.{◌≡◌, ℕ, List, Result}
 use Rattle.mk_name.specs.Names.{Name}
 use Rattle.mk_name.specs.Told.{Told}
-use Rattle.mk_macro.specs.declared.item.Item.{Item}
 use Rattle.mk_macro.specs.Expansion.{Expands, IsExpansion, Outcome}
 use Rattle.mk_macro.specs.Macros.{Macros}
+use Rattle.mk_macro.specs.Reference.{Item}
 
 -- items come to no two outcomes
 abbrev pub ItemsComeToOne : Type 0

@@ -9,6 +9,7 @@ pub mod Macros
 pub mod Operands
 pub mod Reference
 pub mod References
+pub mod Runs
 pub mod Saved
 pub mod Substitution
 pub mod Words

@@ -10,3 +10,9 @@ pub record Change : Type 0 where
 pub record Reference : Type 0 where
   pub name : List ℕ
   pub change : Option Change
+
+-- an item of a text: a byte that stands for itself, a reference, or one with a wrong form
+pub data Item : Type 0 where
+  Plain : ℕ → Item
+  Refers : Reference → Item
+  Broken : Item

@@ -3,9 +3,7 @@ use Rattle.std.specs.Prelude.{ℕ, zero, suc, ◌+◌, Bool, List, [], ◌∷◌
 use Rattle.std.specs.List.{list_any, before_first, after_first, position_or_len}
 use Rattle.mk_text.specs.LogicalLines.{colon, equals, is_macro_name}
 use Rattle.mk_text.specs.Outside.{dollar}
-use Rattle.mk_macro.specs.Reference.{Change}
-use Rattle.mk_macro.specs.declared.item.Item.{Item}
-use Rattle.mk_macro.specs.declared.item.Item.TheVariants.{Plain, Refers, Broken}
+use Rattle.mk_macro.specs.Reference.{Change, Item, Plain, Refers, Broken}
 
 -- a text holds this byte
 abbrev pub holds : ℕ → List ℕ → Bool

@@ -67,7 +67,7 @@ impl Macros {
             rest = behind;
             match item {
                 Item::Broken => return Err(unnamed(alloc, Kind::BadReference)),
-                Item::Plain(byte) => out.push_byte(alloc, byte)?,
+                Item::Plain(bytes) => out.push(alloc, &None, bytes)?,
                 Item::Refers(reference) => {
                     let name = reference.name();
                     refuse(alloc, &opens, count, name)?;

@@ -1,10 +1,13 @@
-//! The items of a text: bytes that stand for themselves, and references (POSIX.1-2024 XCU make,
-//! "Macros").
-ghost use Rattle.std.specs.Prelude.{◌≡◌, ◌<◌, true, false, List, [], ◌∷◌, length, drop, ◌==◌, IfNone, IfSome};
+//! The items of a text: runs of bytes that stand for themselves, and references (POSIX.1-2024 XCU
+//! make, "Macros").
+ghost use Rattle.std.specs.Prelude.{◌≡◌, ◌≤◌, ◌<◌, true, false, List, [], ◌∷◌, ◌++◌, length, map, take, drop, ◌==◌, IfNone, IfSome};
 ghost use Rattle.std.specs.List.{position};
 ghost use Rattle.std.specs.Option.{option_map_or};
+ghost use Rattle.mk_macro.specs.Reference.{Plain};
 ghost use Rattle.mk_macro.specs.References.{before, behind, bracketed, changing, closed_by, dollar_item, dollar_length, holds, items_of, reference_to};
+ghost use Rattle.mk_macro.specs.Runs.{items_in};
 
+use memchr::memchr;
 use mk_text::lexical::is_macro_name;
 use std::marker::Model;
 
@@ -80,8 +83,8 @@ impl<'a> Reference<'a> {
 /// What a text consists of.
 #[derive(Debug, Drop)]
 pub enum Item<'a> {
-    /// A byte that stands for itself.
-    Plain(u8),
+    /// Bytes that stand for themselves.
+    Plain(&'a [u8]),
     Refers(Reference<'a>),
     /// A reference with a wrong form.
     Broken,
@@ -115,7 +118,7 @@ fn holds(text: &[u8], byte: u8) -> bool
 
 /// What a reference with this name and this substitution is.
 fn reference_to<'a>(name: &'a [u8], change: Option<Change<'a>>) -> Item<'a>
-    ensures { result ≡ reference_to name.now change.entry }
+    ensures { items_in result ≡ reference_to name.now change.entry ∷ [] }
 {
     if is_macro_name(name) {
         return Item::Refers(Reference { name, change });
@@ -125,7 +128,7 @@ fn reference_to<'a>(name: &'a [u8], change: Option<Change<'a>>) -> Item<'a>
 
 /// A reference with this text behind its colon.
 fn changing<'a>(name: &'a [u8], text: &'a [u8]) -> Item<'a>
-    ensures { result ≡ changing name.now text.now }
+    ensures { items_in result ≡ changing name.now text.now ∷ [] }
 {
     if holds(text, b'%') {
         return Item::Broken;
@@ -138,7 +141,7 @@ fn changing<'a>(name: &'a [u8], text: &'a [u8]) -> Item<'a>
 
 /// A reference with this text between its brackets.
 fn bracketed(inside: &[u8]) -> Item
-    ensures { result ≡ bracketed inside.now }
+    ensures { items_in result ≡ bracketed inside.now ∷ [] }
 {
     if holds(inside, b'$') {
         return Item::Broken;
@@ -152,7 +155,7 @@ fn bracketed(inside: &[u8]) -> Item
 /// A reference whose brackets hold what stands before the first closing one, and what stands
 /// behind that.
 fn closed_by(closing: u8, text: &[u8]) -> (Item, &[u8])
-    ensures item { result.0 ≡ closed_by closing text.now }
+    ensures item { items_in result.0 ≡ closed_by closing text.now ∷ [] }
     ensures behind { result.1.now ≡ behind closing text.now }
 {
     match split_at_byte(text, closing) {
@@ -163,26 +166,39 @@ fn closed_by(closing: u8, text: &[u8]) -> (Item, &[u8])
 
 /// The item that a dollar sign begins before this text, and what stands behind it.
 fn dollar_item(text: &[u8]) -> (Item, &[u8])
-    ensures item { result.0 ≡ dollar_item text.now }
+    ensures item { items_in result.0 ≡ dollar_item text.now ∷ [] }
     ensures behind { result.1.now ≡ drop (dollar_length text.now) text.now }
 {
     match text {
         [] => (Item::Broken, text),
-        [b'$', rest @ ..] => (Item::Plain(b'$'), rest),
+        [b'$', rest @ ..] => (Item::Plain(&text[..1]), rest),
         [b'(', rest @ ..] => closed_by(b')', rest),
         [b'{', rest @ ..] => closed_by(b'}', rest),
         [_, rest @ ..] => (reference_to(&text[..1], None), rest),
     }
 }
 
-/// The first item of a text, and what stands behind it.
+/// How many bytes stand before the first dollar sign; all where there is none.
+fn plain_length(text: &[u8]) -> usize
+    ensures within { result ≤ length text.now }
+    ensures items { items_of text.now
+        ≡ map Plain (take result text.now) ++ items_of (drop result text.now) }
+{
+    memchr(b'$', text).unwrap_or(text.len())
+}
+
+/// The first item of a text, and what stands behind it. Bytes are taken up to the next dollar sign.
 pub fn first_item(text: &[u8]) -> Option<(Item, &[u8])>
-    ensures items { items_of text.now ≡ option_map_or (λ cut. cut.0 ∷ items_of cut.1.now) result [] }
+    ensures items { items_of text.now
+        ≡ option_map_or (λ cut. items_in cut.0 ++ items_of cut.1.now) result [] }
     ensures shorter { IfSome result (λ cut. length cut.1.now < length text.now) }
 {
     match text {
         [] => None,
         [b'$', rest @ ..] => Some(dollar_item(rest)),
-        [byte, rest @ ..] => Some((Item::Plain(*byte), rest)),
+        [_, rest @ ..] => {
+            let (bytes, behind) = text.split_at(1 + plain_length(rest));
+            Some((Item::Plain(bytes), behind))
+        }
     }
 }

@@ -1,5 +1,5 @@
 //! What is kept of a text that is being expanded.
-ghost use Rattle.std.specs.Prelude.{◌≡◌, ◌≤◌, ◌<◌, ◌+◌, ◌++◌, ◌∷◌, ℕ, List, [], IsTrue, ◌↔◌, length, option_map, IfErr, IfNone, IfOk, IfSome, OnOk};
+ghost use Rattle.std.specs.Prelude.{◌≡◌, ◌≤◌, ◌<◌, ◌+◌, ◌++◌, ℕ, List, [], IsTrue, ◌↔◌, length, option_map, IfErr, IfNone, IfOk, IfSome, OnOk};
 ghost use Rattle.mk_macro.specs.Expansion.{byte_limit};
 ghost use Rattle.mk_macro.specs.Layer.{Passes, Settles, TakesIn, longer, size};
 ghost use Rattle.mk_macro.specs.Limits.{IsOver};
@@ -79,19 +79,6 @@ impl<'a> Layer<'a> {
             return Err(unnamed(alloc, Kind::ExpansionTooLarge));
         };
         push_changed(&mut self.kept, alloc, change, text, limit)
-    }
-
-    /// Puts a byte at the end, unless that is more than the limit.
-    pub fn push_byte(&mut self, alloc: Global, byte: u8) -> Result<(), Halt>
-        ensures text { OnOk result (self.new ≡ longer self.old (byte ∷ [])) }
-        ensures within { OnOk result (size self.new ≤ byte_limit) }
-        ensures over { IfErr result (λ halt. IsOver halt byte_limit (size self.old + 1)) }
-    {
-        if !self.has_room(1) {
-            return Err(unnamed(alloc, Kind::ExpansionTooLarge));
-        }
-        self.kept.push(byte)?;
-        Ok(())
     }
 
     /// Keeps nothing of a text that is longer than the limit.

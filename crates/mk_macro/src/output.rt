@@ -55,15 +55,6 @@ impl<'a> Output<'a> {
         self.top.push(alloc, change, bytes)
     }
 
-    /// Puts a byte at the end of the innermost, unless that is more than the limit.
-    pub fn push_byte(&mut self, alloc: Global, byte: u8) -> Result<(), Halt>
-        ensures put { OnOk result (Puts self.old self.new (byte ∷ [])) }
-        ensures over { IfErr result (λ halt. IsTooMuch self.old (byte ∷ []) halt) }
-        ensures counted { OnOk result (self.new.loose ≡ self.old.loose) }
-    {
-        self.top.push_byte(alloc, byte)
-    }
-
     /// Begins a text inside the innermost, which goes on to it with this substitution. The only
     /// error is want of memory.
     pub fn open(&mut self, alloc: Global, change: Option<Change<'a>>) -> Result<(), AllocError>

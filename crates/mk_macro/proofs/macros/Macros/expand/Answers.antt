@@ -1,10 +1,11 @@
-use Rattle.std.proofs.Common.{◌∙◌, List, [], ◌∷◌, Option, sym, ap, subst, arith, refl, reverse}
+use Rattle.std.proofs.Common.{◌∙◌, List, [], ◌∷◌, ◌++◌, Option, sym, ap, subst, arith, refl, reverse}
 use Rattle.mk_macro.specs.Busy.{busy_names}
 use Rattle.mk_macro.specs.Expansion.{IsExpansion, refusal}
 use Rattle.mk_macro.specs.Layer.{Holds, Text}
 use Rattle.mk_macro.specs.Macros.{macros_of}
 use Rattle.mk_macro.specs.Reference.{Change}
 use Rattle.mk_macro.specs.References.{items_of}
+use Rattle.mk_macro.specs.Runs.{items_in}
 use Rattle.mk_macro.proofs.Steps.{begins}
 use Rattle.mk_macro.proofs.Walked.{broken_fails, closed_on, closed_over, plain_on, plain_over, referred_in, referred_on, referred_over, refusal_answer, refused_fails}
 use Rattle.mk_macro.proofs.Work.{work, work_push}
@@ -32,17 +33,17 @@ pub returns-in-Broken : goal.returns-in-Broken
 returns-in-Broken c =
     rw c.unnamed.ensures
     (broken_fails (reverse c.items.opens.items) c.items.invariant (items_of c.in-Some.behind.now)
-    (c.in-Some.ensures.items ∙ ap (λ x. x ∷ items_of c.in-Some.behind.now) c.in-Broken.is))
+    (c.in-Some.ensures.items ∙ ap (λ x. items_in x ++ items_of c.in-Some.behind.now) c.in-Broken.is))
 
-pub items-preserved-in_ok-push_byte-in-Plain : goal.items-preserved-in_ok-push_byte-in-Plain
-items-preserved-in_ok-push_byte-in-Plain c =
-    plain_on (reverse c.items.opens.items) c.items.invariant c.in-Plain.byte c.in-Some.behind.now c.push_byte.new.self
-    (c.in-Some.ensures.items ∙ ap (λ x. x ∷ items_of c.in-Some.behind.now) c.in-Plain.is) c.in_ok-push_byte-in-Plain.ensures.put
+pub items-preserved-in_ok-push-in-Plain : goal.items-preserved-in_ok-push-in-Plain
+items-preserved-in_ok-push-in-Plain c =
+    plain_on (reverse c.items.opens.items) c.items.invariant c.in-Plain.bytes.now c.in-Some.behind.now c.push.new.self
+    (c.in-Some.ensures.items ∙ ap (λ x. items_in x ++ items_of c.in-Some.behind.now) c.in-Plain.is) c.in_ok-push-in-Plain.ensures.put
 
-pub returns-in_err-push_byte-in-Plain : goal.returns-in_err-push_byte-in-Plain
-returns-in_err-push_byte-in-Plain c =
-    plain_over (reverse c.items.opens.items) c.items.invariant c.from_residual-in_err-push_byte-in-Plain.result _ c.in-Plain.byte c.in-Some.behind.now
-    (c.in-Some.ensures.items ∙ ap (λ x. x ∷ items_of c.in-Some.behind.now) c.in-Plain.is) c.from_residual-in_err-push_byte-in-Plain.ensures.1 c.in_err-push_byte-in-Plain.ensures.over
+pub returns-in_err-push-in-Plain : goal.returns-in_err-push-in-Plain
+returns-in_err-push-in-Plain c =
+    plain_over (reverse c.items.opens.items) c.items.invariant c.from_residual-in_err-push-in-Plain.result _ c.in-Plain.bytes.now c.in-Some.behind.now
+    (c.in-Some.ensures.items ∙ ap (λ x. items_in x ++ items_of c.in-Some.behind.now) c.in-Plain.is) c.from_residual-in_err-push-in-Plain.ensures.1 c.in_err-push-in-Plain.ensures.over
 
 pub returns-in_err-refuse-in-Refers : goal.returns-in_err-refuse-in-Refers
 returns-in_err-refuse-in-Refers c =
@@ -52,7 +53,7 @@ returns-in_err-refuse-in-Refers c =
     ∙ ap (λ n. refusal (busy_names c.deref.result.now) c.items.count n) (sym c.name-name.ensures) in
     refusal_answer (IsExpansion (macros_of c.args.self.now) c.args.text.now) c.from_residual-in_err-refuse-in-Refers.result _ _ c.from_residual-in_err-refuse-in-Refers.ensures.1 c.in_err-refuse-in-Refers.ensures.refused
     (λ f is. refused_fails (reverse c.items.opens.items) c.items.invariant c.in-Refers.reference c.in-Some.behind.now
-    (c.in-Some.ensures.items ∙ ap (λ x. x ∷ items_of c.in-Some.behind.now) c.in-Refers.is) f (same ∙ is))
+    (c.in-Some.ensures.items ∙ ap (λ x. items_in x ++ items_of c.in-Some.behind.now) c.in-Refers.is) f (same ∙ is))
 
 pub returns-in_err-value-in-Refers : goal.returns-in_err-value-in-Refers
 returns-in_err-value-in-Refers c =
@@ -61,7 +62,7 @@ returns-in_err-value-in-Refers c =
     ap (λ os. refusal (busy_names os) c.items.count name) (sym c.deref.ensures.value)
     ∙ ap (λ n. refusal (busy_names c.deref.result.now) c.items.count n) (sym c.name-name.ensures) in
     referred_over (reverse c.items.opens.items) c.items.invariant c.in-Refers.reference c.in-Some.behind.now
-    (c.in-Some.ensures.items ∙ ap (λ x. x ∷ items_of c.in-Some.behind.now) c.in-Refers.is) (same ∙ c.in_ok-refuse-in-Refers.ensures.allowed)
+    (c.in-Some.ensures.items ∙ ap (λ x. items_in x ++ items_of c.in-Some.behind.now) c.in-Refers.is) (same ∙ c.in_ok-refuse-in-Refers.ensures.allowed)
     c.from_residual-in_err-value-in-Refers.result _ c.from_residual-in_err-value-in-Refers.ensures.1 c.in_err-value-in-Refers.ensures.over
 
 pub items-preserved : goal.items-preserved
@@ -71,7 +72,7 @@ items-preserved c =
     ap (λ os. refusal (busy_names os) c.items.count name) (sym c.deref.ensures.value)
     ∙ ap (λ n. refusal (busy_names c.deref.result.now) c.items.count n) (sym c.name-name.ensures) in
     referred_on (reverse c.items.opens.items) c.items.invariant c.in-Refers.reference c.in-Some.behind.now
-    (c.in-Some.ensures.items ∙ ap (λ x. x ∷ items_of c.in-Some.behind.now) c.in-Refers.is) (same ∙ c.in_ok-refuse-in-Refers.ensures.allowed) c.refer.new.out
+    (c.in-Some.ensures.items ∙ ap (λ x. items_in x ++ items_of c.in-Some.behind.now) c.in-Refers.is) (same ∙ c.in_ok-refuse-in-Refers.ensures.allowed) c.refer.new.out
     (rw c.in_default-value.is at c.in_ok-value-in-Refers.ensures.referred)
 
 pub items-preserved-in-Some-value : goal.items-preserved-in-Some-value
@@ -82,7 +83,7 @@ items-preserved-in-Some-value c =
     ap (λ os. refusal (busy_names os) c.items.count name) (sym c.deref.ensures.value)
     ∙ ap (λ n. refusal (busy_names c.deref.result.now) c.items.count n) (sym c.name-name.ensures) in
     referred_in (reverse c.items.opens.items) c.items.invariant c.in-Refers.reference c.in-Some.behind.now
-    (c.in-Some.ensures.items ∙ ap (λ x. x ∷ items_of c.in-Some.behind.now) c.in-Refers.is) (same ∙ c.in_ok-refuse-in-Refers.ensures.allowed) c.in-Some-value.value.now c.refer.new.out c.open.new.self (record { name = c.name-name.result; rest = c.in-Some.behind })
+    (c.in-Some.ensures.items ∙ ap (λ x. items_in x ++ items_of c.in-Some.behind.now) c.in-Refers.is) (same ∙ c.in_ok-refuse-in-Refers.ensures.allowed) c.in-Some-value.value.now c.refer.new.out c.open.new.self (record { name = c.name-name.result; rest = c.in-Some.behind })
     c.name-name.ensures refl opened c.items.opens.items _ refl c.in_ok-push-in-Refers.ensures.items (rw c.in-Some-value.is at c.in_ok-value-in-Refers.ensures.referred)
 
 pub items-smaller-in-Some-value : goal.items-smaller-in-Some-value
