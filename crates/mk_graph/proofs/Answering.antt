@@ -1,30 +1,30 @@
 -- What `plan` answers, from what its parts found.
-use Rattle.std.proofs.Common.{◌≡◌, ℕ, ◌<◌, ◌≤◌, Bool, false, List, [], ◌∷◌, length, sym, ap, ap₂, subst, inl, inr, refl, arith, ◌+◌, ◌∙◌, Some, None, Option}
+use Rattle.std.proofs.Common.{◌≡◌, ℕ, zero, suc, ◌<◌, ◌≤◌, Bool, false, List, [], ◌∷◌, length, take, drop, sym, ap, ap₂, subst, inl, inr, refl, arith, ◌+◌, ◌∙◌, Some, None, Option}
 use Rattle.std.specs.Prelude.{IsTrue, nat_eq, map, Vec}
 use Rattle.std.specs.List.{flat_map, sum_by}
 use Rattle.std.specs.Prelude.{Result}
 use Rattle.std.specs.Global.{Global}
 use Rattle.mk_name.specs.declared.fault.Halt.{Halt}
 use Rattle.std.proofs.lemmas.Bool.{both_ways, cases_lt}
-use Rattle.std.proofs.lemmas.List.{length-map}
+use Rattle.std.proofs.lemmas.List.{length-map, take-append-drop}
 use Rattle.std.proofs.lemmas.List.Sums.{sum_by-cons}
 use Rattle.mk_name.specs.Names.{Name, same_name, IsDistinct}
-use Rattle.mk_name.proofs.Names.{name_is_exact, nat_is_exact, distinct_kept, in_head, in_tail}
+use Rattle.mk_name.proofs.Names.{name_is_exact, nat_is_exact, distinct_kept, in_head, in_tail, in_left, in_push, in_joined, kept_has}
 use Rattle.mk_name.specs.Gives.{Answers}
 use Rattle.mk_graph.specs.Answer.{IsLeastUnmade, AllMade, IsTooLarge, Comes, IsAnswer, goals_of, goal_list}
 use Rattle.mk_jobs.specs.Plan.{Plan, edge_limit, node_limit}
 use Rattle.mk_rules.specs.Book.{Book, default_goal}
 use Rattle.mk_graph.specs.Collected.{IsGraph}
-use Rattle.mk_graph.specs.Graph.{IsNode, AreNodes, count_edges}
+use Rattle.mk_graph.specs.Graph.{IsNode, AreNodes, Leads, count_edges}
 use Rattle.mk_graph.specs.Least.{upto, IsLeastPassing}
 use Rattle.mk_graph.specs.Makers.{is_unmade, needs}
-use Rattle.mk_jobs.specs.Numbered.{name_at}
+use Rattle.mk_jobs.specs.Numbered.{name_at, number_of}
 use Rattle.mk_graph.specs.Rows.{row, InRange, IsRing}
 use Rattle.mk_graph.specs.Walk.{IsOrder}
 use Rattle.mk_graph.proofs.Bridge.{node_back, node_inside, node_map, distinct_map, has_back}
 use Rattle.mk_graph.proofs.Graphs.{numbers_of}
-use Rattle.mk_jobs.proofs.Numberings.{has_at}
-use Rattle.mk_graph.proofs.Rowing.{row_past}
+use Rattle.mk_jobs.proofs.Numberings.{has_at, number_at}
+use Rattle.mk_graph.proofs.Rowing.{place_of, row_past}
 use Rattle.mk_graph.proofs.Steps.{In}
 
 module _ (book : Book) (listing goals names : List Name) (rows : List (Vec ℕ Global)) (starts : List ℕ) (g : IsGraph book listing goals names rows starts) where
@@ -52,6 +52,34 @@ module _ (book : Book) (listing goals names : List Name) (rows : List (Vec ℕ G
 
   pub order_distinct : (order : List ℕ) → IsOrder (row rows) starts order → IsDistinct nat_eq order
   order_distinct order o = subst (λ (xs : List ℕ). IsDistinct nat_eq xs) (sym o.serial.order_is) (distinct_kept nat_eq nat_is_exact [] (flat_map o.serial.tree starts) tt)
+
+  -- an order has all that one of its numbers needs
+  order_closed : (order : List ℕ) → IsOrder (row rows) starts order → (n p : ℕ) → In order n → In (row rows n) p → In order p
+  order_closed order o n p here h =
+      let k = place_of order n here in
+      let before = o.rising k.0 p k.1 (subst (λ (m : ℕ). In (row rows m) p) (sym k.2) h) in
+      subst (λ (xs : List ℕ). In xs p) (take-append-drop k.0 order) (in_left nat_eq nat_is_exact (take k.0 order) (drop k.0 order) p before)
+
+  order_leads : (order : List ℕ) → IsOrder (row rows) starts order → (edges a b : ℕ) → In order a → Leads nat_eq (row rows) edges a b → In order b
+  order_leads order o zero a b here l = subst (λ (m : ℕ). In order m) l here
+  order_leads order o (suc edges) a b here l = order_closed order o l.0 b (order_leads order o edges a l.0 here l.1) l.2
+
+  order_starts : (order : List ℕ) → IsOrder (row rows) starts order → (s : ℕ) → In starts s → In order s
+  order_starts order o s h =
+      let tree = o.serial.tree in
+      let last = in_push nat_eq nat_is_exact (flat_map tree (row rows s)) s in
+      let there = subst (λ (xs : List ℕ). In xs s) (sym (o.serial.trees s (s, zero, h, refl))) last in
+      subst (λ (xs : List ℕ). In xs s) (sym o.serial.order_is)
+      (kept_has nat_eq nat_is_exact [] (flat_map tree starts) s (in_joined nat_eq nat_is_exact nat_eq nat_is_exact tree starts s s h there))
+
+  -- each number of a name stands in the order
+  pub order_all : (order : List ℕ) → IsOrder (row rows) starts order → (n : ℕ) → n < length names → In order n
+  order_all order o n h =
+      let m = node_back same_name (needs book listing) goals (name_at names) (length names) (row rows) starts (numbers_of book listing goals names rows starts g) (name_at names n) (g.nodes (name_at names n) (has_at names n h)) in
+      let found : Some m.0 ≡ Some n = sym (number_at names m.0 g.distinct m.2) ∙ ap (number_of names) m.3 ∙ number_at names n g.distinct h in
+      let same : m.0 ≡ n = cc in
+      let node = m.1 in
+      subst (λ (k : ℕ). In order k) same (order_leads order o node.1 node.0 m.0 (order_starts order o node.0 node.2) node.3)
 
   -- the names in an order are nodes of the graph
   order_nodes : (order : List ℕ) → IsOrder (row rows) starts order → AreNodes same_name (needs book listing) goals (map (name_at names) order)

@@ -1,6 +1,7 @@
 -- The names of a plan's nodes, and the places of what they need.
-use Rattle.std.proofs.Common.{◌≡◌, ℕ, ◌<◌, List, [], ◌∷◌, length, get_or, take, sym, ◌∙◌, ap, subst, inl, inr, refl, arith, Some}
-use Rattle.std.specs.Prelude.{IsTrue, nat_eq, map, Vec, IfOk, Result, Ok, Err}
+use Rattle.std.proofs.Common.{◌≡◌, ℕ, ◌<◌, List, [], ◌∷◌, length, get_or, take, sym, ◌∙◌, ap, subst, inl, inr, refl, arith, Some, None, Option}
+use Rattle.std.specs.Prelude.{IsTrue, nat_eq, map, Vec}
+use Rattle.std.specs.Option.{option_map}
 use Rattle.std.specs.Global.{Global}
 use Rattle.std.proofs.lemmas.Bool.{both_ways, false_from_ne_true}
 use Rattle.std.proofs.lemmas.List.{get_or-map, get_or-take, length-map, length-take-le}
@@ -9,11 +10,11 @@ use Rattle.mk_name.proofs.Names.{name_is_exact, nat_is_exact, in_head, in_tail, 
 use Rattle.mk_graph.specs.Assembled.{node_of, IsAssembled, IsNumbering}
 use Rattle.mk_rules.specs.Book.{Book}
 use Rattle.mk_jobs.specs.Numbered.{name_at, number_of}
-use Rattle.mk_jobs.specs.Plan.{Node, Plan}
+use Rattle.mk_jobs.specs.Plan.{AreFoundBy, Node, Plan, names_of}
 use Rattle.mk_graph.specs.Rows.{row, IsRising}
 use Rattle.mk_graph.proofs.Bridge.{has_back}
-use Rattle.mk_jobs.proofs.Numberings.{number_at}
-use Rattle.mk_graph.proofs.Rowing.{place_of}
+use Rattle.mk_jobs.proofs.Numberings.{number_at, number_some}
+use Rattle.mk_graph.proofs.Rowing.{in_at, place_of}
 use Rattle.mk_graph.proofs.Steps.{In}
 
 -- the nodes of some numbers have the numbers' names
@@ -57,7 +58,36 @@ nodes_rising book listing names rows order places nodes at rising is i p d h m =
     placed_before order places at i (row rows (get_or order i 0)) k (λ q j. rising i q k j) p
     (subst (λ (x : Node). In x.prerequisites p) (ap (λ ns. get_or ns i d) is ∙ get_or-map node_at order i 0 d k) m)
 
+module _ (names : List Name) (order places : List ℕ) (distinct : IsDistinct same_name names) (within : (n : ℕ) → In order n → n < length names) (once : IsDistinct nat_eq order) (at : IsNumbering order places) where
+  name_there : (k : ℕ) → k < length order → name_at (map (name_at names) order) k ≡ name_at names (get_or order k 0)
+  name_there k h = get_or-map (name_at names) order k 0 [] h
+
+  number_there : (k : ℕ) → k < length order → number_of (map (name_at names) order) (name_at names (get_or order k 0)) ≡ Some k
+  number_there k h =
+      ap (number_of (map (name_at names) order)) (sym (name_there k h))
+      ∙ number_at (map (name_at names) order) k (distinct_names names order distinct within once) (omega (arith, h, length-map order (name_at names)))
+
+  -- a name's place in an order of all numbers stands beside its number
+  found_there : ((n : ℕ) → n < length names → In order n) → (x : Name) (o p : Option ℕ) → number_of names x ≡ o → number_of (map (name_at names) order) x ≡ p → p ≡ option_map (λ n. get_or places n 0) o
+  found_there all x (Some n) p e f =
+      let here = number_some names x n e in
+      let k = place_of order n (all n here.0) in
+      sym f ∙ ap (number_of (map (name_at names) order)) (sym here.1 ∙ ap (name_at names) (sym k.2)) ∙ number_there k.0 k.1
+      ∙ ap Some (sym (at k.0 k.1) ∙ ap (λ m. get_or places m 0) k.2)
+  found_there all x None None e f = refl
+  found_there all x None (Some j) e f =
+      let here = number_some (map (name_at names) order) x j f in
+      let inside : j < length order = omega (arith, here.0, length-map order (name_at names)) in
+      let there = number_at names (get_or order j 0) distinct (within (get_or order j 0) (in_at order j inside)) in
+      absurd (let clash : Some (get_or order j 0) ≡ None = sym there ∙ ap (number_of names) (sym (name_there j inside) ∙ here.1) ∙ e in cc)
+
+-- the nodes of an order of all numbers are found by the numbers of their names
+pub found_nodes : (book : Book) (listing names : List Name) (rows : List (Vec ℕ Global)) (order places : List ℕ) (nodes : List Node) → IsDistinct same_name names → ((n : ℕ) → In order n → n < length names) → ((n : ℕ) → n < length names → In order n) → IsDistinct nat_eq order → IsNumbering order places
+    → nodes ≡ map (λ n. node_of book listing (name_at names n) (map (λ p. get_or places p 0) (row rows n))) order → AreFoundBy nodes names places
+found_nodes book listing names rows order places nodes distinct within all once at is x =
+    ap (λ ns. number_of ns x) (ap names_of is ∙ names_of_nodes book listing names rows places order)
+    ∙ found_there names order places distinct within once at all x (number_of names x) (number_of (map (name_at names) order) x) refl refl
+
 -- a plan of the nodes of an order is the plan of the graph
-pub assembled_is : {E : Type 0} (book : Book) (listing names : List Name) (rows : List (Vec ℕ Global)) (order places : List ℕ) (nodes : List Node) (waits : ℕ) (r : Result Plan E) → IsNumbering order places → nodes ≡ map (λ n. node_of book listing (name_at names n) (map (λ p. get_or places p 0) (row rows n))) order → waits ≡ book.wait_uses → IfOk r (λ plan. plan ≡ record { nodes = nodes; wait_uses = waits }) → IfOk r (λ plan. IsAssembled book listing names rows order plan)
-assembled_is book listing names rows order places nodes waits (Ok plan) at is same made = record { places = places; placed = at; nodes = ap (λ (p : Plan). p.nodes) made ∙ is; waits = ap (λ (p : Plan). p.wait_uses) made ∙ same }
-assembled_is book listing names rows order places nodes waits (Err e) at is same made = made
+pub assembled_is : (book : Book) (listing names : List Name) (rows : List (Vec ℕ Global)) (order places : List ℕ) (nodes : List Node) (waits : ℕ) (plan : Plan) → IsNumbering order places → nodes ≡ map (λ n. node_of book listing (name_at names n) (map (λ p. get_or places p 0) (row rows n))) order → waits ≡ book.wait_uses → plan ≡ record { nodes = nodes; wait_uses = waits } → IsAssembled book listing names rows order plan
+assembled_is book listing names rows order places nodes waits plan at is same made = record { places = places; placed = at; nodes = ap (λ (p : Plan). p.nodes) made ∙ is; waits = ap (λ (p : Plan). p.wait_uses) made ∙ same }

@@ -96,26 +96,27 @@ fn nodes_of(
     Ok(nodes)
 }
 
-/// The plan of a graph whose nodes stand in this order.
+/// The plan of a graph whose nodes all stand in this order. The names keep their numbers.
 pub fn assemble(
     alloc: Global,
     book: &Rulebook,
     listing: &Listing,
-    graph: &Graph,
+    graph: Graph,
     order: &[usize],
 ) -> Result<Plan, AllocError>
     requires few { length order.now ≤ node_limit }
-    requires few_edges { sum_by (λ n. length (row graph.now.rows.items n)) order.now ≤ edge_limit }
-    requires within { (n : ℕ) → IsTrue (has nat_eq order.now n) → n < length graph.now.names }
+    requires few_edges { sum_by (λ n. length (row graph.rows.items n)) order.now ≤ edge_limit }
+    requires within { (n : ℕ) → IsTrue (has nat_eq order.now n) → n < length graph.names }
+    requires all { (n : ℕ) → n < length graph.names → IsTrue (has nat_eq order.now n) }
     requires distinct { IsDistinct nat_eq order.now }
-    requires makers { graph.now.makers.items ≡ map (maker_of book.now listing.now) graph.now.names }
-    requires rows { length graph.now.rows.items ≡ length graph.now.names }
-    requires inside { (i n : ℕ) → IsTrue (has nat_eq (row graph.now.rows.items i) n) → n < length graph.now.names }
-    requires rising { IsRising (row graph.now.rows.items) order.now }
+    requires makers { graph.makers.items ≡ map (maker_of book.now listing.now) graph.names }
+    requires rows { length graph.rows.items ≡ length graph.names }
+    requires inside { (i n : ℕ) → IsTrue (has nat_eq (row graph.rows.items i) n) → n < length graph.names }
+    requires rising { IsRising (row graph.rows.items) order.now }
     ensures { IfOk result
-        (λ plan. IsAssembled book.now listing.now graph.now.names graph.now.rows.items order.now plan) }
+        (λ plan. IsAssembled book.now listing.now graph.names graph.rows.items order.now plan) }
 {
     let places = places_in(alloc, order, graph.names.count())?;
-    let nodes = nodes_of(alloc, book, listing, graph, places.as_slice(), order)?;
-    Plan::new(alloc, nodes, book.wait_uses())
+    let nodes = nodes_of(alloc, book, listing, &graph, places.as_slice(), order)?;
+    Ok(Plan::numbered(nodes, graph.names, places, book.wait_uses()))
 }

@@ -1,10 +1,12 @@
 //! From a book of rules, a listing and some goals to a plan, or to what is wrong with the graph.
-ghost use Rattle.std.specs.Prelude.{◌≡◌, map};
-ghost use Rattle.mk_name.specs.Gives.{Answers};
+ghost use Rattle.std.specs.Prelude.{◌≡◌, map, IfErr, IfOk, OnOk};
+ghost use Rattle.mk_name.specs.Gives.{Answers, HaltsAmong};
 ghost use Rattle.mk_name.specs.declared.fault.Halt.TheVariants as halts;
-ghost use Rattle.mk_graph.specs.Answer.{Comes, IsAnswer, IsTooLarge, goals_of, graph_fault};
+ghost use Rattle.mk_graph.specs.Answer.{AllMade, Comes, IsAnswer, IsTooLarge, goals_of, graph_fault};
 ghost use Rattle.mk_graph.specs.Collected.{IsGraph};
 ghost use Rattle.mk_graph.specs.Makers.{maker_of};
+ghost use Rattle.mk_graph.specs.Rows.{row};
+ghost use Rattle.mk_graph.specs.Walk.{IsOrder};
 
 use crate::assembly::assemble;
 use crate::faults::{cycle_of, least_unmade};
@@ -24,19 +26,22 @@ fn graph_fault(kind: Kind, names: Vec<Name>) -> Halt
     Halt::Fault(Fault::new(kind, Source::Graph, 0, names))
 }
 
-/// The plan of a graph that is not too large, or what is wrong with it: a name that nothing makes, or else a cycle. The
-/// goals are those of the graph, and only the contract speaks of them.
-fn plan_of_graph(
+/// The serial order of a graph that is not too large, or what is wrong with it: a name that nothing makes, or else a
+/// cycle. The goals are those of the graph, and only the contract speaks of them.
+fn order_of(
     alloc: Global,
     book: &Rulebook,
     listing: &Listing,
     goals: &[Name],
     graph: &Graph,
-) -> Result<Plan, Halt>
+) -> Result<Vec<usize>, Halt>
     requires graph { IsGraph book.now listing.now goals.now graph.now.names graph.now.rows.items graph.now.goals.items }
     requires makers { graph.now.makers.items ≡ map (maker_of book.now listing.now) graph.now.names }
     requires small { IsTooLarge book.now listing.now goals.now → ⊥ }
-    ensures { Answers result (Comes book.now listing.now goals.now) }
+    ensures order { IfOk result
+        (λ order. IsOrder (row graph.now.rows.items) graph.now.goals.items order.items) }
+    ensures made { OnOk result (AllMade book.now listing.now goals.now) }
+    ensures halt { IfErr result (λ halt. HaltsAmong halt (Comes book.now listing.now goals.now)) }
 {
     if let Some(number) = least_unmade(book, listing, &graph.names, graph.makers.as_slice()) {
         let mut names = Vec::new(alloc);
@@ -48,7 +53,7 @@ fn plan_of_graph(
             let names = cycle_of(alloc, &graph.names, ring.as_slice())?;
             Err(graph_fault(Kind::Cycle, names))
         }
-        Walked::Order(order) => Ok(assemble(alloc, book, listing, graph, order.as_slice())?),
+        Walked::Order(order) => Ok(order),
     }
 }
 
@@ -59,7 +64,8 @@ fn plan_for(alloc: Global, book: &Rulebook, listing: &Listing, goals: &[Name]) -
     let Some(graph) = graph_of(alloc, book, listing, goals, NODE_LIMIT, EDGE_LIMIT)? else {
         return Err(graph_fault(Kind::GraphTooLarge, Vec::new(alloc)));
     };
-    plan_of_graph(alloc, book, listing, goals, &graph)
+    let order = order_of(alloc, book, listing, goals, &graph)?;
+    Ok(assemble(alloc, book, listing, graph, order.as_slice())?)
 }
 
 /// The plan of all that the goals need; without goals, of what the default goal needs ("Target Rules"). A name needs its

@@ -1,5 +1,6 @@
 pub mod Accessors
 pub mod ChainLemmas
+pub mod Finding
 pub mod JobsLemmas
 pub mod Needed
 pub mod NodeNames

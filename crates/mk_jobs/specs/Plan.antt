@@ -1,7 +1,9 @@
 -- What a plan holds: the nodes of the graph in serial order, and how often `.WAIT` was used.
 use Rattle.std.specs.Prelude.{◌≡◌, ◌<◌, ◌≤◌, ℕ, Bool, false, List, [], map, length, get_or, nat_eq, slice_get, unwrap_or, IsTrue}
 use Rattle.std.specs.List.{sum_by}
-use Rattle.mk_name.specs.Names.{Name, has}
+use Rattle.std.specs.Option.{option_map}
+use Rattle.mk_name.specs.Names.{Name, has, same_name, IsDistinct}
+use Rattle.mk_jobs.specs.Numbered.{number_of}
 use Rattle.mk_jobs.specs.declared.maker.Maker.{Maker}
 use Rattle.mk_jobs.specs.declared.maker.Maker.TheVariants.{Nothing}
 
@@ -46,9 +48,16 @@ edge_limit = 200000
 abbrev pub NeedsStandBefore : List Node → Type 0
 NeedsStandBefore nodes = (i p : ℕ) (d : Node) → i < length nodes → IsTrue (has nat_eq (get_or nodes i d).prerequisites p) → p < i
 
--- the nodes and edges are few, the index has the nodes' names, and each node stands after what it needs
-pub record IsOrdered (nodes : List Node) (index : List Name) : Type 0 where
+-- the place of a name's node stands beside the number of the name, and a name without a number is no node's
+abbrev pub AreFoundBy : List Node → List Name → List ℕ → Type 0
+AreFoundBy nodes names places = (x : Name) → number_of (names_of nodes) x ≡ option_map (λ n. get_or places n 0) (number_of names x)
+
+-- the nodes and edges are few, no two nodes have one name, each is found by the number of its name, and each stands after
+-- what it needs
+pub record IsOrdered (nodes : List Node) (names : List Name) (places : List ℕ) : Type 0 where
   pub few : length nodes ≤ node_limit
   pub few_edges : edge_count nodes ≤ edge_limit
-  pub names : index ≡ names_of nodes
+  pub distinct : IsDistinct same_name (names_of nodes)
   pub rising : NeedsStandBefore nodes
+  pub placed : length places ≡ length names
+  pub found : AreFoundBy nodes names places

@@ -1,8 +1,8 @@
 //! The plan: all that some goals need, in serial order.
-ghost use Rattle.std.specs.Prelude.{◌≡◌, ◌<◌, ◌≤◌, ℕ, length, nat_eq, IsTrue, IfOk};
+ghost use Rattle.std.specs.Prelude.{◌≡◌, ◌<◌, ◌≤◌, ℕ, get_or, length, nat_eq, IsTrue, IfOk};
 ghost use Rattle.mk_name.specs.Names.{has, same_name, IsDistinct};
 ghost use Rattle.mk_jobs.specs.Numbered.{number_of};
-ghost use Rattle.mk_jobs.specs.Plan.{NeedsStandBefore, edge_count, edge_limit, names_of, node_at, node_limit};
+ghost use Rattle.mk_jobs.specs.Plan.{AreFoundBy, NeedsStandBefore, edge_count, edge_limit, names_of, node_at, node_limit};
 
 use crate::maker::Maker;
 use crate::numbering::Numbering;
@@ -49,7 +49,10 @@ impl Model for PlanNode {
 #[derive(Debug, Drop)]
 pub struct Plan {
     nodes: Vec<PlanNode>,
-    index: Numbering,
+    /// The names of the nodes, in any order.
+    names: Numbering,
+    /// By the number of a name the place of its node.
+    places: Vec<u32>,
     wait_uses: u64,
 }
 
@@ -60,7 +63,7 @@ impl Model for Plan {
 
     ghost view = { λ a. record { nodes = a.nodes.items; wait_uses = a.wait_uses } };
 
-    ghost invariant = { λ a. plans.IsOrdered a.nodes.items a.index };
+    ghost invariant = { λ a. plans.IsOrdered a.nodes.items a.names a.places.items };
 }
 
 /// The names of some nodes, each by its node's place.
@@ -75,6 +78,18 @@ fn names_of(alloc: Global, nodes: &[PlanNode]) -> Result<Numbering, AllocError>
     Ok(names)
 }
 
+/// The numbers below a count, rising.
+fn numbers_below(alloc: Global, count: u32) -> Result<Vec<u32>, AllocError>
+    ensures length { IfOk result (λ numbers. length numbers.items ≡ count) }
+    ensures each { IfOk result (λ numbers. (n : ℕ) → n < count → get_or numbers.items n 0 ≡ n) }
+{
+    let mut numbers = Vec::new(alloc);
+    for number in 0..count {
+        numbers.push(number)?;
+    }
+    Ok(numbers)
+}
+
 impl Plan {
     /// The plan of these nodes, of which each stands after what it needs. The only error is want of memory.
     pub fn new(alloc: Global, nodes: Vec<PlanNode>, wait_uses: u64) -> Result<Plan, AllocError>
@@ -84,12 +99,33 @@ impl Plan {
         requires rising { NeedsStandBefore nodes.items }
         ensures { IfOk result (λ plan. plan ≡ record { nodes = nodes.items; wait_uses = wait_uses }) }
     {
-        let index = names_of(alloc, nodes.as_slice())?;
-        Ok(Plan {
+        let names = names_of(alloc, nodes.as_slice())?;
+        let places = numbers_below(alloc, nodes.len() as u32)?;
+        Ok(Plan::numbered(nodes, names, places, wait_uses))
+    }
+
+    /// The plan of these nodes, of which each stands after what it needs. Their names are numbered, in any order, and the
+    /// number of a name has the place of its node beside it.
+    pub fn numbered(
+        nodes: Vec<PlanNode>,
+        names: Numbering,
+        places: Vec<u32>,
+        wait_uses: u64,
+    ) -> Plan
+        requires few { length nodes.items ≤ node_limit }
+        requires few_edges { edge_count nodes.items ≤ edge_limit }
+        requires distinct { IsDistinct same_name (names_of nodes.items) }
+        requires rising { NeedsStandBefore nodes.items }
+        requires places { length places.items ≡ length names }
+        requires found { AreFoundBy nodes.items names places.items }
+        ensures { result ≡ record { nodes = nodes.items; wait_uses = wait_uses } }
+    {
+        Plan {
             nodes,
-            index,
+            names,
+            places,
             wait_uses,
-        })
+        }
     }
 
     /// How many nodes there are, at most `NODE_LIMIT`; they have at most `EDGE_LIMIT` prerequisites together. No name is
@@ -101,7 +137,7 @@ impl Plan {
         ensures distinct { IsDistinct same_name (names_of self.now.nodes) }
         ensures rising { NeedsStandBefore self.now.nodes }
     {
-        self.index.count() as u32
+        self.nodes.len() as u32
     }
 
     /// The numbers of what a node needs, in the rule's order and the inferred source last, unless the rules name it:
@@ -128,8 +164,8 @@ impl Plan {
     pub fn number(&self, name: &Name) -> Option<u32>
         ensures { result ≡ number_of (names_of self.now.nodes) name.now }
     {
-        let number = self.index.number(name)?;
-        Some(number as u32)
+        let number = self.names.number(name)?;
+        Some(self.places[number])
     }
 
     /// What makes a node's name. Its number must be below the count of nodes.
