@@ -1,4 +1,6 @@
 pub mod Entering
+pub mod Gaining
+pub mod Kept
 pub mod Lines
 pub mod OneLine
 pub mod Putting

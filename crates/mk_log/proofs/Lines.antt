@@ -1,29 +1,21 @@
 -- Lines that are added to a text.
-use Rattle.std.proofs.Common.{◌≡◌, ℕ, ◌<◌, Bool, true, false, ◌&&◌, List, [], ◌∷◌, ◌++◌, map, zero, suc, ◌+◌, arith, length, take, get_or, Some, refl, sym, ap, ◌∙◌, subst, append_assoc}
+use Rattle.std.proofs.Common.{◌≡◌, ℕ, ◌<◌, Bool, true, false, ◌&&◌, List, [], ◌∷◌, ◌++◌, map, zero, suc, ◌+◌, arith, length, take, get_or, refl, sym, ap, ◌∙◌, subst, append_assoc}
 use Rattle.std.proofs.lemmas.Grind.{flat_map-append}
 use Rattle.std.proofs.lemmas.List.{append-nil, map-append, take_more}
 use Rattle.std.proofs.lemmas.List.Elements.{All-append, All-cons, All-nil}
 use Rattle.std.proofs.lemmas.List.Folds.{list_all-append}
-use Rattle.std.proofs.lemmas.Str.{is_utf8-from_IsUtf8}
 use Rattle.std.specs.List.{flat_map, list_all}
 use Rattle.std.specs.Map.{keys_of}
-use Rattle.std.specs.Str.{IsUtf8, is_utf8}
+use Rattle.std.specs.Str.{is_utf8}
 use Rattle.serde_json.specs.Data.{Data}
-use Rattle.serde_json.specs.Read.{read}
-use Rattle.serde_json.specs.Written.{compact_text}
 use Rattle.mk_name.specs.Names.{Name}
 use Rattle.mk_jobs.specs.Jobs.{Jobs}
-use Rattle.mk_foot.specs.Json.{value_of}
 use Rattle.mk_sched.specs.Stores.{File}
 use Rattle.mk_sched.specs.Stored.{Files}
 use Rattle.mk_sched.specs.declared.event.Event.{Event}
 use Rattle.mk_log.specs.Spelled.{Adds, IsSpelled, names_told, object_of}
 use Rattle.mk_log.specs.Writing.{line_of}
 use Rattle.mk_log.specs.declared.entry.Entry.{Entry}
-
--- a text that is written for a value means the value
-pub value_back : (d : Data) (text : List ℕ) → text ≡ compact_text d → IsUtf8 text → read text ≡ Some d → value_of (compact_text d) ≡ Some d
-value_back d text same utf8 reads = subst (λ t. value_of t ≡ Some d) same (rw (is_utf8-from_IsUtf8 text utf8) reads)
 
 -- no line
 pub none_added : (jobs : Jobs) (text : List ℕ) → Adds jobs [] text text

@@ -1,5 +1,6 @@
 pub mod Adding
 pub mod Entries
+pub mod Gained
 pub mod Logs
 pub mod Objects
 pub mod Once

@@ -1,24 +1,25 @@
-//! What each file and each event of a log is written as: an object of JSON.
-ghost use Rattle.std.specs.Prelude.{◌≡◌, ◌<◌, ◌^◌, true, false, Some, IfErr, IfOk, OnErr, OnOk, codes, string_bytes};
+//! How each file and each event of a log is written: as an object of JSON.
+ghost use Rattle.std.specs.Prelude.{◌≡◌, ◌<◌, ◌^◌, ◌∷◌, [], true, false, Some, IfErr, IfOk, OnErr, OnOk, codes, decimal, string_bytes};
 ghost use Rattle.std.specs.List.{list_all};
 ghost use Rattle.std.specs.Str.{is_utf8};
 ghost use Rattle.hex.specs.Hex.{IsBytes, encode_lower};
-ghost use Rattle.serde_json.specs.View.{view};
+ghost use Rattle.json.specs.Token.{key, number, string};
 ghost use Rattle.mk_jobs.specs.Numbered.{number_of};
 ghost use Rattle.mk_jobs.specs.Plan.{names_of};
 ghost use Rattle.mk_jobs.specs.Jobs.{name_of, node_count};
 ghost use Rattle.mk_sched.specs.Steps.{step_of};
+ghost use Rattle.mk_log.specs.Gained.{Gains, tokens_of};
 ghost use Rattle.mk_log.specs.Objects as spec;
 ghost use Rattle.mk_log.specs.Spelled.{IsSeen, IsSized};
 ghost use Rattle.mk_log.specs.Writing.{names_in};
 
 use crate::writing::LogHalt;
+use json::Writer;
 use mk_jobs::jobs::Jobs;
 use mk_name::name::Name;
 use mk_sched::contents::Contents;
 use mk_sched::event::Event;
 use mk_sched::file::File;
-use serde_json::{Value, json};
 use std::alloc::{AllocError, Global};
 
 /// The text of a name. The error is `NotText`.
@@ -42,91 +43,151 @@ fn hexadecimal(alloc: Global, bytes: &[u8]) -> Result<String, AllocError>
     hex::encode(alloc, bytes)
 }
 
-/// A file of the opening store.
-fn file_data(alloc: Global, path: &str, file: &File) -> Result<Value, AllocError>
-    ensures object { IfOk result (λ value. view value ≡ spec.file_object path.now file.now) }
-    ensures bytes { IsBytes file.now.bytes }
-    ensures time { file.now.time < 2 ^ 64 }
+/// Writes a member whose value is a text.
+fn push_text(line: &mut Writer, name: &str, text: &str) -> Result<(), AllocError>
+    ensures { OnOk result (Gains line.old line.new (key name.now ∷ string text.now ∷ [])) }
 {
-    let time = file.time();
-    let bytes = hexadecimal(alloc, file.contents().as_bytes())?;
-    json!(in alloc; {"bytes": &bytes, "do": "file", "path": path, "time": time})
+    line.key(name)?;
+    line.string(text)
 }
 
-/// An event that names its node alone.
-fn node_data(alloc: Global, word: &str, node: &str) -> Result<Value, AllocError>
-    ensures { IfOk result (λ value. view value ≡ spec.node_object word.now node.now) }
+/// Writes the member that has bytes.
+fn push_bytes(alloc: Global, line: &mut Writer, contents: &Contents) -> Result<(), AllocError>
+    ensures member { OnOk result (Gains line.old line.new
+        (key (codes "bytes") ∷ string (encode_lower contents.now) ∷ [])) }
+    ensures bytes { OnOk result (IsBytes contents.now) }
 {
-    json!(in alloc; {"do": word, "node": node})
+    let text = hexadecimal(alloc, contents.as_bytes())?;
+    push_text(line, "bytes", text.as_str())
 }
 
-/// What a look saw; `null` where the file is absent.
-fn seen_data(alloc: Global, seen: &Option<Contents>) -> Result<Value, AllocError>
-    ensures seen { IfOk result (λ value. view value ≡ spec.seen_data seen.now) }
-    ensures bytes { IsSeen seen.now }
+/// Writes the member that has a time.
+fn push_time(line: &mut Writer, time: u64) -> Result<(), AllocError>
+    ensures { OnOk result (Gains line.old line.new (key (codes "time") ∷ number (decimal time) ∷ [])) }
+{
+    line.key("time")?;
+    line.u64(time)
+}
+
+/// Writes the member that has what a look saw: `null` where the file is absent.
+fn push_seen(alloc: Global, line: &mut Writer, seen: &Option<Contents>) -> Result<(), AllocError>
+    ensures member { OnOk result (Gains line.old line.new
+        (key (codes "bytes") ∷ tokens_of (spec.seen_data seen.now))) }
+    ensures bytes { OnOk result (IsSeen seen.now) }
 {
     match seen {
-        Some(contents) => {
-            let bytes = hexadecimal(alloc, contents.as_bytes())?;
-            Value::try_from_str(alloc, bytes.as_str())
+        Some(contents) => push_bytes(alloc, line, contents),
+        None => {
+            line.key("bytes")?;
+            line.null()
         }
-        None => Ok(Value::Null),
     }
 }
 
-/// A look.
-fn look_data(
+/// Writes a file of the opening store.
+fn push_file(alloc: Global, line: &mut Writer, path: &str, file: &File) -> Result<(), AllocError>
+    ensures object { OnOk result (Gains line.old line.new (tokens_of (spec.file_object path.now file.now))) }
+    ensures bytes { OnOk result (IsBytes file.now.bytes) }
+    ensures time { OnOk result (file.now.time < 2 ^ 64) }
+{
+    line.begin_object()?;
+    push_bytes(alloc, line, file.contents())?;
+    push_text(line, "do", "file")?;
+    push_text(line, "path", path)?;
+    push_time(line, file.time())?;
+    line.end_object()
+}
+
+/// Writes an event that names its node alone.
+fn push_node(line: &mut Writer, word: &str, node: &str) -> Result<(), AllocError>
+    ensures { OnOk result (Gains line.old line.new (tokens_of (spec.node_object word.now node.now))) }
+{
+    line.begin_object()?;
+    push_text(line, "do", word)?;
+    push_text(line, "node", node)?;
+    line.end_object()
+}
+
+/// Writes a look.
+fn push_look(
     alloc: Global,
+    line: &mut Writer,
     node: &str,
     path: &str,
     seen: &Option<Contents>,
-) -> Result<Value, AllocError>
-    ensures object { IfOk result (λ value. view value ≡ spec.look_object node.now path.now seen.now) }
-    ensures bytes { IsSeen seen.now }
+) -> Result<(), AllocError>
+    ensures object { OnOk result (Gains line.old line.new
+        (tokens_of (spec.look_object node.now path.now seen.now))) }
+    ensures bytes { OnOk result (IsSeen seen.now) }
 {
-    let bytes = seen_data(alloc, seen)?;
-    json!(in alloc; {"bytes": bytes, "do": "look", "node": node, "path": path})
+    line.begin_object()?;
+    push_seen(alloc, line, seen)?;
+    push_text(line, "do", "look")?;
+    push_text(line, "node", node)?;
+    push_text(line, "path", path)?;
+    line.end_object()
 }
 
-/// A put.
-fn put_data(
+/// Writes a put.
+fn push_put(
     alloc: Global,
+    line: &mut Writer,
     node: &str,
     path: &str,
     contents: &Contents,
     time: u64,
-) -> Result<Value, AllocError>
-    ensures object { IfOk result (λ value. view value ≡ spec.put_object node.now path.now contents.now time) }
-    ensures bytes { IsBytes contents.now }
+) -> Result<(), AllocError>
+    ensures object { OnOk result (Gains line.old line.new
+        (tokens_of (spec.put_object node.now path.now contents.now time))) }
+    ensures bytes { OnOk result (IsBytes contents.now) }
 {
-    let bytes = hexadecimal(alloc, contents.as_bytes())?;
-    json!(in alloc; {"bytes": &bytes, "do": "put", "node": node, "path": path, "time": time})
+    line.begin_object()?;
+    push_bytes(alloc, line, contents)?;
+    push_text(line, "do", "put")?;
+    push_text(line, "node", node)?;
+    push_text(line, "path", path)?;
+    push_time(line, time)?;
+    line.end_object()
 }
 
-/// An erasure.
-fn erase_data(alloc: Global, node: &str, path: &str) -> Result<Value, AllocError>
-    ensures { IfOk result (λ value. view value ≡ spec.erase_object node.now path.now) }
+/// Writes an erasure.
+fn push_erase(line: &mut Writer, node: &str, path: &str) -> Result<(), AllocError>
+    ensures { OnOk result (Gains line.old line.new (tokens_of (spec.erase_object node.now path.now))) }
 {
-    json!(in alloc; {"do": "erase", "node": node, "path": path})
+    line.begin_object()?;
+    push_text(line, "do", "erase")?;
+    push_text(line, "node", node)?;
+    push_text(line, "path", path)?;
+    line.end_object()
 }
 
-/// A file of the opening store. The error is `NotText` where its name is not UTF-8; else it is want of memory.
-pub(crate) fn file_value(alloc: Global, path: &Name, file: &File) -> Result<Value, LogHalt>
-    ensures object { IfOk result (λ value. view value ≡ spec.file_object path.now file.now) }
+/// Writes a file of the opening store. The error is `NotText` where its name is not UTF-8; else it is want of memory.
+pub(crate) fn write_file(
+    alloc: Global,
+    line: &mut Writer,
+    path: &Name,
+    file: &File,
+) -> Result<(), LogHalt>
+    ensures object { OnOk result (Gains line.old line.new (tokens_of (spec.file_object path.now file.now))) }
     ensures is_text { OnOk result (is_utf8 path.now ≡ true) }
     ensures not_text { IfErr result (λ halt. halt ≡ LogHalt.NotText → is_utf8 path.now ≡ false) }
     ensures bytes { OnOk result (IsBytes file.now.bytes) }
     ensures time { OnOk result (file.now.time < 2 ^ 64) }
 {
     let path = text_of(path)?;
-    Ok(file_data(alloc, path, file)?)
+    Ok(push_file(alloc, line, path, file)?)
 }
 
-/// An event. Its node's number must be below the count of nodes. The error is `NotText` where the node's name or the path
-/// is not UTF-8; else it is want of memory.
-pub(crate) fn event_value(alloc: Global, jobs: &Jobs, event: &Event) -> Result<Value, LogHalt>
+/// Writes an event. Its node's number must be below the count of nodes. The error is `NotText` where the node's name or the
+/// path is not UTF-8; else it is want of memory.
+pub(crate) fn write_event(
+    alloc: Global,
+    line: &mut Writer,
+    jobs: &Jobs,
+    event: &Event,
+) -> Result<(), LogHalt>
     requires { (step_of event.now).node < node_count jobs.now }
-    ensures object { IfOk result (λ value. view value ≡ spec.event_object jobs.now event.now) }
+    ensures object { OnOk result (Gains line.old line.new (tokens_of (spec.event_object jobs.now event.now))) }
     ensures is_text { OnOk result (list_all is_utf8 (names_in jobs.now event.now) ≡ true) }
     ensures not_text { IfErr result (λ halt. halt ≡ LogHalt.NotText
         → list_all is_utf8 (names_in jobs.now event.now) ≡ false) }
@@ -135,15 +196,15 @@ pub(crate) fn event_value(alloc: Global, jobs: &Jobs, event: &Event) -> Result<V
         (name_of jobs.now (step_of event.now).node) ≡ Some (step_of event.now).node) }
 {
     let node = text_of(jobs.name(event.node()))?;
-    let value = match event {
-        Event::Skip(_) => node_data(alloc, "skip", node),
-        Event::Start(_) => node_data(alloc, "start", node),
-        Event::Look(_, path, seen) => look_data(alloc, node, text_of(path)?, seen),
+    match event {
+        Event::Skip(_) => push_node(line, "skip", node),
+        Event::Start(_) => push_node(line, "start", node),
+        Event::Look(_, path, seen) => push_look(alloc, line, node, text_of(path)?, seen),
         Event::Put(_, path, contents, time) => {
-            put_data(alloc, node, text_of(path)?, contents, *time)
+            push_put(alloc, line, node, text_of(path)?, contents, *time)
         }
-        Event::Erase(_, path) => erase_data(alloc, node, text_of(path)?),
-        Event::Finish(_) => node_data(alloc, "finish", node),
+        Event::Erase(_, path) => push_erase(line, node, text_of(path)?),
+        Event::Finish(_) => push_node(line, "finish", node),
     }?;
-    Ok(value)
+    Ok(())
 }

@@ -1,32 +1,30 @@
 //! From a log to its text.
-ghost use Rattle.std.specs.Prelude.{◌≡◌, ◌<◌, ◌≤◌, ◌++◌, ◌↔◌, IsTrue, Ok, Some, false, true, IfErr, IfOk, OnOk, List, ℕ, [], ◌∷◌, map};
+ghost use Rattle.std.specs.Prelude.{◌≡◌, ◌<◌, ◌++◌, ◌↔◌, IsTrue, Ok, Some, false, true, IfErr, IfOk, OnOk, List, ℕ, [], ◌∷◌, map};
 ghost use Rattle.std.specs.List.{flat_map, list_all};
 ghost use Rattle.std.specs.Map.{keys_of};
-ghost use Rattle.std.specs.Str.{is_utf8};
-ghost use Rattle.serde_json.specs.Data.{depth};
-ghost use Rattle.serde_json.specs.Read.{max_depth};
-ghost use Rattle.serde_json.specs.View.{view};
-ghost use Rattle.serde_json.specs.Written.{compact_text, has_float};
+ghost use Rattle.std.specs.Str.{IsUtf8, is_utf8};
+ghost use Rattle.json.specs.Lex.{tokens};
+ghost use Rattle.json.specs.Print.{print};
 ghost use Rattle.mk_jobs.specs.Jobs as foot;
 ghost use Rattle.mk_jobs.specs.Jobs.{node_count};
-ghost use Rattle.mk_foot.specs.Json.{value_of};
 ghost use Rattle.mk_sched.specs.Steps.{step_of};
 ghost use Rattle.mk_sched.specs.Stored.{IsInOrder};
 ghost use Rattle.mk_log.specs.Reading.{IsReadAs};
 ghost use Rattle.mk_log.specs.Spelled.{Adds, file_entry};
-ghost use Rattle.mk_log.specs.Writing.{AreOfNodes, ReadBack, is_text, line_of, log_text, names_in};
+ghost use Rattle.mk_log.specs.Writing.{AreOfNodes, ReadBack, is_text, log_text, names_in};
 ghost use Rattle.mk_log.specs.declared.entry.Entry.TheVariants.{Happens};
 ghost use Rattle.mk_log.specs.declared.writing.LogHalt.TheVariants.{Memory};
 
 use crate::log::Log;
-use crate::object::{event_value, file_value};
+use crate::object::{write_event, write_file};
+use json::Writer;
 use mk_jobs::jobs::Jobs;
 use mk_name::name::Name;
 use mk_sched::event::Event;
 use mk_sched::file::File;
 use mk_sched::store::Store;
-use serde_json::Value;
 use std::alloc::{AllocError, Global};
+use std::mem;
 
 /// Why a log is not written.
 #[derive(Clone, Copy, Debug, PartialEq, Eq)]
@@ -92,8 +90,9 @@ fn add_file(alloc: Global, text: &mut Vec<u8>, path: &Name, file: &File) -> Resu
         → Adds jobs (file_entry (path.now, file.now) ∷ []) text.old.items text.new.items) }
     ensures not_text { IfErr result (λ halt. halt ≡ LogHalt.NotText → is_utf8 path.now ≡ false) }
 {
-    let object = file_value(alloc, path, file)?;
-    Ok(add_line(alloc, text, &object)?)
+    let mut line = line_behind(alloc, text);
+    write_file(alloc, &mut line, path, file)?;
+    Ok(end_line(text, line)?)
 }
 
 /// Adds the lines of events, which must be of nodes of these jobs.
@@ -122,19 +121,26 @@ fn add_event(alloc: Global, text: &mut Vec<u8>, jobs: &Jobs, event: &Event) -> R
     ensures not_text { IfErr result (λ halt. halt ≡ LogHalt.NotText
         → list_all is_utf8 (names_in jobs.now event.now) ≡ false) }
 {
-    let object = event_value(alloc, jobs, event)?;
-    Ok(add_line(alloc, text, &object)?)
+    let mut line = line_behind(alloc, text);
+    write_event(alloc, &mut line, jobs, event)?;
+    Ok(end_line(text, line)?)
 }
 
-/// Adds the line of an object without fractions that is not nested deep. The only error is want of memory.
-fn add_line(alloc: Global, text: &mut Vec<u8>, object: &Value) -> Result<(), AllocError>
-    requires whole { has_float (view object.now) ≡ false }
-    requires shallow { depth (view object.now) ≤ max_depth }
-    ensures line { OnOk result (text.new.items ≡ text.old.items ++ line_of (view object.now)) }
-    ensures value { OnOk result (value_of (compact_text (view object.now)) ≡ Some (view object.now)) }
+/// A new line behind a text, which is taken until the line ends.
+fn line_behind(alloc: Global, text: &mut Vec<u8>) -> Writer
+    ensures before { result.before ≡ text.old.items }
+    ensures tokens { result.tokens ≡ [] }
 {
-    let line = object.to_vec(alloc)?;
-    text.extend_from_slice(line.as_slice())?;
+    Writer::new(mem::replace(text, Vec::new(alloc)))
+}
+
+/// Ends a line, and gives the text back with it. The only error is want of memory.
+fn end_line(text: &mut Vec<u8>, line: Writer) -> Result<(), AllocError>
+    ensures line { OnOk result (text.new.items ≡ line.before ++ (print line.tokens ++ 10 ∷ [])) }
+    ensures reads_back { tokens (print line.tokens) ≡ line.tokens }
+    ensures utf8 { IsUtf8 (print line.tokens) }
+{
+    *text = line.into_inner();
     text.push(b'\n')?;
     Ok(())
 }

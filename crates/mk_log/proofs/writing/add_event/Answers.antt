@@ -1,9 +1,10 @@
-use Rattle.std.proofs.Common.{◌≡◌, Some, subst}
-use Rattle.serde_json.specs.Data.{Data}
-use Rattle.serde_json.specs.View.{view}
-use Rattle.serde_json.specs.Written.{compact_text}
-use Rattle.mk_foot.specs.Json.{value_of}
+use Rattle.std.proofs.Common.{◌≡◌, ◌++◌, ◌∷◌, [], List, ℕ, ap, refl, ◌∙◌}
+use Rattle.json.specs.Print.{print}
+use Rattle.json.specs.Token.{Token}
+use Rattle.mk_log.specs.Gained.{tokens_of}
+use Rattle.mk_log.specs.Objects.{event_object}
 use Rattle.mk_log.specs.declared.entry.Entry.TheVariants.{Happens}
+use Rattle.mk_log.proofs.Kept.{event_kept, line_back, value_back}
 use Rattle.mk_log.proofs.Lines.{one_added}
 use Rattle.mk_log.proofs.Spelling.{event_spelled}
 use Rattle.mk_log.proofs.writing.add_event.Goals as goal
@@ -12,7 +13,11 @@ pub returns-clause-adds : goal.returns-clause-adds
 returns-clause-adds c =
     let jobs = c.args.jobs.now in
     let event = c.args.event.now in
-    let says = c.in_ok-object.ensures in
-    let value = subst (λ (d : Data). value_of (compact_text d) ≡ Some d) says.object c.in_ok-add_line.ensures.value in
-    one_added jobs (Happens event) (view c.in_ok-object.object) _ _ says.object c.in_ok-add_line.ensures.line
-    says.is_text (event_spelled jobs event says.sized says.number value)
+    let says = c.in_ok-write_event.ensures in
+    let end = c.end_line.ensures in
+    let line = c.write_event.new.line in
+    let object = event_object jobs event in
+    let same : line.tokens ≡ tokens_of object = says.object.more ∙ ap (λ (ts : List Token). ts ++ tokens_of object) c.line_behind-line.ensures.tokens in
+    let text = c.in_ok-end_line.ensures.line ∙ ap (λ (t : List ℕ). t ++ (print line.tokens ++ 10 ∷ [])) (says.object.before ∙ c.line_behind-line.ensures.before) in
+    one_added jobs (Happens event) object _ _ refl (line_back object line.tokens _ _ same text)
+    says.is_text (event_spelled jobs event says.sized says.number (value_back object line.tokens same (event_kept jobs event says.sized) end.reads_back end.utf8))
