@@ -20,97 +20,19 @@ a million chains through 1,415 of 20,000 nodes, of which none clash, for `race v
 FOLDER. Nothing here is a test.
 """
 import argparse
-import itertools
 import json
 import os
 import pathlib
-import subprocess
 import sys
 import tempfile
 import time
 
 TOP = pathlib.Path(__file__).resolve().parents[2]
-BEHIND = 120
+sys.dont_write_bytecode = True
+sys.path.insert(0, str(TOP / "bench"))
 
-
-def write(folder, rules, footprints):
-    """Writes the inputs: rules are pairs of a target and its prerequisites, the last one the goal's."""
-    with open(folder / "makefile", "w") as makefile:
-        makefile.write(f"{rules[-1][0]}:\n")
-        for target, prerequisites in rules:
-            for i in range(0, max(len(prerequisites), 1), 4_000):
-                makefile.write(f"{target}: {' '.join(prerequisites[i:i + 4_000])}\n")
-            makefile.write("\tm\n")
-    (folder / "listing").write_text("")
-    with open(folder / "footprints", "w") as lines:
-        for target, reads, writes in footprints:
-            lines.write(json.dumps({"target": target, "reads": reads, "writes": writes}) + "\n")
-
-
-def behind(names, most):
-    """Each name behind the ones before it, at most so many."""
-    return [(name, names[max(0, i - most):i]) for i, name in enumerate(names)]
-
-
-def own(names):
-    """Each name's recipe writes its own file, and nothing else."""
-    return [(name, [], [name]) for name in names]
-
-
-def lay_log(folder, most=BEHIND):
-    names = [f"r{i}" for i in range(1_414)]
-    rules = behind(names, most) if most else [*behind(names, 0), ("all", names)]
-    write(folder, rules, [(name, [], [name, "build.log"]) for name in names] + [("all", [], [])])
-
-
-def lay_free(folder):
-    lay_log(folder, 0)
-
-
-def lay_sparse(folder):
-    names = [f"r{i}" for i in range(19_999)]
-    lines = [(name, [f"{name}/{k}" for k in range(49)], [name]) for name in names]
-    write(folder, [*behind(names, 0), ("all", names)], [*lines, ("all", [], ["all"])])
-
-
-def lay_paths(folder):
-    names = [f"r{i}" for i in range(10)]
-    lines = [(name, [f"{name}/{k:05}" for k in range(99_999)], [name]) for name in names]
-    write(folder, [*behind(names[:-1], 0), (names[-1], names[:-1])], lines)
-
-
-def lay_dense(folder):
-    names = [f"{i:x}" for i in range(20_000)]
-    lines = own(names)
-    lines[0][2].append("shared")
-    lines[-2][2].append("shared")
-    write(folder, behind(names, 9), lines)
-
-
-def lay_trees(folder):
-    names = [f"{kind}{i}" for i in range(9_999) for kind in "wr"]
-    rules = [(f"{kind}{i}", [f"w{i}"] if kind == "r" else []) for i in range(9_999) for kind in "wr"]
-    lines = [(f"w{i}", [], [f"w{i}", f"d{i}/f"]) for i in range(9_999)] + [(f"r{i}", [f"d{i}/"], [f"r{i}"]) for i in range(9_999)]
-    write(folder, [*rules, ("all", names)], [*lines, ("all", [], ["all"])])
-
-
-def lay_hostile(folder):
-    """A certificate of a million chains that nothing asks for."""
-    names = [f"{i:x}" for i in range(19_999)]
-    write(folder, [*behind(names[:1_415], BEHIND), *behind(names[1_415:], 0), ("all", names)], [*own(names), ("all", [], ["all"])])
-    pairs = itertools.islice(itertools.combinations(range(1_415), 2), 1_000_000)
-    with open(folder / "proof", "w") as proof:
-        proof.write("certificate 1000000\n")
-        proof.writelines(f"{' '.join(map(str, chain_between(a, b)))}\n" for a, b in pairs)
-
-
-def chain_between(first, last):
-    """The chain from the one to the other where each node needs the BEHIND nodes before it, built from its end."""
-    chain = [last]
-    while chain[-1] != first:
-        chain.append(max(first, chain[-1] - BEHIND))
-    return chain[::-1]
-
+from builds import lay_dense, lay_free, lay_hostile, lay_log, lay_paths, lay_sparse, lay_trees
+from measure import once
 
 BUILDS = {"log": lay_log, "free": lay_free, "sparse": lay_sparse, "paths": lay_paths, "dense": lay_dense, "trees": lay_trees}
 
@@ -122,15 +44,8 @@ class Bench:
     def best(self, folder, *words):
         """The best wall time in seconds, the greatest peak memory in MiB, and what the last run printed."""
         inputs = ["--makefile", "makefile", "--listing", "listing", "--footprints", "footprints", "--root", "/w"]
-        command = ["time", "-q", "-f", "%M", "-o", "memory", self.program, words[0], *inputs, *words[1:]]
-        runs = [self.once(folder, command) for _ in range(self.runs)]
+        runs = [once(folder, [self.program, words[0], *inputs, *words[1:]]) for _ in range(self.runs)]
         return min(r[0] for r in runs), max(r[1] for r in runs), runs[-1][2]
-
-    def once(self, folder, command):
-        begin = time.perf_counter()
-        out = subprocess.run(command, cwd=folder, stdin=subprocess.DEVNULL, capture_output=True).stdout
-        seconds = time.perf_counter() - begin
-        return seconds, int((folder / "memory").read_text().split()[-1]) / 1024, out
 
 
 def read_by_python(folder):

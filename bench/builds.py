@@ -1,0 +1,100 @@
+"""Builds for the benches: each `lay_NAME(folder)` writes a makefile, a listing and footprints into a folder."""
+import itertools
+import json
+
+BEHIND = 120
+
+
+def write(folder, rules, footprints):
+    """Writes the inputs: rules are pairs of a target and its prerequisites, the last one the goal's."""
+    with open(folder / "makefile", "w") as makefile:
+        makefile.write(f"{rules[-1][0]}:\n")
+        for target, prerequisites in rules:
+            for i in range(0, max(len(prerequisites), 1), 4_000):
+                makefile.write(f"{target}: {' '.join(prerequisites[i:i + 4_000])}\n")
+            makefile.write("\tm\n")
+    (folder / "listing").write_text("")
+    with open(folder / "footprints", "w") as lines:
+        for target, reads, writes in footprints:
+            lines.write(json.dumps({"target": target, "reads": reads, "writes": writes}) + "\n")
+
+
+def behind(names, most):
+    """Each name behind the ones before it, at most so many."""
+    return [(name, names[max(0, i - most):i]) for i, name in enumerate(names)]
+
+
+def below_all(names):
+    """A recipe for each name, none behind another, and a goal that needs them."""
+    return [*behind(names, 0), ("all", names)]
+
+
+def own(names):
+    """Each name's recipe writes its own file, and nothing else."""
+    return [(name, [], [name]) for name in names]
+
+
+def lay_log(folder, most=BEHIND):
+    """1,414 recipes that all append to one log, each behind so many before it."""
+    names = [f"r{i}" for i in range(1_414)]
+    rules = behind(names, most) if most else below_all(names)
+    write(folder, rules, [(name, [], [name, "build.log"]) for name in names] + [("all", [], [])])
+
+
+def lay_free(folder):
+    """The same recipes, none behind another."""
+    lay_log(folder, 0)
+
+
+def lay_sparse(folder):
+    """19,999 recipes of 50 paths each, of which no two share one."""
+    names = [f"r{i}" for i in range(19_999)]
+    lines = [(name, [f"{name}/{k}" for k in range(49)], [name]) for name in names]
+    write(folder, below_all(names), [*lines, ("all", [], ["all"])])
+
+
+def lay_paths(folder):
+    """10 recipes of 100,000 paths each."""
+    names = [f"r{i}" for i in range(10)]
+    lines = [(name, [f"{name}/{k:05}" for k in range(99_999)], [name]) for name in names]
+    write(folder, [*behind(names[:-1], 0), (names[-1], names[:-1])], lines)
+
+
+def lay_dense(folder):
+    """20,000 nodes with nearly 200,000 edges, of which the first and the last but one share a file."""
+    names = [f"{i:x}" for i in range(20_000)]
+    lines = own(names)
+    lines[0][2].append("shared")
+    lines[-2][2].append("shared")
+    write(folder, behind(names, 9), lines)
+
+
+def lay_trees(folder):
+    """9,999 pairs of recipes, of which one reads a folder and the other writes a file in it, in order."""
+    names = [f"{kind}{i}" for i in range(9_999) for kind in "wr"]
+    rules = [(f"{kind}{i}", [f"w{i}"] if kind == "r" else []) for i in range(9_999) for kind in "wr"]
+    lines = [(f"w{i}", [], [f"w{i}", f"d{i}/f"]) for i in range(9_999)] + [(f"r{i}", [f"d{i}/"], [f"r{i}"]) for i in range(9_999)]
+    write(folder, [*rules, ("all", names)], [*lines, ("all", [], ["all"])])
+
+
+def lay_hostile(folder):
+    """A certificate of a million chains that nothing asks for."""
+    names = [f"{i:x}" for i in range(19_999)]
+    write(folder, [*behind(names[:1_415], BEHIND), *behind(names[1_415:], 0), ("all", names)], [*own(names), ("all", [], ["all"])])
+    pairs = [*itertools.islice(itertools.combinations(range(1_415), 2), 1_000_000)]
+    write_certificate(folder, pairs, BEHIND)
+
+
+def write_certificate(folder, pairs, most):
+    """Writes a certificate of these pairs where each node needs so many before it."""
+    with open(folder / "proof", "w") as proof:
+        proof.write(f"certificate {len(pairs)}\n")
+        proof.writelines(f"{' '.join(map(str, chain_between(a, b, most)))}\n" for a, b in pairs)
+
+
+def chain_between(first, last, most):
+    """The chain from the one to the other where each node needs so many before it, built from its end."""
+    chain = [last]
+    while chain[-1] != first:
+        chain.append(max(first, chain[-1] - most))
+    return chain[::-1]
