@@ -5,10 +5,10 @@ ghost use Rattle.mk_foot.specs.Footprints.{IsRead};
 ghost use Rattle.mk_run.specs.Run.{GaveAll, IsFootprinted};
 
 use crate::inputs::read_past;
+use mk_device::device::{Broken, Intake, ReadStop};
 use mk_foot::foot_reader::FootReader;
 use mk_foot::footprints::Footprints;
 use mk_name::fault::{Fault, Halt};
-use mk_device::device::{Broken, Intake, ReadStop};
 use mk_text::root::Root;
 use std::alloc::Global;
 

@@ -5,9 +5,9 @@ ghost use Rattle.mk_run.specs.Run.{GaveAll, HasStopped, IsFootprinted, IsListed,
 use crate::footprints::read_footprints;
 use crate::listing::read_listing;
 use crate::outcome::{IoStop, unread};
+use mk_device::device::{Broken, Intake, read_all};
 use mk_foot::footprints::Footprints;
 use mk_name::fault::{Fault, Source};
-use mk_device::device::{Broken, Intake, read_all};
 use mk_text::listing::Listing;
 use std::alloc::Global;
 

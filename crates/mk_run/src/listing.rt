@@ -5,8 +5,8 @@ ghost use Rattle.mk_text.specs.Listing.{listing_of};
 ghost use Rattle.mk_run.specs.Run.{GaveAll, IsListed};
 
 use crate::inputs::read_past;
-use mk_name::fault::{Fault, Halt};
 use mk_device::device::{Broken, Intake, ReadStop};
+use mk_name::fault::{Fault, Halt};
 use mk_text::list_reader::ListReader;
 use mk_text::listing::Listing;
 use mk_text::root::Root;

@@ -2,9 +2,9 @@
 ghost use Rattle.std.specs.Prelude.{◌≡◌};
 ghost use Rattle.mk_run.specs.Run as spec;
 
+use mk_device::device::ReadStop;
 use mk_name::fault::Source;
 use mk_report::answer::Answer;
-use mk_device::device::ReadStop;
 
 /// What kind of answer was reported.
 #[derive(Clone, Copy, Debug, PartialEq, Eq)]

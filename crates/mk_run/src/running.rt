@@ -9,10 +9,10 @@ ghost use Rattle.mk_run.specs.Run.{GaveAll, Given, HasStopped, none_failed};
 
 use crate::inputs::{Lists, Makefiles, read_lists, read_makefiles};
 use crate::outcome::{IoStop, Outcome, outcome_of};
+use mk_device::device::{Intake, Outlet, write_all};
 use mk_race::input::Settings;
 use mk_race::parts::judge_parts;
 use mk_report::answer::{Answer, report};
-use mk_device::device::{Intake, Outlet, write_all};
 use std::alloc::{AllocError, Global};
 
 /// What is told of a build: the kind of its answer, and the report.

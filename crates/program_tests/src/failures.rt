@@ -1,8 +1,8 @@
 //! What no case of the table says: the help, wrong words, files that fail and outputs that are full.
 use crate::outcomes::{Outcome, run};
 use crate::shelf::{Book, Page, Shelf};
-use mk_program::{Status, race_words};
 use mk_device::spout::Spout;
+use mk_program::{Status, race_words};
 use std::alloc::Global;
 use std::io;
 use std::io::{ErrorKind, Write};

@@ -5,8 +5,8 @@ ghost use Rattle.mk_program.specs.CommandLine.{wrong};
 ghost use Rattle.program_tests.specs.Shelf.{text_at};
 
 use crate::shelf::Shelf;
-use mk_program::{Status, race_words};
 use mk_device::spout::Spout;
+use mk_program::{Status, race_words};
 use std::alloc::Global;
 
 /// A run's status, what it wrote and what it wrote on the standard error.

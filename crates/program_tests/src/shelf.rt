@@ -2,9 +2,9 @@
 ghost use Rattle.std.specs.Prelude.{◌≡◌, Some};
 ghost use Rattle.program_tests.specs.Shelf as spec;
 
-use mk_program::Opener;
 use mk_device::device::Broken;
 use mk_device::feed::Feed;
+use mk_program::Opener;
 use std::io;
 use std::io::{ErrorKind, Read};
 

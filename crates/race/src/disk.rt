@@ -1,9 +1,9 @@
 //! The files of the system that the program runs on.
 ghost use Rattle.std.specs.Prelude.{None};
 
-use mk_program::Opener;
 use mk_device::device::Broken;
 use mk_device::feed::Feed;
+use mk_program::Opener;
 use std::fs;
 use std::fs::File;
 

@@ -7,8 +7,8 @@ mod disk;
 
 use arguments::{arguments, texts};
 use disk::Disk;
-use mk_program::{Failure, Status, fail, race_words};
 use mk_device::spout::Spout;
+use mk_program::{Failure, Status, fail, race_words};
 use std::process::ExitCode;
 
 fn main(rt: HostRuntime) -> ExitCode {
