@@ -1,7 +1,7 @@
 """What the scripts beside this file share: the cases, runs of the built program under faults, and the counting.
 
 A check is a function of a Runner and of what it is about; it yields a line for each thing that is wrong. Checks are
-spread over two processes.
+spread over as many processes as there are processors.
 """
 import argparse
 import atexit
@@ -35,10 +35,11 @@ NAMED = """
     cases/proofs/certificates/shared-folder cases/proofs/traces/generated-header cases/proofs/traces/shared-folder
     cases/serialise/interleaved-run cases/serialise/race cases/serialise/no-files cases/serialise/times-with-just-room
 """.split()
-PROCESSES = 2
+PROCESSES = len(os.sched_getaffinity(0))
 # A run that takes more seconds of a processor is ended.
 SECONDS = 30
 MARKS = struct.Struct("6Q")
+STATUS = struct.Struct("i")
 MARKS_BYTES = 8192
 KINDS = ("memory", "open", "read", "write")
 OUT_OF_MEMORY = b"race: out of memory\n"
@@ -76,6 +77,44 @@ def is_refusal(told):
     return told.status == 2 and not told.stderr and whole and lines[1][:1] == b"F" and lines[2][:3] == b"at "
 
 
+def bound_time(process):
+    """A run that takes too long is ended; what a process forks later has the same bound."""
+    try:
+        resource.prlimit(process, resource.RLIMIT_CPU, (SECONDS, SECONDS))
+    except ProcessLookupError:
+        pass
+
+
+class Server:
+    """The program with its words, started once: the library forks a child for each run (tests/refuse.c says how)."""
+
+    # The descriptors of the two pipes in the program, and the bytes in which it is asked.
+    ASKS, ANSWERS, ASKED = 100, 101, 256
+
+    def __init__(self, program, words, places, env):
+        asks, self.asking = os.pipe()
+        self.answering, answers = os.pipe()
+        places = [*places, (os.POSIX_SPAWN_DUP2, asks, self.ASKS), (os.POSIX_SPAWN_DUP2, answers, self.ANSWERS)]
+        env = {**env, "RACE_SERVES": f"{self.ASKS} {self.ANSWERS}"}
+        self.process = os.posix_spawn(program, [program, *words], env, file_actions=places)
+        bound_time(self.process)
+        os.close(asks)
+        os.close(answers)
+
+    def run(self, faults):
+        """One run, and its status as `os.wait` gives it."""
+        os.write(self.asking, faults.encode().ljust(self.ASKED, b"\0"))
+        answer = os.read(self.answering, STATUS.size)
+        if len(answer) < STATUS.size:
+            raise RuntimeError("the library ended before it answered")
+        return STATUS.unpack(answer)[0]
+
+    def end(self):
+        os.close(self.asking)
+        os.close(self.answering)
+        os.waitpid(self.process, 0)
+
+
 class Runner:
     """Runs the program, one run at a time, with its outputs in files."""
 
@@ -84,33 +123,54 @@ class Runner:
         # (in memory, where there is such a folder)
         self.folder = pathlib.Path(tempfile.mkdtemp(prefix="race-tests-", dir="/dev/shm" if os.path.isdir("/dev/shm") else None))
         atexit.register(shutil.rmtree, self.folder, True)
+        atexit.register(self.end_server)
         (self.folder / "marks").write_bytes(bytes(MARKS_BYTES))
         with open(self.folder / "marks", "r+b") as file:
             self.marks = mmap.mmap(file.fileno(), MARKS_BYTES)
         self.streams = [os.open(self.folder / name, os.O_RDWR | os.O_CREAT, 0o600) for name in ("out", "err")]
         self.runs = 0
+        self.server = self.served = None
 
     def run(self, words, faults=None, stdout=None):
-        """One run; under the library where faults are given, an empty text for none. Its output goes to that descriptor."""
+        """One run; under the library where faults are given, an empty text for none, and then as a child of a program that
+        stands by. Without faults the program is started from its file, and its output goes to that descriptor."""
         self.runs += 1
         self.marks[:] = bytes(MARKS_BYTES)
         for stream in self.streams:
             os.ftruncate(stream, 0)
             os.lseek(stream, 0, os.SEEK_SET)
-        places = [(os.POSIX_SPAWN_OPEN, 0, os.devnull, os.O_RDONLY, 0)]
-        places += [(os.POSIX_SPAWN_DUP2, self.streams[0] if stdout is None else stdout, 1)]
-        places += [(os.POSIX_SPAWN_DUP2, self.streams[1], 2)]
-        env = {} if faults is None else {"LD_PRELOAD": self.library, "RACE_MARKS": str(self.folder / "marks"), "RACE_FAULTS": faults}
-        process = os.posix_spawn(self.program, [self.program, *words], env, file_actions=places)
-        try:
-            resource.prlimit(process, resource.RLIMIT_CPU, (SECONDS, SECONDS))
-        except ProcessLookupError:
-            pass
-        status = os.waitstatus_to_exitcode(os.waitpid(process, 0)[1])
+        status = self.start(words, stdout) if faults is None else self.served_by(words).run(faults)
+        status = os.waitstatus_to_exitcode(status)
         out, err = (os.pread(stream, os.fstat(stream).st_size, 0) for stream in self.streams)
         *calls, met, changing = MARKS.unpack_from(self.marks)
         what = self.marks[MARKS.size:].split(b"\0", 1)[0]
         return Told(status, out, err, dict(zip(KINDS, calls)), met, changing, os.fsdecode(what))
+
+    def places(self, stdout):
+        """What the three standard streams of a run are."""
+        output = self.streams[0] if stdout is None else stdout
+        files = [(os.POSIX_SPAWN_DUP2, output, 1), (os.POSIX_SPAWN_DUP2, self.streams[1], 2)]
+        return [(os.POSIX_SPAWN_OPEN, 0, os.devnull, os.O_RDONLY, 0), *files]
+
+    def start(self, words, stdout):
+        """A run from the program's file, to its end."""
+        process = os.posix_spawn(self.program, [self.program, *words], {}, file_actions=self.places(stdout))
+        bound_time(process)
+        return os.waitpid(process, 0)[1]
+
+    def served_by(self, words):
+        """The program that stands by with these words: the one of the last run, or another in its place."""
+        served = [os.getcwd(), *words]
+        if self.served != served:
+            self.end_server()
+            env = {"LD_PRELOAD": self.library, "RACE_MARKS": str(self.folder / "marks")}
+            self.server, self.served = Server(self.program, words, self.places(None), env), served
+        return self.server
+
+    def end_server(self):
+        if self.server:
+            self.server.end()
+        self.server = self.served = None
 
     def write(self, name, content):
         """A file in the runner's folder, and its path."""

@@ -10,6 +10,10 @@
  * them met a rule, how many opened a file for more than reading, and for the last of these that failed, or moved nothing, what it was about: a path, or 'fd N'.
  *
  * Only calls of the program itself are counted: what runs before the library is set up goes through.
+ *
+ * RACE_SERVES holds two descriptors, of a pipe that is asked and of one that answers. Then the program runs as often as it
+ * is asked, each time in a child that is forked before `main`, which costs a third of a start from the file. Asked are
+ * the rules, in ASKED bytes with zeros behind them; the answer is the status as `wait` gives it. It ends with the pipe.
  */
 #define _GNU_SOURCE
 #include <errno.h>
@@ -21,11 +25,12 @@
 #include <sys/mman.h>
 #include <sys/resource.h>
 #include <sys/syscall.h>
+#include <sys/wait.h>
 #include <unistd.h>
 
 enum { MEMORY, OPEN, READ, WRITE, KINDS };
 enum { PASS = -3, NONE = -2, ONE = -1 };
-enum { RULES = 8, MARKS = 8192 };
+enum { RULES = 8, MARKS = 8192, ASKED = 256 };
 
 struct rule { int kind, how; unsigned long from, to, step; };
 struct marks { unsigned long calls[KINDS], met, changing; char what[MARKS - (KINDS + 2) * sizeof(long)]; };
@@ -152,15 +157,40 @@ static void read_rule(const char *text) {
     it->how = strcmp(how, "none") ? strcmp(how, "one") ? atoi(how) : ONE : NONE;
 }
 
+static void read_rules(const char *text) {
+    for (; text && *text; text = strchr(text, ';') ? strchr(text, ';') + 1 : NULL) read_rule(text);
+}
+
+/* Forks a child for each text of rules that is asked for. Returns in the child, as a run with these rules. */
+static void serve(int asks, int answers) {
+    char rules[ASKED];
+    while (syscall(SYS_read, asks, rules, ASKED) == ASKED) {
+        pid_t child = fork();
+        if (child < 0) bad("fork");
+        if (!child) {
+            close(asks);
+            close(answers);
+            read_rules(rules);
+            return;
+        }
+        int status;
+        if (waitpid(child, &status, 0) != child) bad("waitpid");
+        if (syscall(SYS_write, answers, &status, sizeof status) != sizeof status) bad("RACE_SERVES");
+    }
+    _exit(0);
+}
+
 __attribute__((constructor)) static void set_up(void) {
-    const char *path = getenv("RACE_MARKS"), *text = getenv("RACE_FAULTS");
-    int fd = path ? syscall(SYS_openat, AT_FDCWD, path, O_RDWR) : -1;
+    const char *path = getenv("RACE_MARKS"), *pipes = getenv("RACE_SERVES");
+    int asks, answers, fd = path ? syscall(SYS_openat, AT_FDCWD, path, O_RDWR) : -1;
     if (fd >= 0) {
         void *shared = mmap(NULL, MARKS, PROT_READ | PROT_WRITE, MAP_SHARED, fd, 0);
         if (shared == MAP_FAILED) bad("RACE_MARKS");
         marks = shared;
         close(fd);
     }
-    for (; text && *text; text = strchr(text, ';') ? strchr(text, ';') + 1 : NULL) read_rule(text);
+    read_rules(getenv("RACE_FAULTS"));
+    if (pipes && sscanf(pipes, "%d %d", &asks, &answers) != 2) bad("RACE_SERVES");
+    if (pipes) serve(asks, answers);
     ready = 1;
 }
