@@ -6,14 +6,15 @@
 PROGRAM is the built program (crates/race/out/race). Each input is as large as a limit allows, or as its line in docs/SAFETY.md
 says, and is made at half of that size first. Printed are the size of the texts, the seconds of a processor and the peak
 memory of one run of each, as GNU time tells them (Debian's package `time`), the status, and whether the whole is over its
-bound: three seconds and a twentieth for each megabyte of the texts, and 64 MiB with eight times the texts. A run that takes
-more than N seconds (100) is stopped, and one that wants more than so many gigabytes (6) is refused memory. Nothing here is
-a test.
+bound: five seconds and a twentieth for each megabyte of the texts, and 64 MiB with twenty times the texts; and besides, for
+inputs that are named in LINES, what a line of the makefile is allowed there. A run that takes more than N seconds (100) is
+stopped, and one that wants more than so many gigabytes (6) is refused memory. Nothing here is a test.
 """
 import argparse
 import json
 import os
 import pathlib
+import random
 import subprocess
 import sys
 import tempfile
@@ -111,18 +112,28 @@ def immediate(part):
 
 
 def additions(part):
-    """One macro to which 65,535 bytes are added again and again."""
-    return {"makefile": "A=" + "x" * 65_535 + "\nB::=\n" + many("B+=$A\n", 140_000 * part) + "all:\n", "listing": ""}
+    """One macro to which 65,535 bytes are added 40,000 times."""
+    return {"makefile": "A=" + "x" * 65_535 + "\nB::=\n" + many("B+=$A\n", 40_000 * part) + "all:\n", "listing": ""}
 
 
 def repeated(part):
-    """One short entry again and again, each of which expands to 65,535 bytes of words."""
-    return {"makefile": "A=" + "y " * 32_767 + "\n" + many("x:$A\n", 160_000 * part), "listing": "y\n"}
+    """1,600 short entries, each of which expands to 65,535 bytes of words."""
+    return {"makefile": "A=" + "y " * 32_767 + "\n" + many("x:$A\n", 1_600 * part), "listing": "y\n"}
 
 
 def references(part):
-    """One short entry again and again, each of which takes 10,000 references and gives nothing."""
-    return {"makefile": "e=\nA=" + "$e" * 9_999 + "\n" + many("x:$A\n", 170_000 * part) + "x: y\n", "listing": "y\n"}
+    """10,000 short entries, each of which takes 10,000 references and gives nothing."""
+    return {"makefile": "e=\nA=" + "$e" * 9_999 + "\n" + many("x:$A\n", 10_000 * part) + "x: y\n", "listing": "y\n"}
+
+
+def through(value, ending, lines):
+    """Short entries, each of which goes 4,999 times through such a value, of which a substitution takes away the ending."""
+
+    def make(part):
+        macros = f"A={value}\nV=$(A:{ending}=)\nW=" + "$V" * 4_999 + "\n"
+        return {"makefile": macros + many("x:$W\n", lines * part) + "x: y\n", "listing": "y\n"}
+
+    return make
 
 
 def long_listing(part):
@@ -148,6 +159,12 @@ def below_one_another(part):
     """1,000,000 footprint paths, each a folder below the one before it, 199 levels deep."""
     row = ["a/" * depth for depth in range(1, 200)]
     return footprints([row for _ in range(int(5_000 * part))])
+
+
+def in_no_order(part):
+    """1,000,000 footprint paths of 20,000 recipes, each of a few letters and in no order."""
+    numbers = random.Random(7)
+    return footprints([[short(numbers.randrange(36**4)) for _ in range(50)] for _ in range(int(19_999 * part))])
 
 
 def one_line(part):
@@ -234,9 +251,12 @@ INPUTS = {
     "additions to one macro": additions,
     "one entry of many words, repeated": repeated,
     "one entry of many references, repeated": references,
+    "references through a long word": through("x" * 65_535, "x" * 65_535, 20),
+    "references through many words": through("x " * 32_767, "x", 2),
     "listing of 10^7 lines": long_listing,
     "paths with one prefix": shared_prefix,
     "paths below one another": below_one_another,
+    "paths in no order": in_no_order,
     "one line of continued lines": one_line,
     "one long command and further key": one_command,
     "one long line of the listing": listing_line,
@@ -250,6 +270,16 @@ INPUTS = {
     "200,000 edges": dense,
     "a million puts, 100,000 files": puts,
     "a file of 50 megabytes": large_file,
+}
+
+# What docs/SAFETY.md allows a line of these makefiles: how many there are, and for each seconds of a processor and KiB.
+LINES = {
+    "immediate macros": (70_000, 0.0002, 72),
+    "additions to one macro": (40_000, 0.0002, 72),
+    "one entry of many words, repeated": (1_600, 0.015, 2_560),
+    "one entry of many references, repeated": (10_000, 0.002, 0),
+    "references through a long word": (20, 0.5, 0),
+    "references through many words": (2, 8, 0),
 }
 
 
@@ -272,9 +302,12 @@ def run(args, make_input, part):
     return size, sum(map(float, seconds)), int(memory) / 1024, str(status) if 0 <= status < 4 else "stopped"
 
 
-def is_over(size, seconds, memory, end):
+def is_over(name, size, seconds, memory, end):
     megabytes = size / MEGABYTE
-    return end not in "012" or seconds > 3 + megabytes / 20 or memory > 64 + 8 * megabytes
+    lines, each_seconds, each_kibibytes = LINES.get(name, (0, 0, 0))
+    most_seconds = 5 + megabytes / 20 + lines * each_seconds
+    most_memory = 64 + 20 * megabytes + lines * each_kibibytes / 1024
+    return end not in "012" or seconds > most_seconds or memory > most_memory
 
 
 def main():
@@ -291,7 +324,7 @@ def main():
             continue
         half, whole = run(args, make_input, 1 / 2), run(args, make_input, 1)
         times = " | ".join(f"{seconds:.2f} s, {memory:.0f} MiB" for _, seconds, memory, _ in (half, whole))
-        print(f"| {name} | {whole[0] / MEGABYTE:.1f} MB | {times} | {whole[3]} | {'over' if is_over(*whole) else ''} |", flush=True)
+        print(f"| {name} | {whole[0] / MEGABYTE:.1f} MB | {times} | {whole[3]} | {'over' if is_over(name, *whole) else ''} |", flush=True)
 
 
 if __name__ == "__main__":
