@@ -13,6 +13,7 @@
 pub mod fault;
 pub mod laws;
 pub mod name;
+mod order;
 pub mod report;
 
 pub use fault::{Halt, Kind, Source};

@@ -1,0 +1,150 @@
+-- What stands under a key of the object that a text is, and of the object that the text means.
+use Rattle.std.proofs.Common.{◌≡◌, ℕ, Bool, true, false, cond, List, Option, None, Some, option_map, option_and_then, refl, sym, ap, ◌∙◌}
+use Rattle.std.specs.Prelude.{is_some, unwrap_or}
+use Rattle.std.proofs.lemmas.Bool.{both_ways}
+use Rattle.std.proofs.lemmas.Option.{option_and_then_some}
+use Rattle.std.proofs.lemmas.Slice.Eq.{bytes_eq-Decides}
+use Rattle.std.specs.Str.{bytes_eq}
+use Rattle.json.specs.Find as spelled
+use Rattle.json.specs.Json as json
+use Rattle.serde_json.proofs.Views.{get_member-put, get_member-put_other}
+use Rattle.serde_json.specs.Data.{Data, Num, null, object, Items, Members, no_members, put}
+use Rattle.serde_json.specs.Find.{as_null, as_number, as_str, get, get_member}
+use Rattle.serde_json.specs.Read.{number_of, of_items, of_json, of_members}
+
+-- what is found is what a value means, or where there is none, what was there before
+abbrev IsFound : Option json.Json → Option Data → Option Data → Type 0
+IsFound None before found = found ≡ before
+IsFound (Some j) before found = found ≡ of_json j
+
+first_member : (k l : List ℕ) (j : json.Json) (d : Data) (old : Members) (found : Option Data) (same : Bool) → bytes_eq l k ≡ same → of_json j ≡ Some d
+    → found ≡ get_member k (put l d old) → IsFound (cond same (Some j) None) (get_member k old) found
+first_member k l j d old found true e is h =
+    h ∙ ap (λ key. get_member k (put key d old)) ((bytes_eq-Decides l k).0 e) ∙ get_member-put k d old ∙ sym is
+first_member k l j d old found false e is h =
+    h ∙ get_member-put_other k l d old (λ same. both_ways _ e ((bytes_eq-Decides l k).1 (sym same)))
+
+later_member : (k l : List ℕ) (j : json.Json) (d : Data) (old : Members) (found : Option Data) (later : Option json.Json) → of_json j ≡ Some d
+    → IsFound later (get_member k (put l d old)) found → IsFound (spelled.later_or later (cond (bytes_eq l k) (Some j) None)) (get_member k old) found
+later_member k l j d old found None is h = first_member k l j d old found (bytes_eq l k) refl is h
+later_member k l j d old found (Some other) is h = h
+
+some_of : {A : Type 0} (x y : A) → Some x ≡ Some y → x ≡ y
+some_of x y e = cc
+
+members_found : (k : List ℕ) (ms : json.Members) (old new : Members) → of_members ms old ≡ Some new → IsFound (spelled.get_member k ms) (get_member k old) (get_member k new)
+members_found k json.no_members old new e = ap (get_member k) (sym (some_of old new e))
+members_found k (json.member l j ms) old new e =
+    option_and_then_some (λ d. of_members ms (put l d old)) (of_json j) new e
+    (λ d is more. later_member k l j d old (get_member k new) (spelled.get_member k ms) is (members_found k ms (put l d old) new more))
+
+in_object : (k : List ℕ) (ms : json.Members) (meant : Option Members) → of_members ms no_members ≡ meant → is_some (option_map object meant) ≡ true
+    → get k (unwrap_or (option_map object meant) null) ≡ option_and_then of_json (spelled.get_member k ms)
+in_object k ms None e h = absurd (both_ways _ refl h)
+in_object k ms (Some new) e h = by_found (spelled.get_member k ms) (members_found k ms no_members new e)
+  where
+    by_found : (o : Option json.Json) → IsFound o None (get_member k new) → get_member k new ≡ option_and_then of_json o
+    by_found None found = found
+    by_found (Some j) found = found
+
+no_key : (k : List ℕ) (f : Num → Data) → ((n : Num) → get k (f n) ≡ None) → (meant : Option Num) → get k (unwrap_or (option_map f meant) null) ≡ None
+no_key k f h None = refl
+no_key k f h (Some n) = h n
+
+no_key_of_items : (k : List ℕ) (meant : Option Items) → get k (unwrap_or (option_map Data.array meant) null) ≡ None
+no_key_of_items k None = refl
+no_key_of_items k (Some items) = refl
+
+-- under a key stands what the text's value under it means
+pub found : (k : List ℕ) (j : json.Json) → is_some (of_json j) ≡ true → get k (unwrap_or (of_json j) null) ≡ option_and_then of_json (spelled.get k j)
+found k json.null h = refl
+found k (json.boolean b) h = refl
+found k (json.number s) h = no_key k Data.number (λ n. refl) (number_of s)
+found k (json.string s) h = refl
+found k (json.array js) h = no_key_of_items k (of_items js)
+found k (json.object ms) h = in_object k ms (of_members ms no_members) refl h
+
+text_of : (j : json.Json) → option_and_then as_str (of_json j) ≡ spelled.as_str j
+text_of json.null = refl
+text_of (json.boolean b) = refl
+text_of (json.number s) = of_number (number_of s)
+  where
+    of_number : (meant : Option Num) → option_and_then as_str (option_map Data.number meant) ≡ None
+    of_number None = refl
+    of_number (Some n) = refl
+text_of (json.string s) = refl
+text_of (json.array js) = of_array (of_items js)
+  where
+    of_array : (meant : Option Items) → option_and_then as_str (option_map Data.array meant) ≡ None
+    of_array None = refl
+    of_array (Some items) = refl
+text_of (json.object ms) = of_object (of_members ms no_members)
+  where
+    of_object : (meant : Option Members) → option_and_then as_str (option_map object meant) ≡ None
+    of_object None = refl
+    of_object (Some _) = refl
+
+number_in : (j : json.Json) → option_and_then as_number (of_json j) ≡ option_and_then number_of (spelled.as_number j)
+number_in json.null = refl
+number_in (json.boolean b) = refl
+number_in (json.number s) = of_number (number_of s)
+  where
+    of_number : (meant : Option Num) → option_and_then as_number (option_map Data.number meant) ≡ meant
+    of_number None = refl
+    of_number (Some n) = refl
+number_in (json.string s) = refl
+number_in (json.array js) = of_array (of_items js)
+  where
+    of_array : (meant : Option Items) → option_and_then as_number (option_map Data.array meant) ≡ None
+    of_array None = refl
+    of_array (Some items) = refl
+number_in (json.object ms) = of_object (of_members ms no_members)
+  where
+    of_object : (meant : Option Members) → option_and_then as_number (option_map object meant) ≡ None
+    of_object None = refl
+    of_object (Some _) = refl
+
+null_in : (j : json.Json) → is_some (option_and_then as_null (of_json j)) ≡ spelled.is_null j
+null_in json.null = refl
+null_in (json.boolean b) = refl
+null_in (json.number s) = of_number (number_of s)
+  where
+    of_number : (meant : Option Num) → is_some (option_and_then as_null (option_map Data.number meant)) ≡ false
+    of_number None = refl
+    of_number (Some n) = refl
+null_in (json.string s) = refl
+null_in (json.array js) = of_array (of_items js)
+  where
+    of_array : (meant : Option Items) → is_some (option_and_then as_null (option_map Data.array meant)) ≡ false
+    of_array None = refl
+    of_array (Some items) = refl
+null_in (json.object ms) = of_object (of_members ms no_members)
+  where
+    of_object : (meant : Option Members) → is_some (option_and_then as_null (option_map object meant)) ≡ false
+    of_object None = refl
+    of_object (Some _) = refl
+
+-- what is asked of the meaning under a key can be asked of the text's value under it
+pub text_found : (k : List ℕ) (j : json.Json) → is_some (of_json j) ≡ true
+    → option_and_then as_str (get k (unwrap_or (of_json j) null)) ≡ option_and_then spelled.as_str (spelled.get k j)
+text_found k j h = ap (option_and_then as_str) (found k j h) ∙ under (spelled.get k j)
+  where
+    under : (o : Option json.Json) → option_and_then as_str (option_and_then of_json o) ≡ option_and_then spelled.as_str o
+    under None = refl
+    under (Some v) = text_of v
+
+pub number_found : (k : List ℕ) (j : json.Json) → is_some (of_json j) ≡ true
+    → option_and_then as_number (get k (unwrap_or (of_json j) null)) ≡ option_and_then number_of (option_and_then spelled.as_number (spelled.get k j))
+number_found k j h = ap (option_and_then as_number) (found k j h) ∙ under (spelled.get k j)
+  where
+    under : (o : Option json.Json) → option_and_then as_number (option_and_then of_json o) ≡ option_and_then number_of (option_and_then spelled.as_number o)
+    under None = refl
+    under (Some v) = number_in v
+
+pub null_found : (k : List ℕ) (j : json.Json) → is_some (of_json j) ≡ true
+    → is_some (option_and_then as_null (get k (unwrap_or (of_json j) null))) ≡ unwrap_or (option_map spelled.is_null (spelled.get k j)) false
+null_found k j h = ap (λ o. is_some (option_and_then as_null o)) (found k j h) ∙ under (spelled.get k j)
+  where
+    under : (o : Option json.Json) → is_some (option_and_then as_null (option_and_then of_json o)) ≡ unwrap_or (option_map spelled.is_null o) false
+    under None = refl
+    under (Some v) = null_in v
