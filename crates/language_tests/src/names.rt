@@ -1,40 +1,56 @@
 //! Names, and the report of a refusal.
 use crate::made::name_of;
 use mk_name::fault::{Fault, Kind, Source};
+use mk_name::name::Name;
 use mk_name::report::refused_report;
-use std::test::Fail;
+use std::alloc::{AllocError, Global};
 
-#[test]
-fn tails(rt: HostRuntime) -> Result<(), Fail> {
-    let alloc = rt.alloc();
-    let name = name_of(alloc, b"parse.o")?;
-    for (cut, tail, want) in [
-        (5, ".y", "parse.y"),
-        (7, ".y", "parse.o.y"),
-        (100, "x", "parse.ox"),
-        (0, "a", "a"),
-    ] {
-        let changed = name.with_tail(alloc, cut, tail.as_bytes())?;
-        assert_eq!(rt; changed.as_bytes(), want.as_bytes(), "after {cut} bytes");
+/// How many bytes of `parse.o` stay, what stands behind them, and the name.
+static TAILS: [(usize, &str, &str); 4] = [
+    (5, ".y", "parse.y"),
+    (7, ".y", "parse.o.y"),
+    (100, "x", "parse.ox"),
+    (0, "a", "a"),
+];
+
+/// Whether a name is spelled so.
+fn is_spelled(answer: Result<Name, AllocError>, want: &str) -> bool {
+    match answer {
+        Ok(name) => name.as_bytes() == want.as_bytes(),
+        Err(AllocError) => false,
     }
-    assert!(rt; name.copy(alloc)? == name);
-    Ok(())
+}
+
+fn tails_are_so(alloc: Global, name: &Name) -> bool {
+    let mut so = is_spelled(name.copy(alloc), "parse.o");
+    for (cut, tail, want) in TAILS {
+        so &= is_spelled(name.with_tail(alloc, cut, tail.as_bytes()), want);
+    }
+    so
 }
 
 #[test]
-fn reports(rt: HostRuntime) -> Result<(), Fail> {
-    let alloc = rt.alloc();
-    let include = name_of(alloc, b"a b.mk")?;
-    let name = name_of(alloc, b"/a b\\\xc3\xa9\x7f~!/y")?;
-    let names = vec![in alloc; name]?;
-    let fault = Fault::new(Kind::NoRule, Source::Graph, 0, names);
-    let shown =
-        b"refused\nF16 NoRule\nat graph 0\nname /a\\x20b\\x5c\xc3\xa9\\x7f~!/y\n".as_slice();
-    assert_eq!(rt; refused_report(alloc, &fault)?.as_slice(), shown);
-    let source = Source::Include(include);
+fn tails(rt: HostRuntime) {
+    let so = match name_of(rt.alloc(), b"parse.o") {
+        Ok(name) => tails_are_so(rt.alloc(), &name),
+        Err(AllocError) => false,
+    };
+    assert!(rt; so);
+}
+
+/// The report of a fault at the greatest place in an included text, whose name has a blank.
+fn placed(alloc: Global) -> Result<Vec<u8>, AllocError> {
+    let source = Source::Include(name_of(alloc, b"a b.mk")?);
     let fault = Fault::new(Kind::UnknownInclude, source, u64::MAX, Vec::new(alloc));
-    let placed =
-        b"refused\nF26 UnknownInclude\nat include:a\\x20b.mk 18446744073709551615\n".as_slice();
-    assert_eq!(rt; refused_report(alloc, &fault)?.as_slice(), placed);
-    Ok(())
+    refused_report(alloc, &fault)
+}
+
+#[test]
+fn reports(rt: HostRuntime) {
+    let want = b"refused\nF26 UnknownInclude\nat include:a\\x20b.mk 18446744073709551615\n";
+    let so = match placed(rt.alloc()) {
+        Ok(report) => report.as_slice() == want.as_slice(),
+        Err(AllocError) => false,
+    };
+    assert!(rt; so);
 }

@@ -1,4 +1,4 @@
-//! Makefiles and entries, and what a book says of them.
-mod books;
-mod including;
-mod reading;
+//! Makefiles and entries: what a book says of them, and what is left of the macros.
+mod book;
+mod left;
+mod paths;

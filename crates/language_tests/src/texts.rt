@@ -1,5 +1,4 @@
 //! What stands between the bytes of a text and its logical lines.
 mod devices;
 mod lines;
-mod listings;
 mod spelling;

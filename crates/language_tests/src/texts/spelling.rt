@@ -1,120 +1,77 @@
-//! Plain spelling: the names of paths and of words, and roots.
-use mk_name::fault::Halt;
-use mk_name::name::Name;
+//! Which bytes may stand in words, paths and roots.
 use mk_text::root::Root;
 use mk_text::spelling::{plain_path, plain_word};
 use std::alloc::Global;
-use std::test::Fail;
 
-/// A root, a path below it, and the path's name.
-const PATHS: &[(&str, &str, &str)] = &[
-    ("/root/p", "./sub/../gen.h", "gen.h"),
-    ("/root/p", "/root/p/gen.h", "gen.h"),
-    ("/w", "a//b/./c/../d/", "a/b/d"),
-    ("/w", "../x", "/x"),
-    ("/w", "../../../x", "/x"),
-    ("/w", "/wx", "/wx"),
-    ("/w", "/w", "."),
-    ("/w", "..", "/"),
-    ("/w", "x*y z", "x*y z"),
-    ("/q/..//./w/", "/w/x", "x"),
-    ("/", "/x", "x"),
-    ("/", "..", "."),
-];
+/// Bytes that no word may hold, though a path may hold most of them.
+static SIGNS: &[u8] = b"\x01\t\x1f #$:;=\\%()*?[\"'&|\x7f";
 
-fn spelled(alloc: Global, root: &str, path: &str) -> Result<Name, Halt> {
-    let root = Root::read(alloc, root.as_bytes())?;
-    plain_path(alloc, path.as_bytes(), &root)
-}
+/// Bytes that a word may hold.
+static LETTERS: &[u8] = b"!+,-./09@AZ]^_`az{}~\x80\xff";
 
-#[test]
-fn paths(rt: HostRuntime) -> Result<(), Halt> {
-    for (root, path, want) in PATHS {
-        let name = spelled(rt.alloc(), root, path)?;
-        assert_eq!(rt; name.as_bytes(), want.as_bytes(), "{path}");
+fn is_word(alloc: Global, word: &[u8], root: &Root) -> bool {
+    match plain_word(alloc, word, root) {
+        Ok(_) => true,
+        Err(_) => false,
     }
-    Ok(())
+}
+
+fn is_path(alloc: Global, path: &[u8], root: &Root) -> bool {
+    match plain_path(alloc, path, root) {
+        Ok(_) => true,
+        Err(_) => false,
+    }
+}
+
+fn are_no_words(alloc: Global, root: &Root) -> bool {
+    let mut so = true;
+    for byte in SIGNS {
+        so &= !is_word(alloc, &[b'x', *byte], root) && is_path(alloc, &[b'x', *byte], root);
+    }
+    so
+}
+
+fn are_words(alloc: Global, root: &Root) -> bool {
+    let mut so = true;
+    for byte in LETTERS {
+        so &= is_word(alloc, &[b'x', *byte], root);
+    }
+    so
+}
+
+/// Whether what has no bytes, a byte of nought or a newline is neither a word nor a path.
+fn are_neither(alloc: Global, root: &Root) -> bool {
+    let mut so = true;
+    for text in [b"".as_slice(), b"a\0", b"\na"] {
+        so &= !is_word(alloc, text, root) && !is_path(alloc, text, root);
+    }
+    so
 }
 
 #[test]
-fn refused(rt: HostRuntime) -> Result<(), Fail> {
+fn bytes_of_words_and_paths(rt: HostRuntime) {
     let alloc = rt.alloc();
-    let root = Root::read(alloc, b"/w").ok().ok_or("root")?;
-    let mut long = vec![in alloc; b'a'; 4096]?;
-    assert!(rt; plain_path(alloc, long.as_slice(), &root).is_ok());
-    assert!(rt; plain_word(alloc, long.as_slice(), &root).is_ok());
-    long.push(b'a')?;
-    for text in [b"".as_slice(), long.as_slice(), b"a\0", b"\na"] {
-        assert_eq!(rt;
-            told(plain_path(alloc, text, &root)),
-            Some(0),
-            "path {text:?}"
-        );
-        assert_eq!(rt;
-            told(plain_word(alloc, text, &root)),
-            Some(text.len()),
-            "word {text:?}"
-        );
+    let so = match Root::read(alloc, b"/w") {
+        Ok(root) => {
+            are_no_words(alloc, &root) && are_words(alloc, &root) && are_neither(alloc, &root)
+        }
+        Err(_) => false,
+    };
+    assert!(rt; so);
+}
+
+fn is_root(alloc: Global, text: &[u8]) -> bool {
+    match Root::read(alloc, text) {
+        Ok(root) => root.text() == text,
+        Err(_) => false,
     }
-    for byte in *b"\x01\t\x1f #$:;=\\%()*?[\"'&|\x7f" {
-        assert_eq!(rt;
-            told(plain_word(alloc, &[b'x', byte], &root)),
-            Some(2),
-            "{byte}"
-        );
-    }
-    for byte in *b"!+,-./09@AZ]^_`az{}~\x80\xff" {
-        assert_eq!(rt;
-            told(plain_word(alloc, &[b'x', byte], &root)),
-            None,
-            "{byte}"
-        );
-    }
-    Ok(())
 }
 
 #[test]
-fn roots(rt: HostRuntime) -> Result<(), Fail> {
+fn bytes_of_roots(rt: HostRuntime) {
     let alloc = rt.alloc();
-    let mut long = vec![in alloc; b'/'; 4096]?;
-    assert!(rt; Root::read(alloc, long.as_slice()).is_ok());
-    long.push(b'a')?;
-    for text in [long.as_slice(), b"w", b"", b"/w\0", b"/w\n"] {
-        let told = told_root(Root::read(alloc, text));
-        assert_eq!(rt; told, Some(text.len()), "{text:?}");
-    }
-    let root = Root::read(alloc, b"/w").ok().ok_or("no root")?;
-    assert_eq!(rt; root.copy(alloc)?.text(), b"/w".as_slice());
-    Ok(())
-}
-
-/// How many bytes of names a refused path or word tells.
-fn told(answer: Result<Name, Halt>) -> Option<usize> {
-    match answer {
-        Err(halt) => length_told(&halt),
-        Ok(_) => None,
-    }
-}
-
-/// How many bytes the name of a refused root has.
-fn told_root(answer: Result<Root, Halt>) -> Option<usize> {
-    match answer {
-        Err(halt) => length_told(&halt),
-        Ok(_) => None,
-    }
-}
-
-fn length_told(halt: &Halt) -> Option<usize> {
-    match halt {
-        Halt::Fault(fault) => Some(length_of(fault.names())),
-        Halt::Memory => None,
-    }
-}
-
-/// How many bytes the name has, where there is one alone.
-fn length_of(names: &[Name]) -> usize {
-    match names {
-        [name] => name.as_bytes().len(),
-        _ => 0,
+    assert!(rt; is_root(alloc, b"/q/..//./w/"));
+    for text in [b"".as_slice(), b"w", b"/w\0", b"/w\n"] {
+        assert!(rt; !is_root(alloc, text), "{text:?}");
     }
 }

@@ -1,0 +1,36 @@
+//! Paths of texts for include lines that no list of files can tell.
+use mk_name::fault::Halt;
+use mk_rules::includes::Includes;
+use mk_text::root::Root;
+use std::alloc::Global;
+
+/// The place that a fault is told at.
+fn place_of(halt: &Halt) -> u64 {
+    match halt {
+        Halt::Fault(fault) => fault.place(),
+        Halt::Memory => u64::MAX,
+    }
+}
+
+/// Where a second path is told as bad behind one with a blank, and 0 where both are read.
+fn place_told(alloc: Global, root: &Root, path: &[u8]) -> u64 {
+    match Includes::read(alloc, &[(b"a b", b"x y"), (path, b"x")], root) {
+        Ok(_) => 0,
+        Err(halt) => place_of(&halt),
+    }
+}
+
+fn are_told(alloc: Global, root: &Root) -> bool {
+    place_told(alloc, root, b"") == 2
+        && place_told(alloc, root, b"\n") == 2
+        && place_told(alloc, root, b"x*") == 0
+}
+
+#[test]
+fn paths_of_includes(rt: HostRuntime) {
+    let so = match Root::read(rt.alloc(), b"/w") {
+        Ok(root) => are_told(rt.alloc(), &root),
+        Err(_) => false,
+    };
+    assert!(rt; so);
+}
