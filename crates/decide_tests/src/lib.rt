@@ -1,13 +1,8 @@
-//! Tests of what is decided about jobs, and of which proofs are accepted, by public calls. The jobs are made of nodes and paths.
+//! Tests of what is decided about jobs where no command shows it: by walks, and the least race alone. The jobs are made of nodes
+//! and paths. What the program decides and accepts is shown by cases.
 #![tactic(auto)]
 
 #[cfg(test)]
-mod changes;
-#[cfg(test)]
-mod proofs;
-#[cfg(test)]
-mod races;
-#[cfg(test)]
 mod small;
 #[cfg(test)]
-mod verdicts;
+mod walks;

@@ -23,29 +23,7 @@ pub(crate) fn missing_header() -> [Made<'static>; 5] {
     ]
 }
 
-/// The same, where it needs the header.
-pub(crate) fn header_named() -> [Made<'static>; 5] {
-    [
-        Made::file("gen.sh"),
-        Made::ruled("gen.h", &[0], &["gen.sh"], &["gen.h"]),
-        Made::file("a.c"),
-        Made::ruled("a.o", &[2, 1], &["a.c", "gen.h"], &["a.o"]),
-        Made::plain("all", &[1, 3]),
-    ]
-}
-
-/// Two recipes that write one file.
-pub(crate) fn shared_temporary() -> [Made<'static>; 5] {
-    [
-        Made::file("p.y"),
-        Made::ruled("p.c", &[0], &["p.y"], &["p.c", "y.tab.c"]),
-        Made::file("q.y"),
-        Made::ruled("q.c", &[2], &["q.y"], &["q.c", "y.tab.c"]),
-        Made::plain("all", &[1, 3]),
-    ]
-}
-
-/// The same, where a target without commands puts them in order.
+/// Two recipes that write one file, where a target without commands puts them in order.
 pub(crate) fn temporary_ordered() -> [Made<'static>; 6] {
     [
         Made::file("p.y"),
@@ -90,42 +68,12 @@ pub(crate) fn behind_recipes() -> [Made<'static>; 7] {
     ]
 }
 
-/// Two recipes that share several files.
-pub(crate) fn several_shared() -> [Made<'static>; 4] {
-    [
-        Made::file("s"),
-        Made::ruled("x", &[0], &["s"], &["t", "u", "x"]),
-        Made::ruled("y", &[0], &["a", "s", "t", "u"], &["y"]),
-        Made::plain("all", &[1, 2]),
-    ]
-}
-
-/// A recipe that reads a tree, and one that writes it.
-pub(crate) fn tree_written() -> [Made<'static>; 4] {
-    [
-        Made::file("s"),
-        Made::ruled("x", &[0], &["out/", "s"], &["x"]),
-        Made::ruled("y", &[0], &["s"], &["out/", "y"]),
-        Made::plain("all", &[1, 2]),
-    ]
-}
-
 /// A recipe that writes a tree, and one that reads a file in it.
 pub(crate) fn file_in_tree() -> [Made<'static>; 4] {
     [
         Made::file("s"),
         Made::ruled("x", &[0], &["s"], &["out/", "x"]),
         Made::ruled("y", &[0], &["out/log", "s"], &["y"]),
-        Made::plain("all", &[1, 2]),
-    ]
-}
-
-/// A recipe that writes a tree, and one that reads a file beside it.
-pub(crate) fn file_beside_tree() -> [Made<'static>; 4] {
-    [
-        Made::file("s"),
-        Made::ruled("x", &[0], &["s"], &["out/", "x"]),
-        Made::ruled("y", &[0], &["output", "s"], &["y"]),
         Made::plain("all", &[1, 2]),
     ]
 }
