@@ -33,8 +33,8 @@ pub fn value_of(alloc: Global, text: &[u8]) -> Result<Option<Value>, AllocError>
     }
 }
 
-/// The name that a text spells, if it is a path.
-pub(crate) fn name_in(alloc: Global, text: &str, root: &Root) -> Result<Option<Name>, AllocError>
+/// The name that a text spells, if it is a path. The only error is want of memory.
+pub fn name_in(alloc: Global, text: &str, root: &Root) -> Result<Option<Name>, AllocError>
     ensures { IfOk result (λ name. name ≡ spec.path_named root.now text.now) }
 {
     match plain_path(alloc, text.as_bytes(), root) {

@@ -1,18 +1,18 @@
 //! One line of a log: a file of the opening store, or an event, as an object of JSON.
 ghost use Rattle.std.specs.Prelude.{◌≡◌, IfOk, option_and_then};
 ghost use Rattle.std.specs.List.{list_any};
-ghost use Rattle.serde_json.specs.View.{view};
-ghost use Rattle.mk_foot.specs.Json.{value_of};
+ghost use Rattle.mk_foot.specs.Json as lines;
+ghost use Rattle.mk_json.specs.Documents.{data_of};
 ghost use Rattle.mk_log.specs.Entries as spec;
 
 use hex::FromHexError;
-use mk_foot::json::{path_under, value_of};
+use mk_foot::json::name_in;
 use mk_jobs::jobs::Jobs;
+use mk_json::{Document, Scratch};
 use mk_name::name::Name;
 use mk_sched::contents::Contents;
 use mk_sched::event::Event;
 use mk_text::root::Root;
-use serde_json::Value;
 use std::alloc::{AllocError, Global};
 
 /// What a line of a log says.
@@ -46,51 +46,56 @@ fn bytes_in(alloc: Global, text: &str) -> Result<Option<Contents>, AllocError>
 }
 
 /// The bytes under the key `bytes`.
-fn bytes_under(alloc: Global, object: &Value) -> Result<Option<Contents>, AllocError>
-    ensures { IfOk result (λ contents. contents ≡ spec.bytes_under (view object.now)) }
+fn bytes_under(alloc: Global, object: &Document<'_>) -> Result<Option<Contents>, AllocError>
+    ensures { IfOk result (λ contents. contents ≡ spec.bytes_under (data_of object.now)) }
 {
-    match object.get("bytes").and_then(Value::as_str) {
+    match object.text("bytes") {
         Some(text) => bytes_in(alloc, text),
         None => Ok(None),
     }
 }
 
-/// What a look saw: bytes, or that the file is absent.
-fn seen_in(alloc: Global, value: &Value) -> Result<Option<Option<Contents>>, AllocError>
-    ensures { IfOk result (λ seen. seen ≡ spec.seen_in (view value.now)) }
+/// What a look saw, by the key `bytes`: bytes, or that the file is absent.
+fn seen_under(alloc: Global, object: &Document<'_>) -> Result<Option<Option<Contents>>, AllocError>
+    ensures { IfOk result (λ seen. seen ≡ spec.seen_under (data_of object.now)) }
 {
-    match value {
-        Value::Null => Ok(Some(None)),
-        Value::String(text) => Ok(bytes_in(alloc, text.as_str())?.map(Some)),
-        _ => Ok(None),
-    }
-}
-
-/// What a look saw, by the key `bytes`.
-fn seen_under(alloc: Global, object: &Value) -> Result<Option<Option<Contents>>, AllocError>
-    ensures { IfOk result (λ seen. seen ≡ spec.seen_under (view object.now)) }
-{
-    match object.get("bytes") {
-        Some(value) => seen_in(alloc, value),
+    match object.text("bytes") {
+        Some(text) => Ok(bytes_in(alloc, text)?.map(Some)),
+        None if object.is_null("bytes") => Ok(Some(None)),
         None => Ok(None),
     }
 }
 
 /// The time under the key `time`.
-fn time_under(object: &Value) -> Option<u64>
-    ensures { result ≡ spec.time_under (view object.now) }
+fn time_under(object: &Document<'_>) -> Option<u64>
+    ensures { result ≡ spec.time_under (data_of object.now) }
 {
-    object.get("time").and_then(Value::as_u64)
+    object.whole("time")
+}
+
+/// The name that the path under a key spells.
+fn path_under(
+    alloc: Global,
+    object: &Document<'_>,
+    key: &str,
+    root: &Root,
+) -> Result<Option<Name>, AllocError>
+    ensures { IfOk result (λ name. name ≡ lines.path_under root.now key.now (data_of object.now)) }
+{
+    match object.text(key) {
+        Some(text) => name_in(alloc, text, root),
+        None => Ok(None),
+    }
 }
 
 /// The number of the node whose name stands under the key `node`.
 fn node_under(
     alloc: Global,
-    object: &Value,
+    object: &Document<'_>,
     jobs: &Jobs,
     root: &Root,
 ) -> Result<Option<u32>, AllocError>
-    ensures { IfOk result (λ node. node ≡ spec.node_under jobs.now root.now (view object.now)) }
+    ensures { IfOk result (λ node. node ≡ spec.node_under jobs.now root.now (data_of object.now)) }
 {
     match path_under(alloc, object, "node", root)? {
         Some(name) => Ok(jobs.number(&name)),
@@ -99,8 +104,8 @@ fn node_under(
 }
 
 /// A file of the opening store.
-fn file_in(alloc: Global, object: &Value, root: &Root) -> Result<Option<Entry>, AllocError>
-    ensures { IfOk result (λ entry. entry ≡ spec.file_in root.now (view object.now)) }
+fn file_in(alloc: Global, object: &Document<'_>, root: &Root) -> Result<Option<Entry>, AllocError>
+    ensures { IfOk result (λ entry. entry ≡ spec.file_in root.now (data_of object.now)) }
 {
     let Some(path) = path_under(alloc, object, "path", root)? else {
         return Ok(None);
@@ -119,9 +124,9 @@ fn look_in(
     alloc: Global,
     node: u32,
     path: Name,
-    object: &Value,
+    object: &Document<'_>,
 ) -> Result<Option<Event>, AllocError>
-    ensures { IfOk result (λ event. event ≡ spec.look_in node path (view object.now)) }
+    ensures { IfOk result (λ event. event ≡ spec.look_in node path (data_of object.now)) }
 {
     match seen_under(alloc, object)? {
         Some(seen) => Ok(Some(Event::Look(node, path, seen))),
@@ -130,8 +135,13 @@ fn look_in(
 }
 
 /// The put of a node at a path.
-fn put_in(alloc: Global, node: u32, path: Name, object: &Value) -> Result<Option<Event>, AllocError>
-    ensures { IfOk result (λ event. event ≡ spec.put_in node path (view object.now)) }
+fn put_in(
+    alloc: Global,
+    node: u32,
+    path: Name,
+    object: &Document<'_>,
+) -> Result<Option<Event>, AllocError>
+    ensures { IfOk result (λ event. event ≡ spec.put_in node path (data_of object.now)) }
 {
     let Some(contents) = bytes_under(alloc, object)? else {
         return Ok(None);
@@ -148,9 +158,9 @@ fn touch_by(
     word: &str,
     node: u32,
     path: Name,
-    object: &Value,
+    object: &Document<'_>,
 ) -> Result<Option<Event>, AllocError>
-    ensures { IfOk result (λ event. event ≡ spec.touch_by word.now node path (view object.now)) }
+    ensures { IfOk result (λ event. event ≡ spec.touch_by word.now node path (data_of object.now)) }
 {
     match word {
         "look" => look_in(alloc, node, path, object),
@@ -165,10 +175,10 @@ fn event_by(
     alloc: Global,
     word: &str,
     node: u32,
-    object: &Value,
+    object: &Document<'_>,
     root: &Root,
 ) -> Result<Option<Event>, AllocError>
-    ensures { IfOk result (λ event. event ≡ spec.event_by word.now root.now node (view object.now)) }
+    ensures { IfOk result (λ event. event ≡ spec.event_by word.now root.now node (data_of object.now)) }
 {
     match word {
         "skip" => Ok(Some(Event::Skip(node))),
@@ -185,11 +195,11 @@ fn event_by(
 fn event_in(
     alloc: Global,
     word: &str,
-    object: &Value,
+    object: &Document<'_>,
     jobs: &Jobs,
     root: &Root,
 ) -> Result<Option<Event>, AllocError>
-    ensures { IfOk result (λ event. event ≡ spec.event_in word.now jobs.now root.now (view object.now)) }
+    ensures { IfOk result (λ event. event ≡ spec.event_in word.now jobs.now root.now (data_of object.now)) }
 {
     match node_under(alloc, object, jobs, root)? {
         Some(node) => event_by(alloc, word, node, object, root),
@@ -200,13 +210,13 @@ fn event_in(
 /// What an object says, by the word under its key `do`.
 fn entry_in(
     alloc: Global,
-    object: &Value,
+    object: &Document<'_>,
     jobs: &Jobs,
     root: &Root,
 ) -> Result<Option<Entry>, AllocError>
-    ensures { IfOk result (λ entry. entry ≡ spec.entry_in jobs.now root.now (view object.now)) }
+    ensures { IfOk result (λ entry. entry ≡ spec.entry_in jobs.now root.now (data_of object.now)) }
 {
-    let Some(word) = object.get("do").and_then(Value::as_str) else {
+    let Some(word) = object.text("do") else {
         return Ok(None);
     };
     if word == "file" {
@@ -222,13 +232,14 @@ fn entry_in(
 pub(crate) fn entry_of(
     alloc: Global,
     text: &[u8],
+    scratch: &mut Scratch,
     jobs: &Jobs,
     root: &Root,
 ) -> Result<Option<Entry>, AllocError>
     ensures { IfOk result (λ entry.
-        entry ≡ option_and_then (spec.entry_in jobs.now root.now) (value_of text.now)) }
+        entry ≡ option_and_then (spec.entry_in jobs.now root.now) (lines.value_of text.now)) }
 {
-    match value_of(alloc, text)? {
+    match Document::read(alloc, text, scratch)? {
         Some(object) => entry_in(alloc, &object, jobs, root),
         None => Ok(None),
     }

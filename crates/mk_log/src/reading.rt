@@ -11,6 +11,7 @@ use crate::entry::{Entry, entry_of};
 use crate::log::Log;
 use mk_foot::json::is_blank;
 use mk_jobs::jobs::Jobs;
+use mk_json::Scratch;
 use mk_name::fault::{Fault, Halt, Kind, Source};
 use mk_name::name::Name;
 use mk_sched::store::Store;
@@ -30,8 +31,9 @@ pub fn read_log(alloc: Global, text: &[u8], jobs: &Jobs, root: &Root) -> Result<
 {
     let lines = physical_lines(alloc, text)?;
     let mut log = empty_log(alloc);
+    let mut scratch = Scratch::new(alloc);
     for (number, text) in lines.iter().enumerate() {
-        if !add_line(alloc, &mut log, text, jobs, root)? {
+        if !add_line(alloc, &mut log, text, &mut scratch, jobs, root)? {
             return Err(fault(alloc, number as u64 + 1));
         }
     }
@@ -60,6 +62,7 @@ fn add_line(
     alloc: Global,
     log: &mut Log,
     text: &[u8],
+    scratch: &mut Scratch,
     jobs: &Jobs,
     root: &Root,
 ) -> Result<bool, AllocError>
@@ -68,7 +71,7 @@ fn add_line(
     if is_blank(text) {
         return Ok(true);
     }
-    match entry_of(alloc, text, jobs, root)? {
+    match entry_of(alloc, text, scratch, jobs, root)? {
         Some(entry) => add_entry(log, entry),
         None => Ok(false),
     }
