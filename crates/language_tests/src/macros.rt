@@ -40,11 +40,14 @@ fn all_leave(alloc: Global, macros: &mut Macros) -> bool {
     so
 }
 
+fn all_leave_new(alloc: Global) -> bool {
+    match Macros::new(alloc, &[]) {
+        Ok(mut macros) => all_leave(alloc, &mut macros),
+        Err(_) => false,
+    }
+}
+
 #[test]
 fn faults_leave_macros(rt: HostRuntime) {
-    let so = match Macros::new(rt.alloc(), &[]) {
-        Ok(mut macros) => all_leave(rt.alloc(), &mut macros),
-        Err(_) => false,
-    };
-    assert!(rt; so);
+    assert!(rt; all_leave_new(rt.alloc()));
 }

@@ -29,13 +29,16 @@ fn tails_are_so(alloc: Global, name: &Name) -> bool {
     so
 }
 
+fn all_tails_are_so(alloc: Global) -> bool {
+    match name_of(alloc, b"parse.o") {
+        Ok(name) => tails_are_so(alloc, &name),
+        Err(AllocError) => false,
+    }
+}
+
 #[test]
 fn tails(rt: HostRuntime) {
-    let so = match name_of(rt.alloc(), b"parse.o") {
-        Ok(name) => tails_are_so(rt.alloc(), &name),
-        Err(AllocError) => false,
-    };
-    assert!(rt; so);
+    assert!(rt; all_tails_are_so(rt.alloc()));
 }
 
 /// The report of a fault at the greatest place in an included text, whose name has a blank.
@@ -45,12 +48,15 @@ fn placed(alloc: Global) -> Result<Vec<u8>, AllocError> {
     refused_report(alloc, &fault)
 }
 
+fn is_reported(alloc: Global, want: &[u8]) -> bool {
+    match placed(alloc) {
+        Ok(report) => report.as_slice() == want,
+        Err(AllocError) => false,
+    }
+}
+
 #[test]
 fn reports(rt: HostRuntime) {
     let want = b"refused\nF26 UnknownInclude\nat include:a\\x20b.mk 18446744073709551615\n";
-    let so = match placed(rt.alloc()) {
-        Ok(report) => report.as_slice() == want.as_slice(),
-        Err(AllocError) => false,
-    };
-    assert!(rt; so);
+    assert!(rt; is_reported(rt.alloc(), want));
 }

@@ -1,4 +1,4 @@
-//! A book of entries that are made by hand, and what its queries say.
+//! A book of an entry that is made by hand, and what its queries say.
 use crate::made::name_of;
 use mk_name::fault::{Halt, Source};
 use mk_name::name::Name;
@@ -22,28 +22,10 @@ fn base_rule(alloc: Global) -> Result<Rule, AllocError> {
     Rule::new(alloc, Source::Base, 7, targets, prerequisites, true)
 }
 
-/// An entry of the makefile without targets, with `.WAIT` among what it lists.
-fn empty_rule(alloc: Global) -> Result<Rule, AllocError> {
-    let prerequisites = names(alloc, ".WAIT a")?;
-    Rule::new(
-        alloc,
-        Source::Makefile,
-        1,
-        Vec::new(alloc),
-        prerequisites,
-        true,
-    )
-}
-
-fn entries(alloc: Global) -> Result<Vec<Rule>, AllocError> {
-    let first = base_rule(alloc)?;
-    let second = empty_rule(alloc)?;
-    Ok(vec![in alloc; first, second]?)
-}
-
-/// The book of the two entries.
+/// The book of that entry.
 fn book(alloc: Global) -> Result<Rulebook, AllocError> {
-    Rulebook::new(alloc, entries(alloc)?)
+    let rule = base_rule(alloc)?;
+    Rulebook::new(alloc, vec![in alloc; rule]?)
 }
 
 /// Whether these are the one name `a`.
@@ -109,11 +91,19 @@ fn has_targets(book: &Rulebook) -> bool {
         && book.wait_uses() == 2
 }
 
+/// Whether the book is as it was made.
+fn is_made(alloc: Global, book: &Rulebook) -> bool {
+    has_rule(book) && has_names(alloc, book) && has_targets(book)
+}
+
+fn book_is_made(alloc: Global) -> bool {
+    match book(alloc) {
+        Ok(book) => is_made(alloc, &book),
+        Err(AllocError) => false,
+    }
+}
+
 #[test]
 fn a_book(rt: HostRuntime) {
-    let so = match book(rt.alloc()) {
-        Ok(book) => has_rule(&book) && has_names(rt.alloc(), &book) && has_targets(&book),
-        Err(AllocError) => false,
-    };
-    assert!(rt; so);
+    assert!(rt; book_is_made(rt.alloc()));
 }

@@ -1,8 +1,8 @@
 //! What is left of the macros behind a makefile, also where it has a fault.
 use mk_macro::macros::Macros;
-use mk_name::fault::Halt;
 use mk_rules::includes::Includes;
 use mk_rules::reading::read_rules;
+use mk_text::line::Line;
 use mk_text::lines::lines;
 use mk_text::root::Root;
 use std::alloc::{AllocError, Global};
@@ -46,25 +46,37 @@ static INCLUDING: [Case; 10] = [
     ("A = x\n-include z a\ninclude z", "A = y", "", "y-"),
 ];
 
-/// Reads a makefile whose include lines may name these two texts.
-fn read(
-    alloc: Global,
-    makefile: &str,
-    texts: &Includes<'_>,
-    macros: &mut Macros,
-    root: &Root,
-) -> Result<(), Halt> {
-    let makefile = lines(alloc, makefile.as_bytes())?;
-    match read_rules(alloc, &[], &makefile, texts, macros, root) {
-        Ok(_) => Ok(()),
-        Err(halt) => Err(halt),
-    }
-}
-
 /// Whether `$(A)-$(B)` stands for this.
 fn stands_for(alloc: Global, macros: &Macros, want: &str) -> bool {
     match macros.expand(alloc, b"$(A)-$(B)") {
         Ok(text) => text.as_slice() == want.as_bytes(),
+        Err(_) => false,
+    }
+}
+
+/// Whether a makefile of these lines leaves this, with these texts to include.
+fn leave(
+    alloc: Global,
+    root: &Root,
+    lines: &[Line<'_>],
+    texts: &Includes<'_>,
+    macros: &mut Macros,
+    want: &str,
+) -> bool {
+    let _read = read_rules(alloc, &[], lines, texts, macros, root);
+    stands_for(alloc, macros, want)
+}
+
+/// Whether a makefile leaves this in new macros.
+fn leave_in_new(
+    alloc: Global,
+    root: &Root,
+    lines: &[Line<'_>],
+    texts: &Includes<'_>,
+    want: &str,
+) -> bool {
+    match Macros::new(alloc, &[]) {
+        Ok(mut macros) => leave(alloc, root, lines, texts, &mut macros, want),
         Err(_) => false,
     }
 }
@@ -77,11 +89,8 @@ fn leaves_with(
     texts: &Includes<'_>,
     want: &str,
 ) -> bool {
-    match Macros::new(alloc, &[]) {
-        Ok(mut macros) => {
-            let _read = read(alloc, makefile, texts, &mut macros, root);
-            stands_for(alloc, &macros, want)
-        }
+    match lines(alloc, makefile.as_bytes()) {
+        Ok(lines) => leave_in_new(alloc, root, &lines, texts, want),
         Err(_) => false,
     }
 }
@@ -126,11 +135,14 @@ fn are_left(alloc: Global, root: &Root) -> bool {
         && too_many_leave(alloc, root)
 }
 
+fn are_left_below_a_root(alloc: Global) -> bool {
+    match Root::read(alloc, b"/w") {
+        Ok(root) => are_left(alloc, &root),
+        Err(_) => false,
+    }
+}
+
 #[test]
 fn macros_that_are_left(rt: HostRuntime) {
-    let so = match Root::read(rt.alloc(), b"/w") {
-        Ok(root) => are_left(rt.alloc(), &root),
-        Err(_) => false,
-    };
-    assert!(rt; so);
+    assert!(rt; are_left_below_a_root(rt.alloc()));
 }

@@ -26,11 +26,14 @@ fn are_told(alloc: Global, root: &Root) -> bool {
         && place_told(alloc, root, b"x*") == 0
 }
 
+fn are_told_below_a_root(alloc: Global) -> bool {
+    match Root::read(alloc, b"/w") {
+        Ok(root) => are_told(alloc, &root),
+        Err(_) => false,
+    }
+}
+
 #[test]
 fn paths_of_includes(rt: HostRuntime) {
-    let so = match Root::read(rt.alloc(), b"/w") {
-        Ok(root) => are_told(rt.alloc(), &root),
-        Err(_) => false,
-    };
-    assert!(rt; so);
+    assert!(rt; are_told_below_a_root(rt.alloc()));
 }

@@ -4,10 +4,9 @@ ghost use Rattle.std.specs.Prelude.{None, Some, length};
 use mk_device::device::{Broken, Intake, Outlet, ReadStop, read_all, write_all};
 use mk_device::feed::Feed;
 use mk_device::spout::Spout;
-use std::alloc::Global;
+use std::alloc::{AllocError, Global};
 use std::io;
 use std::io::{BufWriter, ErrorKind, Read, Write};
-use std::test::Fail;
 
 /// Gives one byte a read, and fails after some.
 #[derive(Drop)]
@@ -82,12 +81,17 @@ fn reads(alloc: Global, good: usize) -> bool {
     all && device.failed == (good < 3)
 }
 
-#[test]
-fn reads_all_or_fails(rt: HostRuntime) -> Result<(), Fail> {
+fn all_read(alloc: Global) -> bool {
+    let mut so = true;
     for good in 0..4usize {
-        assert!(rt; reads(rt.alloc(), good), "after {good} bytes");
+        so &= reads(alloc, good);
     }
-    Ok(())
+    so
+}
+
+#[test]
+fn reads_all_or_fails(rt: HostRuntime) {
+    assert!(rt; all_read(rt.alloc()));
 }
 
 /// Whether a device with so much room takes three bytes, or a beginning of them and is said to fail.
@@ -102,12 +106,17 @@ fn writes(alloc: Global, room: usize) -> bool {
     all && b"abc".get(..room) == Some(device.taken.as_slice())
 }
 
-#[test]
-fn writes_all_or_a_beginning(rt: HostRuntime) -> Result<(), Fail> {
+fn all_write(alloc: Global) -> bool {
+    let mut so = true;
     for room in 0..4usize {
-        assert!(rt; writes(rt.alloc(), room), "room for {room} bytes");
+        so &= writes(alloc, room);
     }
-    Ok(())
+    so
+}
+
+#[test]
+fn writes_all_or_a_beginning(rt: HostRuntime) {
+    assert!(rt; all_write(rt.alloc()));
 }
 
 /// A reader that is interrupted once, gives three bytes and then fails, or, told so, ends.
@@ -134,28 +143,32 @@ impl Read for Moody {
     }
 }
 
+/// A text that is longer than what is read at once.
+static TEXT: [u8; 20_000] = [7; 20_000];
+
+/// Whether it is fed.
+fn feeds_text(alloc: Global) -> bool {
+    match read_all(alloc, &mut Feed::new(TEXT.as_slice())) {
+        Ok(all) => all.as_slice() == TEXT.as_slice(),
+        Err(_) => false,
+    }
+}
+
+/// Whether the bytes of such a reader are fed, or that it fails is told.
+fn feeds_moody(alloc: Global, fails: bool) -> bool {
+    match read_all(alloc, &mut Feed::new(Moody { calls: 0, fails })) {
+        Ok(all) => !fails && all.as_slice() == b"xyz".as_slice(),
+        Err(stop) => fails && stop == ReadStop::Broken,
+    }
+}
+
+fn all_feed(alloc: Global) -> bool {
+    feeds_text(alloc) && feeds_moody(alloc, false) && feeds_moody(alloc, true)
+}
+
 #[test]
-fn feeds_what_a_reader_has(rt: HostRuntime) -> Result<(), Fail> {
-    let text = [7; 20_000];
-    let all = read_all(rt.alloc(), &mut Feed::new(text.as_slice()))?;
-    assert_eq!(rt; all.as_slice(), text.as_slice());
-    let mut ends = Feed::new(Moody {
-        calls: 0,
-        fails: false,
-    });
-    assert_eq!(rt;
-        read_all(rt.alloc(), &mut ends)?.as_slice(),
-        b"xyz".as_slice()
-    );
-    let mut fails = Feed::new(Moody {
-        calls: 0,
-        fails: true,
-    });
-    assert_eq!(rt;
-        read_all(rt.alloc(), &mut fails).err(),
-        Some(ReadStop::Broken)
-    );
-    Ok(())
+fn feeds_what_a_reader_has(rt: HostRuntime) {
+    assert!(rt; all_feed(rt.alloc()));
 }
 
 /// A writer that is interrupted once, and then takes so many bytes a write.
@@ -189,24 +202,36 @@ fn takes(width: usize) -> bool {
 }
 
 /// Whether it gets them behind a buffer.
-fn takes_buffered(alloc: Global, width: usize) -> Result<bool, Fail> {
+fn takes_buffered(alloc: Global, width: usize) -> bool {
     let inner = Narrow {
         interrupted: false,
         width,
     };
-    let mut spout = Spout::new(BufWriter::new(alloc, inner)?);
-    Ok(write_all(&mut spout, b"abc").is_ok())
+    match BufWriter::new(alloc, inner) {
+        Ok(buffer) => write_all(&mut Spout::new(buffer), b"abc").is_ok(),
+        Err(_) => false,
+    }
+}
+
+/// Whether two bytes are added to one.
+fn adds(begun: Vec<u8>) -> bool {
+    let mut spout = Spout::new(begun);
+    let done = write_all(&mut spout, b"bc").is_ok();
+    done && spout.into_inner().as_slice() == b"abc".as_slice()
+}
+
+fn adds_behind(alloc: Global) -> bool {
+    match Vec::from_slice(alloc, b"a") {
+        Ok(begun) => adds(begun),
+        Err(AllocError) => false,
+    }
+}
+
+fn all_take(alloc: Global) -> bool {
+    takes(2) && !takes(0) && takes_buffered(alloc, 2) && !takes_buffered(alloc, 0)
 }
 
 #[test]
-fn spouts_into_a_writer(rt: HostRuntime) -> Result<(), Fail> {
-    let mut whole = Spout::new(Vec::from_slice(rt.alloc(), b"a")?);
-    write_all(&mut whole, b"bc")?;
-    assert_eq!(rt; whole.into_inner().as_slice(), b"abc".as_slice());
-    for width in [0, 2] {
-        assert_eq!(rt; takes(width), width > 0, "{width} bytes a write");
-        let taken = takes_buffered(rt.alloc(), width)?;
-        assert_eq!(rt; taken, width > 0, "{width} bytes a flush");
-    }
-    Ok(())
+fn spouts_into_a_writer(rt: HostRuntime) {
+    assert!(rt; adds_behind(rt.alloc()) && all_take(rt.alloc()));
 }

@@ -56,11 +56,14 @@ fn are_four(lines: &[Line<'_>]) -> bool {
     }
 }
 
-#[test]
-fn lines_of_a_text(rt: HostRuntime) {
-    let so = match lines(rt.alloc(), TEXT) {
+fn are_read(alloc: Global) -> bool {
+    match lines(alloc, TEXT) {
         Ok(lines) => are_four(&lines),
         Err(_) => false,
-    };
-    assert!(rt; so);
+    }
+}
+
+#[test]
+fn lines_of_a_text(rt: HostRuntime) {
+    assert!(rt; are_read(rt.alloc()));
 }

@@ -48,16 +48,18 @@ fn are_neither(alloc: Global, root: &Root) -> bool {
     so
 }
 
-#[test]
-fn bytes_of_words_and_paths(rt: HostRuntime) {
-    let alloc = rt.alloc();
-    let so = match Root::read(alloc, b"/w") {
+fn are_told_apart(alloc: Global) -> bool {
+    match Root::read(alloc, b"/w") {
         Ok(root) => {
             are_no_words(alloc, &root) && are_words(alloc, &root) && are_neither(alloc, &root)
         }
         Err(_) => false,
-    };
-    assert!(rt; so);
+    }
+}
+
+#[test]
+fn bytes_of_words_and_paths(rt: HostRuntime) {
+    assert!(rt; are_told_apart(rt.alloc()));
 }
 
 fn is_root(alloc: Global, text: &[u8]) -> bool {
@@ -67,11 +69,15 @@ fn is_root(alloc: Global, text: &[u8]) -> bool {
     }
 }
 
+fn are_no_roots(alloc: Global) -> bool {
+    let mut so = true;
+    for text in [b"".as_slice(), b"w", b"/w\0", b"/w\n"] {
+        so &= !is_root(alloc, text);
+    }
+    so
+}
+
 #[test]
 fn bytes_of_roots(rt: HostRuntime) {
-    let alloc = rt.alloc();
-    assert!(rt; is_root(alloc, b"/q/..//./w/"));
-    for text in [b"".as_slice(), b"w", b"/w\0", b"/w\n"] {
-        assert!(rt; !is_root(alloc, text), "{text:?}");
-    }
+    assert!(rt; is_root(rt.alloc(), b"/q/..//./w/") && are_no_roots(rt.alloc()));
 }
