@@ -8,7 +8,7 @@ use Rattle.std.specs.Str.{bytes_eq}
 use Rattle.json.specs.Find as spelled
 use Rattle.json.specs.Json as json
 use Rattle.serde_json.proofs.Views.{get_member-put, get_member-put_other}
-use Rattle.serde_json.specs.Data.{Data, Num, null, object, Items, Members, no_members, put}
+use Rattle.serde_json.specs.Data.{Data, Num, null, object, Members, no_members, put}
 use Rattle.serde_json.specs.Find.{as_null, as_number, as_str, get, get_member}
 use Rattle.serde_json.specs.Read.{number_of, of_items, of_json, of_members}
 
@@ -47,13 +47,9 @@ in_object k ms (Some new) e h = by_found (spelled.get_member k ms) (members_foun
     by_found None found = found
     by_found (Some j) found = found
 
-no_key : (k : List ℕ) (f : Num → Data) → ((n : Num) → get k (f n) ≡ None) → (meant : Option Num) → get k (unwrap_or (option_map f meant) null) ≡ None
-no_key k f h None = refl
-no_key k f h (Some n) = h n
-
-no_key_of_items : (k : List ℕ) (meant : Option Items) → get k (unwrap_or (option_map Data.array meant) null) ≡ None
-no_key_of_items k None = refl
-no_key_of_items k (Some items) = refl
+no_key : {A : Type 0} (k : List ℕ) (kind : A → Data) → ((a : A) → get k (kind a) ≡ None) → (meant : Option A) → get k (unwrap_or (option_map kind meant) null) ≡ None
+no_key k kind none None = refl
+no_key k kind none (Some a) = none a
 
 -- under a key stands what the text's value under it means
 pub found : (k : List ℕ) (j : json.Json) → is_some (of_json j) ≡ true → get k (unwrap_or (of_json j) null) ≡ option_and_then of_json (spelled.get k j)
@@ -61,68 +57,41 @@ found k json.null h = refl
 found k (json.boolean b) h = refl
 found k (json.number s) h = no_key k Data.number (λ n. refl) (number_of s)
 found k (json.string s) h = refl
-found k (json.array js) h = no_key_of_items k (of_items js)
+found k (json.array js) h = no_key k Data.array (λ items. refl) (of_items js)
 found k (json.object ms) h = in_object k ms (of_members ms no_members) refl h
+
+-- what is asked of a value that may mean nothing, where no meaning of its kind has an answer
+nothing : {A X : Type 0} (kind : A → Data) (ask : Data → Option X) → ((a : A) → ask (kind a) ≡ None) → (meant : Option A) → option_and_then ask (option_map kind meant) ≡ None
+nothing kind ask none None = refl
+nothing kind ask none (Some a) = none a
 
 text_of : (j : json.Json) → option_and_then as_str (of_json j) ≡ spelled.as_str j
 text_of json.null = refl
 text_of (json.boolean b) = refl
-text_of (json.number s) = of_number (number_of s)
-  where
-    of_number : (meant : Option Num) → option_and_then as_str (option_map Data.number meant) ≡ None
-    of_number None = refl
-    of_number (Some n) = refl
+text_of (json.number s) = nothing Data.number as_str (λ n. refl) (number_of s)
 text_of (json.string s) = refl
-text_of (json.array js) = of_array (of_items js)
-  where
-    of_array : (meant : Option Items) → option_and_then as_str (option_map Data.array meant) ≡ None
-    of_array None = refl
-    of_array (Some items) = refl
-text_of (json.object ms) = of_object (of_members ms no_members)
-  where
-    of_object : (meant : Option Members) → option_and_then as_str (option_map object meant) ≡ None
-    of_object None = refl
-    of_object (Some _) = refl
+text_of (json.array js) = nothing Data.array as_str (λ items. refl) (of_items js)
+text_of (json.object ms) = nothing object as_str (λ inside. refl) (of_members ms no_members)
+
+meant_number : (meant : Option Num) → option_and_then as_number (option_map Data.number meant) ≡ meant
+meant_number None = refl
+meant_number (Some n) = refl
 
 number_in : (j : json.Json) → option_and_then as_number (of_json j) ≡ option_and_then number_of (spelled.as_number j)
 number_in json.null = refl
 number_in (json.boolean b) = refl
-number_in (json.number s) = of_number (number_of s)
-  where
-    of_number : (meant : Option Num) → option_and_then as_number (option_map Data.number meant) ≡ meant
-    of_number None = refl
-    of_number (Some n) = refl
+number_in (json.number s) = meant_number (number_of s)
 number_in (json.string s) = refl
-number_in (json.array js) = of_array (of_items js)
-  where
-    of_array : (meant : Option Items) → option_and_then as_number (option_map Data.array meant) ≡ None
-    of_array None = refl
-    of_array (Some items) = refl
-number_in (json.object ms) = of_object (of_members ms no_members)
-  where
-    of_object : (meant : Option Members) → option_and_then as_number (option_map object meant) ≡ None
-    of_object None = refl
-    of_object (Some _) = refl
+number_in (json.array js) = nothing Data.array as_number (λ items. refl) (of_items js)
+number_in (json.object ms) = nothing object as_number (λ inside. refl) (of_members ms no_members)
 
 null_in : (j : json.Json) → is_some (option_and_then as_null (of_json j)) ≡ spelled.is_null j
 null_in json.null = refl
 null_in (json.boolean b) = refl
-null_in (json.number s) = of_number (number_of s)
-  where
-    of_number : (meant : Option Num) → is_some (option_and_then as_null (option_map Data.number meant)) ≡ false
-    of_number None = refl
-    of_number (Some n) = refl
+null_in (json.number s) = ap is_some (nothing Data.number as_null (λ n. refl) (number_of s))
 null_in (json.string s) = refl
-null_in (json.array js) = of_array (of_items js)
-  where
-    of_array : (meant : Option Items) → is_some (option_and_then as_null (option_map Data.array meant)) ≡ false
-    of_array None = refl
-    of_array (Some items) = refl
-null_in (json.object ms) = of_object (of_members ms no_members)
-  where
-    of_object : (meant : Option Members) → is_some (option_and_then as_null (option_map object meant)) ≡ false
-    of_object None = refl
-    of_object (Some _) = refl
+null_in (json.array js) = ap is_some (nothing Data.array as_null (λ items. refl) (of_items js))
+null_in (json.object ms) = ap is_some (nothing object as_null (λ inside. refl) (of_members ms no_members))
 
 -- what is asked of the meaning under a key can be asked of the text's value under it
 pub text_found : (k : List ℕ) (j : json.Json) → is_some (of_json j) ≡ true

@@ -2,14 +2,14 @@
 use Rattle.std.proofs.Common.{◌≡◌, ◌+◌, ◌<◌, ℕ, Bool, true, false, List, ◌∷◌, Option, None, Some, option_and_then, ℤ, Float, length, drop, get_or, refl, sym, ap, ◌∙◌}
 use Rattle.std.proofs.lemmas.List.{drop_more}
 use Rattle.std.specs.Borrow.{Bor}
-use Rattle.std.specs.Prelude.{is_some, if◌then◌else◌}
+use Rattle.std.specs.Prelude.{◌==◌, is_some, slice_index, if◌then◌else◌}
 use Rattle.json.specs.Json as json
 use Rattle.json.specs.Value.{members_view, value_view}
 use Rattle.json.specs.declared.value.Value.{Value}
-use Rattle.fast_float.specs.Text.{Parts}
+use Rattle.fast_float.specs.Text.{Parts, scan}
 use Rattle.serde_json.specs.Data.{Data, negative, float, Members, no_members, put}
 use Rattle.serde_json.specs.Find.{as_u64}
-use Rattle.serde_json.specs.Read.{number_from, of_json, of_members}
+use Rattle.serde_json.specs.Read.{number_from, number_of, of_json, of_members}
 
 both : (o : Option Data) (one other : Data → Option Members) → ((d : Data) → is_some (one d) ≡ is_some (other d))
     → is_some (option_and_then one o) ≡ is_some (option_and_then other o)
@@ -38,6 +38,15 @@ by_tests : (whole finite : Bool) (z : ℤ) (x : Float) → option_and_then as_u6
 by_tests true finite z x = refl
 by_tests false true z x = refl
 by_tests false false z x = refl
+
+-- a text begins with a minus, or not: which numeral it is read as
+pub minus_read : (s : List ℕ) → true ≡ (slice_index s 0 == 45) → number_from true (scan (drop 1 s)) ≡ number_of s
+unfolding number_of
+minus_read s minus = let signed : (slice_index s 0 == 45) ≡ true = sym minus in rw signed
+
+pub plain_read : (s : List ℕ) → false ≡ (slice_index s 0 == 45) → number_from false (scan s) ≡ number_of s
+unfolding number_of
+plain_read s plain = let unsigned : (slice_index s 0 == 45) ≡ false = sym plain in rw unsigned
 
 -- no number behind a minus is unsigned
 pub none_below : (p : Parts) → option_and_then as_u64 (number_from true p) ≡ None

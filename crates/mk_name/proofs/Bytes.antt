@@ -107,6 +107,19 @@ pub record AreFirsts (xs ys : List ℕ) (first second : ℕ) : Type 0 where
   pub is : first ≡ from_be_bytes w64 (take 8 xs)
   pub other_is : second ≡ from_be_bytes w64 (take 8 ys)
 
+-- as two splits of eight bytes tell them
+pub firsts : (xs ys front back rest left : List ℕ) (first second : ℕ) → (front ≡ take 8 xs) × (rest ≡ drop 8 xs) × (length rest + 8 ≡ length xs)
+    → (back ≡ take 8 ys) × (left ≡ drop 8 ys) × (length left + 8 ≡ length ys) → first ≡ from_be_bytes w64 front → second ≡ from_be_bytes w64 back
+    → AreSmall xs → AreSmall ys → AreFirsts xs ys first second
+firsts xs ys front back rest left first second one other is other_is small other_small = record {
+  long = omega (arith, one.2);
+  other_long = omega (arith, other.2);
+  small = small;
+  other_small = other_small;
+  is = is ∙ ap (from_be_bytes w64) one.0;
+  other_is = other_is ∙ ap (from_be_bytes w64) other.0;
+}
+
 pub stepped : (xs ys : List ℕ) (first second : ℕ) → AreFirsts xs ys first second
     → slice_cmp nat_cmp xs ys ≡ ordering_then (nat_cmp first second) (slice_cmp nat_cmp (drop 8 xs) (drop 8 ys))
 stepped xs ys first second are =

@@ -1,22 +1,16 @@
-use Rattle.std.proofs.Common.{◌≡◌, drop, get_or, true, false, option_and_then, ◌==◌, sym, ap, ◌∙◌}
+use Rattle.std.proofs.Common.{false, drop, option_and_then, sym, ap, ◌∙◌}
 use Rattle.fast_float.specs.Text.{scan}
 use Rattle.serde_json.specs.Find.{as_u64}
 use Rattle.serde_json.specs.Read.{number_of, number_from}
-use Rattle.mk_json.proofs.Meanings.{none_below}
+use Rattle.mk_json.proofs.Meanings.{minus_read, none_below, plain_read}
 use Rattle.mk_json.proofs.number.whole.Goals as goal
 
 pub returns-then-has_minus : goal.returns-then-has_minus
-unfolding number_of
 returns-then-has_minus c =
     let s = c.as_bytes-bytes.result.now in
-    let signed : (get_or s 0 0 == 45) ≡ true = sym c.if-has_minus.ensures.minus in
-    let read : number_from true (scan (drop 1 s)) ≡ number_of s = rw signed in
-    sym (none_below (scan (drop 1 s))) ∙ ap (option_and_then as_u64) (read ∙ ap number_of c.as_bytes-bytes.ensures.value)
+    sym (none_below (scan (drop 1 s))) ∙ ap (option_and_then as_u64) (minus_read s c.if-has_minus.ensures.minus ∙ ap number_of c.as_bytes-bytes.ensures.value)
 
 pub returns-else-has_minus : goal.returns-else-has_minus
-unfolding number_of
 returns-else-has_minus c =
     let s = c.as_bytes-bytes.result.now in
-    let unsigned : (get_or s 0 0 == 45) ≡ false = sym c.if-has_minus.ensures.minus in
-    let read : number_from false (scan s) ≡ number_of s = rw unsigned in
-    c.whole_of.ensures ∙ ap (option_and_then as_u64) (ap (number_from false) c.scan.ensures.parts ∙ read ∙ ap number_of c.as_bytes-bytes.ensures.value)
+    c.whole_of.ensures ∙ ap (option_and_then as_u64) (ap (number_from false) c.scan.ensures.parts ∙ plain_read s c.if-has_minus.ensures.minus ∙ ap number_of c.as_bytes-bytes.ensures.value)
