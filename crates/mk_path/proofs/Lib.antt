@@ -24,3 +24,4 @@ pub mod SetBits
 pub mod Spelled
 pub mod Tables
 pub mod Tests
+pub mod Uniting

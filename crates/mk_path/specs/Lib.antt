@@ -1,5 +1,6 @@
 pub mod Bits
 pub mod Covering
+pub mod Gather
 pub mod Holders
 pub mod Index
 pub mod Laws

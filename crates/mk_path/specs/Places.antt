@@ -1,5 +1,5 @@
 -- Paths in order, and their places as numbers.
-use Rattle.std.specs.Prelude.{ℕ, ◌≡◌, ◌<◌, List, [], ◌∷◌, Vec, length, map, Contains}
+use Rattle.std.specs.Prelude.{ℕ, ◌≡◌, ◌<◌, List, [], ◌∷◌, Vec, length, map}
 use Rattle.std.specs.Global.{Global}
 use Rattle.std.specs.List.{All}
 use Rattle.mk_path.specs.declared.path.Path.{Path}
@@ -8,10 +8,6 @@ use Rattle.mk_path.specs.Index.{path_at}
 -- no number is greater
 abbrev pub number_limit : ℕ
 number_limit = 4294967295
-
--- the paths of all rows are among these
-abbrev pub AreHeld : List Path → List (Vec Path Global) → Type 0
-AreHeld paths rows = All (λ (row : Vec Path Global). All (Contains paths) row.items) rows
 
 -- these numbers are the places of the paths of a row
 pub record ArePlaces (paths : List Path) (numbers : List ℕ) (row : List Path) : Type 0 where

@@ -1,12 +1,10 @@
 //! An index over rows of paths: who reaches whom, and where.
-ghost use Rattle.std.specs.Prelude.{ℕ, ◌≡◌, ◌<◌, ◌≤◌, ◌*◌, ◌↔◌, ◌⊎◌, ◌∷◌, IfNone, IfOk, IfSome, List, length, map, slice_index};
+ghost use Rattle.std.specs.Prelude.{ℕ, ◌≡◌, ◌<◌, ◌≤◌, ◌*◌, ◌↔◌, ◌⊎◌, ◌∷◌, IfNone, IfOk, IfSome, List, length, slice_index};
 ghost use Rattle.std.specs.List.Sorted.{IsStrictlyIncreasing};
 ghost use Rattle.mk_path.specs.Bits.{HasBit};
 ghost use Rattle.mk_path.specs.Holders.{node_limit};
 ghost use Rattle.mk_path.specs.Index.{IsIndexed, IsNumberRow, IsWhole, numbers_of};
 ghost use Rattle.mk_path.specs.Meets.{AreBelow, Facing, IsFront, IsLeastMet, Stands, facing};
-ghost use Rattle.mk_path.specs.Nearest.{ArePaths};
-ghost use Rattle.mk_path.specs.Places.{AreHeld};
 ghost use Rattle.mk_path.specs.Uses.{AreRising, IsLeastOverlap, IsOverlap, Reaches, Uses, path_of, paths_of, uses_of};
 
 use crate::holders::holders;
@@ -14,7 +12,7 @@ use crate::marks::mark_over;
 use crate::meets::first_met;
 use crate::nearest::ways_up;
 use crate::path::Path;
-use crate::places::{distinct, numbers};
+use crate::places::number_rows;
 use crate::table::Table;
 use crate::ups::Ups;
 use mk_text::root::Root;
@@ -74,35 +72,13 @@ impl Index {
         ensures count { IfOk result (λ index. length index.reads ≡ length reads.now) }
         ensures indexed { IfOk result (λ index. IsIndexed (uses_of root.now reads.now writes.now) index) }
     {
-        let paths = distinct(alloc, reads, writes)?;
-        Index::of_paths(alloc, root, &paths, reads, writes)
-    }
-
-    /// The index where the paths of all rows are these.
-    fn of_paths(
-        alloc: Global,
-        root: &Root,
-        paths: &[&Path],
-        reads: &[Vec<Path>],
-        writes: &[Vec<Path>],
-    ) -> Result<Index, AllocError>
-        requires paths { ArePaths (map (λ path. path.now) paths.now) }
-        requires reads { AreHeld (map (λ path. path.now) paths.now) reads.now }
-        requires writes { AreHeld (map (λ path. path.now) paths.now) writes.now }
-        requires same { length writes.now ≡ length reads.now }
-        requires few { length reads.now ≤ node_limit }
-        requires rise { AreRising (uses_of root.now reads.now writes.now) }
-        ensures count { IfOk result (λ index. length index.reads ≡ length reads.now) }
-        ensures indexed { IfOk result (λ index. IsIndexed (uses_of root.now reads.now writes.now) index) }
-    {
-        let ups = ways_up(alloc, root, paths)?;
-        let reads = numbers(alloc, paths, reads)?;
-        let writes = numbers(alloc, paths, writes)?;
-        let writers = holders(alloc, &writes, paths.len())?;
-        let readers = holders(alloc, &reads, paths.len())?;
+        let numbered = number_rows(alloc, reads, writes)?;
+        let ups = ways_up(alloc, root, &numbered.paths)?;
+        let writers = holders(alloc, &numbered.writes, numbered.paths.len())?;
+        let readers = holders(alloc, &numbered.reads, numbered.paths.len())?;
         Ok(Index {
-            reads,
-            writes,
+            reads: numbered.reads,
+            writes: numbered.writes,
             ups,
             writers,
             readers,

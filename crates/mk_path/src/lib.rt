@@ -11,6 +11,7 @@
 
 pub mod bits;
 pub mod covering;
+mod gather;
 mod holders;
 pub mod index;
 pub mod laws;

@@ -1,70 +1,52 @@
 //! All paths of some rows in order, and the numbers that they get by it.
-ghost use Rattle.std.specs.Prelude.{◌≡◌, ◌<◌, ◌++◌, All, Contains, IfOk, OnOk, length, map};
+ghost use Rattle.std.specs.Prelude.{◌≡◌, ◌<◌, ◌++◌, All, Contains, IfOk, List, length, map, slice_index};
 ghost use Rattle.std.specs.List.{flat_map};
 ghost use Rattle.std.specs.List.Sorted.{IsStrictlySortedBy};
+ghost use Rattle.mk_path.specs.Gather.{AreSorted};
 ghost use Rattle.mk_path.specs.Index.{path_at};
 ghost use Rattle.mk_path.specs.Paths.{path_cmp};
-ghost use Rattle.mk_path.specs.Places.{AreHeld, AreNumbers, ArePlaces, number_limit};
+ghost use Rattle.mk_path.specs.Places.{AreNumbers, ArePlaces, number_limit};
 
+use crate::gather::{add_numbers, gather, unite};
 use crate::path::Path;
 use crate::table::Table;
 use std::alloc::{AllocError, Global};
 
-/// How many paths can have a number.
-const NUMBER_LIMIT: usize = 4294967295;
+/// The paths that nodes read and write in order, each once, and for each node the numbers of those that it reads, and of
+/// those that it writes.
+#[derive(Debug, Drop)]
+pub struct Numbered<'a> {
+    pub paths: Vec<&'a Path>,
+    pub reads: Table,
+    pub writes: Table,
+}
 
-/// The paths of both, each once, in order. The only error is want of memory, which is told too where there are more paths
-/// than numbers of 32 bits.
-pub fn distinct<'a>(
+/// The paths of all rows, which rise, and their numbers. The only error is want of memory, which is told too where there are
+/// more paths than numbers of 32 bits.
+pub fn number_rows<'a>(
     alloc: Global,
     reads: &'a [Vec<Path>],
     writes: &'a [Vec<Path>],
-) -> Result<Vec<&'a Path>, AllocError>
-    ensures rise { IfOk result (λ paths. IsStrictlySortedBy path_cmp (map (λ path. path.now) paths.items)) }
-    ensures few { IfOk result (λ paths. length paths.items < number_limit) }
-    ensures reads { IfOk result (λ paths. AreHeld (map (λ path. path.now) paths.items) reads.now) }
-    ensures writes { IfOk result (λ paths. AreHeld (map (λ path. path.now) paths.items) writes.now) }
-    ensures only { IfOk result (λ paths. (p : Path) → Contains (map (λ path. path.now) paths.items) p
+) -> Result<Numbered<'a>, AllocError>
+    requires reads { AreSorted reads.now }
+    requires writes { AreSorted writes.now }
+    ensures rise { IfOk result (λ numbered. IsStrictlySortedBy path_cmp (map (λ path. path.now) numbered.paths.items)) }
+    ensures few { IfOk result (λ numbered. length numbered.paths.items < number_limit) }
+    ensures reads { IfOk result (λ numbered. AreNumbers (map (λ path. path.now) numbered.paths.items) numbered.reads reads.now) }
+    ensures writes { IfOk result (λ numbered. AreNumbers (map (λ path. path.now) numbered.paths.items) numbered.writes writes.now) }
+    ensures only { IfOk result (λ numbered. (p : Path) → Contains (map (λ path. path.now) numbered.paths.items) p
         → Contains (flat_map (λ row. row.items) reads.now ++ flat_map (λ row. row.items) writes.now) p) }
 {
-    let mut paths = Vec::new(alloc);
-    add_rows(&mut paths, reads)?;
-    add_rows(&mut paths, writes)?;
-    put_in_order(&mut paths);
-    if paths.len() >= NUMBER_LIMIT {
-        return Err(AllocError);
-    }
-    Ok(paths)
-}
-
-/// Puts paths in order, each once.
-fn put_in_order(paths: &mut Vec<&Path>)
-    ensures rise { IsStrictlySortedBy path_cmp (map (λ path. path.now) paths.new.items) }
-    ensures kept { (p : Path) → Contains (map (λ path. path.now) paths.old.items) p → Contains (map (λ path. path.now) paths.new.items) p }
-    ensures only { (p : Path) → Contains (map (λ path. path.now) paths.new.items) p → Contains (map (λ path. path.now) paths.old.items) p }
-{
-    paths.sort_unstable();
-    paths.dedup();
-}
-
-/// Adds the paths of all rows.
-fn add_rows<'a>(paths: &mut Vec<&'a Path>, rows: &'a [Vec<Path>]) -> Result<(), AllocError>
-    ensures { OnOk result (map (λ path. path.now) paths.new.items ≡ map (λ path. path.now) paths.old.items ++ flat_map (λ row. row.items) rows.now) }
-{
-    for row in rows {
-        add_row(paths, row.as_slice())?;
-    }
-    Ok(())
-}
-
-/// Adds the paths of a row.
-fn add_row<'a>(paths: &mut Vec<&'a Path>, row: &'a [Path]) -> Result<(), AllocError>
-    ensures { OnOk result (map (λ path. path.now) paths.new.items ≡ map (λ path. path.now) paths.old.items ++ row.now) }
-{
-    for path in row {
-        paths.push(path)?;
-    }
-    Ok(())
+    let read = gather(alloc, reads)?;
+    let written = gather(alloc, writes)?;
+    let union = unite(alloc, &read.paths, &written.paths)?;
+    let reads = table_of(alloc, reads, &read.numbers, &union.firsts)?;
+    let writes = table_of(alloc, writes, &written.numbers, &union.seconds)?;
+    Ok(Numbered {
+        paths: union.paths,
+        reads,
+        writes,
+    })
 }
 
 /// The number of a path: its place among those in order, of which it is one.
@@ -81,31 +63,36 @@ pub fn number(paths: &[&Path], path: &Path) -> u32
     }
 }
 
-/// The numbers of the paths of a row.
-fn row_numbers(alloc: Global, paths: &[&Path], row: &[Path]) -> Result<Vec<u32>, AllocError>
-    requires rise { IsStrictlySortedBy path_cmp (map (λ path. path.now) paths.now) }
-    requires few { length paths.now < number_limit }
-    requires there { All (Contains (map (λ path. path.now) paths.now)) row.now }
-    ensures { IfOk result (λ numbers. ArePlaces (map (λ path. path.now) paths.now) numbers.items row.now) }
+/// What stands at the places that are the numbers of the paths of all rows, row by row.
+fn table_of(
+    alloc: Global,
+    rows: &[Vec<Path>],
+    numbers: &[u32],
+    places: &[u32],
+) -> Result<Table, AllocError>
+    requires within { All (λ n. n < length places.now) numbers.now }
+    requires all { length numbers.now ≡ length (flat_map (λ row. row.items) rows.now) }
+    ensures { IfOk result (λ table. (paths : List Path)
+        → ArePlaces paths (map (λ n. slice_index places.now n) numbers.now) (flat_map (λ row. row.items) rows.now)
+        → AreNumbers paths table rows.now) }
 {
-    let mut numbers = Vec::with_capacity(alloc, row.len())?;
-    for path in row {
-        numbers.push(number(paths, path))?;
-    }
-    Ok(numbers)
+    let mut all = Vec::with_capacity(alloc, numbers.len())?;
+    add_numbers(&mut all, numbers, places)?;
+    cut(alloc, rows, &all)
 }
 
 /// The numbers of the paths of all rows, row by row.
-pub fn numbers(alloc: Global, paths: &[&Path], rows: &[Vec<Path>]) -> Result<Table, AllocError>
-    requires rise { IsStrictlySortedBy path_cmp (map (λ path. path.now) paths.now) }
-    requires few { length paths.now < number_limit }
-    requires there { AreHeld (map (λ path. path.now) paths.now) rows.now }
-    ensures { IfOk result (λ table. AreNumbers (map (λ path. path.now) paths.now) table rows.now) }
+fn cut(alloc: Global, rows: &[Vec<Path>], numbers: &[u32]) -> Result<Table, AllocError>
+    requires { length numbers.now ≡ length (flat_map (λ row. row.items) rows.now) }
+    ensures { IfOk result (λ table. (paths : List Path)
+        → ArePlaces paths numbers.now (flat_map (λ row. row.items) rows.now) → AreNumbers paths table rows.now) }
 {
     let mut table = Table::new(alloc);
+    let mut rest = numbers;
     for row in rows {
-        let numbers = row_numbers(alloc, paths, row.as_slice())?;
-        table.push_row(&numbers)?;
+        let (own, behind) = rest.split_at(row.len());
+        table.push_row(own)?;
+        rest = behind;
     }
     Ok(table)
 }
