@@ -3,9 +3,9 @@ use mk_foot::attaching::attach;
 use mk_foot::footprints::Footprints;
 use mk_foot::reading::read_footprints;
 use mk_jobs::jobs::Jobs;
-use mk_path::path::Path;
 use mk_jobs::plan::Plan;
 use mk_name::fault::Halt;
+use mk_path::path::Path;
 use mk_race::input::Input;
 use mk_race::planning::{Planned, plan_of};
 use mk_rules::rulebook::Rulebook;
@@ -13,7 +13,8 @@ use std::alloc::{AllocError, Global};
 
 const MAKEFILE: &[u8] = b"prog: a.o b.o\n\tcc\na.o: a.c\n\tcc\nb.o: b.c\n\tcc\n";
 
-const FOOTPRINTS: &[u8] = b"{\"target\":\"prog\",\"reads\":[\"a.o\",\"b.o\"],\"writes\":[\"prog\"]}\n{\"target\":\"a.o\",\"reads\":[\"a.c\"],\"writes\":[\"a.o\"]}\n{\"target\":\"b.o\",\"reads\":[\"b.c\"],\"writes\":[\"b.o\"]}\n";
+const FOOTPRINTS: &[u8] =
+    b"{\"target\":\"prog\",\"reads\":[\"a.o\",\"b.o\"],\"writes\":[\"prog\"]}\n{\"target\":\"a.o\",\"reads\":[\"a.c\"],\"writes\":[\"a.o\"]}\n{\"target\":\"b.o\",\"reads\":[\"b.c\"],\"writes\":[\"b.o\"]}\n";
 
 /// The test passes where memory runs out for one allocation of the first call, and for no other:
 /// `tests/refused-memory` lets each allocation be refused in turn.
@@ -33,19 +34,32 @@ fn attaches_again(rt: HostRuntime) -> Result<(), AllocError> {
         Ok(jobs) => shown_paths(alloc, &jobs)?,
         Err(_) => return Err(AllocError),
     };
-    assert_eq!(rt; shown.as_slice(), b"0\n1 a.c > a.o\n2\n3 b.c > b.o\n4 a.o b.o > prog\n".as_slice());
+    assert_eq!(rt;
+        shown.as_slice(),
+        b"0\n1 a.c > a.o\n2\n3 b.c > b.o\n4 a.o b.o > prog\n".as_slice()
+    );
     Ok(())
 }
 
 fn jobs_of(alloc: Global, input: &Input<'_>) -> Result<Jobs, Halt> {
     let planned = plan_of(alloc, input)?;
-    let Planned { root, book, plan, .. } = planned;
+    let Planned {
+        root,
+        book,
+        plan,
+        ..
+    } = planned;
     let footprints = read_footprints(alloc, FOOTPRINTS, &root)?;
     attached(alloc, plan, &book, &footprints)
 }
 
 /// The jobs of a plan; where memory runs out, those of the plan that comes back.
-fn attached(alloc: Global, plan: Plan, book: &Rulebook, footprints: &Footprints) -> Result<Jobs, Halt> {
+fn attached(
+    alloc: Global,
+    plan: Plan,
+    book: &Rulebook,
+    footprints: &Footprints,
+) -> Result<Jobs, Halt> {
     match attach(alloc, plan, book, footprints) {
         Ok(jobs) => Ok(jobs),
         Err((plan, Halt::Memory)) => match attach(alloc, plan, book, footprints) {

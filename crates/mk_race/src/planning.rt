@@ -37,7 +37,7 @@ pub struct Planned {
 }
 
 /// The rules of a build, and their plan.
-#[derive(Debug, Drop)]
+#[derive(Drop)]
 pub(crate) struct Graphed {
     pub(crate) book: Rulebook,
     pub(crate) plan: Plan,
