@@ -1,133 +1,53 @@
-//! What a text of footprints says.
-use crate::builds::{jobs_of, live_nodes, told_halt};
-use std::alloc::{AllocError, Global};
+//! What the lines of footprints leave in jobs. Those of one target unite, each path counts once in whatever spelling, and a
+//! slash at the end makes a tree.
+ghost use Rattle.std.specs.Prelude.{◌<◌};
+ghost use Rattle.mk_jobs.specs.Jobs.{node_count};
 
-/// What a text of footprints says of the target `a`, which is live, or its fault.
-const CASES: &[(&str, &str)] = &[
-    ("", "refused\nF21 MissingFootprint\nat jobs 0\nname a\n"),
-    (
-        "{\"target\":\"a\",\"reads\":[],\"writes\":[]}",
-        "0 a reads writes\n",
-    ),
-    (
-        "{\"target\":\"a\",\"reads\":[\"s\"],\"writes\":[\"a\"]}",
-        "0 a reads s writes a\n",
-    ),
-    // Lines of one target unite, and names rise, each once.
-    (
-        "{\"target\":\"a\",\"reads\":[\"s\"],\"writes\":[\"a\"]}\n{\"target\":\"a\",\"reads\":[],\"writes\":[\"s\"]}\n",
-        "0 a reads s writes a s\n",
-    ),
-    (
-        "{\"target\":\"a\",\"reads\":[\"y\",\"x\",\"y\"],\"writes\":[\"a\"]}\n{\"target\":\"b\",\"reads\":[\"z\"],\"writes\":[\"a\"]}\n{\"target\":\"a\",\"reads\":[\"w\",\"x\"],\"writes\":[\"a\"]}",
-        "0 a reads w x y writes a\n",
-    ),
-    // Paths are compared in plain spelling.
-    (
-        "{\"target\":\"./x/../a\",\"reads\":[\"/w/s\",\"s\",\"sub//../s\"],\"writes\":[\"/tmp/t\",\"out/\"]}",
-        "0 a reads s writes /tmp/t out/\n",
-    ),
-    // Spaces, tabs and carriage returns around lines mean nothing; blank lines count.
-    (
-        "\r\n \t\r\n{\"target\":\"a\",\"reads\":[],\"writes\":[\"a\"]}\r\n\n{}",
-        "refused\nF19 BadFootprint\nat footprints 5\n",
-    ),
-    // Further keys are passed over; of a key that stands twice the last counts.
-    (
-        "{\"x\":[1],\"target\":\"a\",\"reads\":[],\"writes\":[],\"writes\":[\"a\"]}",
-        "0 a reads writes a\n",
-    ),
-    // Each key has to be there, with a value of its kind.
-    (
-        "{\"target\":\"a\",\"reads\":[]}",
-        "refused\nF19 BadFootprint\nat footprints 1\n",
-    ),
-    (
-        "{\"target\":\"a\",\"writes\":[]}",
-        "refused\nF19 BadFootprint\nat footprints 1\n",
-    ),
-    (
-        "{\"reads\":[],\"writes\":[]}",
-        "refused\nF19 BadFootprint\nat footprints 1\n",
-    ),
-    (
-        "{\"target\":\"a\",\"reads\":\"s\",\"writes\":[]}",
-        "refused\nF19 BadFootprint\nat footprints 1\n",
-    ),
-    (
-        "{\"target\":\"a\",\"reads\":[1],\"writes\":[]}",
-        "refused\nF19 BadFootprint\nat footprints 1\n",
-    ),
-    ("[]", "refused\nF19 BadFootprint\nat footprints 1\n"),
-    // Paths are those that the listing may name.
-    (
-        "{\"target\":\"a\",\"reads\":[],\"writes\":[\"\"]}",
-        "refused\nF19 BadFootprint\nat footprints 1\n",
-    ),
-    (
-        "{\"target\":\"a\",\"reads\":[\"x\\u0000y\"],\"writes\":[]}",
-        "refused\nF19 BadFootprint\nat footprints 1\n",
-    ),
-    (
-        "{\"target\":\"a\",\"reads\":[\"x*y z\"],\"writes\":[]}",
-        "0 a reads x*y z writes\n",
-    ),
-    // The text ends before the closing brace.
-    (
-        "{\"target\":\"b\",\"reads\":[],\"writes\":[]}\n\n{\"target\":\"a\",\"reads\":[],\"writes\":[]",
-        "refused\nF19 BadFootprint\nat footprints 3\n",
-    ),
-];
+use crate::builds::of_jobs;
+use mk_jobs::jobs::Jobs;
+use mk_path::path::Path;
 
-#[test]
-fn texts_of_footprints(rt: HostRuntime) -> Result<(), AllocError> {
-    for (text, want) in CASES {
-        let said = said_of(rt.alloc(), text.as_bytes())?;
-        assert_eq!(rt; said.as_slice(), want.as_bytes(), "{text:?}");
+fn is_path(path: &Path, name: &[u8], tree: bool) -> bool {
+    path.name.as_bytes() == name && path.tree == tree
+}
+
+/// Whether these are what `a` reads, in the byte order of their names.
+fn are_read(paths: &[Path]) -> bool {
+    match paths {
+        [first, second, third] => {
+            is_path(first, b"w", false)
+                && is_path(second, b"x", false)
+                && is_path(third, b"y", false)
+        }
+        _ => false,
     }
-    Ok(())
+}
+
+/// Whether these are what `a` writes.
+fn are_written(paths: &[Path]) -> bool {
+    match paths {
+        [first, second, third] => {
+            is_path(first, b"/tmp/t", false)
+                && is_path(second, b"a", false)
+                && is_path(third, b"out", true)
+        }
+        _ => false,
+    }
+}
+
+/// Whether a node is live, and reads and writes just these.
+fn is_united(jobs: &Jobs, n: u32) -> bool
+    requires { n < node_count jobs.now }
+{
+    jobs.is_live(n) && are_read(jobs.reads(n)) && are_written(jobs.writes(n))
+}
+
+/// Whether the second of two nodes does.
+fn are_united(jobs: &Jobs) -> bool {
+    jobs.count() == 2 && is_united(jobs, 1)
 }
 
 #[test]
-fn a_line_that_is_no_utf8(rt: HostRuntime) -> Result<(), AllocError> {
-    let text = b"{\"target\":\"a\",\"reads\":[],\"writes\":[],\"x\":\"\xff\"}";
-    let said = said_of(rt.alloc(), text)?;
-    let want = b"refused\nF19 BadFootprint\nat footprints 1\n".as_slice();
-    assert_eq!(rt; said.as_slice(), want);
-    Ok(())
-}
-
-/// A thousand lines of a thousand paths each, and one path more.
-#[test]
-fn too_many_paths(rt: HostRuntime) -> Result<(), AllocError> {
-    let text = long_text(rt.alloc())?;
-    let said = said_of(rt.alloc(), &text)?;
-    let want = b"refused\nF20 FootprintsTooLarge\nat footprints 1001\n".as_slice();
-    assert_eq!(rt; said.as_slice(), want);
-    Ok(())
-}
-
-fn long_text(alloc: Global) -> Result<Vec<u8>, AllocError> {
-    let mut text = Vec::new(alloc);
-    for _ in 0..1000 {
-        push_long_line(&mut text)?;
-    }
-    text.extend_from_slice(b"{\"target\":\"z\",\"reads\":[],\"writes\":[\"z\"]}\n{")?;
-    Ok(text)
-}
-
-fn push_long_line(text: &mut Vec<u8>) -> Result<(), AllocError> {
-    text.extend_from_slice(b"{\"target\":\"a\",\"writes\":[],\"reads\":[\"x\"")?;
-    for _ in 0..999 {
-        text.extend_from_slice(b",\"x\"")?;
-    }
-    text.extend_from_slice(b"]}\n")
-}
-
-/// What is said of a text.
-fn said_of(alloc: Global, text: &[u8]) -> Result<Vec<u8>, AllocError> {
-    match jobs_of(alloc, b"a: ;", b"", text) {
-        Ok(jobs) => live_nodes(alloc, &jobs),
-        Err(halt) => told_halt(alloc, &halt),
-    }
+fn lines_of_one_target_unite(rt: HostRuntime) {
+    assert!(rt; of_jobs(rt.alloc(), |jobs| are_united(jobs)));
 }

@@ -4,7 +4,8 @@
 
 #[cfg(test)]
 mod macros;
-pub mod made;
+#[cfg(test)]
+mod made;
 #[cfg(test)]
 mod names;
 #[cfg(test)]

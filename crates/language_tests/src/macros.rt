@@ -1,4 +1,5 @@
 //! Macros that a fault leaves as they were.
+use crate::made::expands;
 use mk_macro::macros::Macros;
 use mk_name::fault::Halt;
 use mk_text::lines::lines;
@@ -23,19 +24,11 @@ fn assigns(alloc: Global, macros: &mut Macros, text: &str) -> bool {
     }
 }
 
-/// Whether `$(A)` is `x`.
-fn stands_for_x(alloc: Global, macros: &Macros) -> bool {
-    match macros.expand(alloc, b"$(A)") {
-        Ok(text) => text.as_slice() == b"x".as_slice(),
-        Err(_) => false,
-    }
-}
-
 /// Whether each of them fails, and leaves `A`.
 fn all_leave(alloc: Global, macros: &mut Macros) -> bool {
     let mut so = assigns(alloc, macros, "A ::= x\nL = $(L)");
     for text in FAULTY {
-        so &= !assigns(alloc, macros, text) && stands_for_x(alloc, macros);
+        so &= !assigns(alloc, macros, text) && expands(alloc, macros, b"$(A)", b"x");
     }
     so
 }

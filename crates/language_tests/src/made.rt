@@ -1,12 +1,28 @@
-//! What the tests are made of. It stands outside them, so that the gate proves what it promises and tries an edit of it.
-ghost use Rattle.std.specs.Prelude.{◌≡◌, IfOk};
-
+//! What several tests are made of: names, a root, and what macros stand for.
+use mk_macro::macros::Macros;
 use mk_name::name::Name;
+use mk_text::root::Root;
 use std::alloc::{AllocError, Global};
 
-/// The name of these bytes. The only error is want of memory.
-pub fn name_of(alloc: Global, text: &[u8]) -> Result<Name, AllocError>
-    ensures { IfOk result (λ name. name ≡ text.now) }
-{
+/// The name of these bytes.
+pub(crate) fn name_of(alloc: Global, text: &[u8]) -> Result<Name, AllocError> {
     Ok(Name::from_bytes(Vec::from_slice(alloc, text)?))
+}
+
+/// Whether this holds of the root `/w`.
+pub(crate) fn of_root<F: FnOnce(&Root) -> bool>(alloc: Global, holds: F) -> bool
+    requires { F.IsAlwaysCallable holds }
+{
+    match Root::read(alloc, b"/w") {
+        Ok(root) => holds(&root),
+        Err(_) => false,
+    }
+}
+
+/// Whether a text expands to this.
+pub(crate) fn expands(alloc: Global, macros: &Macros, text: &[u8], want: &[u8]) -> bool {
+    match macros.expand(alloc, text) {
+        Ok(expanded) => expanded.as_slice() == want,
+        Err(_) => false,
+    }
 }

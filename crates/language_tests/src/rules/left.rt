@@ -1,4 +1,5 @@
 //! What is left of the macros behind a makefile, also where it has a fault.
+use crate::made::{expands, of_root};
 use mk_macro::macros::Macros;
 use mk_rules::includes::Includes;
 use mk_rules::reading::read_rules;
@@ -46,14 +47,6 @@ static INCLUDING: [Case; 10] = [
     ("A = x\n-include z a\ninclude z", "A = y", "", "y-"),
 ];
 
-/// Whether `$(A)-$(B)` stands for this.
-fn stands_for(alloc: Global, macros: &Macros, want: &str) -> bool {
-    match macros.expand(alloc, b"$(A)-$(B)") {
-        Ok(text) => text.as_slice() == want.as_bytes(),
-        Err(_) => false,
-    }
-}
-
 /// Whether a makefile of these lines leaves this, with these texts to include.
 fn leave(
     alloc: Global,
@@ -64,7 +57,7 @@ fn leave(
     want: &str,
 ) -> bool {
     let _read = read_rules(alloc, &[], lines, texts, macros, root);
-    stands_for(alloc, macros, want)
+    expands(alloc, macros, b"$(A)-$(B)", want.as_bytes())
 }
 
 /// Whether a makefile leaves this in new macros.
@@ -135,14 +128,8 @@ fn are_left(alloc: Global, root: &Root) -> bool {
         && too_many_leave(alloc, root)
 }
 
-fn are_left_below_a_root(alloc: Global) -> bool {
-    match Root::read(alloc, b"/w") {
-        Ok(root) => are_left(alloc, &root),
-        Err(_) => false,
-    }
-}
-
 #[test]
 fn macros_that_are_left(rt: HostRuntime) {
-    assert!(rt; are_left_below_a_root(rt.alloc()));
+    let alloc = rt.alloc();
+    assert!(rt; of_root(alloc, |root| are_left(alloc, root)));
 }

@@ -1,4 +1,5 @@
 //! Paths of texts for include lines that no list of files can tell.
+use crate::made::of_root;
 use mk_name::fault::Halt;
 use mk_rules::includes::Includes;
 use mk_text::root::Root;
@@ -26,14 +27,8 @@ fn are_told(alloc: Global, root: &Root) -> bool {
         && place_told(alloc, root, b"x*") == 0
 }
 
-fn are_told_below_a_root(alloc: Global) -> bool {
-    match Root::read(alloc, b"/w") {
-        Ok(root) => are_told(alloc, &root),
-        Err(_) => false,
-    }
-}
-
 #[test]
 fn paths_of_includes(rt: HostRuntime) {
-    assert!(rt; are_told_below_a_root(rt.alloc()));
+    let alloc = rt.alloc();
+    assert!(rt; of_root(alloc, |root| are_told(alloc, root)));
 }

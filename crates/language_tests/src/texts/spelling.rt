@@ -1,4 +1,5 @@
 //! Which bytes may stand in words, paths and roots.
+use crate::made::of_root;
 use mk_text::root::Root;
 use mk_text::spelling::{plain_path, plain_word};
 use std::alloc::Global;
@@ -48,18 +49,14 @@ fn are_neither(alloc: Global, root: &Root) -> bool {
     so
 }
 
-fn are_told_apart(alloc: Global) -> bool {
-    match Root::read(alloc, b"/w") {
-        Ok(root) => {
-            are_no_words(alloc, &root) && are_words(alloc, &root) && are_neither(alloc, &root)
-        }
-        Err(_) => false,
-    }
+fn are_told_apart(alloc: Global, root: &Root) -> bool {
+    are_no_words(alloc, root) && are_words(alloc, root) && are_neither(alloc, root)
 }
 
 #[test]
 fn bytes_of_words_and_paths(rt: HostRuntime) {
-    assert!(rt; are_told_apart(rt.alloc()));
+    let alloc = rt.alloc();
+    assert!(rt; of_root(alloc, |root| are_told_apart(alloc, root)));
 }
 
 fn is_root(alloc: Global, text: &[u8]) -> bool {

@@ -1,3 +1,0 @@
-//! Logs that are read and written.
-mod reading;
-mod writing;

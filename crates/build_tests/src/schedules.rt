@@ -1,3 +1,0 @@
-//! Events, and lists of them that are replayed.
-mod events;
-mod replays;
