@@ -28,7 +28,7 @@ use mk_race::verifying::verify_proof;
 use std::alloc::{AllocError, Global};
 
 /// What the program says, and how it ends where that is written.
-#[derive(Debug, Drop)]
+#[derive(Drop)]
 pub struct Answer {
     pub status: Status,
     pub text: Vec<u8>,

@@ -11,7 +11,7 @@ use std::alloc::{AllocError, Global};
 use std::str;
 
 /// A path, and the text of its file.
-#[derive(Debug, Drop)]
+#[derive(Drop)]
 pub struct IncludeText {
     pub path: Vec<u8>,
     pub text: Vec<u8>,

@@ -9,14 +9,14 @@ use mk_device::device::{Intake, ReadStop, read_all};
 use std::alloc::Global;
 
 /// An input, and the path of its file.
-#[derive(Clone, Copy, Debug)]
+#[derive(Clone, Copy)]
 pub struct InputPath<'a> {
     pub input: InputFile,
     pub path: &'a str,
 }
 
 /// An input, and its text.
-#[derive(Debug, Drop)]
+#[derive(Drop)]
 pub struct InputText {
     pub input: InputFile,
     pub text: Vec<u8>,

@@ -8,7 +8,7 @@ use std::alloc::{AllocError, Global};
 
 /// What a build is read from: the paths of files, those of includes and of the base makefile where they are given, the
 /// root and the operands, as they were given.
-#[derive(Debug, Drop)]
+#[derive(Drop)]
 pub struct BuildArgs<'a> {
     pub includes: Option<&'a str>,
     pub base: Option<&'a str>,
@@ -19,7 +19,7 @@ pub struct BuildArgs<'a> {
 }
 
 /// What is checked: a build, the path of its footprints, and whether the proof is printed in place of the report.
-#[derive(Debug, Drop)]
+#[derive(Drop)]
 pub struct CheckArgs<'a> {
     pub build: BuildArgs<'a>,
     pub footprints: &'a str,
@@ -27,7 +27,7 @@ pub struct CheckArgs<'a> {
 }
 
 /// What a proof is judged by: a build, and the paths of its footprints and of the proof.
-#[derive(Debug, Drop)]
+#[derive(Drop)]
 pub struct VerifyArgs<'a> {
     pub build: BuildArgs<'a>,
     pub footprints: &'a str,
@@ -36,7 +36,7 @@ pub struct VerifyArgs<'a> {
 
 /// What a log is judged by: a build, the paths of its footprints and of the log, how many recipes may run at once, and
 /// whether files of equal times count as newer.
-#[derive(Debug, Drop)]
+#[derive(Drop)]
 pub struct ReplayArgs<'a> {
     pub build: BuildArgs<'a>,
     pub footprints: &'a str,
@@ -46,7 +46,7 @@ pub struct ReplayArgs<'a> {
 }
 
 /// A subcommand, with its values.
-#[derive(Debug, Drop)]
+#[derive(Drop)]
 pub enum Request<'a> {
     Order(BuildArgs<'a>),
     Check(CheckArgs<'a>),

@@ -1,23 +1,22 @@
 -- One stage after another.
-use Rattle.std.proofs.Common.{◌≡◌, ℕ, Bool, List, Ok, Err, Result, refl, sym, subst}
+use Rattle.std.proofs.Common.{◌≡◌, ℕ, Bool, List, Ok, Err, Result, refl, subst}
 use Rattle.mk_name.specs.Names.{Name}
 use Rattle.mk_name.specs.Told.{Told}
-use Rattle.mk_name.specs.Gives.{Halts, HaltsAmong}
+use Rattle.mk_name.specs.Gives.{Answers, HaltsAmong}
 use Rattle.mk_name.specs.declared.fault.Halt.{Halt}
 use Rattle.mk_name.specs.declared.fault.Halt.TheVariants as halts
 use Rattle.mk_include.specs.Includes.{Texts as Included}
 use Rattle.mk_macro.specs.Macros.{Macros}
-use Rattle.mk_rules.specs.Book.{Book, targets_of}
+use Rattle.mk_rules.specs.Book.{Book}
 use Rattle.mk_graph.specs.Answer.{IsAnswer}
 use Rattle.mk_graph.specs.Answer.{goals_of as goals_or_default}
 use Rattle.mk_jobs.specs.Plan.{Plan}
-use Rattle.mk_foot.specs.Attached.{attached}
 use Rattle.mk_foot.specs.Footprints.{Footprints, IsRead}
 use Rattle.mk_jobs.specs.Jobs.{Jobs}
 use Rattle.mk_log.specs.Logs.{Log}
 use Rattle.mk_log.specs.Reading.{IsRead as IsReadLog}
 use Rattle.mk_race.specs.Played.{IsOutcome, IsPlayedOn}
-use Rattle.mk_race.specs.Stages.{IsBookOf, IsGraphed, IsJobs, IsPlanned, IsPrepared, Texts}
+use Rattle.mk_race.specs.Stages.{AreJobs, IsBookOf, IsGraphed, IsJobs, IsPlanned, IsPrepared, Texts}
 use Rattle.mk_race.specs.declared.planning.Planned.{Planned}
 use Rattle.mk_race.specs.declared.preparing.Prepared.{Prepared}
 use Rattle.mk_race.specs.declared.replaying.Played.{Played}
@@ -42,14 +41,11 @@ module _ (root : List ℕ) (book : Book) (plan : Plan) (footprints : List ℕ) w
   unread (halts.Fault told) h = (Err told, h, refl)
 
   -- what comes of a plan and footprints is what comes of both texts
-  pub attaches : (read : Footprints) (answer : Result Jobs Told) → IsRead root footprints (Ok read)
-      → attached plan (targets_of book.rules) read ≡ answer → IsJobs root book plan footprints answer
-  attaches read answer r e = (Ok read, r, sym e)
-
-  pub unattached : (read : Footprints) (halt : Halt) → IsRead root footprints (Ok read)
-      → Halts halt (attached plan (targets_of book.rules) read) → HaltsAmong halt (IsJobs root book plan footprints)
-  unattached read halts.Memory r h = tt
-  unattached read (halts.Fault told) r h = attaches read (Err told) r h
+  pub joined : (read : Footprints) (result : Result Jobs Halt) → IsRead root footprints (Ok read)
+      → Answers result (AreJobs plan book read) → Answers result (IsJobs root book plan footprints)
+  joined read (Ok jobs) r h = (Ok read, r, h)
+  joined read (Err halts.Memory) r h = tt
+  joined read (Err (halts.Fault told)) r h = (Ok read, r, h)
 
 -- a halt of the jobs is one of the whole
 pub not_prepared : (texts : Texts) (footprints : List ℕ) (planned : Planned) (halt : Halt) → IsPlanned texts (Ok planned)

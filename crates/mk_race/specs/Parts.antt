@@ -6,12 +6,10 @@ use Rattle.mk_text.specs.Listing.{listing_of}
 use Rattle.mk_text.specs.Spelling.{root_of}
 use Rattle.mk_include.specs.Includes.{includes_of}
 use Rattle.mk_macro.specs.Operands.{operand_macros}
-use Rattle.mk_rules.specs.Book.{targets_of}
-use Rattle.mk_foot.specs.Attached.{attached}
 use Rattle.mk_foot.specs.Footprints.{Footprints, IsRead}
 use Rattle.mk_jobs.specs.Jobs.{Jobs}
 use Rattle.mk_race.specs.Settings.{goals_of}
-use Rattle.mk_race.specs.Stages.{IsGraphed, Texts, Then, ThenAny}
+use Rattle.mk_race.specs.Stages.{AreJobs, IsGraphed, Texts, Then, ThenAny}
 use Rattle.mk_race.specs.declared.input.Settings.{Settings}
 use Rattle.mk_race.specs.declared.planning.Graphed.{Graphed}
 
@@ -39,7 +37,7 @@ IsGraphedWith texts listed =
 
 -- the footprints that were read, and then the jobs of them and a plan
 abbrev pub IsAttached : Graphed → Result Footprints Told → Result Jobs Told → Type 0
-IsAttached graphed read = Then read (λ footprints answer. answer ≡ attached graphed.plan (targets_of graphed.book.rules) footprints)
+IsAttached graphed read = Then read (AreJobs graphed.plan graphed.book)
 
 -- the plan, and then the jobs
 abbrev pub AreJobsWith : Texts → Result (List Name) Told → Result Footprints Told → Result Jobs Told → Type 0

@@ -18,7 +18,7 @@ use Rattle.mk_graph.specs.Answer.{IsAnswer}
 use Rattle.mk_graph.specs.Answer.{goals_of as goals_or_default}
 use Rattle.mk_jobs.specs.Plan.{Plan}
 use Rattle.mk_foot.specs.Attached.{attached}
-use Rattle.mk_foot.specs.Footprints.{IsRead}
+use Rattle.mk_foot.specs.Footprints.{Footprints, IsRead}
 use Rattle.mk_jobs.specs.Jobs.{Jobs}
 use Rattle.mk_race.specs.Settings.{goals_of}
 use Rattle.mk_race.specs.declared.input.Input.{Input}
@@ -86,9 +86,13 @@ IsPlanned texts =
     Then (includes_of root texts.includes) (λ included. Then (listing_of root texts.listing) (λ listed.
     ThenAny (IsGraphed texts root goals included macros listed) (λ graphed answer. answer ≡ Ok (with_graph root listed graphed)))))))
 
+-- the jobs of a plan, whose book this is, and of footprints
+abbrev pub AreJobs : Plan → Book → Footprints → Result Jobs Told → Type 0
+AreJobs plan book read answer = answer ≡ attached plan (targets_of book.rules) read
+
 -- the footprints, and then the jobs of them and a plan
 abbrev pub IsJobs : List ℕ → Book → Plan → List ℕ → Result Jobs Told → Type 0
-IsJobs root book plan footprints = ThenAny (IsRead root footprints) (λ read answer. answer ≡ attached plan (targets_of book.rules) read)
+IsJobs root book plan footprints = ThenAny (IsRead root footprints) (AreJobs plan book)
 
 -- with the jobs go the root and the listing
 abbrev pub with_jobs : Planned → Jobs → Prepared

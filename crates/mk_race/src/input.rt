@@ -1,7 +1,7 @@
 //! What a build is judged by.
 
 /// The texts of a build, its root and its operands, as they are given.
-#[derive(Clone, Copy, Debug)]
+#[derive(Clone, Copy)]
 pub struct Input<'a> {
     /// The text of the base makefile, which is empty where there is none.
     pub base: &'a [u8],
@@ -20,7 +20,7 @@ pub struct Input<'a> {
 }
 
 /// What the command line says of a build, and the texts for its include lines.
-#[derive(Clone, Copy, Debug)]
+#[derive(Clone, Copy)]
 pub struct Settings<'a> {
     /// The folder that relative paths start from.
     pub root: &'a [u8],

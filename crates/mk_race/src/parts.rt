@@ -3,13 +3,13 @@ ghost use Rattle.std.specs.Prelude.{IfOk, List, ℕ};
 ghost use Rattle.mk_name.specs.Gives.{Answers};
 ghost use Rattle.mk_race.specs.Judged.{HoldsOfRace, IsAnswered, IsSafe, NoScheduleShows};
 ghost use Rattle.mk_race.specs.Parts.{AreJobsWith, AreReadFrom, IsAttached, IsGraphedWith, texts_with};
-ghost use Rattle.mk_race.specs.Stages.{texts_of};
+ghost use Rattle.mk_race.specs.Stages.{AreJobs, texts_of};
 
 use crate::input::{Input, Settings};
 use crate::judging::{decided, refused};
 use crate::planning::{Graphed, graph_of};
+use crate::preparing::jobs_with;
 use crate::settings::goals_of;
-use mk_foot::attaching::attach;
 use mk_foot::footprints::Footprints;
 use mk_jobs::jobs::Jobs;
 use mk_macro::macros::Macros;
@@ -52,14 +52,14 @@ pub fn judge_parts(
         root: settings.root,
         operands: settings.operands,
     };
-    match jobs_with(alloc, &input, listing, footprints) {
+    match jobs_ahead(alloc, &input, listing, footprints) {
         Ok(jobs) => decided(alloc, jobs),
         Err(halt) => refused(halt),
     }
 }
 
 /// The jobs of a build whose listing and footprints were read ahead; those of the input count for nothing.
-fn jobs_with(
+fn jobs_ahead(
     alloc: Global,
     input: &Input<'_>,
     listing: Result<Listing, Fault>,
@@ -100,12 +100,16 @@ fn attached(
 ) -> Result<Jobs, Halt>
     ensures { Answers result (IsAttached graphed footprints) }
 {
-    let Graphed { book, plan } = graphed;
     match footprints {
-        Ok(footprints) => match attach(alloc, plan, &book, &footprints) {
-            Ok(jobs) => Ok(jobs),
-            Err((_plan, halt)) => Err(halt),
-        },
+        Ok(footprints) => jobs_on(alloc, graphed, &footprints),
         Err(fault) => Err(Halt::Fault(fault)),
     }
+}
+
+/// The jobs of a plan with these footprints.
+fn jobs_on(alloc: Global, graphed: Graphed, footprints: &Footprints) -> Result<Jobs, Halt>
+    ensures { Answers result (AreJobs graphed.plan graphed.book footprints.now) }
+{
+    let Graphed { book, plan } = graphed;
+    jobs_with(alloc, plan, &book, footprints)
 }

@@ -1,10 +1,11 @@
 //! From the texts of a build to its jobs.
 ghost use Rattle.mk_name.specs.Gives.{Answers};
-ghost use Rattle.mk_race.specs.Stages.{IsJobs, IsPrepared, texts_of};
+ghost use Rattle.mk_race.specs.Stages.{AreJobs, IsJobs, IsPrepared, texts_of};
 
 use crate::input::Input;
 use crate::planning::{Planned, plan_of};
 use mk_foot::attaching::attach;
+use mk_foot::footprints::Footprints;
 use mk_foot::reading::read_footprints;
 use mk_jobs::jobs::Jobs;
 use mk_jobs::plan::Plan;
@@ -58,7 +59,19 @@ fn jobs_of(
     ensures { Answers result (IsJobs root.now book.now plan footprints.now) }
 {
     let footprints = read_footprints(alloc, footprints, root)?;
-    match attach(alloc, plan, book, &footprints) {
+    jobs_with(alloc, plan, book, &footprints)
+}
+
+/// The jobs of a plan, whose book this is, with these footprints.
+pub(crate) fn jobs_with(
+    alloc: Global,
+    plan: Plan,
+    book: &Rulebook,
+    footprints: &Footprints,
+) -> Result<Jobs, Halt>
+    ensures { Answers result (AreJobs plan book.now footprints.now) }
+{
+    match attach(alloc, plan, book, footprints) {
         Ok(jobs) => Ok(jobs),
         Err((_plan, halt)) => Err(halt),
     }
