@@ -24,7 +24,6 @@ use mk_sched::event::Event;
 use mk_sched::file::File;
 use mk_sched::store::Store;
 use std::alloc::{AllocError, Global};
-use std::mem;
 
 /// Why a log is not written.
 #[derive(Clone, Copy, Debug, PartialEq, Eq)]
@@ -90,7 +89,7 @@ fn add_file(alloc: Global, text: &mut Vec<u8>, path: &Name, file: &File) -> Resu
         → Adds jobs (file_entry (path.now, file.now) ∷ []) text.old.items text.new.items) }
     ensures not_text { IfErr result (λ halt. halt ≡ LogHalt.NotText → is_utf8 path.now ≡ false) }
 {
-    let mut line = line_behind(alloc, text);
+    let mut line = empty_line(alloc);
     write_file(alloc, &mut line, path, file)?;
     Ok(end_line(text, line)?)
 }
@@ -121,26 +120,29 @@ fn add_event(alloc: Global, text: &mut Vec<u8>, jobs: &Jobs, event: &Event) -> R
     ensures not_text { IfErr result (λ halt. halt ≡ LogHalt.NotText
         → list_all is_utf8 (names_in jobs.now event.now) ≡ false) }
 {
-    let mut line = line_behind(alloc, text);
+    let mut line = empty_line(alloc);
     write_event(alloc, &mut line, jobs, event)?;
     Ok(end_line(text, line)?)
 }
 
-/// A new line behind a text, which is taken until the line ends.
-fn line_behind(alloc: Global, text: &mut Vec<u8>) -> Writer
-    ensures before { result.before ≡ text.old.items }
+/// A line with nothing in it. It is written by itself, since a writer makes room of the size of what stands before it, up to
+/// 16 KiB, and clears it.
+fn empty_line(alloc: Global) -> Writer
+    ensures before { result.before ≡ [] }
     ensures tokens { result.tokens ≡ [] }
 {
-    Writer::new(mem::replace(text, Vec::new(alloc)))
+    Writer::new(Vec::new(alloc))
 }
 
-/// Ends a line, and gives the text back with it. The only error is want of memory.
+/// Puts a line that was written by itself behind a text, and ends it. The only error is want of memory.
 fn end_line(text: &mut Vec<u8>, line: Writer) -> Result<(), AllocError>
-    ensures line { OnOk result (text.new.items ≡ line.before ++ (print line.tokens ++ 10 ∷ [])) }
+    requires { line.before ≡ [] }
+    ensures line { OnOk result (text.new.items ≡ text.old.items ++ (print line.tokens ++ 10 ∷ [])) }
     ensures reads_back { tokens (print line.tokens) ≡ line.tokens }
     ensures utf8 { IsUtf8 (print line.tokens) }
 {
-    *text = line.into_inner();
+    let line = line.into_inner();
+    text.extend_from_slice(line.as_slice())?;
     text.push(b'\n')?;
     Ok(())
 }

@@ -1,5 +1,4 @@
-use Rattle.std.proofs.Common.{◌≡◌, ◌++◌, ◌∷◌, [], List, ℕ, ap, refl, ◌∙◌}
-use Rattle.json.specs.Print.{print}
+use Rattle.std.proofs.Common.{◌≡◌, ◌++◌, List, ap, refl, ◌∙◌}
 use Rattle.json.specs.Token.{Token}
 use Rattle.mk_log.specs.Gained.{tokens_of}
 use Rattle.mk_log.specs.Objects.{event_object}
@@ -17,7 +16,6 @@ returns-clause-adds c =
     let end = c.end_line.ensures in
     let line = c.write_event.new.line in
     let object = event_object jobs event in
-    let same : line.tokens ≡ tokens_of object = says.object.more ∙ ap (λ (ts : List Token). ts ++ tokens_of object) c.line_behind-line.ensures.tokens in
-    let text = c.in_ok-end_line.ensures.line ∙ ap (λ (t : List ℕ). t ++ (print line.tokens ++ 10 ∷ [])) (says.object.before ∙ c.line_behind-line.ensures.before) in
-    one_added jobs (Happens event) object _ _ refl (line_back object line.tokens _ _ same text)
+    let same : line.tokens ≡ tokens_of object = says.object.more ∙ ap (λ (ts : List Token). ts ++ tokens_of object) c.empty_line-line.ensures.tokens in
+    one_added jobs (Happens event) object _ _ refl (line_back object line.tokens _ _ same c.in_ok-end_line.ensures.line)
     says.is_text (event_spelled jobs event says.sized says.number (value_back object line.tokens same (event_kept jobs event says.sized) end.reads_back end.utf8))

@@ -1,5 +1,4 @@
-use Rattle.std.proofs.Common.{◌≡◌, ◌++◌, ◌∷◌, [], List, ℕ, true, ◌&&◌, ap, refl, ◌∙◌}
-use Rattle.json.specs.Print.{print}
+use Rattle.std.proofs.Common.{◌≡◌, ◌++◌, List, true, ◌&&◌, ap, refl, ◌∙◌}
 use Rattle.json.specs.Token.{Token}
 use Rattle.mk_log.specs.Gained.{tokens_of}
 use Rattle.mk_log.specs.Objects.{file_object}
@@ -17,9 +16,8 @@ returns-clause-adds c = λ jobs.
     let end = c.end_line.ensures in
     let line = c.write_file.new.line in
     let object = file_object path file in
-    let same : line.tokens ≡ tokens_of object = says.object.more ∙ ap (λ (ts : List Token). ts ++ tokens_of object) c.line_behind-line.ensures.tokens in
-    let text = c.in_ok-end_line.ensures.line ∙ ap (λ (t : List ℕ). t ++ (print line.tokens ++ 10 ∷ [])) (says.object.before ∙ c.line_behind-line.ensures.before) in
-    one_added jobs (file_entry (path, file)) object _ _ refl (line_back object line.tokens _ _ same text)
+    let same : line.tokens ≡ tokens_of object = says.object.more ∙ ap (λ (ts : List Token). ts ++ tokens_of object) c.empty_line-line.ensures.tokens in
+    one_added jobs (file_entry (path, file)) object _ _ refl (line_back object line.tokens _ _ same c.in_ok-end_line.ensures.line)
     (ap (λ b. b && true) says.is_text)
     (file_spelled jobs path file.bytes file.time says.bytes says.time
     (value_back object line.tokens same (file_kept path file.bytes file.time says.time) end.reads_back end.utf8))
