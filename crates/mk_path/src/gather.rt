@@ -59,8 +59,9 @@ fn next_step(first: &[&Path], i: usize, second: &[&Path], j: usize) -> Option<Or
     }
 }
 
-/// A place behind one in a row: the paths from that one up to it all stand before the path at a place of another row, if one
-/// stands there. The path at the first place must. Leaps get longer while the paths they come to stand before it.
+/// The end of a run in a row: its paths, from a place on, all stand before the path at a place of another row, if one stands
+/// there, as the first of them must. It need not be the longest such run: it is found by leaps, each twice as long as the one
+/// before, up to the first that goes too far.
 fn run_end(paths: &[&Path], from: usize, others: &[&Path], at: usize) -> usize
     requires rise { IsStrictlySortedBy path_cmp (map (λ path. path.now) paths.now) }
     requires step { IsStep (map (λ path. path.now) paths.now) (map (λ path. path.now) others.now) from at Ordering.Less }
@@ -114,8 +115,8 @@ impl<'a> Union<'a> {
         Ok(())
     }
 
-    /// Puts the next path behind the others, which the row has that the step tells, and with it those of the row that stand
-    /// before the other row's next one.
+    /// Puts the next path behind the others, which the row has that the step tells, and with it a run of that row, if it has
+    /// the path alone.
     fn put(
         &mut self,
         step: Ordering,
@@ -151,7 +152,7 @@ impl<'a> Union<'a> {
         }
     }
 
-    /// Puts the paths of both rows behind the others, where none are.
+    /// Puts all that is left of both rows behind the others.
     fn put_all(&mut self, first: &[&'a Path], second: &[&'a Path]) -> Result<(), AllocError>
         requires first { IsStrictlySortedBy path_cmp (map (λ path. path.now) first.now) }
         requires second { IsStrictlySortedBy path_cmp (map (λ path. path.now) second.now) }
