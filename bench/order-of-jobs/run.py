@@ -93,7 +93,7 @@ def bench_build(program, runs, size, folder):
     for call in seconds:
         peak = f"{memory[call]:9.1f}" if call in memory else " " * 9
         bound = size.asked.get(call, "")
-        print(f"{size.name:9}{call:11}{seconds[call]:10.4f}{peak}  {bound:20}{found[call]}", flush=True)
+        print(f"{size.name:10}{call:11}{seconds[call]:10.4f}{peak}  {bound:20}{found[call]}", flush=True)
 
 
 def main():
@@ -107,7 +107,7 @@ def main():
     with tempfile.TemporaryDirectory(prefix="race-bench-") as scratch:
         room = (args.keep or pathlib.Path(scratch)).resolve()
         program = args.program.resolve() if args.program else build(room)
-        print(f"{'build':9}{'call':11}{'seconds':>10}{'MiB':>9}  {'asked':20}found")
+        print(f"{'build':10}{'call':11}{'seconds':>10}{'MiB':>9}  {'asked':20}found")
         for size in SIZES:
             if size.name in (args.only or names):
                 bench_build(program, args.runs, size, room / size.name)

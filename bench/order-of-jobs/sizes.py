@@ -2,6 +2,7 @@
 import collections
 import functools
 import itertools
+import random
 
 from builds import BEHIND, behind, below_all, lay_free, lay_hostile, lay_log, lay_paths, lay_sparse, own, write, write_certificate
 
@@ -71,6 +72,25 @@ def lay_written_sources(folder):
     write(folder, below_all(names), [*writers, *readers, ("all", [], ["all"])])
 
 
+@refused
+def lay_scattered(folder):
+    """19,999 recipes that each read 49 paths, spread at random over all paths, of which no two share one."""
+    names = [f"r{i}" for i in range(19_999)]
+    paths = [f"s/{k:06}" for k in range(49 * len(names))]
+    random.Random(1).shuffle(paths)
+    lines = [(name, paths[49 * i:49 * i + 49], [name]) for i, name in enumerate(names)]
+    write(folder, below_all(names), [*lines, ("all", [], ["all"])])
+
+
+@refused
+def lay_shuffled(folder):
+    """19,999 recipes that each read 49 of a million paths, picked at random."""
+    names = [f"r{i}" for i in range(19_999)]
+    picks = random.Random(1)
+    lines = [(name, [f"s/{k:06}" for k in picks.sample(range(1_000_000), 49)], [name]) for name in names]
+    write(folder, below_all(names), [*lines, ("all", [], ["all"])])
+
+
 def lay_sharing(recipes, shared, others):
     """So many recipes that write so many files together, and so many others each for itself before them."""
 
@@ -137,8 +157,10 @@ SIZES = [
     Size("hostile", lay_hostile, {"rows": "0.1 s", "accept": "seconds"}),
     Size("line", lay_line, {}),
     Size("one-log", lay_one_log, {}),
-    Size("sources", lay_sources, {}),
-    Size("written", lay_written_sources, {}),
+    Size("sources", lay_sources, {"attach": READING}),
+    Size("written", lay_written_sources, {"attach": READING}),
+    Size("scattered", lay_scattered, {"attach": READING}),
+    Size("shuffled", lay_shuffled, {"attach": READING}),
     Size("shared", lay_sharing(1_000, 1_000, 0), {}),
     Size("last", lay_sharing(1_000, 1, 999), {}),
     Size("half", lay_sharing(1_414, 707, 0), {}),

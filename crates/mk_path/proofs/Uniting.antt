@@ -1,16 +1,17 @@
 -- Rows of paths that rise, united.
-use Rattle.std.proofs.Common.{ℕ, ◌≡◌, ◌<◌, ◌≤◌, ◌+◌, ◌⊎◌, List, [], ◌∷◌, ◌++◌, length, get_or, take, drop, map, slice_index, Vec, All, Contains, Bor, Result, Ok, Err, OnOk, false, Ordering, Less, Equal, Greater, refl, sym, ap, ap₂, subst, ◌∙◌, inl, inr, arith, lit<}
+use Rattle.std.proofs.Common.{ℕ, zero, suc, ◌≡◌, ◌<◌, ◌≤◌, ◌+◌, ◌-◌, ◌⊎◌, List, [], ◌∷◌, ◌++◌, length, get_or, take, drop, map, slice_index, Vec, All, Contains, Bor, Result, Ok, Err, OnOk, false, Ordering, Less, Equal, Greater, refl, sym, ap, ap₂, subst, ◌∙◌, inl, inr, arith, lit<}
 use Rattle.std.specs.Prelude.{slice_get, unwrap_or}
 use Rattle.std.specs.Global.{Global}
 use Rattle.std.specs.List.{AllByRecursion, flat_map}
 use Rattle.std.specs.List.Sorted.{IsStrictlySortedBy}
 use Rattle.std.specs.Ordering.{ordering_reverse}
-use Rattle.std.proofs.lemmas.List.{append_assoc, drop_at, drop-drop, drop-map, flat_map_more, get_or-map, get_or_append_left, get_or_push, length-append, length-drop, length-map, length_push, map-append, map_push, take_all, take-append-drop, take_at, take-map, take_more}
+use Rattle.std.proofs.lemmas.Bool.{cases_lt}
+use Rattle.std.proofs.lemmas.List.{append-nil, append_assoc, drop_at, drop-drop, drop-map, flat_map_more, get_or-drop, get_or-map, get_or_append_left, get_or_push, length-append, length-drop, length-map, length-take, length_push, map-append, map_push, take_all, take-append-drop, take_at, take-map, take_more}
 use Rattle.std.proofs.lemmas.List.Elements.{All-append, All-drop, All-map, All-nil, All-push, All-take, All-tail, All-weaker, Contains-append_left, Contains-append_right, Contains-get_or, Contains-push_cases}
 use Rattle.std.proofs.lemmas.Map.Keys.{Less-from_sorted}
 use Rattle.std.proofs.lemmas.Option.{unwrap_or-slice_get}
 use Rattle.mk_path.specs.declared.path.Path.{Path}
-use Rattle.mk_path.specs.Gather.{AreBefore, AreGathered, AreSorted, IsStep, IsUnion, IsUnited}
+use Rattle.mk_path.specs.Gather.{AreBefore, AreGathered, AreSorted, IsStep, IsUnion, IsUnited, upwards}
 use Rattle.mk_path.specs.Index.{path_at}
 use Rattle.mk_path.specs.Paths.{path_cmp}
 use Rattle.mk_path.specs.Places.{ArePlaces, number_limit}
@@ -169,6 +170,10 @@ step_behind first second i j p q o first_below second_below first_is second_is i
     (is ∙ ap₂ path_cmp first_path second_path)
 
 -- what one put leads to
+pub run_ok : {X E : Type 0} {P Q R T : Type 0} (r : Result X E) → OnOk r P → OnOk r Q → OnOk r R → (P → Q → R → T) → OnOk r T
+run_ok (Ok x) p q r k = k p q r
+run_ok (Err e) p q r k = tt
+
 pub put_ok : {X E : Type 0} {P Q R S T : Type 0} (r : Result X E) → OnOk r P → OnOk r Q → OnOk r R → OnOk r S → (P → Q → R → S → T) → OnOk r T
 put_ok (Ok x) p q r s k = k p q r s
 put_ok (Err e) p q r s k = tt
@@ -302,23 +307,6 @@ united_start first second ps fs ss no_paths no_firsts no_seconds =
     (subst (λ (ns : List ℕ). IsUnited first second [] [] ns) (sym no_seconds) (united_none first second)))
 
 -- one put by what it wrote
-pub put_first_more : (first second ps new : List Path) (p : Path) (fs ss new_fs new_ss : List ℕ) (i : ℕ) → IsStrictlySortedBy path_cmp first → IsUnited first second ps fs ss
-    → IsStep first second (length fs) (length ss) Less → p ≡ path_at first (length fs) → new ≡ ps ++ p ∷ [] → length new < number_limit → new_fs ≡ fs ++ i ∷ [] → i ≡ length ps
-    → new_ss ≡ ss → IsUnited first second new new_fs new_ss
-put_first_more first second ps new p fs ss new_fs new_ss i rise united step is new_is few fs_is i_is ss_is =
-    let limit : length (ps ++ p ∷ []) < number_limit = subst (λ (qs : List Path). length qs < number_limit) new_is few in
-    let done = add_first first second ps p fs ss rise united is step.0 (λ left. subst (λ (q : Path). path_cmp q (path_at second (length ss)) ≡ Less) (sym is) (step.1 left)) limit in
-    subst (λ (qs : List Path). IsUnited first second qs new_fs new_ss) (sym new_is)
-    (subst (λ (ns : List ℕ). IsUnited first second (ps ++ p ∷ []) ns new_ss) (sym (fs_is ∙ ap (λ (n : ℕ). fs ++ n ∷ []) i_is))
-    (subst (λ (ns : List ℕ). IsUnited first second (ps ++ p ∷ []) (fs ++ length ps ∷ []) ns) (sym ss_is) done))
-
-pub put_second_more : (first second ps new : List Path) (p : Path) (fs ss new_fs new_ss : List ℕ) (i : ℕ) → IsStrictlySortedBy path_cmp second → IsUnited first second ps fs ss
-    → IsStep first second (length fs) (length ss) Greater → p ≡ path_at second (length ss) → new ≡ ps ++ p ∷ [] → length new < number_limit → new_fs ≡ fs
-    → new_ss ≡ ss ++ i ∷ [] → i ≡ length ps → IsUnited first second new new_fs new_ss
-put_second_more first second ps new p fs ss new_fs new_ss i rise united step is new_is few fs_is ss_is i_is =
-    turned second first new new_ss new_fs
-    (put_first_more second first ps new p ss fs new_ss new_fs i rise (turned first second ps fs ss united) step is new_is few ss_is i_is fs_is)
-
 pub put_both_more : (first second ps new : List Path) (p : Path) (fs ss new_fs new_ss : List ℕ) (i : ℕ) → IsStrictlySortedBy path_cmp first → IsStrictlySortedBy path_cmp second
     → IsUnited first second ps fs ss → IsStep first second (length fs) (length ss) Equal → p ≡ path_at first (length fs) → new ≡ ps ++ p ∷ [] → length new < number_limit
     → new_fs ≡ fs ++ i ∷ [] → new_ss ≡ ss ++ i ∷ [] → i ≡ length ps → IsUnited first second new new_fs new_ss
@@ -358,3 +346,83 @@ pub gathered_empty : (rows : List (Vec Path Global)) (ps : List Path) (ns : List
 gathered_empty [] ps ns few no_paths no_numbers =
     subst (λ (qs : List Path). AreGathered [] qs ns) (sym no_paths) (subst (λ (ms : List ℕ). AreGathered [] [] ms) (sym no_numbers) gathered_none)
 gathered_empty (row ∷ rows) ps ns few no_paths no_numbers = absurd (omega arith)
+
+-- all paths up to one that stands before a path stand before it
+pub run_before : (first second : List Path) (end at : ℕ) → IsStrictlySortedBy path_cmp first → 0 < end → end ≤ length first → IsStep first second (end - 1) at Less
+    → (k : ℕ) → k < end → IsStep first second k at Less
+run_before first second end at rise some within last k below = elim (cases_lt k (end - 1)) [
+  | inl before ↦ (
+    omega arith,
+    λ left. path_cmp_total.trans (path_at first k) (path_at first (end - 1)) (path_at second at)
+        (Less-from_sorted path_cmp first k (end - 1) nothing rise before (omega arith)) (last.1 left),
+  )
+  | inr most ↦ let same : end - 1 ≡ k = omega arith in subst (λ (i : ℕ). IsStep first second i at Less) same last
+]
+
+-- a run of one row
+pub upwards_long : (n k : ℕ) → length (upwards n k) ≡ k
+upwards_long n zero = refl
+upwards_long n (suc k) = length_push (upwards n k) (n + k) ∙ ap (λ (m : ℕ). m + 1) (upwards_long n k) ∙ omega arith
+
+run_longer : (first second ps : List Path) (fs ss : List ℕ) (n : ℕ) → IsStrictlySortedBy path_cmp first → IsUnited first second ps fs ss
+    → ((k : ℕ) → k < length fs + n → IsStep first second k (length ss) Less) → length ps + n < number_limit
+    → IsUnited first second (ps ++ take n (drop (length fs) first)) (fs ++ upwards (length ps) n) ss
+run_longer first second ps fs ss zero rise united before few =
+    subst (λ (qs : List Path). IsUnited first second qs (fs ++ []) ss) (sym (append-nil ps))
+    (subst (λ (ns : List ℕ). IsUnited first second ps ns ss) (sym (append-nil fs)) united)
+run_longer first second ps fs ss (suc n) rise united before few =
+    let i = length fs in
+    let run = take n (drop i first) in
+    let more = run_longer first second ps fs ss n rise united (λ k below. before k (omega arith)) (omega arith) in
+    let step = before (i + n) (omega arith) in
+    let numbers_long : length (fs ++ upwards (length ps) n) ≡ i + n = length-append fs (upwards (length ps) n) ∙ ap (λ (m : ℕ). i + m) (upwards_long (length ps) n) in
+    let paths_long : length (ps ++ run) ≡ length ps + n = omega (arith, length-append ps run, length-take n (drop i first), length-drop i first, step.0) in
+    let p = path_at first (i + n) in
+    let next : p ≡ path_at first (length (fs ++ upwards (length ps) n)) = ap (path_at first) (sym numbers_long) in
+    let done = add_first first second (ps ++ run) p (fs ++ upwards (length ps) n) ss rise more next (omega (arith, step.0, numbers_long)) step.1
+    (omega (arith, few, paths_long, length_push (ps ++ run) p)) in
+    let inside : n < length (drop i first) = omega (arith, step.0, length-drop i first) in
+    let size : n + 1 ≡ suc n = omega arith in
+    let paths_are : (ps ++ run) ++ p ∷ [] ≡ ps ++ take (suc n) (drop i first) =
+    append_assoc ps run (p ∷ []) ∙ ap (λ (qs : List Path). ps ++ qs)
+    (ap (λ (q : Path). run ++ q ∷ []) (sym (get_or-drop i first n nothing)) ∙ sym (take_more (drop i first) n nothing inside) ∙ ap (λ (m : ℕ). take m (drop i first)) size) in
+    let numbers_are : (fs ++ upwards (length ps) n) ++ length (ps ++ run) ∷ [] ≡ fs ++ upwards (length ps) (suc n) =
+    append_assoc fs (upwards (length ps) n) (length (ps ++ run) ∷ []) ∙ ap (λ (m : ℕ). fs ++ (upwards (length ps) n ++ m ∷ [])) paths_long in
+    subst (λ (qs : List Path). IsUnited first second qs (fs ++ upwards (length ps) (suc n)) ss) paths_are
+    (subst (λ (ns : List ℕ). IsUnited first second ((ps ++ run) ++ p ∷ []) ns ss) numbers_are done)
+
+-- by what a run wrote
+pub run_more : (first second ps new : List Path) (fs new_fs ss : List ℕ) (start at end count : ℕ) → IsStrictlySortedBy path_cmp first → IsUnited first second ps fs ss
+    → start ≡ length fs → at ≡ length ss → start < end → end ≤ length first → ((k : ℕ) → k < end → IsStep first second k at Less)
+    → new ≡ ps ++ take (end - start) (drop start first) → length new < number_limit → new_fs ≡ fs ++ upwards count (end - start) → count ≡ length ps
+    → IsUnited first second new new_fs ss
+run_more first second ps new fs new_fs ss start at end count rise united start_is at_is more within before new_is few fs_is count_is =
+    let size = end - start in
+    let run = take size (drop start first) in
+    let long : length run ≡ size = omega (arith, length-take size (drop start first), length-drop start first) in
+    let limit : length ps + size < number_limit = omega (arith, few, ap length new_is, length-append ps run, long) in
+    let done = run_longer first second ps fs ss size rise united (λ k below. subst (λ (j : ℕ). IsStep first second k j Less) at_is (before k (omega (arith, below, start_is, more)))) limit in
+    subst (λ (qs : List Path). IsUnited first second qs new_fs ss) (sym new_is)
+    (subst (λ (ns : List ℕ). IsUnited first second (ps ++ run) ns ss) (sym (fs_is ∙ ap (λ (n : ℕ). fs ++ upwards n size) count_is))
+    (subst (λ (i : ℕ). IsUnited first second (ps ++ take size (drop i first)) (fs ++ upwards (length ps) size) ss) (sym start_is) done))
+
+pub run_more_second : (first second ps new : List Path) (fs ss new_ss : List ℕ) (start at end count : ℕ) → IsStrictlySortedBy path_cmp second → IsUnited first second ps fs ss
+    → start ≡ length ss → at ≡ length fs → start < end → end ≤ length second → ((k : ℕ) → k < end → IsStep second first k at Less)
+    → new ≡ ps ++ take (end - start) (drop start second) → length new < number_limit → new_ss ≡ ss ++ upwards count (end - start) → count ≡ length ps
+    → IsUnited first second new fs new_ss
+run_more_second first second ps new fs ss new_ss start at end count rise united start_is at_is more within before new_is few ss_is count_is =
+    turned second first new new_ss fs
+    (run_more second first ps new ss new_ss fs start at end count rise (turned first second ps fs ss united) start_is at_is more within before new_is few ss_is count_is)
+
+pub run_of : (paths : List (Bor Path)) (start size : ℕ) → map behind (take size (drop start paths)) ≡ take size (drop start (map behind paths))
+run_of paths start size = sym (take-map behind size (drop start paths)) ∙ ap (take size) (sym (drop-map behind start paths))
+
+pub run_long : (paths : List (Bor Path)) (start end : ℕ) → end ≤ length paths → length (take (end - start) (drop start paths)) ≡ end - start
+run_long paths start end within = omega (arith, within, length-take (end - start) (drop start paths), length-drop start paths)
+
+pub on_ok : {X E : Type 0} {P Q : Type 0} (r : Result X E) → OnOk r P → (P → Q) → OnOk r Q
+on_ok (Ok x) p k = k p
+on_ok (Err e) p k = tt
+
+pub run_counts : (fs new_fs : List ℕ) (count size : ℕ) → 0 < size → new_fs ≡ fs ++ upwards count size → length fs < length new_fs
+run_counts fs new_fs count size some is = omega (arith, ap length is, length-append fs (upwards count size), upwards_long count size, some)

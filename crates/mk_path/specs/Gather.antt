@@ -1,5 +1,5 @@
 -- Rows of paths that rise, united into one row.
-use Rattle.std.specs.Prelude.{ℕ, ◌≡◌, ◌<◌, ◌⊎◌, List, Vec, length, take, Contains}
+use Rattle.std.specs.Prelude.{ℕ, zero, suc, ◌≡◌, ◌<◌, ◌+◌, ◌⊎◌, ◌++◌, ◌∷◌, [], List, Vec, length, take, Contains}
 use Rattle.std.specs.Global.{Global}
 use Rattle.std.specs.List.{All}
 use Rattle.std.specs.List.Sorted.{IsStrictlySortedBy}
@@ -9,6 +9,11 @@ use Rattle.mk_path.specs.declared.path.Path.{Path}
 use Rattle.mk_path.specs.Index.{path_at}
 use Rattle.mk_path.specs.Paths.{path_cmp}
 use Rattle.mk_path.specs.Places.{ArePlaces, number_limit}
+
+-- so many numbers, each by one above the one before it
+abbrev pub upwards : ℕ → ℕ → List ℕ
+upwards n zero = []
+upwards n (suc k) = upwards n k ++ (n + k) ∷ []
 
 -- the paths of each row rise
 abbrev pub AreSorted : List (Vec Path Global) → Type 0

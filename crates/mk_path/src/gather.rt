@@ -1,8 +1,8 @@
 //! The paths of rows that rise, united into one row, each with its number there.
-ghost use Rattle.std.specs.Prelude.{◌≡◌, ◌<◌, ◌≤◌, ◌+◌, ◌++◌, ◌∷◌, [], All, IfNone, IfOk, IfSome, List, OnOk, length, map, slice_index};
+ghost use Rattle.std.specs.Prelude.{ℕ, ◌≡◌, ◌<◌, ◌≤◌, ◌+◌, ◌++◌, ◌∷◌, [], All, IfNone, IfOk, IfSome, List, OnOk, length, map, slice_index};
 ghost use Rattle.std.specs.List.{flat_map};
 ghost use Rattle.std.specs.List.Sorted.{IsStrictlySortedBy};
-ghost use Rattle.mk_path.specs.Gather.{AreGathered, AreSorted, IsStep, IsUnion, IsUnited};
+ghost use Rattle.mk_path.specs.Gather.{AreGathered, AreSorted, IsStep, IsUnion, IsUnited, upwards};
 ghost use Rattle.mk_path.specs.Paths.{path_cmp};
 ghost use Rattle.mk_path.specs.Places.{number_limit};
 
@@ -59,31 +59,48 @@ fn next_step(first: &[&Path], i: usize, second: &[&Path], j: usize) -> Option<Or
     }
 }
 
+/// The end of a run in a row: its paths, from a place on, all stand before the path at a place of another row, if one stands
+/// there, as the first of them must. It need not be the longest such run: it is found by leaps, each twice as long as the one
+/// before, up to the first that goes too far.
+fn run_end(paths: &[&Path], from: usize, others: &[&Path], at: usize) -> usize
+    requires rise { IsStrictlySortedBy path_cmp (map (λ path. path.now) paths.now) }
+    requires step { IsStep (map (λ path. path.now) paths.now) (map (λ path. path.now) others.now) from at Ordering.Less }
+    ensures more { from < result }
+    ensures within { result ≤ length paths.now }
+    ensures before { (k : ℕ) → k < result → IsStep (map (λ path. path.now) paths.now) (map (λ path. path.now) others.now) k at Ordering.Less }
+{
+    if at >= others.len() {
+        return paths.len();
+    }
+    let stop = others[at];
+    let mut end = from + 1;
+    let mut leap = 1;
+    while leap <= paths.len() - end && paths[end + leap - 1].cmp(stop).is_lt() {
+        end += leap;
+        leap = leap.saturating_mul(2);
+    }
+    end
+}
+
+/// Puts a run of paths behind others, and their numbers behind those of their row.
+fn put_run<'a>(
+    paths: &mut Vec<&'a Path>,
+    numbers: &mut Vec<u32>,
+    run: &[&'a Path],
+) -> Result<(), AllocError>
+    requires few { length paths.old.items < number_limit }
+    ensures paths { OnOk result (map (λ path. path.now) paths.new.items ≡ map (λ path. path.now) paths.old.items ++ map (λ path. path.now) run.now) }
+    ensures few { OnOk result (length paths.new.items < number_limit) }
+    ensures numbers { OnOk result (numbers.new.items ≡ numbers.old.items ++ upwards (length paths.old.items) (length run.now)) }
+{
+    for path in run {
+        numbers.push(next_number(paths)?)?;
+        paths.push(*path)?;
+    }
+    Ok(())
+}
+
 impl<'a> Union<'a> {
-    /// Puts a path of the first row behind the others.
-    fn put_first(&mut self, path: &'a Path) -> Result<(), AllocError>
-        ensures paths { OnOk result (map (λ path. path.now) self.new.paths.items ≡ map (λ path. path.now) self.old.paths.items ++ path.now ∷ []) }
-        ensures few { OnOk result (length self.new.paths.items < number_limit) }
-        ensures firsts { OnOk result (self.new.firsts.items ≡ self.old.firsts.items ++ length self.old.paths.items ∷ []) }
-        ensures seconds { OnOk result (self.new.seconds.items ≡ self.old.seconds.items) }
-    {
-        self.firsts.push(next_number(&self.paths)?)?;
-        self.paths.push(path)?;
-        Ok(())
-    }
-
-    /// Puts a path of the second row behind the others.
-    fn put_second(&mut self, path: &'a Path) -> Result<(), AllocError>
-        ensures paths { OnOk result (map (λ path. path.now) self.new.paths.items ≡ map (λ path. path.now) self.old.paths.items ++ path.now ∷ []) }
-        ensures few { OnOk result (length self.new.paths.items < number_limit) }
-        ensures firsts { OnOk result (self.new.firsts.items ≡ self.old.firsts.items) }
-        ensures seconds { OnOk result (self.new.seconds.items ≡ self.old.seconds.items ++ length self.old.paths.items ∷ []) }
-    {
-        self.seconds.push(next_number(&self.paths)?)?;
-        self.paths.push(path)?;
-        Ok(())
-    }
-
     /// Puts a path of both rows behind the others.
     fn put_both(&mut self, path: &'a Path) -> Result<(), AllocError>
         ensures paths { OnOk result (map (λ path. path.now) self.new.paths.items ≡ map (λ path. path.now) self.old.paths.items ++ path.now ∷ []) }
@@ -98,7 +115,8 @@ impl<'a> Union<'a> {
         Ok(())
     }
 
-    /// Puts the next path behind the others, which the row has that the step tells.
+    /// Puts the next path behind the others, which the row has that the step tells, and with it a run of that row, if it has
+    /// the path alone.
     fn put(
         &mut self,
         step: Ordering,
@@ -116,23 +134,25 @@ impl<'a> Union<'a> {
         ensures more { OnOk result (length self.old.firsts.items + length self.old.seconds.items
             < length self.new.firsts.items + length self.new.seconds.items) }
     {
+        let i = self.firsts.len();
+        let j = self.seconds.len();
         match step {
             Ordering::Less => {
-                let path = first[self.firsts.len()];
-                self.put_first(path)
+                let end = run_end(first, i, second, j);
+                put_run(&mut self.paths, &mut self.firsts, &first[i..end])
             }
             Ordering::Greater => {
-                let path = second[self.seconds.len()];
-                self.put_second(path)
+                let end = run_end(second, j, first, i);
+                put_run(&mut self.paths, &mut self.seconds, &second[j..end])
             }
             Ordering::Equal => {
-                let path = first[self.firsts.len()];
+                let path = first[i];
                 self.put_both(path)
             }
         }
     }
 
-    /// Puts the paths of both rows behind the others, where none are.
+    /// Puts all that is left of both rows behind the others.
     fn put_all(&mut self, first: &[&'a Path], second: &[&'a Path]) -> Result<(), AllocError>
         requires first { IsStrictlySortedBy path_cmp (map (λ path. path.now) first.now) }
         requires second { IsStrictlySortedBy path_cmp (map (λ path. path.now) second.now) }

@@ -1,8 +1,9 @@
-use Rattle.std.proofs.Common.{arith, length, map, subst, sym, ◌∙◌}
+use Rattle.std.proofs.Common.{ℕ, ◌-◌, ◌++◌, List, ap, arith, drop, length, map, subst, sym, take, ◌∙◌}
 use Rattle.std.proofs.lemmas.List.{length-map}
-use Rattle.mk_path.specs.Gather.{IsStep}
+use Rattle.mk_path.specs.declared.path.Path.{Path}
+use Rattle.mk_path.specs.Gather.{IsStep, upwards}
 use Rattle.mk_path.proofs.Numbering.{behind}
-use Rattle.mk_path.proofs.Uniting.{path_is, put_both_more, put_first_more, put_ok, put_second_more}
+use Rattle.mk_path.proofs.Uniting.{on_ok, path_is, put_both_more, put_ok, run_counts, run_long, run_more, run_more_second, run_of, run_ok}
 use Rattle.mk_path.proofs.gather.Union.put.Goals as goal
 
 pub returns-in-Less-clause-united : goal.returns-in-Less-clause-united
@@ -10,26 +11,54 @@ returns-in-Less-clause-united c =
     let first = map behind c.args.first.now in
     let second = map behind c.args.second.now in
     let old = c.args.self.now in
-    let new = c.put_first.new.self in
-    let step = subst (IsStep first second (length old.firsts.items) (length old.seconds.items)) c.in-Less.is c.requires.step in
-    let is = path_is c.args.first.now c.index-first-len.result c.len.result (length old.firsts.items) c.index-first-len.is (c.len.ensures ∙ old.firsts.ok.0) step.0 in
-    put_ok c.put_first.result c.put_first.ensures.paths c.put_first.ensures.few c.put_first.ensures.firsts c.put_first.ensures.seconds
-    (λ paths few firsts seconds.
-    put_first_more first second (map behind old.paths.items) (map behind new.paths.items) c.index-first-len.result.now old.firsts.items old.seconds.items new.firsts.items new.seconds.items
-    (length old.paths.items) c.requires.first c.requires.united step is paths (omega (arith, few, length-map new.paths.items behind)) firsts (sym (length-map old.paths.items behind)) seconds)
+    let new = c.put_run.new in
+    let start = c.len-i.result in
+    let end = c.run_end-end.result in
+    let run = c.run_end-end.ensures in
+    run_ok c.put_run.result c.put_run.ensures.paths c.put_run.ensures.few c.put_run.ensures.numbers
+    (λ paths few numbers.
+    run_more first second (map behind old.paths.items) (map behind new.paths.items) old.firsts.items new.numbers.items old.seconds.items start c.len-j.result end
+    (length old.paths.items) c.requires.first c.requires.united (c.len-i.ensures ∙ old.firsts.ok.0) (c.len-j.ensures ∙ old.seconds.ok.0) run.more
+    (omega (arith, run.within, length-map c.args.first.now behind)) run.before
+    (paths ∙ ap (λ (ps : List Path). map behind old.paths.items ++ ps) (run_of c.args.first.now start (end - start)))
+    (omega (arith, few, length-map new.paths.items behind))
+    (numbers ∙ ap (λ (n : ℕ). old.firsts.items ++ upwards (length old.paths.items) n) (run_long c.args.first.now start end run.within)) (sym (length-map old.paths.items behind)))
+
+pub returns-in-Less-clause-more : goal.returns-in-Less-clause-more
+returns-in-Less-clause-more c =
+    let old = c.args.self.now in
+    let run = c.run_end-end.ensures in
+    let long = run_long c.args.first.now c.len-i.result c.run_end-end.result run.within in
+    on_ok c.put_run.result c.put_run.ensures.numbers
+    (λ numbers. let counts = run_counts old.firsts.items c.put_run.new.numbers.items (length old.paths.items)
+    (length (take (c.run_end-end.result - c.len-i.result) (drop c.len-i.result c.args.first.now))) (omega (arith, long, run.more)) numbers in omega (arith, counts))
 
 pub returns-in-Greater-clause-united : goal.returns-in-Greater-clause-united
 returns-in-Greater-clause-united c =
     let first = map behind c.args.first.now in
     let second = map behind c.args.second.now in
     let old = c.args.self.now in
-    let new = c.put_second.new.self in
-    let step = subst (IsStep first second (length old.firsts.items) (length old.seconds.items)) c.in-Greater.is c.requires.step in
-    let is = path_is c.args.second.now c.index-second-len.result c.len-in-Greater.result (length old.seconds.items) c.index-second-len.is (c.len-in-Greater.ensures ∙ old.seconds.ok.0) step.0 in
-    put_ok c.put_second.result c.put_second.ensures.paths c.put_second.ensures.few c.put_second.ensures.firsts c.put_second.ensures.seconds
-    (λ paths few firsts seconds.
-    put_second_more first second (map behind old.paths.items) (map behind new.paths.items) c.index-second-len.result.now old.firsts.items old.seconds.items new.firsts.items new.seconds.items
-    (length old.paths.items) c.requires.second c.requires.united step is paths (omega (arith, few, length-map new.paths.items behind)) firsts seconds (sym (length-map old.paths.items behind)))
+    let new = c.put_run-in-Greater.new in
+    let start = c.len-j.result in
+    let end = c.run_end-end-in-Greater.result in
+    let run = c.run_end-end-in-Greater.ensures in
+    run_ok c.put_run-in-Greater.result c.put_run-in-Greater.ensures.paths c.put_run-in-Greater.ensures.few c.put_run-in-Greater.ensures.numbers
+    (λ paths few numbers.
+    run_more_second first second (map behind old.paths.items) (map behind new.paths.items) old.firsts.items old.seconds.items new.numbers.items start c.len-i.result end
+    (length old.paths.items) c.requires.second c.requires.united (c.len-j.ensures ∙ old.seconds.ok.0) (c.len-i.ensures ∙ old.firsts.ok.0) run.more
+    (omega (arith, run.within, length-map c.args.second.now behind)) run.before
+    (paths ∙ ap (λ (ps : List Path). map behind old.paths.items ++ ps) (run_of c.args.second.now start (end - start)))
+    (omega (arith, few, length-map new.paths.items behind))
+    (numbers ∙ ap (λ (n : ℕ). old.seconds.items ++ upwards (length old.paths.items) n) (run_long c.args.second.now start end run.within)) (sym (length-map old.paths.items behind)))
+
+pub returns-in-Greater-clause-more : goal.returns-in-Greater-clause-more
+returns-in-Greater-clause-more c =
+    let old = c.args.self.now in
+    let run = c.run_end-end-in-Greater.ensures in
+    let long = run_long c.args.second.now c.len-j.result c.run_end-end-in-Greater.result run.within in
+    on_ok c.put_run-in-Greater.result c.put_run-in-Greater.ensures.numbers
+    (λ numbers. let counts = run_counts old.seconds.items c.put_run-in-Greater.new.numbers.items (length old.paths.items)
+    (length (take (c.run_end-end-in-Greater.result - c.len-j.result) (drop c.len-j.result c.args.second.now))) (omega (arith, long, run.more)) numbers in omega (arith, counts))
 
 pub returns-in-Equal-clause-united : goal.returns-in-Equal-clause-united
 returns-in-Equal-clause-united c =
@@ -38,9 +67,9 @@ returns-in-Equal-clause-united c =
     let old = c.args.self.now in
     let new = c.put_both.new.self in
     let step = subst (IsStep first second (length old.firsts.items) (length old.seconds.items)) c.in-Equal.is c.requires.step in
-    let is = path_is c.args.first.now c.index-first-len-in-Equal.result c.len-in-Equal.result (length old.firsts.items) c.index-first-len-in-Equal.is (c.len-in-Equal.ensures ∙ old.firsts.ok.0) step.0 in
+    let is = path_is c.args.first.now c.index-first-i.result c.len-i.result (length old.firsts.items) c.index-first-i.is (c.len-i.ensures ∙ old.firsts.ok.0) step.0 in
     put_ok c.put_both.result c.put_both.ensures.paths c.put_both.ensures.few c.put_both.ensures.firsts c.put_both.ensures.seconds
     (λ paths few firsts seconds.
-    put_both_more first second (map behind old.paths.items) (map behind new.paths.items) c.index-first-len-in-Equal.result.now old.firsts.items old.seconds.items new.firsts.items new.seconds.items
+    put_both_more first second (map behind old.paths.items) (map behind new.paths.items) c.index-first-i.result.now old.firsts.items old.seconds.items new.firsts.items new.seconds.items
     (length old.paths.items) c.requires.first c.requires.second c.requires.united step is paths (omega (arith, few, length-map new.paths.items behind)) firsts seconds
     (sym (length-map old.paths.items behind)))
