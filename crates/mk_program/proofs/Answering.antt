@@ -51,6 +51,16 @@ outcome_is texts footprints log limit limit' tie (Allowed replayed) status text 
 outcome_is texts footprints log limit limit' tie (NotAllowed place refusal) status text played same ends told =
     rw ends (place, refusal, subst (λ (n : ℕ). IsPlayed texts footprints log n tie (Ok (NotAllowed place refusal))) same played, told)
 
+-- the report of the fault of a plan is its answer
+pub unplanned_is : (texts : Texts) (halt : Halt) (fault : Told) (status : Status) (text : List ℕ)
+    → HaltsAmong halt (IsPlanned texts) → halt ≡ Fault fault → status ≡ Refused → text ≡ refused_text fault → IsOrderAnswer texts status text
+unplanned_is texts halt fault status text planned is ends told =
+    rw ends (fault, subst (λ (h : Halt). HaltsAmong h (IsPlanned texts)) is planned, told)
+
+-- what is refused has not failed
+pub refusal_not_failed : (status : Status) → status ≡ Refused → status ≢ Failed
+refusal_not_failed status refused failed = let e : ◌≡◌ {A = Status} Refused Failed = sym refused ∙ failed in cc
+
 -- what is done has not failed
 pub not_failed : (status : Status) → status ≡ Done → status ≢ Failed
 not_failed status done failed = let e : ◌≡◌ {A = Status} Done Failed = sym done ∙ failed in cc

@@ -1,7 +1,12 @@
 -- Lemmas on the answers to logs that are to be put in serial order.
-use Rattle.std.proofs.Common.{◌≡◌, ◌≢◌, ◌∙◌, ◌⊎◌, inl, inr, ℕ, Bool, List, Ok, refl, subst, sym}
+use Rattle.std.proofs.Common.{◌≡◌, ◌≢◌, ◌∙◌, ◌⊎◌, inl, inr, ℕ, Bool, List, Ok, Err, refl, subst, sym}
 use Rattle.mk_jobs.specs.Jobs.{Jobs}
 use Rattle.mk_log.specs.Logs.{Log}
+use Rattle.mk_name.specs.Gives.{HaltsAmong}
+use Rattle.mk_name.specs.Shown.{refused_text}
+use Rattle.mk_name.specs.Told.{Told}
+use Rattle.mk_name.specs.declared.fault.Halt.{Halt}
+use Rattle.mk_name.specs.declared.fault.Halt.TheVariants.{Fault}
 use Rattle.mk_race.specs.Serialised.{IsLawful, IsLawfulBuild, IsSerialised}
 use Rattle.mk_race.specs.Stages.{Texts}
 use Rattle.mk_race.specs.declared.serialising.Ordered.{Ordered}
@@ -12,7 +17,7 @@ use Rattle.mk_sched.proofs.SerialList.{all_inside}
 use Rattle.mk_program.specs.Answers.{IsSerialiseAnswer}
 use Rattle.mk_program.specs.OrderText.{HasNodes, IsOrderText, order_status}
 use Rattle.mk_program.specs.declared.statuses.Status.{Status}
-use Rattle.mk_program.specs.declared.statuses.Status.TheVariants.{Done, No, Failed}
+use Rattle.mk_program.specs.declared.statuses.Status.TheVariants.{Done, No, Failed, Refused}
 
 -- the answer over what was read is the one over the texts
 pub serial_told : (old new : Texts) (footprints footprints' log log' : List ℕ) (limit : ℕ) (tie : Bool) (status : Status) (text : List ℕ)
@@ -36,6 +41,14 @@ order_not_failed order status ends failed = elim (ends_as order) [
   | inl done ↦ let e : ◌≡◌ {A = Status} Done Failed = sym done ∙ sym ends ∙ failed in cc
   | inr refused ↦ let e : ◌≡◌ {A = Status} No Failed = sym refused ∙ sym ends ∙ failed in cc
 ]
+
+-- the report of the fault of a log, or of its build, is its answer
+pub unordered_is : (texts : Texts) (footprints log : List ℕ) (limit limit' : ℕ) (tie : Bool) (halt : Halt) (fault : Told) (status : Status) (text : List ℕ)
+    → HaltsAmong halt (IsSerialised texts footprints log limit' tie) → halt ≡ Fault fault → limit' ≡ limit → status ≡ Refused → text ≡ refused_text fault
+    → IsSerialiseAnswer texts footprints log limit tie status text
+unordered_is texts footprints log limit limit' tie halt fault status text given is same ends told =
+    let at : HaltsAmong (Fault fault) (IsSerialised texts footprints log limit' tie) = subst (λ (h : Halt). HaltsAmong h (IsSerialised texts footprints log limit' tie)) is given in
+    rw ends (fault, subst (λ (n : ℕ). IsSerialised texts footprints log n tie (Err fault)) same at, told)
 
 -- what is told of a log is its answer
 pub order_is : (texts : Texts) (footprints log : List ℕ) (limit limit' : ℕ) (tie : Bool) (given : Serialised) (status : Status) (text : List ℕ)

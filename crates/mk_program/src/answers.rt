@@ -1,6 +1,8 @@
 //! The answers to requests.
 ghost use Rattle.std.specs.Prelude.{◌≡◌, ◌≢◌, IfErr, IfOk, List, map, ℕ};
 ghost use Rattle.mk_name.specs.Shown.{refused_text};
+ghost use Rattle.mk_name.specs.Told.{Told};
+ghost use Rattle.mk_name.specs.declared.fault.Halt.TheVariants as halts;
 ghost use Rattle.mk_race.specs.Stages.{texts_of};
 ghost use Rattle.mk_program.specs.Answers as spec;
 ghost use Rattle.mk_program.specs.Includes.{shown};
@@ -181,8 +183,7 @@ fn order_over(alloc: Global, input: &Input<'_>) -> Result<Answer, AllocError>
 {
     match plan_of(alloc, input) {
         Ok(planned) => plan_answer(alloc, &planned.plan),
-        Err(Halt::Fault(fault)) => refused(alloc, &fault),
-        Err(Halt::Memory) => Err(AllocError),
+        Err(halt) => refused(alloc, halt),
     }
 }
 
@@ -194,8 +195,7 @@ fn verify_over(alloc: Global, input: &Input<'_>, proof: &[u8]) -> Result<Answer,
 {
     match verify_proof(alloc, input, proof) {
         Ok(accepted) => verdict_answer(alloc, accepted),
-        Err(Halt::Fault(fault)) => refused(alloc, &fault),
-        Err(Halt::Memory) => Err(AllocError),
+        Err(halt) => refused(alloc, halt),
     }
 }
 
@@ -213,8 +213,7 @@ fn replay_over(
 {
     match replay_log(alloc, input, log, u32::from(limit), tie) {
         Ok(played) => outcome_answer(alloc, &played),
-        Err(Halt::Fault(fault)) => refused(alloc, &fault),
-        Err(Halt::Memory) => Err(AllocError),
+        Err(halt) => refused(alloc, halt),
     }
 }
 
@@ -256,8 +255,19 @@ fn outcome_answer(alloc: Global, played: &Played) -> Result<Answer, AllocError>
     })
 }
 
-/// The report of a fault.
-pub(crate) fn refused(alloc: Global, fault: &Fault) -> Result<Answer, AllocError>
+/// The report of a fault; want of memory is no answer.
+pub(crate) fn refused(alloc: Global, halt: Halt) -> Result<Answer, AllocError>
+    ensures { IfOk result (λ answer. (told : Told) × (halt ≡ halts.Fault told)
+        × (answer.status ≡ Status.Refused) × (answer.text.items ≡ refused_text told)) }
+{
+    match halt {
+        Halt::Fault(fault) => fault_answer(alloc, &fault),
+        Halt::Memory => Err(AllocError),
+    }
+}
+
+/// A fault, told.
+fn fault_answer(alloc: Global, fault: &Fault) -> Result<Answer, AllocError>
     ensures { IfOk result (λ answer. (answer.status ≡ Status.Refused)
         × (answer.text.items ≡ refused_text fault.now)) }
 {

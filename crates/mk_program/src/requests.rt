@@ -73,20 +73,27 @@ pub fn inputs_of<'a>(alloc: Global, request: &Request<'a>) -> Result<Vec<InputPa
     ensures { IfOk result (λ inputs. inputs.items ≡ spec.inputs_of request.now) }
 {
     let mut inputs = Vec::new(alloc);
+    push_inputs(&mut inputs, request)?;
+    Ok(inputs)
+}
+
+/// Puts the inputs of a request at the end.
+fn push_inputs<'a>(inputs: &mut Vec<InputPath<'a>>, request: &Request<'a>) -> Result<(), AllocError>
+    ensures { OnOk result (inputs.new.items ≡ inputs.old.items ++ spec.inputs_of request.now) }
+{
     match request {
-        Request::Order(build) => push_build(&mut inputs, build)?,
+        Request::Order(build) => push_build(inputs, build),
         Request::Check(check) => {
-            push_build(&mut inputs, &check.build)?;
-            push_input(&mut inputs, InputFile::Footprints, check.footprints)?;
+            push_build(inputs, &check.build)?;
+            push_input(inputs, InputFile::Footprints, check.footprints)
         }
         Request::Verify(verify) => {
-            push_build(&mut inputs, &verify.build)?;
-            push_input(&mut inputs, InputFile::Footprints, verify.footprints)?;
-            push_input(&mut inputs, InputFile::Proof, verify.proof)?;
+            push_build(inputs, &verify.build)?;
+            push_input(inputs, InputFile::Footprints, verify.footprints)?;
+            push_input(inputs, InputFile::Proof, verify.proof)
         }
-        Request::Replay(replay) | Request::Serialise(replay) => push_replay(&mut inputs, replay)?,
+        Request::Replay(replay) | Request::Serialise(replay) => push_replay(inputs, replay),
     }
-    Ok(inputs)
 }
 
 /// Puts the inputs of a log at the end.

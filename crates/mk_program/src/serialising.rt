@@ -11,7 +11,6 @@ use crate::inputs::{InputText, text_of};
 use crate::order_lines::order_text;
 use crate::requests::ReplayArgs;
 use crate::statuses::Status;
-use mk_name::fault::Halt;
 use mk_race::input::Input;
 use mk_race::serialising::{Ordered, Serialised, serialise_log};
 use std::alloc::Global;
@@ -55,8 +54,7 @@ fn serialise_over(
 {
     match serialise_log(alloc, input, log, u32::from(limit), tie) {
         Ok(given) => told(alloc, &given),
-        Err(Halt::Fault(fault)) => Ok(refused(alloc, &fault)?),
-        Err(Halt::Memory) => Err(Failure::Memory),
+        Err(halt) => Ok(refused(alloc, halt)?),
     }
 }
 

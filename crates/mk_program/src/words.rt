@@ -1,6 +1,6 @@
 //! The words of the command line.
-ghost use Rattle.std.specs.Prelude.{◌≡◌, ◌⊎◌, IfOk, codes, false, option_map};
-ghost use Rattle.clap.specs.Words.{FailsBy, app_of, found_of, rows_of, rule_of};
+ghost use Rattle.std.specs.Prelude.{◌≡◌, ◌⊎◌, IfOk, Ok, codes, false, option_map};
+ghost use Rattle.clap.specs.Words.{FailsBy, app_of, found_of, rows_of, rule_of, with_subcommand};
 ghost use Rattle.clap.specs.declared.builder.command.Command.TheViews.{out-Command as fields_of};
 ghost use Rattle.mk_program.specs.CommandLine as spec;
 
@@ -62,12 +62,28 @@ fn race_command<'a>(alloc: Global) -> Result<Command<'a>, AllocError>
     ensures app { IfOk result (λ command. app_of command ≡ spec.race_app) }
     ensures local { IfOk result (λ command. (fields_of command).has_globals ≡ false) }
 {
-    top_command(alloc)
-        .subcommand(order_command(alloc)?)?
-        .subcommand(check_command(alloc)?)?
-        .subcommand(verify_command(alloc)?)?
-        .subcommand(replay_command(alloc)?)?
-        .subcommand(serialise_command(alloc)?)
+    let command = with_made(top_command(alloc), order_command(alloc))?;
+    let command = with_made(command, check_command(alloc))?;
+    let command = with_made(command, verify_command(alloc))?;
+    let command = with_made(command, replay_command(alloc))?;
+    with_made(command, serialise_command(alloc))
+}
+
+/// The command with one subcommand more, where that could be made.
+fn with_made<'a>(
+    command: Command<'a>,
+    made: Result<Command<'a>, AllocError>,
+) -> Result<Command<'a>, AllocError>
+    requires { IfOk made (λ sub. (fields_of sub).has_globals ≡ false) }
+    ensures app { IfOk result (λ new. (sub : Command) × (made.entry ≡ Ok sub)
+        × (app_of new ≡ with_subcommand (app_of command.entry) (app_of sub).top)) }
+    ensures local { IfOk result (λ new.
+        (fields_of new).has_globals ≡ (fields_of command.entry).has_globals) }
+{
+    match made {
+        Ok(sub) => command.subcommand(sub),
+        Err(error) => Err(error),
+    }
 }
 
 /// The program without its subcommands.

@@ -1,468 +1,75 @@
 //! The worked cases: each runs the program over files in memory, and says what comes out.
 use crate::outcomes::{Outcome, run};
 use crate::shelf::{Book, Page, Shelf};
-use mk_program::Status;
-use std::alloc::Global;
-use std::test::Fail;
+use crate::tables::{Case, orders, other_runs, refusals, replays, serial_logs};
+use std::alloc::{AllocError, Global};
 
-/// A run of the program with these words, one blank between two, over these files, and what comes out.
-struct Case {
-    about: &'static str,
-    words: &'static str,
-    base: &'static [u8],
-    makefile: &'static [u8],
-    listing: &'static [u8],
-    footprints: &'static [u8],
-    log: &'static [u8],
-    status: Status,
-    out: &'static [u8],
-    err: &'static [u8],
-}
-
-static CASES: [Case; 33] = [
-    Case {
-        about: "each name stands behind those that it needs",
-        words: "race order --makefile makefile --listing listing --root /w",
-        base: b"",
-        makefile: b"prog: a.o b.o\n\tcc\na.o: a.c\n\tcc\nb.o: b.c\n\tcc\n",
-        listing: b"a.c\nb.c\n",
-        footprints: b"",
-        log: b"",
-        status: Status::Done,
-        out: b"0 plain a.c\n1 recipe a.o : a.c\n2 plain b.c\n3 recipe b.o : b.c\n4 recipe prog : a.o b.o\n",
-        err: b"",
-    },
-    Case {
-        about: "the inference rules of a base makefile serve names",
-        words: "race order --makefile makefile --listing listing --root /w --base base",
-        base: b".SUFFIXES: .c .o\n.c.o:\n\tcc\n.c:\n\tld\n",
-        makefile: b"all: prog lib.v x.o\n",
-        listing: b"prog.c\nlib.v.c\nx.c\n",
-        footprints: b"",
-        log: b"",
-        status: Status::Done,
-        out: b"0 plain prog.c\n1 inferred prog : prog.c\n2 plain lib.v.c\n3 inferred lib.v : lib.v.c\n4 plain x.c\n5 inferred x.o : x.c\n6 plain all : prog lib.v x.o\n",
-        err: b"",
-    },
-    Case {
-        about: "the commands of .DEFAULT make what nothing else does",
-        words: "race order --makefile makefile --listing listing --root /w",
-        base: b"",
-        makefile: b".DEFAULT:\n\tget\nall: x y\n",
-        listing: b"x\n",
-        footprints: b"",
-        log: b"",
-        status: Status::Done,
-        out: b"0 plain x\n1 default y\n2 plain all : x y\n",
-        err: b"",
-    },
-    Case {
-        about: "a macro operand wins over the makefile",
-        words: "race order --makefile makefile --listing listing --root /w SRC=z.c",
-        base: b"",
-        makefile: b"SRC = a.c b.c\nOBJ = $(SRC:.c=.o)\nSRC += d.c\nprog: $(OBJ)\n\tlink\n",
-        listing: b"a.o\nb.o\nd.o\nz.o\n",
-        footprints: b"",
-        log: b"",
-        status: Status::Done,
-        out: b"0 plain z.o\n1 recipe prog : z.o\n",
-        err: b"",
-    },
-    Case {
-        about: "without a goal, a target that begins with a period is passed over",
-        words: "race order --makefile makefile --listing listing --root /w",
-        base: b"",
-        makefile: b".hidden: x\nall: y\n",
-        listing: b"x\ny\n",
-        footprints: b"",
-        log: b"",
-        status: Status::Done,
-        out: b"0 plain y\n1 plain all : y\n",
-        err: b"",
-    },
-    Case {
-        about: "the word .WAIT is no prerequisite",
-        words: "race order --makefile makefile --listing listing --root /w",
-        base: b"",
-        makefile: b"all: x .WAIT y\nx: s\n\tc\ny: s\n\tc\n",
-        listing: b"s\n",
-        footprints: b"",
-        log: b"",
-        status: Status::Done,
-        out: b"0 plain s\n1 recipe x : s\n2 recipe y : s\n3 plain all : x y\n",
-        err: b"",
-    },
-    Case {
-        about: "a root that is not absolute",
-        words: "race order --makefile makefile --listing listing --root w",
-        base: b"",
-        makefile: b"prog: a.o b.o\n\tcc\na.o: a.c\n\tcc\nb.o: b.c\n\tcc\n",
-        listing: b"a.c\nb.c\n",
-        footprints: b"",
-        log: b"",
-        status: Status::Refused,
-        out: b"refused\nF1 BadName\nat settings 0\nname w\n",
-        err: b"",
-    },
-    Case {
-        about: "the first operand at fault",
-        words: "race order --makefile makefile --listing listing --root /w A=x =x",
-        base: b"",
-        makefile: b"prog: a.o b.o\n\tcc\na.o: a.c\n\tcc\nb.o: b.c\n\tcc\n",
-        listing: b"a.c\nb.c\n",
-        footprints: b"",
-        log: b"",
-        status: Status::Refused,
-        out: b"refused\nF5 BadAssignment\nat settings 2\n",
-        err: b"",
-    },
-    Case {
-        about: "a line of the listing that is no path",
-        words: "race order --makefile makefile --listing listing --root /w",
-        base: b"",
-        makefile: b"all: x\n",
-        listing: b"x\n\n\x00y\n",
-        footprints: b"",
-        log: b"",
-        status: Status::Refused,
-        out: b"refused\nF1 BadName\nat listing 3\n",
-        err: b"",
-    },
-    Case {
-        about: "a line of the base",
-        words: "race order --makefile makefile --listing listing --root /w --base base",
-        base: b"\nx y\n",
-        makefile: b"x y\n",
-        listing: b"",
-        footprints: b"",
-        log: b"",
-        status: Status::Refused,
-        out: b"refused\nF2 NoColon\nat base 2\n",
-        err: b"",
-    },
-    Case {
-        about: "a line of the makefile",
-        words: "race order --makefile makefile --listing listing --root /w",
-        base: b"",
-        makefile: b"\techo\n",
-        listing: b"",
-        footprints: b"",
-        log: b"",
-        status: Status::Refused,
-        out: b"refused\nF3 StrayRecipe\nat makefile 1\n",
-        err: b"",
-    },
-    Case {
-        about: "an entry whose macros need each other",
-        words: "race order --makefile makefile --listing listing --root /w",
-        base: b"",
-        makefile: b"A = $(B)\nB = $(A)\nall: $(A)\n\techo $(A)\n",
-        listing: b"x\n",
-        footprints: b"",
-        log: b"",
-        status: Status::Refused,
-        out: b"refused\nF8 MacroLoop\nat makefile 3\nname A\n",
-        err: b"",
-    },
-    Case {
-        about: "commands for a target that has some",
-        words: "race order --makefile makefile --listing listing --root /w",
-        base: b"",
-        makefile: b"a: ; x\na: ; y\n",
-        listing: b"",
-        footprints: b"",
-        log: b"",
-        status: Status::Refused,
-        out: b"refused\nF12 TwoRecipes\nat makefile 2\nname a\n",
-        err: b"",
-    },
-    Case {
-        about: "nothing to make",
-        words: "race order --makefile makefile --listing listing --root /w",
-        base: b"",
-        makefile: b"",
-        listing: b"",
-        footprints: b"",
-        log: b"",
-        status: Status::Refused,
-        out: b"refused\nF15 NoGoal\nat graph 0\n",
-        err: b"",
-    },
-    Case {
-        about: "a name that nothing makes",
-        words: "race order --makefile makefile --listing listing --root /w",
-        base: b"",
-        makefile: b"all: x y\n",
-        listing: b"x\n",
-        footprints: b"",
-        log: b"",
-        status: Status::Refused,
-        out: b"refused\nF16 NoRule\nat graph 0\nname y\n",
-        err: b"",
-    },
-    Case {
-        about: "names that need each other",
-        words: "race order --makefile makefile --listing listing --root /w",
-        base: b"",
-        makefile: b"a: b\nb: c\nc: a\n",
-        listing: b"",
-        footprints: b"",
-        log: b"",
-        status: Status::Refused,
-        out: b"refused\nF17 Cycle\nat graph 0\nname a\nname b\nname c\nname a\n",
-        err: b"",
-    },
-    Case {
-        about: "a run, though the recipes race",
-        words: "race replay --makefile makefile --listing listing --root /w --footprints footprints --log log",
-        base: b"",
-        makefile: b"all: gen.h a.o\ngen.h: gen.sh\n\tsh\na.o: a.c\n\tcc\n",
-        listing: b"gen.sh\na.c\n",
-        footprints: b"{\"target\":\"gen.h\",\"reads\":[\"gen.sh\"],\"writes\":[\"gen.h\"]}\n{\"target\":\"a.o\",\"reads\":[\"a.c\",\"gen.h\"],\"writes\":[\"a.o\"]}\n",
-        log: b"{\"bytes\":\"61\",\"do\":\"file\",\"path\":\"a.c\",\"time\":1}\n{\"bytes\":\"73\",\"do\":\"file\",\"path\":\"gen.sh\",\"time\":1}\n{\"do\":\"skip\",\"node\":\"gen.sh\"}\n{\"do\":\"skip\",\"node\":\"a.c\"}\n{\"do\":\"start\",\"node\":\"a.o\"}\n{\"bytes\":null,\"do\":\"look\",\"node\":\"a.o\",\"path\":\"gen.h\"}\n{\"bytes\":\"6f\",\"do\":\"put\",\"node\":\"a.o\",\"path\":\"a.o\",\"time\":2}\n{\"do\":\"finish\",\"node\":\"a.o\"}\n{\"do\":\"start\",\"node\":\"gen.h\"}\n{\"bytes\":\"67\",\"do\":\"put\",\"node\":\"gen.h\",\"path\":\"gen.h\",\"time\":3}\n{\"do\":\"finish\",\"node\":\"gen.h\"}\n{\"do\":\"skip\",\"node\":\"all\"}\n",
-        status: Status::Done,
-        out: b"allowed complete\nfile a.c 1 61\nfile a.o 2 6f\nfile gen.h 3 67\nfile gen.sh 1 73\n",
-        err: b"",
-    },
-    Case {
-        about: "a beginning of a run",
-        words: "race replay --makefile makefile --listing listing --root /w --footprints footprints --log log",
-        base: b"",
-        makefile: b"all: gen.h a.o\ngen.h: gen.sh\n\tsh\na.o: a.c\n\tcc\n",
-        listing: b"gen.sh\na.c\n",
-        footprints: b"{\"target\":\"gen.h\",\"reads\":[\"gen.sh\"],\"writes\":[\"gen.h\"]}\n{\"target\":\"a.o\",\"reads\":[\"a.c\",\"gen.h\"],\"writes\":[\"a.o\"]}\n",
-        log: b"{\"bytes\":\"61\",\"do\":\"file\",\"path\":\"a.c\",\"time\":1}\n{\"bytes\":\"73\",\"do\":\"file\",\"path\":\"gen.sh\",\"time\":1}\n{\"do\":\"skip\",\"node\":\"gen.sh\"}\n{\"do\":\"skip\",\"node\":\"a.c\"}\n{\"do\":\"start\",\"node\":\"gen.h\"}\n{\"bytes\":\"67\",\"do\":\"put\",\"node\":\"gen.h\",\"path\":\"gen.h\",\"time\":2}\n{\"do\":\"finish\",\"node\":\"gen.h\"}\n{\"do\":\"start\",\"node\":\"a.o\"}\n{\"bytes\":\"67\",\"do\":\"look\",\"node\":\"a.o\",\"path\":\"gen.h\"}\n{\"bytes\":\"6f67\",\"do\":\"put\",\"node\":\"a.o\",\"path\":\"a.o\",\"time\":3}\n{\"do\":\"finish\",\"node\":\"a.o\"}\n",
-        status: Status::Done,
-        out: b"allowed incomplete\nfile a.c 1 61\nfile a.o 3 6f67\nfile gen.h 2 67\nfile gen.sh 1 73\n",
-        err: b"",
-    },
-    Case {
-        about: "a file that is written at a time that is not new",
-        words: "race replay --makefile makefile --listing listing --root /w --footprints footprints --log log",
-        base: b"",
-        makefile: b"all: gen.h a.o\ngen.h: gen.sh\n\tsh\na.o: a.c\n\tcc\n",
-        listing: b"gen.sh\na.c\n",
-        footprints: b"{\"target\":\"gen.h\",\"reads\":[\"gen.sh\"],\"writes\":[\"gen.h\"]}\n{\"target\":\"a.o\",\"reads\":[\"a.c\",\"gen.h\"],\"writes\":[\"a.o\"]}\n",
-        log: b"{\"bytes\":\"61\",\"do\":\"file\",\"path\":\"a.c\",\"time\":1}\n{\"bytes\":\"73\",\"do\":\"file\",\"path\":\"gen.sh\",\"time\":1}\n{\"do\":\"skip\",\"node\":\"gen.sh\"}\n{\"do\":\"skip\",\"node\":\"a.c\"}\n{\"do\":\"start\",\"node\":\"gen.h\"}\n{\"bytes\":\"67\",\"do\":\"put\",\"node\":\"gen.h\",\"path\":\"gen.h\",\"time\":1}\n{\"do\":\"finish\",\"node\":\"gen.h\"}\n{\"do\":\"start\",\"node\":\"a.o\"}\n{\"bytes\":\"67\",\"do\":\"look\",\"node\":\"a.o\",\"path\":\"gen.h\"}\n{\"bytes\":\"6f67\",\"do\":\"put\",\"node\":\"a.o\",\"path\":\"a.o\",\"time\":3}\n{\"do\":\"finish\",\"node\":\"a.o\"}\n{\"do\":\"skip\",\"node\":\"all\"}\n",
-        status: Status::No,
-        out: b"not allowed V9 NotNewer at 4\n",
-        err: b"",
-    },
-    Case {
-        about: "the files of the log are not those of the listing",
-        words: "race replay --makefile makefile --listing listing --root /w --footprints footprints --log log",
-        base: b"",
-        makefile: b"all: gen.h a.o\ngen.h: gen.sh\n\tsh\na.o: a.c\n\tcc\n",
-        listing: b"gen.sh\na.c\n",
-        footprints: b"{\"target\":\"gen.h\",\"reads\":[\"gen.sh\"],\"writes\":[\"gen.h\"]}\n{\"target\":\"a.o\",\"reads\":[\"a.c\",\"gen.h\"],\"writes\":[\"a.o\"]}\n",
-        log: b"{\"bytes\":\"61\",\"do\":\"file\",\"path\":\"a.c\",\"time\":1}\n",
-        status: Status::No,
-        out: b"not allowed V11 StoreNotListing at 0\n",
-        err: b"",
-    },
-    Case {
-        about: "with --tie a file of the same time is newer",
-        words: "race replay --makefile makefile --listing listing --root /w --footprints footprints --log log --tie",
-        base: b"",
-        makefile: b"a: b\n\tc\n",
-        listing: b"a\nb\n",
-        footprints: b"{\"target\":\"a\",\"reads\":[\"b\"],\"writes\":[\"a\"]}\n",
-        log: b"{\"bytes\":\"61\",\"do\":\"file\",\"path\":\"a\",\"time\":5}\n{\"bytes\":\"62\",\"do\":\"file\",\"path\":\"b\",\"time\":5}\n{\"do\":\"skip\",\"node\":\"b\"}\n{\"do\":\"start\",\"node\":\"a\"}\n",
-        status: Status::Done,
-        out: b"allowed incomplete\nfile a 5 61\nfile b 5 62\n",
-        err: b"",
-    },
-    Case {
-        about: "footprints that end within a line",
-        words: "race replay --makefile makefile --listing listing --root /w --footprints footprints --log log",
-        base: b"",
-        makefile: b"prog: a.o b.o\n\tcc\na.o: a.c\n\tcc\nb.o: b.c\n\tcc\n",
-        listing: b"a.c\nb.c\n",
-        footprints: b"{\"target\":\"prog\",\"reads\":[\"a.o\",\"b.o\"],\"writes\":[\"prog\"]}\n{\"target\":\"a.o\",\"reads\":[\"a.c\"],\"writes\":[\"a.o\"]}\n{\"target\":\"b.o\",\"reads\":[\"b.c\"],\"writes\":[\"b.o\"]",
-        log: b"",
-        status: Status::Refused,
-        out: b"refused\nF19 BadFootprint\nat footprints 3\n",
-        err: b"",
-    },
-    Case {
-        about: "a recipe without footprints",
-        words: "race replay --makefile makefile --listing listing --root /w --footprints footprints --log log",
-        base: b"",
-        makefile: b"prog: a.o b.o\n\tcc\na.o: a.c\n\tcc\nb.o: b.c\n\tcc\n",
-        listing: b"a.c\nb.c\n",
-        footprints: b"{\"target\":\"prog\",\"reads\":[\"a.o\",\"b.o\"],\"writes\":[\"prog\"]}\n{\"target\":\"a.o\",\"reads\":[\"a.c\"],\"writes\":[\"a.o\"]}\n",
-        log: b"",
-        status: Status::Refused,
-        out: b"refused\nF21 MissingFootprint\nat jobs 3\nname b.o\n",
-        err: b"",
-    },
-    Case {
-        about: "a recipe that writes another target",
-        words: "race replay --makefile makefile --listing listing --root /w --footprints footprints --log log",
-        base: b"",
-        makefile: b"y.tab.c y.tab.h: p.y\n\tyacc\n",
-        listing: b"p.y\n",
-        footprints: b"{\"target\":\"y.tab.c\",\"reads\":[\"p.y\"],\"writes\":[\"y.tab.c\",\"y.tab.h\"]}\n",
-        log: b"",
-        status: Status::Refused,
-        out: b"refused\nF22 WritesTarget\nat jobs 1\nname y.tab.c\nname y.tab.h\n",
-        err: b"",
-    },
-    Case {
-        about: "a log of a node that is not there",
-        words: "race replay --makefile makefile --listing listing --root /w --footprints footprints --log log",
-        base: b"",
-        makefile: b"all: gen.h a.o\ngen.h: gen.sh\n\tsh\na.o: a.c\n\tcc\n",
-        listing: b"gen.sh\na.c\n",
-        footprints: b"{\"target\":\"gen.h\",\"reads\":[\"gen.sh\"],\"writes\":[\"gen.h\"]}\n{\"target\":\"a.o\",\"reads\":[\"a.c\",\"gen.h\"],\"writes\":[\"a.o\"]}\n",
-        log: b"{\"do\":\"skip\",\"node\":\"z\"}\n",
-        status: Status::Refused,
-        out: b"refused\nF24 BadLog\nat log 1\n",
-        err: b"",
-    },
-    Case {
-        about: "a makefile that cannot be opened",
-        words: "race order --makefile absent --listing listing --root /w",
-        base: b"",
-        makefile: b"",
-        listing: b"a.c\nb.c\n",
-        footprints: b"",
-        log: b"",
-        status: Status::Failed,
-        out: b"",
-        err: b"race: read failed: makefile\n",
-    },
-    Case {
-        about: "a log that cannot be opened",
-        words: "race replay --makefile makefile --listing listing --root /w --footprints footprints --log absent",
-        base: b"",
-        makefile: b"all: gen.h a.o\ngen.h: gen.sh\n\tsh\na.o: a.c\n\tcc\n",
-        listing: b"gen.sh\na.c\n",
-        footprints: b"{\"target\":\"gen.h\",\"reads\":[\"gen.sh\"],\"writes\":[\"gen.h\"]}\n{\"target\":\"a.o\",\"reads\":[\"a.c\",\"gen.h\"],\"writes\":[\"a.o\"]}\n",
-        log: b"",
-        status: Status::Failed,
-        out: b"",
-        err: b"race: read failed: log\n",
-    },
-    Case {
-        about: "two recipes that ran at once stand one behind the other, with new times",
-        words: "race serialise --makefile makefile --listing listing --root /w --footprints footprints --log log --limit 2",
-        base: b"",
-        makefile: b"prog: a.o b.o\n\tcc\na.o: a.c\n\tcc\nb.o: b.c\n\tcc\n",
-        listing: b"a.c\nb.c\n",
-        footprints: b"{\"target\":\"prog\",\"reads\":[\"a.o\",\"b.o\"],\"writes\":[\"prog\"]}\n{\"target\":\"a.o\",\"reads\":[\"a.c\"],\"writes\":[\"a.o\"]}\n{\"target\":\"b.o\",\"reads\":[\"b.c\"],\"writes\":[\"b.o\"]}\n",
-        log: b"{\"bytes\":\"61\",\"do\":\"file\",\"path\":\"a.c\",\"time\":1}\n{\"bytes\":\"62\",\"do\":\"file\",\"path\":\"b.c\",\"time\":1}\n{\"do\":\"skip\",\"node\":\"b.c\"}\n{\"do\":\"start\",\"node\":\"b.o\"}\n{\"do\":\"skip\",\"node\":\"a.c\"}\n{\"do\":\"start\",\"node\":\"a.o\"}\n{\"bytes\":\"61\",\"do\":\"look\",\"node\":\"a.o\",\"path\":\"a.c\"}\n{\"bytes\":\"42\",\"do\":\"put\",\"node\":\"b.o\",\"path\":\"b.o\",\"time\":5}\n{\"bytes\":\"41\",\"do\":\"put\",\"node\":\"a.o\",\"path\":\"a.o\",\"time\":9}\n{\"do\":\"finish\",\"node\":\"a.o\"}\n{\"do\":\"finish\",\"node\":\"b.o\"}\n{\"do\":\"start\",\"node\":\"prog\"}\n{\"bytes\":\"41\",\"do\":\"look\",\"node\":\"prog\",\"path\":\"a.o\"}\n{\"bytes\":\"70\",\"do\":\"put\",\"node\":\"prog\",\"path\":\"prog\",\"time\":10}\n{\"do\":\"finish\",\"node\":\"prog\"}\n",
-        status: Status::Done,
-        out: b"{\"bytes\":\"61\",\"do\":\"file\",\"path\":\"a.c\",\"time\":1}\n{\"bytes\":\"62\",\"do\":\"file\",\"path\":\"b.c\",\"time\":1}\n{\"do\":\"skip\",\"node\":\"a.c\"}\n{\"do\":\"start\",\"node\":\"a.o\"}\n{\"bytes\":\"61\",\"do\":\"look\",\"node\":\"a.o\",\"path\":\"a.c\"}\n{\"bytes\":\"41\",\"do\":\"put\",\"node\":\"a.o\",\"path\":\"a.o\",\"time\":2}\n{\"do\":\"finish\",\"node\":\"a.o\"}\n{\"do\":\"skip\",\"node\":\"b.c\"}\n{\"do\":\"start\",\"node\":\"b.o\"}\n{\"bytes\":\"42\",\"do\":\"put\",\"node\":\"b.o\",\"path\":\"b.o\",\"time\":3}\n{\"do\":\"finish\",\"node\":\"b.o\"}\n{\"do\":\"start\",\"node\":\"prog\"}\n{\"bytes\":\"41\",\"do\":\"look\",\"node\":\"prog\",\"path\":\"a.o\"}\n{\"bytes\":\"70\",\"do\":\"put\",\"node\":\"prog\",\"path\":\"prog\",\"time\":4}\n{\"do\":\"finish\",\"node\":\"prog\"}\n",
-        err: b"",
-    },
-    Case {
-        about: "a run whose last recipe never finishes is not put in order",
-        words: "race serialise --makefile makefile --listing listing --root /w --footprints footprints --log log --limit 2",
-        base: b"",
-        makefile: b"prog: a.o b.o\n\tcc\na.o: a.c\n\tcc\nb.o: b.c\n\tcc\n",
-        listing: b"a.c\nb.c\n",
-        footprints: b"{\"target\":\"prog\",\"reads\":[\"a.o\",\"b.o\"],\"writes\":[\"prog\"]}\n{\"target\":\"a.o\",\"reads\":[\"a.c\"],\"writes\":[\"a.o\"]}\n{\"target\":\"b.o\",\"reads\":[\"b.c\"],\"writes\":[\"b.o\"]}\n",
-        log: b"{\"bytes\":\"61\",\"do\":\"file\",\"path\":\"a.c\",\"time\":1}\n{\"bytes\":\"62\",\"do\":\"file\",\"path\":\"b.c\",\"time\":1}\n{\"do\":\"skip\",\"node\":\"b.c\"}\n{\"do\":\"start\",\"node\":\"b.o\"}\n{\"do\":\"skip\",\"node\":\"a.c\"}\n{\"do\":\"start\",\"node\":\"a.o\"}\n{\"bytes\":\"61\",\"do\":\"look\",\"node\":\"a.o\",\"path\":\"a.c\"}\n{\"bytes\":\"42\",\"do\":\"put\",\"node\":\"b.o\",\"path\":\"b.o\",\"time\":5}\n{\"bytes\":\"41\",\"do\":\"put\",\"node\":\"a.o\",\"path\":\"a.o\",\"time\":9}\n{\"do\":\"finish\",\"node\":\"a.o\"}\n{\"do\":\"finish\",\"node\":\"b.o\"}\n{\"do\":\"start\",\"node\":\"prog\"}\n{\"bytes\":\"41\",\"do\":\"look\",\"node\":\"prog\",\"path\":\"a.o\"}\n{\"bytes\":\"70\",\"do\":\"put\",\"node\":\"prog\",\"path\":\"prog\",\"time\":10}\n",
-        status: Status::No,
-        out: b"not complete\n",
-        err: b"",
-    },
-    Case {
-        about: "a run of recipes that race gets the report of the race, also where they did not meet",
-        words: "race serialise --makefile makefile --listing listing --root /w --footprints footprints --log log",
-        base: b"",
-        makefile: b"all: gen.h a.o\ngen.h: gen.sh\n\tsh\na.o: a.c\n\tcc\n",
-        listing: b"gen.sh\na.c\n",
-        footprints: b"{\"target\":\"gen.h\",\"reads\":[\"gen.sh\"],\"writes\":[\"gen.h\"]}\n{\"target\":\"a.o\",\"reads\":[\"a.c\",\"gen.h\"],\"writes\":[\"a.o\"]}\n",
-        log: b"{\"bytes\":\"61\",\"do\":\"file\",\"path\":\"a.c\",\"time\":1}\n{\"bytes\":\"73\",\"do\":\"file\",\"path\":\"gen.sh\",\"time\":1}\n{\"do\":\"skip\",\"node\":\"gen.sh\"}\n{\"do\":\"skip\",\"node\":\"a.c\"}\n{\"do\":\"start\",\"node\":\"gen.h\"}\n{\"bytes\":\"67\",\"do\":\"put\",\"node\":\"gen.h\",\"path\":\"gen.h\",\"time\":2}\n{\"do\":\"finish\",\"node\":\"gen.h\"}\n{\"do\":\"start\",\"node\":\"a.o\"}\n{\"bytes\":\"67\",\"do\":\"look\",\"node\":\"a.o\",\"path\":\"gen.h\"}\n{\"bytes\":\"6f67\",\"do\":\"put\",\"node\":\"a.o\",\"path\":\"a.o\",\"time\":3}\n{\"do\":\"finish\",\"node\":\"a.o\"}\n{\"do\":\"skip\",\"node\":\"all\"}\n",
-        status: Status::No,
-        out: b"race\nnodes 5\nrecipes 2\nidle 0\nwaits 0\npath gen.h\nfirst gen.h writes\nsecond a.o reads\ntime gen.sh 5\ntime a.c 3\nskip gen.sh\nskip a.c\nstart gen.h\nstart a.o\n",
-        err: b"",
-    },
-    Case {
-        about: "the greatest time that there is leaves none",
-        words: "race serialise --makefile makefile --listing listing --root /w --footprints footprints --log log",
-        base: b"",
-        makefile: b"prog: a.o b.o\n\tcc\na.o: a.c\n\tcc\nb.o: b.c\n\tcc\n",
-        listing: b"a.c\nb.c\n",
-        footprints: b"{\"target\":\"prog\",\"reads\":[\"a.o\",\"b.o\"],\"writes\":[\"prog\"]}\n{\"target\":\"a.o\",\"reads\":[\"a.c\"],\"writes\":[\"a.o\"]}\n{\"target\":\"b.o\",\"reads\":[\"b.c\"],\"writes\":[\"b.o\"]}\n",
-        log: b"{\"bytes\":\"61\",\"do\":\"file\",\"path\":\"a.c\",\"time\":18446744073709551615}\n{\"bytes\":\"62\",\"do\":\"file\",\"path\":\"b.c\",\"time\":1}\n{\"do\":\"skip\",\"node\":\"a.c\"}\n{\"do\":\"start\",\"node\":\"a.o\"}\n{\"do\":\"finish\",\"node\":\"a.o\"}\n{\"do\":\"skip\",\"node\":\"b.c\"}\n{\"do\":\"start\",\"node\":\"b.o\"}\n{\"do\":\"finish\",\"node\":\"b.o\"}\n{\"do\":\"start\",\"node\":\"prog\"}\n{\"do\":\"finish\",\"node\":\"prog\"}\n",
-        status: Status::No,
-        out: b"not complete: times too large\n",
-        err: b"",
-    },
-    Case {
-        about: "a bad line of the log is refused",
-        words: "race serialise --makefile makefile --listing listing --root /w --footprints footprints --log log",
-        base: b"",
-        makefile: b"prog: a.o b.o\n\tcc\na.o: a.c\n\tcc\nb.o: b.c\n\tcc\n",
-        listing: b"a.c\nb.c\n",
-        footprints: b"{\"target\":\"prog\",\"reads\":[\"a.o\",\"b.o\"],\"writes\":[\"prog\"]}\n{\"target\":\"a.o\",\"reads\":[\"a.c\"],\"writes\":[\"a.o\"]}\n{\"target\":\"b.o\",\"reads\":[\"b.c\"],\"writes\":[\"b.o\"]}\n",
-        log: b"{\"bytes\":\"61\",\"do\":\"file\",\"path\":\"a.c\",\"time\":1}\n{\"bytes\":\"62\",\"do\":\"file\",\"path\":\"b.c\",\"time\":1}\n{}\n",
-        status: Status::Refused,
-        out: b"refused\nF24 BadLog\nat log 3\n",
-        err: b"",
-    },
-    Case {
-        about: "the version",
-        words: "race --version",
-        base: b"",
-        makefile: b"",
-        listing: b"",
-        footprints: b"",
-        log: b"",
-        status: Status::Done,
-        out: b"race 0.1.0\n",
-        err: b"",
-    },
-];
-
-/// Runs a case.
-fn outcome(alloc: Global, case: &Case) -> Result<Outcome, Fail> {
-    let words: Vec<&str> = case.words.split(" ").collect(alloc)?;
-    let books = [
-        Book {
-            path: "base",
-            page: Page::Text(case.base),
-        },
-        Book {
-            path: "makefile",
-            page: Page::Text(case.makefile),
-        },
-        Book {
-            path: "listing",
-            page: Page::Text(case.listing),
-        },
-        Book {
-            path: "footprints",
-            page: Page::Text(case.footprints),
-        },
-        Book {
-            path: "log",
-            page: Page::Text(case.log),
-        },
-    ];
-    Ok(run(alloc, words.as_slice(), Shelf { books: &books }))
-}
-
-/// What the first case is about that does not end so, or nothing.
-fn first_wrong(alloc: Global) -> Result<&'static str, Fail> {
-    for case in &CASES {
-        let run = outcome(alloc, case)?;
-        if run.status != case.status
-            || run.out.as_slice() != case.out
-            || run.err.as_slice() != case.err
-        {
-            return Ok(case.about);
-        }
-    }
-    Ok("")
+#[test]
+fn tells_serial_orders(rt: HostRuntime) {
+    assert_eq!(rt; first_wrong(rt.alloc(), orders()), "");
 }
 
 #[test]
-fn answers_the_cases(rt: HostRuntime) -> Result<(), Fail> {
-    let wrong = first_wrong(rt.alloc())?;
-    assert_eq!(rt; wrong, "");
-    Ok(())
+fn refuses_builds(rt: HostRuntime) {
+    assert_eq!(rt; first_wrong(rt.alloc(), refusals()), "");
+}
+
+#[test]
+fn replays_logs(rt: HostRuntime) {
+    assert_eq!(rt; first_wrong(rt.alloc(), replays()), "");
+}
+
+#[test]
+fn puts_logs_in_serial_order(rt: HostRuntime) {
+    assert_eq!(rt; first_wrong(rt.alloc(), serial_logs()), "");
+}
+
+#[test]
+fn tells_files_and_the_version(rt: HostRuntime) {
+    assert_eq!(rt; first_wrong(rt.alloc(), other_runs()), "");
+}
+
+/// What the first case is about that does not end so, or nothing.
+fn first_wrong(alloc: Global, cases: &'static [Case]) -> &'static str {
+    for case in cases {
+        if !ends_so(alloc, case) {
+            return case.about;
+        }
+    }
+    ""
+}
+
+/// Whether a case comes out as it says.
+fn ends_so(alloc: Global, case: &Case) -> bool {
+    match words_of(alloc, case) {
+        Ok(words) => is_told(&ran(alloc, words.as_slice(), case), case),
+        Err(_) => false,
+    }
+}
+
+fn words_of(alloc: Global, case: &Case) -> Result<Vec<&'static str>, AllocError> {
+    case.words.split(" ").collect(alloc)
+}
+
+/// Runs the program with these words over the files of a case.
+fn ran(alloc: Global, words: &[&str], case: &Case) -> Outcome {
+    let books = [
+        book("base", case.base),
+        book("makefile", case.makefile),
+        book("listing", case.listing),
+        book("footprints", case.footprints),
+        book("log", case.log),
+    ];
+    run(alloc, words, Shelf { books: &books })
+}
+
+fn book<'a>(path: &'a str, text: &'a [u8]) -> Book<'a> {
+    Book {
+        path,
+        page: Page::Text(text),
+    }
+}
+
+fn is_told(told: &Outcome, case: &Case) -> bool {
+    told.status == case.status && told.out.as_slice() == case.out && told.err.as_slice() == case.err
 }

@@ -1,15 +1,14 @@
-//! What no case of the table says: the help, wrong words, files that fail and outputs that are full.
+//! What no case shows: how a message of wrong words begins, and a standard error that is full.
 use crate::outcomes::{Outcome, run};
 use crate::shelf::{Book, Page, Shelf};
 use mk_device::spout::Spout;
 use mk_program::{Status, race_words};
-use std::alloc::Global;
+use std::alloc::{AllocError, Global};
 use std::io;
 use std::io::{ErrorKind, Write};
-use std::test::Fail;
 
-/// A makefile with one target, an empty file, and one that cannot be read. There is no file `absent`.
-static BOOKS: [Book<'static>; 3] = [
+/// A makefile with one target, and an empty file. There is no file `absent`.
+static BOOKS: [Book<'static>; 2] = [
     Book {
         path: "makefile",
         page: Page::Text(b"all:\n"),
@@ -18,106 +17,54 @@ static BOOKS: [Book<'static>; 3] = [
         path: "empty",
         page: Page::Text(b""),
     },
-    Book {
-        path: "broken",
-        page: Page::Unreadable,
-    },
 ];
 
-/// Runs the program with these words, one blank between two, over those files.
-fn outcome(alloc: Global, words: &str) -> Result<Outcome, Fail> {
-    let words: Vec<&str> = words.split(" ").collect(alloc)?;
-    Ok(run(alloc, words.as_slice(), Shelf { books: &BOOKS }))
-}
+/// Words that the program does not take, one blank between two.
+static WRONG: [&str; 7] = [
+    "race",
+    "race check --makefile makefile --listing empty --root /w",
+    "race order --makefile makefile --listing empty",
+    "race order --makefile absent --listing empty --root /w --tie",
+    "race replay --makefile makefile --listing empty --root /w --footprints empty --log empty --limit 0",
+    "race replay --makefile makefile --listing empty --root /w --footprints empty --log empty --limit 65536",
+    "race replay --makefile makefile --listing empty --root /w --footprints empty",
+];
 
 #[test]
-fn helps(rt: HostRuntime) -> Result<(), Fail> {
-    for words in ["race --help", "race order --help", "race replay --help"] {
-        let run = outcome(rt.alloc(), words)?;
-        assert_eq!(rt; run.status, Status::Done, "{words}");
-        assert_ne!(rt; run.out.len(), 0, "{words}");
-        assert_eq!(rt; run.err.len(), 0, "{words}");
-    }
-    Ok(())
+fn refuses_wrong_words(rt: HostRuntime) {
+    assert_eq!(rt; first_taken(rt.alloc()), "");
 }
 
-#[test]
-fn refuses_wrong_words(rt: HostRuntime) -> Result<(), Fail> {
-    for words in [
-        "race",
-        "race check --makefile makefile --listing empty --root /w",
-        "race order --makefile makefile --listing empty",
-        "race order --makefile absent --listing empty --root /w --tie",
-        "race replay --makefile makefile --listing empty --root /w --footprints empty --log empty --limit 0",
-        "race replay --makefile makefile --listing empty --root /w --footprints empty --log empty --limit 65536",
-        "race replay --makefile makefile --listing empty --root /w --footprints empty",
-    ] {
-        let run = outcome(rt.alloc(), words)?;
-        assert_eq!(rt; run.status, Status::Failed, "{words}");
-        assert_eq!(rt; run.out.len(), 0, "{words}");
-        assert!(rt; run.err.as_slice().starts_with(b"error: "), "{words}");
-        assert!(rt;
-            run.err
-                .as_slice()
-                .ends_with(b"For more information, try '--help'.\n"),
-            "{words}"
-        );
+/// The first of the wrong words that is not refused, or nothing.
+fn first_taken(alloc: Global) -> &'static str {
+    for words in &WRONG {
+        if !is_refused(alloc, words) {
+            return words;
+        }
     }
-    Ok(())
+    ""
 }
 
-/// Which file is told where some are not there or cannot be read. All files are opened before any is read.
-#[test]
-fn tells_the_first_file_that_fails(rt: HostRuntime) -> Result<(), Fail> {
-    for (words, told) in [
-        (
-            "race order --root w --base absent --makefile absent --listing absent",
-            "base",
-        ),
-        (
-            "race order --root w --base broken --makefile broken --listing absent",
-            "listing",
-        ),
-        (
-            "race order --root w --base broken --makefile broken --listing broken",
-            "base",
-        ),
-        (
-            "race order --root w --base empty --makefile broken --listing broken",
-            "makefile",
-        ),
-        (
-            "race order --root w --listing broken --makefile empty",
-            "listing",
-        ),
-        (
-            "race replay --root w --makefile absent --listing absent --footprints absent --log absent",
-            "makefile",
-        ),
-        (
-            "race replay --root w --makefile empty --listing broken --footprints absent --log absent",
-            "footprints",
-        ),
-        (
-            "race replay --root w --makefile empty --listing broken --footprints broken --log absent",
-            "log",
-        ),
-        (
-            "race replay --root w --makefile empty --listing empty --footprints broken --log broken",
-            "footprints",
-        ),
-        (
-            "race replay --root w --makefile empty --listing empty --footprints empty --log broken",
-            "log",
-        ),
-    ] {
-        let run = outcome(rt.alloc(), words)?;
-        let line = format!(in rt.alloc(); "race: read failed: {told}\n")?;
-        assert_eq!(rt; run.status, Status::Failed, "{words}");
-        assert_eq!(rt; run.out.len(), 0, "{words}");
-        assert_eq!(rt; run.err.as_slice(), line.as_bytes(), "{words}");
+fn is_refused(alloc: Global, words: &str) -> bool {
+    match words_of(alloc, words) {
+        Ok(words) => is_usage(&run(alloc, words.as_slice(), Shelf { books: &BOOKS })),
+        Err(_) => false,
     }
-    Ok(())
+}
+
+fn words_of(alloc: Global, words: &str) -> Result<Vec<&str>, AllocError> {
+    words.split(" ").collect(alloc)
+}
+
+/// Whether nothing was answered, and what is wrong with the words was told.
+fn is_usage(told: &Outcome) -> bool {
+    told.status == Status::Failed
+        && told.out.is_empty()
+        && told.err.as_slice().starts_with(b"error: ")
+        && told
+            .err
+            .as_slice()
+            .ends_with(b"For more information, try '--help'.\n")
 }
 
 /// A writer that is full.
@@ -134,49 +81,15 @@ impl Write for Full {
     }
 }
 
-/// The status, and what is told, where the output is full.
-fn full_outcome(alloc: Global, goal: &str) -> (Status, Vec<u8>) {
-    let words = [
-        "race",
-        "order",
-        "--makefile",
-        "makefile",
-        "--listing",
-        "empty",
-        "--root",
-        "/w",
-        goal,
-    ];
-    let mut err = Spout::new(Vec::new(alloc));
-    let mut shelf = Shelf { books: &BOOKS };
-    let status = race_words(alloc, &words, &mut shelf, &mut Spout::new(Full), &mut err);
-    (status, err.into_inner())
-}
-
-#[test]
-fn tells_a_full_output(rt: HostRuntime) {
-    for goal in ["all", "none", "--help"] {
-        let (status, told) = full_outcome(rt.alloc(), goal);
-        assert_eq!(rt; status, Status::Failed, "{goal}");
-        assert_eq!(rt;
-            told.as_slice(),
-            b"race: write failed\n".as_slice(),
-            "{goal}"
-        );
-    }
-}
-
 #[test]
 fn passes_over_a_full_standard_error(rt: HostRuntime) {
-    let mut shelf = Shelf { books: &BOOKS };
+    assert!(rt; ends_as_failed(rt.alloc()));
+}
+
+fn ends_as_failed(alloc: Global) -> bool {
     let words = ["race", "order", "--help"];
+    let mut shelf = Shelf { books: &BOOKS };
+    let mut out = Spout::new(Full);
     let mut err = Spout::new(Full);
-    let status = race_words(
-        rt.alloc(),
-        &words,
-        &mut shelf,
-        &mut Spout::new(Full),
-        &mut err,
-    );
-    assert_eq!(rt; status, Status::Failed);
+    race_words(alloc, &words, &mut shelf, &mut out, &mut err) == Status::Failed
 }

@@ -1,11 +1,10 @@
-//! Include lines, and the files that their texts come from.
+//! That the paths of includes are opened as they are written, which no folder shows.
 use crate::outcomes::{Outcome, run};
 use crate::shelf::{Book, Page, Shelf};
 use mk_program::Status;
 use std::alloc::Global;
-use std::test::Fail;
 
-static BOOKS: [Book<'static>; 9] = [
+static BOOKS: [Book<'static>; 5] = [
     Book {
         path: "makefile",
         page: Page::Text(b"include d/a.mk\nall: $(X)\n"),
@@ -27,26 +26,17 @@ static BOOKS: [Book<'static>; 9] = [
         path: "spelled",
         page: Page::Text(b"\n./d//a.mk\n\n"),
     },
-    Book {
-        path: "absent-behind",
-        page: Page::Text(b"d/a.mk\nabsent\n"),
-    },
-    Book {
-        path: "broken-before",
-        page: Page::Text(b"broken\nabsent\n"),
-    },
-    Book {
-        path: "no-text",
-        page: Page::Text(b"\xff\n"),
-    },
-    Book {
-        path: "broken",
-        page: Page::Unreadable,
-    },
 ];
 
-/// Runs `race order` with this file of includes, over those files and with this makefile.
-fn outcome(alloc: Global, includes: &str, makefile: &str) -> Result<Outcome, Fail> {
+#[test]
+fn opens_paths_as_they_are_written(rt: HostRuntime) {
+    let alloc = rt.alloc();
+    assert!(rt; is_order(&ran(alloc, "one"), b"0 plain q\n1 plain p : q\n"));
+    assert!(rt; is_failure(&ran(alloc, "spelled"), b"race: read failed: include\n"));
+}
+
+/// Runs `race order` with this file of includes, over those files.
+fn ran(alloc: Global, includes: &str) -> Outcome {
     let words = [
         "race",
         "order",
@@ -55,54 +45,17 @@ fn outcome(alloc: Global, includes: &str, makefile: &str) -> Result<Outcome, Fai
         "--listing",
         "listing",
         "--makefile",
-        makefile,
+        "makefile",
         "--includes",
         includes,
     ];
-    Ok(run(alloc, &words, Shelf { books: &BOOKS }))
+    run(alloc, &words, Shelf { books: &BOOKS })
 }
 
-#[test]
-fn takes_texts_in(rt: HostRuntime) -> Result<(), Fail> {
-    let run = outcome(rt.alloc(), "one", "makefile")?;
-    assert_eq!(rt; run.status, Status::Done);
-    assert_eq!(rt;
-        run.out.as_slice(),
-        b"0 plain q\n1 plain p : q\n".as_slice()
-    );
-    // The path that is handed in is opened as it is written.
-    let run = outcome(rt.alloc(), "spelled", "makefile")?;
-    assert_eq!(rt; run.status, Status::Failed);
-    assert_eq!(rt;
-        run.err.as_slice(),
-        b"race: read failed: include\n".as_slice()
-    );
-    Ok(())
+fn is_order(told: &Outcome, order: &[u8]) -> bool {
+    told.status == Status::Done && told.out.as_slice() == order
 }
 
-/// A file of includes, or one that it names, fails before any other file is opened.
-#[test]
-fn tells_includes_that_fail(rt: HostRuntime) -> Result<(), Fail> {
-    for includes in [
-        "absent",
-        "broken",
-        "absent-behind",
-        "broken-before",
-        "no-text",
-    ] {
-        let run = outcome(rt.alloc(), includes, "absent")?;
-        assert_eq!(rt; run.status, Status::Failed, "{includes}");
-        assert_eq!(rt; run.out.len(), 0, "{includes}");
-        assert_eq!(rt;
-            run.err.as_slice(),
-            b"race: read failed: include\n".as_slice(),
-            "{includes}"
-        );
-    }
-    let run = outcome(rt.alloc(), "one", "absent")?;
-    assert_eq!(rt;
-        run.err.as_slice(),
-        b"race: read failed: makefile\n".as_slice()
-    );
-    Ok(())
+fn is_failure(told: &Outcome, line: &[u8]) -> bool {
+    told.status == Status::Failed && told.err.as_slice() == line
 }

@@ -13,3 +13,5 @@ mod failures;
 mod includes;
 pub mod outcomes;
 pub mod shelf;
+#[cfg(test)]
+mod tables;

@@ -10,7 +10,7 @@ use mk_program::{Status, race_words};
 use std::alloc::Global;
 
 /// A run's status, what it wrote and what it wrote on the standard error.
-#[derive(Debug, Drop)]
+#[derive(Drop)]
 pub struct Outcome {
     pub status: Status,
     pub out: Vec<u8>,

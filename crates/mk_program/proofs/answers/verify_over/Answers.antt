@@ -1,12 +1,15 @@
 use Rattle.std.proofs.lemmas.Result.{IfOk-weaker}
 use Rattle.mk_race.specs.Stages.{texts_of}
-use Rattle.mk_program.proofs.Answering.{unverified_is, verdict_is}
+use Rattle.mk_program.proofs.Answering.{refusal_not_failed, unverified_is, verdict_is}
 use Rattle.mk_program.proofs.answers.verify_over.Goals as goal
 
-pub returns-in-Err-Fault-clause-answer : goal.returns-in-Err-Fault-clause-answer
-returns-in-Err-Fault-clause-answer c =
+pub returns-in-Err-clause-status : goal.returns-in-Err-clause-status
+returns-in-Err-clause-status c = IfOk-weaker c.refused.result _ _ (λ answer h. refusal_not_failed answer.status h.2) c.refused.ensures
+
+pub returns-in-Err-clause-answer : goal.returns-in-Err-clause-answer
+returns-in-Err-clause-answer c =
     IfOk-weaker c.refused.result _ _ (λ answer h. unverified_is (texts_of c.args.input.now) c.args.input.now.footprints.now c.args.proof.now
-    c.in-Err-Fault.field-0 c.in-Err-Fault.fault _ _ c.in-Err-Fault.ensures.answer c.in-Err-Fault.field-0-is h.0 h.1) c.refused.ensures
+    c.in-Err.halt h.0 _ _ c.in-Err.ensures.answer h.1 h.2 h.3) c.refused.ensures
 
 pub returns-in-Ok-clause-answer : goal.returns-in-Ok-clause-answer
 returns-in-Ok-clause-answer c =

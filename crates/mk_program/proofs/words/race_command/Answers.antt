@@ -1,26 +1,27 @@
 use Rattle.std.proofs.Common.{ap, ap₂, ◌∙◌}
 use Rattle.std.proofs.lemmas.Result.{IfOk-weaker}
 use Rattle.clap.specs.Words.{App, with_subcommand}
-use Rattle.mk_program.proofs.Locals.{stays}
+use Rattle.mk_program.proofs.Locals.{was_made}
 use Rattle.mk_program.proofs.words.race_command.Goals as goal
 
 pub returns-clause-app : goal.returns-clause-app
 returns-clause-app c =
-    let first = c.in_ok-subcommand.ensures.shape c.in_ok-order_command.ensures.local
-    ∙ ap₂ with_subcommand c.top_command.ensures.app (ap (λ (app : App). app.top) c.in_ok-order_command.ensures.app) in
-    let second = c.in_ok-subcommand-2.ensures.shape c.in_ok-check_command.ensures.local
-    ∙ ap₂ with_subcommand first (ap (λ (app : App). app.top) c.in_ok-check_command.ensures.app) in
-    let third = c.in_ok-subcommand-3.ensures.shape c.in_ok-verify_command.ensures.local
-    ∙ ap₂ with_subcommand second (ap (λ (app : App). app.top) c.in_ok-verify_command.ensures.app) in
-    let fourth = c.in_ok-subcommand-4.ensures.shape c.in_ok-replay_command.ensures.local
-    ∙ ap₂ with_subcommand third (ap (λ (app : App). app.top) c.in_ok-replay_command.ensures.app) in
-    IfOk-weaker c.subcommand-5.result _ _ (λ new h. h.shape c.in_ok-serialise_command.ensures.local
-    ∙ ap₂ with_subcommand fourth (ap (λ (app : App). app.top) c.in_ok-serialise_command.ensures.app)) c.subcommand-5.ensures
+    let order = c.in_ok-command.ensures.app in
+    let first = order.2 ∙ ap₂ with_subcommand c.top_command.ensures.app
+    (ap (λ (app : App). app.top) (was_made c.order_command.result _ order.0 c.order_command.ensures.app order.1)) in
+    let check = c.in_ok-command-2.ensures.app in
+    let second = check.2 ∙ ap₂ with_subcommand first
+    (ap (λ (app : App). app.top) (was_made c.check_command.result _ check.0 c.check_command.ensures.app check.1)) in
+    let verify = c.in_ok-command-3.ensures.app in
+    let third = verify.2 ∙ ap₂ with_subcommand second
+    (ap (λ (app : App). app.top) (was_made c.verify_command.result _ verify.0 c.verify_command.ensures.app verify.1)) in
+    let replay = c.in_ok-command-4.ensures.app in
+    let fourth = replay.2 ∙ ap₂ with_subcommand third
+    (ap (λ (app : App). app.top) (was_made c.replay_command.result _ replay.0 c.replay_command.ensures.app replay.1)) in
+    IfOk-weaker c.with_made-5.result _ _ (λ new h. h.2 ∙ ap₂ with_subcommand fourth
+    (ap (λ (app : App). app.top) (was_made c.serialise_command.result _ h.0 c.serialise_command.ensures.app h.1))) c.with_made-5.ensures.app
 
 pub returns-clause-local : goal.returns-clause-local
 returns-clause-local c =
-    let first = stays _ _ _ c.in_ok-subcommand.ensures.globals c.in_ok-order_command.ensures.local ∙ c.top_command.ensures.local in
-    let second = stays _ _ _ c.in_ok-subcommand-2.ensures.globals c.in_ok-check_command.ensures.local ∙ first in
-    let third = stays _ _ _ c.in_ok-subcommand-3.ensures.globals c.in_ok-verify_command.ensures.local ∙ second in
-    let fourth = stays _ _ _ c.in_ok-subcommand-4.ensures.globals c.in_ok-replay_command.ensures.local ∙ third in
-    IfOk-weaker c.subcommand-5.result _ _ (λ new h. stays _ _ _ h.globals c.in_ok-serialise_command.ensures.local ∙ fourth) c.subcommand-5.ensures
+    IfOk-weaker c.with_made-5.result _ _ (λ new h. h ∙ c.in_ok-command-4.ensures.local ∙ c.in_ok-command-3.ensures.local ∙ c.in_ok-command-2.ensures.local
+    ∙ c.in_ok-command.ensures.local ∙ c.top_command.ensures.local) c.with_made-5.ensures.local
