@@ -1,4 +1,7 @@
 //! A plan that comes back where memory ran out, and is attached again.
+ghost use Rattle.std.specs.Prelude.{◌<◌};
+ghost use Rattle.mk_jobs.specs.Jobs.{node_count};
+
 use mk_foot::attaching::attach;
 use mk_foot::footprints::Footprints;
 use mk_foot::reading::read_footprints;
@@ -6,9 +9,11 @@ use mk_jobs::jobs::Jobs;
 use mk_jobs::plan::Plan;
 use mk_name::fault::Halt;
 use mk_path::path::Path;
+use mk_path::spelling::is_text_of;
 use mk_race::input::Input;
 use mk_race::planning::{Planned, plan_of};
 use mk_rules::rulebook::Rulebook;
+use mk_text::root::Root;
 use std::alloc::{AllocError, Global};
 
 const MAKEFILE: &[u8] = b"prog: a.o b.o\n\tcc\na.o: a.c\n\tcc\nb.o: b.c\n\tcc\n";
@@ -20,7 +25,25 @@ const FOOTPRINTS: &[u8] =
 /// `tests/refused-memory` lets each allocation be refused in turn.
 #[test]
 fn attaches_again(rt: HostRuntime) -> Result<(), AllocError> {
-    let alloc = rt.alloc();
+    assert!(rt; is_attached(rt.alloc())?);
+    Ok(())
+}
+
+/// Whether the jobs of the plan have their paths; that memory ran out, where there are none.
+fn is_attached(alloc: Global) -> Result<bool, AllocError> {
+    match jobs_of(alloc) {
+        Ok(jobs) => Ok(have_paths(&jobs)),
+        Err(_) => Err(AllocError),
+    }
+}
+
+fn jobs_of(alloc: Global) -> Result<Jobs, Halt> {
+    let root = Root::read(alloc, b"/w")?;
+    let footprints = read_footprints(alloc, FOOTPRINTS, &root)?;
+    jobs_with(alloc, &footprints)
+}
+
+fn jobs_with(alloc: Global, footprints: &Footprints) -> Result<Jobs, Halt> {
     let input = Input {
         root: b"/w",
         operands: &[],
@@ -30,27 +53,10 @@ fn attaches_again(rt: HostRuntime) -> Result<(), AllocError> {
         listing: b"a.c\nb.c\n",
         footprints: b"",
     };
-    let shown = match jobs_of(alloc, &input) {
-        Ok(jobs) => shown_paths(alloc, &jobs)?,
-        Err(_) => return Err(AllocError),
-    };
-    assert_eq!(rt;
-        shown.as_slice(),
-        b"0\n1 a.c > a.o\n2\n3 b.c > b.o\n4 a.o b.o > prog\n".as_slice()
-    );
-    Ok(())
-}
-
-fn jobs_of(alloc: Global, input: &Input<'_>) -> Result<Jobs, Halt> {
-    let planned = plan_of(alloc, input)?;
-    let Planned {
-        root,
-        book,
-        plan,
-        ..
-    } = planned;
-    let footprints = read_footprints(alloc, FOOTPRINTS, &root)?;
-    attached(alloc, plan, &book, &footprints)
+    match plan_of(alloc, &input) {
+        Ok(Planned { book, plan, .. }) => attached(alloc, plan, &book, footprints),
+        Err(halt) => Err(halt),
+    }
 }
 
 /// The jobs of a plan; where memory runs out, those of the plan that comes back.
@@ -61,36 +67,43 @@ fn attached(
     footprints: &Footprints,
 ) -> Result<Jobs, Halt> {
     match attach(alloc, plan, book, footprints) {
+        Err((plan, Halt::Memory)) => without_plan(attach(alloc, plan, book, footprints)),
+        given => without_plan(given),
+    }
+}
+
+fn without_plan(given: Result<Jobs, (Plan, Halt)>) -> Result<Jobs, Halt> {
+    match given {
         Ok(jobs) => Ok(jobs),
-        Err((plan, Halt::Memory)) => match attach(alloc, plan, book, footprints) {
-            Ok(jobs) => Ok(jobs),
-            Err((_, halt)) => Err(halt),
-        },
         Err((_, halt)) => Err(halt),
     }
 }
 
-/// What each node reads and writes, a node a line.
-fn shown_paths(alloc: Global, jobs: &Jobs) -> Result<Vec<u8>, AllocError> {
-    let mut out = Vec::new(alloc);
-    for n in 0..jobs.count() {
-        let number = format!(in alloc; "{n}")?;
-        out.extend_from_slice(number.as_bytes())?;
-        push_paths(&mut out, jobs.reads(n))?;
-        if jobs.is_live(n) {
-            out.extend_from_slice(b" >")?;
-        }
-        push_paths(&mut out, jobs.writes(n))?;
-        out.push(b'\n')?;
-    }
-    Ok(out)
+/// Whether each node has the paths that its line of footprints tells.
+fn have_paths(jobs: &Jobs) -> bool {
+    jobs.count() == 5
+        && reads_and_writes(jobs, 0, &[], &[])
+        && reads_and_writes(jobs, 1, &["a.c"], &["a.o"])
+        && reads_and_writes(jobs, 2, &[], &[])
+        && reads_and_writes(jobs, 3, &["b.c"], &["b.o"])
+        && reads_and_writes(jobs, 4, &["a.o", "b.o"], &["prog"])
 }
 
-/// Adds paths, each behind a blank.
-fn push_paths(out: &mut Vec<u8>, paths: &[Path]) -> Result<(), AllocError> {
-    for path in paths {
-        out.push(b' ')?;
-        out.extend_from_slice(path.name.as_bytes())?;
+fn reads_and_writes(jobs: &Jobs, node: u32, reads: &[&str], writes: &[&str]) -> bool
+    requires { node < node_count jobs.now }
+{
+    are_spelled(jobs.reads(node), reads) && are_spelled(jobs.writes(node), writes)
+}
+
+/// Whether paths are spelled so.
+fn are_spelled(paths: &[Path], texts: &[&str]) -> bool {
+    if paths.len() != texts.len() {
+        return false;
     }
-    Ok(())
+    for place in 0..paths.len() {
+        if !is_text_of(&paths[place], texts[place].as_bytes()) {
+            return false;
+        }
+    }
+    true
 }

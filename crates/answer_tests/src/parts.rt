@@ -1,15 +1,13 @@
 //! The reports of builds whose listing and footprints come byte by byte.
+use crate::pieces::{footprints_in, listing_in};
 use crate::tables::{Build, builds_of_files, builds_of_trees};
 use crate::told::is_text;
-use mk_foot::foot_reader::FootReader;
 use mk_foot::footprints::Footprints;
 use mk_name::fault::{Fault, Halt};
 use mk_race::input::Settings;
 use mk_race::parts::judge_parts;
 use mk_report::answer::{Answer, report};
-use mk_text::list_reader::ListReader;
 use mk_text::listing::Listing;
-use mk_text::root::Root;
 use std::alloc::{AllocError, Global};
 
 /// Below which root, and that neither operands nor includes are there.
@@ -37,14 +35,18 @@ fn reports_of_trees(rt: HostRuntime) {
 /// Whether this is the report of a build.
 fn is_reported(alloc: Global, build: &Build) -> bool {
     match listed(alloc, build) {
-        Ok(answer) => is_text(report(alloc, &answer, false), build.report),
+        Ok(answer) => is_told(alloc, &answer, build.report),
         Err(_) => false,
     }
 }
 
+fn is_told(alloc: Global, answer: &Answer, told: &str) -> bool {
+    is_text(report(alloc, answer, false), told)
+}
+
 /// The answer of a build by what is read ahead: its listing first.
 fn listed(alloc: Global, build: &Build) -> Result<Answer, AllocError> {
-    let listing = read_or_fault(listing_of(alloc, build.listing.as_bytes()))?;
+    let listing = read_or_fault(listing_in(alloc, build.listing.as_bytes(), 1))?;
     footprinted(alloc, build, listing)
 }
 
@@ -54,27 +56,9 @@ fn footprinted(
     build: &Build,
     listing: Result<Listing, Fault>,
 ) -> Result<Answer, AllocError> {
-    let footprints = read_or_fault(footprints_of(alloc, build.footprints.as_bytes()))?;
+    let footprints = read_or_fault(footprints_in(alloc, build.footprints.as_bytes(), 1))?;
     let makefile = build.makefile.as_bytes();
     judge_parts(alloc, &SETTINGS, b"", makefile, listing, footprints)
-}
-
-/// A listing that comes byte by byte.
-fn listing_of(alloc: Global, text: &[u8]) -> Result<Listing, Halt> {
-    let mut reader = ListReader::new(alloc, Root::read(alloc, b"/w")?);
-    for byte in text.chunks(1) {
-        let _fed = reader.feed(byte);
-    }
-    reader.finish()
-}
-
-/// Footprints that come byte by byte.
-fn footprints_of(alloc: Global, text: &[u8]) -> Result<Footprints, Halt> {
-    let mut reader = FootReader::new(alloc, Root::read(alloc, b"/w")?);
-    for byte in text.chunks(1) {
-        let _fed = reader.feed(byte);
-    }
-    reader.finish()
 }
 
 /// What was read, or its fault.

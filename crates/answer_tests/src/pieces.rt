@@ -1,4 +1,6 @@
 //! Listings and footprints that come in pieces.
+ghost use Rattle.std.specs.Prelude.{◌<◌};
+
 use crate::told::is_told;
 use mk_foot::foot_reader::FootReader;
 use mk_foot::footprints::Footprints;
@@ -25,32 +27,15 @@ const CUT_SHORT_REPORT: &str = "refused\nF19 BadFootprint\nat footprints 3\n";
 const BAD_FIRST_REPORT: &str = "refused\nF19 BadFootprint\nat footprints 1\n";
 
 #[test]
-fn listings_cut_anywhere(rt: HostRuntime) {
-    let alloc = rt.alloc();
-    for place in 0..LISTING.len() {
-        assert!(rt; is_listed(cut_listing(alloc, LISTING, place)), "{place}");
-    }
-    for place in 0..BAD_LISTING.len() {
-        assert!(rt;
-            is_unlisted(alloc, cut_listing(alloc, BAD_LISTING, place)),
-            "{place}"
-        );
-    }
+fn listings_in_pieces_of_any_size(rt: HostRuntime) {
+    assert!(rt; are_listed(rt.alloc()));
+    assert!(rt; are_unlisted(rt.alloc()));
 }
 
 #[test]
-fn footprints_cut_anywhere(rt: HostRuntime) {
-    let alloc = rt.alloc();
-    for place in 0..FOOTPRINTS.len() {
-        assert!(rt;
-            is_read(cut_footprints(alloc, FOOTPRINTS, place)),
-            "{place}"
-        );
-    }
-    for place in 0..CUT_SHORT.len() {
-        let cut = cut_footprints(alloc, CUT_SHORT, place);
-        assert!(rt; is_unread(alloc, cut, CUT_SHORT_REPORT), "{place}");
-    }
+fn footprints_in_pieces_of_any_size(rt: HostRuntime) {
+    assert!(rt; are_read(rt.alloc()));
+    assert!(rt; are_unread(rt.alloc()));
 }
 
 #[test]
@@ -58,30 +43,38 @@ fn first_bad_line_is_told_at_once(rt: HostRuntime) {
     assert!(rt; tells_at_once(rt.alloc()));
 }
 
-/// A listing that comes in two pieces.
-fn cut_listing(alloc: Global, text: &str, place: usize) -> Result<Listing, Halt> {
+/// A listing that comes in pieces of a size.
+pub(crate) fn listing_in(alloc: Global, text: &[u8], size: usize) -> Result<Listing, Halt>
+    requires { 0 < size }
+{
     let mut reader = ListReader::new(alloc, Root::read(alloc, b"/w")?);
-    let (first, second) = halves(text.as_bytes(), place);
-    let _first = reader.feed(first);
-    let _second = reader.feed(second);
+    for piece in text.chunks(size) {
+        let _fed = reader.feed(piece);
+    }
     reader.finish()
 }
 
-/// Footprints that come in two pieces.
-fn cut_footprints(alloc: Global, text: &str, place: usize) -> Result<Footprints, Halt> {
+/// Footprints that come in pieces of a size.
+pub(crate) fn footprints_in(alloc: Global, text: &[u8], size: usize) -> Result<Footprints, Halt>
+    requires { 0 < size }
+{
     let mut reader = FootReader::new(alloc, Root::read(alloc, b"/w")?);
-    let (first, second) = halves(text.as_bytes(), place);
-    let _first = reader.feed(first);
-    let _second = reader.feed(second);
+    for piece in text.chunks(size) {
+        let _fed = reader.feed(piece);
+    }
     reader.finish()
 }
 
-/// The bytes before a place, and those from there on.
-fn halves(text: &[u8], place: usize) -> (&[u8], &[u8]) {
-    text.split_at(place.min(text.len()))
+/// Whether the good listing is read in pieces of any size, so that it is cut at each of its places.
+fn are_listed(alloc: Global) -> bool {
+    for size in 1..=LISTING.len() {
+        if !is_listed(listing_in(alloc, LISTING.as_bytes(), size)) {
+            return false;
+        }
+    }
+    true
 }
 
-/// Whether the good listing was read.
 fn is_listed(read: Result<Listing, Halt>) -> bool {
     match read {
         Ok(listing) => has_names(&listing, &["a.c", "b.c"]),
@@ -90,32 +83,60 @@ fn is_listed(read: Result<Listing, Halt>) -> bool {
 }
 
 /// Whether these are the names of a listing.
-fn has_names(listing: &Listing, names: &[&str]) -> bool {
+fn has_names(listing: &Listing, texts: &[&str]) -> bool {
     let mut known = listing.names().iter();
-    names.iter().all(|name| known
-        .next()
-        .is_some_and(|it| it.as_bytes() == name.as_bytes()))
-        && known.next().is_none()
+    texts.iter().all(|text| {
+        known
+            .next()
+            .is_some_and(|name| name.as_bytes() == text.as_bytes())
+    }) && known.next().is_none()
 }
 
-/// Whether the bad listing was told.
-fn is_unlisted(alloc: Global, read: Result<Listing, Halt>) -> bool {
-    match read {
-        Ok(_) => false,
-        Err(halt) => is_told(alloc, &halt, BAD_LISTING_REPORT),
+/// Whether the bad listing is told likewise.
+fn are_unlisted(alloc: Global) -> bool {
+    for size in 1..=BAD_LISTING.len() {
+        let read = listing_in(alloc, BAD_LISTING.as_bytes(), size);
+        if !is_refused(alloc, read, BAD_LISTING_REPORT) {
+            return false;
+        }
     }
+    true
 }
 
-/// Whether footprints were read, below their root.
+/// Whether the good footprints are read in pieces of any size.
+fn are_read(alloc: Global) -> bool {
+    for size in 1..=FOOTPRINTS.len() {
+        if !is_read(footprints_in(alloc, FOOTPRINTS.as_bytes(), size)) {
+            return false;
+        }
+    }
+    true
+}
+
 fn is_read(read: Result<Footprints, Halt>) -> bool {
     match read {
-        Ok(footprints) => footprints.root().text() == b"/w".as_slice(),
+        Ok(footprints) => is_root(footprints.root()),
         Err(_) => false,
     }
 }
 
-/// Whether this fault of footprints was told.
-fn is_unread(alloc: Global, read: Result<Footprints, Halt>, report: &str) -> bool {
+fn is_root(root: &Root) -> bool {
+    root.text() == b"/w".as_slice()
+}
+
+/// Whether the footprints whose last line is cut short are told likewise.
+fn are_unread(alloc: Global) -> bool {
+    for size in 1..=CUT_SHORT.len() {
+        let read = footprints_in(alloc, CUT_SHORT.as_bytes(), size);
+        if !is_refused(alloc, read, CUT_SHORT_REPORT) {
+            return false;
+        }
+    }
+    true
+}
+
+/// Whether nothing was read, and this is the report of the fault.
+fn is_refused<T: Drop>(alloc: Global, read: Result<T, Halt>, report: &str) -> bool {
     match read {
         Ok(_) => false,
         Err(halt) => is_told(alloc, &halt, report),
@@ -132,24 +153,18 @@ fn tells_at_once(alloc: Global) -> bool {
 
 fn stays_bad(alloc: Global, reader: FootReader) -> bool {
     let mut reader = reader;
-    let good = reader.feed(b"x").is_ok();
-    let fed = are_bad(alloc, &mut reader);
-    good && fed && is_unread(alloc, reader.finish(), BAD_FIRST_REPORT)
+    are_bad(alloc, &mut reader) && is_refused(alloc, reader.finish(), BAD_FIRST_REPORT)
 }
 
-/// Whether the fault of the first line is told of each further piece.
+/// Whether the first line is taken, and its fault is told of each piece from its end on.
 fn are_bad(alloc: Global, reader: &mut FootReader) -> bool {
+    if reader.feed(b"x").is_err() {
+        return false;
+    }
     for piece in ["\n", "{}\n", ""] {
-        if !is_bad(alloc, reader.feed(piece.as_bytes())) {
+        if !is_refused(alloc, reader.feed(piece.as_bytes()), BAD_FIRST_REPORT) {
             return false;
         }
     }
     true
-}
-
-fn is_bad(alloc: Global, fed: Result<(), Halt>) -> bool {
-    match fed {
-        Ok(()) => false,
-        Err(halt) => is_told(alloc, &halt, BAD_FIRST_REPORT),
-    }
 }
