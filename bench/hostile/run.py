@@ -126,14 +126,25 @@ def references(part):
     return {"makefile": "e=\nA=" + "$e" * 9_999 + "\n" + many("x:$A\n", 10_000 * part) + "x: y\n", "listing": "y\n"}
 
 
-def through(value, ending, lines):
-    """Short entries, each of which goes 4,999 times through such a value, of which a substitution takes away the ending."""
+def long_word(part):
+    """20 short entries, each of which goes 4,999 times through a long word that a substitution takes away."""
+    word = "x" * 65_000
+    macros = f"A={word}\nV=$(A:{word}=)\nW=" + "$V" * 4_999 + "\n"
+    return {"makefile": macros + many("x:$W\n", 20 * part) + "x: y\n", "listing": "y\n"}
 
-    def make(part):
-        macros = f"A={value}\nV=$(A:{ending}=)\nW=" + "$V" * 4_999 + "\n"
-        return {"makefile": macros + many("x:$W\n", lines * part) + "x: y\n", "listing": "y\n"}
 
-    return make
+def long_value(part):
+    """A short entry that goes 65 times through a value of 1,000 such words, which additions made."""
+    word = "x" * 64_000
+    macros = f"A={word}\nB::=$A\n" + many("B+=$A\n", 999 * part) + f"V=$(B:{word}=)\nW=" + "$V" * 65 + "\n"
+    return {"makefile": macros + "x:$W\nx: y\n", "listing": "y\n"}
+
+
+def nested_words(part):
+    """Macros whose values stand in one another, each beside 30,000 words that a substitution changes: the line is refused."""
+    count = int(4_990 * part)
+    lines = [f"M{i} = $(T)$(M{i + 1}:x=)\n" for i in range(count)]
+    return {"makefile": "T = " + "x " * 30_000 + "\n" + "".join(lines) + f"M{count} = y\nall: $(M0)\n", "listing": ""}
 
 
 def long_listing(part):
@@ -162,9 +173,9 @@ def below_one_another(part):
 
 
 def in_no_order(part):
-    """1,000,000 footprint paths of 20,000 recipes, each of a few letters and in no order."""
+    """Nearly 1,000,000 footprint paths of 19,990 recipes, each of four letters and in no order."""
     numbers = random.Random(7)
-    return footprints([[short(numbers.randrange(36**4)) for _ in range(50)] for _ in range(int(19_999 * part))])
+    return footprints([[short(numbers.randrange(36**4)) for _ in range(49)] for _ in range(int(19_990 * part))])
 
 
 def one_line(part):
@@ -247,12 +258,13 @@ INPUTS = {
     "suffixes, 19,999 names of one suffix": one_suffix,
     "suffixes, rules and names that never meet": never_met,
     "nested values": nested,
+    "nested values of many words": nested_words,
     "immediate macros": immediate,
     "additions to one macro": additions,
     "one entry of many words, repeated": repeated,
     "one entry of many references, repeated": references,
-    "references through a long word": through("x" * 65_535, "x" * 65_535, 20),
-    "references through many words": through("x " * 32_767, "x", 2),
+    "references through a long word": long_word,
+    "references through a long value": long_value,
     "listing of 10^7 lines": long_listing,
     "paths with one prefix": shared_prefix,
     "paths below one another": below_one_another,
@@ -278,8 +290,8 @@ LINES = {
     "additions to one macro": (40_000, 0.0002, 72),
     "one entry of many words, repeated": (1_600, 0.015, 2_560),
     "one entry of many references, repeated": (10_000, 0.002, 0),
-    "references through a long word": (20, 0.5, 0),
-    "references through many words": (2, 8, 0),
+    "references through a long word": (20, 1.5, 0),
+    "references through a long value": (1, 10, 72 * 1_000),
 }
 
 
