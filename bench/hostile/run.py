@@ -6,7 +6,7 @@
 PROGRAM is the built program (crates/race/out/race). Each input is as large as a limit allows, or as its line in docs/SAFETY.md
 says, and is made at half of that size first. Printed are the size of the texts, the seconds of a processor and the peak
 memory of one run of each, as GNU time tells them (Debian's package `time`), the status, and whether the whole is over its
-bound: five seconds and a twentieth for each megabyte of the texts, and 64 MiB with twenty times the texts; and besides, for
+bound: five seconds and a twentieth for each megabyte of the texts, and 64 MiB with 24 times the texts; and besides, for
 inputs that are named in LINES, what a line of the makefile is allowed there. A run that takes more than N seconds (100) is
 stopped, and one that wants more than so many gigabytes (6) is refused memory. Nothing here is a test.
 """
@@ -318,7 +318,7 @@ def is_over(name, size, seconds, memory, end):
     megabytes = size / MEGABYTE
     lines, each_seconds, each_kibibytes = LINES.get(name, (0, 0, 0))
     most_seconds = 5 + megabytes / 20 + lines * each_seconds
-    most_memory = 64 + 20 * megabytes + lines * each_kibibytes / 1024
+    most_memory = 64 + 24 * megabytes + lines * each_kibibytes / 1024
     return end not in "012" or seconds > most_seconds or memory > most_memory
 
 
