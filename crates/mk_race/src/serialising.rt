@@ -169,12 +169,10 @@ fn free_order(alloc: Global, jobs: &Jobs, log: Log, tie: bool) -> Result<Ordered
         → Answers result (IsOrder jobs.now listed limit tie log) }
     ensures law { IfOk result (IsLawful jobs.now tie log) }
 {
-    if !has_room(&log.store, log.events.len()) {
+    let Log { store, events } = log;
+    if !has_room(&store, events.len()) {
         return Ok(Ordered::NoRoom);
     }
-    let events = serialise(alloc, jobs, &log.store, tie, log.events.as_slice())?;
-    Ok(Ordered::Serial(Log {
-        store: log.store,
-        events,
-    }))
+    let events = serialise(alloc, jobs, &store, tie, events)?;
+    Ok(Ordered::Serial(Log { store, events }))
 }

@@ -15,4 +15,5 @@ pub mod Replaying
 pub mod SerialList
 pub mod Storing
 pub mod Surely
+pub mod Turns
 pub mod TwoRuns

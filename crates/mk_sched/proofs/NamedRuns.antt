@@ -1,5 +1,5 @@
 -- Two runs of the jobs with the header named, computed.
-use Rattle.std.proofs.Common.{ℕ, zero, suc, ◌≡◌, ◌<◌, ◌≢◌, ◌⊎◌, inl, inr, Bool, true, false, List, [], ◌∷◌, reverse, Some, refl, ap, sym, arith, slice_index_or, ◌==◌}
+use Rattle.std.proofs.Common.{ℕ, ◌≡◌, ◌≢◌, inl, true, false, List, [], ◌∷◌, reverse, refl, ap, sym, arith, slice_index_or, ◌==◌}
 use Rattle.std.specs.List.{flat_map}
 use Rattle.std.proofs.lemmas.Bool.{false≢true}
 use Rattle.mk_jobs.specs.Jobs.{node_count, name_of, prerequisites_of, has_recipe, is_phony, is_listed, reads_of, writes_of, may_read, may_write}
@@ -8,7 +8,7 @@ use Rattle.mk_sched.specs.Events.{Event, phase, is_started, history}
 use Rattle.mk_sched.specs.Runs.{IsRun, IsComplete, Agree, RecipesAgree}
 use Rattle.mk_sched.specs.Table.{AllowedInTurn, start_from}
 use Rattle.mk_sched.specs.Serial.{put_time}
-use Rattle.mk_sched.specs.MissingHeader.{gen_h, a_o, header_named, header_first, two_sources}
+use Rattle.mk_sched.specs.MissingHeader.{gen_h, header_named, header_first, two_sources}
 use Rattle.mk_sched.specs.HeaderNamedRuns.{source_between, HeaderNamedRuns}
 use Rattle.mk_sched.proofs.Basics.{started_begun}
 use Rattle.mk_sched.proofs.ByTable.{runs_by_table}
