@@ -52,5 +52,12 @@ pub fn split_line(text: &[u8]) -> (&[u8], Option<&[u8]>)
 pub fn physical_lines(alloc: Global, text: &[u8]) -> Result<Vec<&[u8]>, AllocError>
     ensures { IfOk result (λ lines. map (λ line. line.now) lines.items ≡ physical_lines text.now) }
 {
-    text.split(|byte| *byte == b'\n').collect(alloc)
+    let mut lines = Vec::new(alloc);
+    let mut rest = Some(text);
+    'lines: while let Some(text) = rest {
+        let (line, later) = split_line(text);
+        lines.push(line)?;
+        rest = later;
+    }
+    Ok(lines)
 }
