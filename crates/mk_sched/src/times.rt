@@ -5,6 +5,7 @@ ghost use Rattle.mk_sched.specs.Timed.{count_of};
 
 use std::alloc::{AllocError, Global};
 use std::collections::BTreeMap;
+use std::collections::btree_map::Entry;
 use std::marker::Model;
 
 /// Times, each as often as it stands there.
@@ -40,8 +41,7 @@ impl Times {
         ensures ok { OnOk result ((t : ℕ) → count_of self.new t ≡ count_of self.old t + one_at time t) }
         ensures err { OnErr result (self.new ≡ self.old) }
     {
-        let count = self.counts.get(&time).copied().unwrap_or(0);
-        self.counts.insert(time, count + 1)?;
+        *self.counts.entry(time)?.or_insert(0) += 1;
         Ok(())
     }
 
@@ -50,10 +50,11 @@ impl Times {
         requires { 0 < count_of self.old time }
         ensures { (t : ℕ) → count_of self.new t + one_at time t ≡ count_of self.old t }
     {
-        match self.counts.get_mut(&time) {
-            Some(count) if *count > 1 => *count -= 1,
-            _ => {
-                self.counts.remove(&time);
+        if let Ok(Entry::Occupied(mut entry)) = self.counts.entry(time) {
+            if *entry.get() > 1 {
+                *entry.get_mut() -= 1;
+            } else {
+                entry.remove();
             }
         }
     }
