@@ -25,6 +25,9 @@ use mk_sched::file::File;
 use mk_sched::store::Store;
 use std::alloc::{AllocError, Global};
 
+/// The bytes that the line of an event seldom has more of. A longer line makes more room for itself.
+const USUAL_LENGTH: usize = 256;
+
 /// Why a log is not written.
 #[derive(Clone, Copy, Debug, PartialEq, Eq)]
 pub enum LogHalt {
@@ -89,7 +92,7 @@ fn add_file(alloc: Global, text: &mut Vec<u8>, path: &Name, file: &File) -> Resu
         → Adds jobs (file_entry (path.now, file.now) ∷ []) text.old.items text.new.items) }
     ensures not_text { IfErr result (λ halt. halt ≡ LogHalt.NotText → is_utf8 path.now ≡ false) }
 {
-    let mut line = empty_line(alloc);
+    let mut line = empty_line(alloc)?;
     write_file(alloc, &mut line, path, file)?;
     Ok(end_line(text, line)?)
 }
@@ -120,18 +123,18 @@ fn add_event(alloc: Global, text: &mut Vec<u8>, jobs: &Jobs, event: &Event) -> R
     ensures not_text { IfErr result (λ halt. halt ≡ LogHalt.NotText
         → list_all is_utf8 (names_in jobs.now event.now) ≡ false) }
 {
-    let mut line = empty_line(alloc);
+    let mut line = empty_line(alloc)?;
     write_event(alloc, &mut line, jobs, event)?;
     Ok(end_line(text, line)?)
 }
 
-/// A line with nothing in it. It is written by itself, since a writer makes room of the size of what stands before it, up to
-/// 16 KiB, and clears it.
-fn empty_line(alloc: Global) -> Writer
-    ensures before { result.before ≡ [] }
-    ensures tokens { result.tokens ≡ [] }
+/// A line with nothing in it, and room for one of usual length. It is written by itself, since a writer makes room of the
+/// size of what stands before it, up to 16 KiB, and clears it. The only error is want of memory.
+fn empty_line(alloc: Global) -> Result<Writer, AllocError>
+    ensures before { IfOk result (λ line. line.before ≡ []) }
+    ensures tokens { IfOk result (λ line. line.tokens ≡ []) }
 {
-    Writer::new(Vec::new(alloc))
+    Ok(Writer::new(Vec::with_capacity(alloc, USUAL_LENGTH)?))
 }
 
 /// Puts a line that was written by itself behind a text, and ends it. The only error is want of memory.

@@ -16,6 +16,6 @@ returns-clause-adds c =
     let end = c.end_line.ensures in
     let line = c.write_event.new.line in
     let object = event_object jobs event in
-    let same : line.tokens ≡ tokens_of object = says.object.more ∙ ap (λ (ts : List Token). ts ++ tokens_of object) c.empty_line-line.ensures.tokens in
+    let same : line.tokens ≡ tokens_of object = says.object.more ∙ ap (λ (ts : List Token). ts ++ tokens_of object) c.in_ok-line.ensures.tokens in
     one_added jobs (Happens event) object _ _ refl (line_back object line.tokens _ _ same c.in_ok-end_line.ensures.line)
     says.is_text (event_spelled jobs event says.sized says.number (value_back object line.tokens same (event_kept jobs event says.sized) end.reads_back end.utf8))

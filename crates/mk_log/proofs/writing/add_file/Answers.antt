@@ -16,7 +16,7 @@ returns-clause-adds c = λ jobs.
     let end = c.end_line.ensures in
     let line = c.write_file.new.line in
     let object = file_object path file in
-    let same : line.tokens ≡ tokens_of object = says.object.more ∙ ap (λ (ts : List Token). ts ++ tokens_of object) c.empty_line-line.ensures.tokens in
+    let same : line.tokens ≡ tokens_of object = says.object.more ∙ ap (λ (ts : List Token). ts ++ tokens_of object) c.in_ok-line.ensures.tokens in
     one_added jobs (file_entry (path, file)) object _ _ refl (line_back object line.tokens _ _ same c.in_ok-end_line.ensures.line)
     (ap (λ b. b && true) says.is_text)
     (file_spelled jobs path file.bytes file.time says.bytes says.time
