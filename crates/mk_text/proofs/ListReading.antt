@@ -1,11 +1,9 @@
 -- A reader of listings, line by line.
-use Rattle.std.proofs.Common.{◌≡◌, ℕ, zero, suc, ◌+◌, ◌-◌, ◌<◌, ◌≤◌, ◌==◌, ◌&&◌, Bool, true, false, cond, List, [], ◌∷◌, ◌++◌, Ok, Err, Result, Option, None, Some, length, take, refl, sym, ap, ap₂, subst, ◌∙◌, inl, inr, arith, append_assoc, ne_eqb}
+use Rattle.std.proofs.Common.{◌≡◌, ℕ, zero, suc, ◌-◌, ◌<◌, ◌≤◌, ◌==◌, ◌&&◌, Bool, true, false, List, [], ◌∷◌, ◌++◌, Ok, Err, Result, Option, None, Some, length, take, refl, sym, ap, ap₂, ◌∙◌, inl, inr, arith, append_assoc, ne_eqb}
 use Rattle.std.specs.Prelude.{fold, is_some, min, nat_le, nat_lt}
 use Rattle.std.specs.BTreeSet.{insert_key}
 use Rattle.std.specs.Cmp.Lexicographic.{slice_cmp}
 use Rattle.std.specs.Ordering.{nat_cmp}
-use Rattle.std.specs.Option.{option_map_or}
-use Rattle.std.specs.Borrow.{Bor}
 use Rattle.std.proofs.lemmas.Bool.{cases_Bool, cases_lt, cond-true, cond-false, false≢true, lt-leb}
 use Rattle.std.proofs.lemmas.List.{append-nil, length-take, take-append-le, take_all}
 use Rattle.std.proofs.lemmas.List.Sums.{fold-append}
@@ -16,7 +14,7 @@ use Rattle.mk_text.specs.Listing.{at_line, both, line_names, names_from, next_pl
 use Rattle.mk_text.specs.declared.list_reader.Stop.{Stop}
 use Rattle.mk_text.specs.declared.list_reader.Stop.TheVariants.{Memory, BadLine}
 use Rattle.mk_text.specs.ListReader.{HasRead, HasReadBy, HasReadLines, IsUnderWay, Reader, bad_line, kept_length, listed, place_behind}
-use Rattle.mk_text.specs.Spelling.{is_line, is_path, path_name}
+use Rattle.mk_text.specs.Spelling.{is_line, is_path}
 use Rattle.mk_text.proofs.FedLines.{joined, joined_open, lines_joined}
 
 -- ---- names

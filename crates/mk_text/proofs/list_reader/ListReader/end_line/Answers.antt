@@ -1,4 +1,4 @@
-use Rattle.std.proofs.Common.{◌≡◌, true, false, not, List, [], ◌∷◌, ◌++◌, Ok, Err, ℕ, sym, ap, subst, refl, ◌∙◌}
+use Rattle.std.proofs.Common.{◌≡◌, true, false, [], ◌∷◌, ◌++◌, sym, ap, subst, refl, ◌∙◌}
 use Rattle.std.specs.Prelude.{is_some}
 use Rattle.mk_text.specs.Listing.{line_names, with_names}
 use Rattle.mk_text.specs.ListReader.{HasReadLines, Reader}

@@ -1,4 +1,4 @@
-use Rattle.std.proofs.Common.{◌≡◌, ◌-◌, true, false, not, cond, List, ◌++◌, ℕ, length, take, vec_len, arith, refl, sym, ap, subst, ◌∙◌}
+use Rattle.std.proofs.Common.{◌≡◌, ◌-◌, true, false, not, cond, ◌++◌, length, take, vec_len, arith, refl, sym, ap, subst, ◌∙◌}
 use Rattle.std.specs.Prelude.{is_some, min}
 use Rattle.mk_text.specs.ListReader.{HasReadLines, Reader, kept_length}
 use Rattle.mk_text.proofs.ListReading.{goes_on, keeps_more, keeps_stopped, under_way}
