@@ -1,9 +1,10 @@
 //! Events: what the nodes of a build do, one atomic step at a time.
-ghost use Rattle.std.specs.Prelude.{◌≡◌};
+ghost use Rattle.std.specs.Prelude.{◌≡◌, IfOk};
 ghost use Rattle.mk_sched.specs.Steps.{step_of, steps_at};
 
 use crate::contents::Contents;
 use mk_name::name::Name;
+use std::alloc::{AllocError, Global};
 
 /// One atomic step of one node, which is told by its number in the plan (profile).
 #[derive(Debug, Drop)]
@@ -35,6 +36,24 @@ impl Event {
         }
     }
 
+    /// An equal event. The only error is want of memory.
+    pub fn copy(&self, alloc: Global) -> Result<Event, AllocError>
+        ensures { IfOk result (λ event. event ≡ self.now) }
+    {
+        Ok(match self {
+            Event::Skip(node) => Event::Skip(*node),
+            Event::Start(node) => Event::Start(*node),
+            Event::Look(node, path, seen) => {
+                Event::Look(*node, path.copy(alloc)?, copy_seen(alloc, seen)?)
+            }
+            Event::Put(node, path, contents, time) => {
+                Event::Put(*node, path.copy(alloc)?, contents.copy(alloc)?, *time)
+            }
+            Event::Erase(node, path) => Event::Erase(*node, path.copy(alloc)?),
+            Event::Finish(node) => Event::Finish(*node),
+        })
+    }
+
     /// The same event; a put then has this time.
     pub fn at_time(self, time: u64) -> Event
         ensures { step_of result ≡ steps_at time (step_of self) }
@@ -43,5 +62,15 @@ impl Event {
             Event::Put(node, path, contents, _old) => Event::Put(node, path, contents, time),
             other => other,
         }
+    }
+}
+
+/// What a look saw, once more.
+fn copy_seen(alloc: Global, seen: &Option<Contents>) -> Result<Option<Contents>, AllocError>
+    ensures { IfOk result (λ copy. copy ≡ seen.now) }
+{
+    match seen {
+        Some(contents) => Ok(Some(contents.copy(alloc)?)),
+        None => Ok(None),
     }
 }
