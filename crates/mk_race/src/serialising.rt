@@ -22,7 +22,7 @@ use mk_name::fault::Halt;
 use mk_proof::trace::Trace;
 use mk_sched::refusal::Refusal;
 use mk_sched::replay::{Stopped, replay};
-use mk_sched::serialising::{has_room, serialise};
+use mk_sched::serialising::{has_room, into_serial_order};
 use mk_sched::store::copy_store;
 use mk_text::listing::Listing;
 use std::alloc::{AllocError, Global};
@@ -173,6 +173,6 @@ fn free_order(alloc: Global, jobs: &Jobs, log: Log, tie: bool) -> Result<Ordered
     if !has_room(&store, events.len()) {
         return Ok(Ordered::NoRoom);
     }
-    let events = serialise(alloc, jobs, &store, tie, events)?;
+    let events = into_serial_order(alloc, jobs, &store, tie, events)?;
     Ok(Ordered::Serial(Log { store, events }))
 }

@@ -74,3 +74,14 @@ fn copy_seen(alloc: Global, seen: &Option<Contents>) -> Result<Option<Contents>,
         None => Ok(None),
     }
 }
+
+/// Equal events. The only error is want of memory.
+pub(crate) fn copies(alloc: Global, events: &[Event]) -> Result<Vec<Event>, AllocError>
+    ensures { IfOk result (λ copies. copies.items ≡ events.now) }
+{
+    let mut copies = Vec::with_capacity(alloc, events.len())?;
+    for event in events {
+        copies.push(event.copy(alloc)?)?;
+    }
+    Ok(copies)
+}
