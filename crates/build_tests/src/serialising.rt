@@ -1,5 +1,5 @@
 //! A run of two recipes at a time, and the list of its events in serial order: what the list is, and what both runs leave.
-ghost use Rattle.std.specs.Prelude.{ℕ, ◌≡◌, ◌<◌};
+ghost use Rattle.std.specs.Prelude.{ℕ, ◌≡◌, ◌<◌, false};
 ghost use Rattle.mk_name.specs.Names.{has, same_name};
 ghost use Rattle.mk_jobs.specs.Jobs.{is_listed, name_of, node_count};
 ghost use Rattle.mk_sched.specs.Serialising.{IsWholeRun};
@@ -145,7 +145,9 @@ fn serial_list(alloc: Global, jobs: &Jobs, listing: &Listing, log: &Log) -> Opti
     requires { (n : ℕ) → n < node_count jobs.now
         → is_listed jobs.now n ≡ has same_name listing.now (name_of jobs.now n) }
 {
-    let store = copy_store(alloc, &log.store).ok()?;
+    let Ok(store) = copy_store(alloc, &log.store) else {
+        return None;
+    };
     match replay(alloc, jobs, listing, store, 2, false, log.events.as_slice()) {
         Ok(replayed) if replayed.complete => in_serial_order(alloc, jobs, log),
         _ => None,
@@ -167,13 +169,24 @@ fn is_put_in_order(alloc: Global, prepared: &Prepared, log: Log) -> bool
     }
 }
 
-fn is_log_put_in_order(alloc: Global) -> bool {
-    let Ok(prepared) = prepare(alloc, &INPUT) else {
-        return false;
-    };
-    jobs_are_listed();
+/// Whether the run of the log is put in serial order on these jobs.
+fn is_log_put_in_order(alloc: Global, prepared: &Prepared) -> bool
+    requires { (n : ℕ) → n < node_count prepared.now.jobs
+        → is_listed prepared.now.jobs n ≡ has same_name prepared.now.listing (name_of prepared.now.jobs n) }
+{
     match read_log(alloc, LOG, &prepared.jobs, &prepared.root) {
-        Ok(log) => is_put_in_order(alloc, &prepared, log),
+        Ok(log) => is_put_in_order(alloc, prepared, log),
+        Err(_) => false,
+    }
+}
+
+/// Whether it is on the jobs of this build.
+fn is_build_put_in_order(alloc: Global, input: &Input<'_>) -> bool {
+    match prepare(alloc, input) {
+        Ok(prepared) => {
+            jobs_are_listed();
+            is_log_put_in_order(alloc, &prepared)
+        }
         Err(_) => false,
     }
 }
@@ -181,5 +194,5 @@ fn is_log_put_in_order(alloc: Global) -> bool {
 #[test]
 fn a_run_in_serial_order(rt: HostRuntime) {
     let alloc = rt.alloc();
-    assert!(rt; is_log_put_in_order(alloc));
+    assert!(rt; is_build_put_in_order(alloc, &INPUT));
 }
