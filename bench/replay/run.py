@@ -19,6 +19,11 @@ import tempfile
 import time
 
 TOP = pathlib.Path(__file__).resolve().parents[2]
+sys.dont_write_bytecode = True
+sys.path.insert(0, str(TOP / "bench"))
+
+from measure import read_by_python
+
 RECIPES = 9_999
 
 
@@ -74,15 +79,6 @@ def run(program, folder):
     return seconds, memory, out.split(b"\n", 1)[0].decode()
 
 
-def read_by_python(folder):
-    """How long Python's json module takes to read the log."""
-    begin = time.perf_counter()
-    with open(pathlib.Path(folder, "log"), encoding="utf-8") as log:
-        for line in log:
-            json.loads(line)
-    return time.perf_counter() - begin
-
-
 def main():
     parser = argparse.ArgumentParser(description=__doc__, formatter_class=argparse.RawDescriptionHelpFormatter)
     parser.add_argument("program", nargs="?", default=str(TOP / "crates/race/out/race"))
@@ -95,10 +91,12 @@ def main():
         lay_out(folder)
         for part in (8, 4, 2, 1):
             count = write_log(folder, args.events // part)
-            size = pathlib.Path(folder, "log").stat().st_size
+            log = pathlib.Path(folder, "log")
+            size = log.stat().st_size
+            python = read_by_python(log)
             runs = [run(program, folder) for _ in range(args.runs)]
             seconds, memory = min(r[0] for r in runs), max(r[1] for r in runs)
-            print(f"{count:10}{size:12}{seconds:10.2f}{memory:8.1f}{read_by_python(folder):8.2f}  {runs[-1][2]}", flush=True)
+            print(f"{count:10}{size:12}{seconds:10.2f}{memory:8.1f}{python:8.2f}  {runs[-1][2]}", flush=True)
 
 
 if __name__ == "__main__":

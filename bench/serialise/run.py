@@ -8,7 +8,8 @@ what they make: 19,999 nodes. In the log nine recipes run at a time: they start,
 in turn, again and again, each time newer than every file, and finish; the events are 1,000,000, unless told otherwise. So
 in the log that is written nearly every event stands elsewhere, and each put has another time. Printed are the best
 wall times of N runs (three) and the greatest peak memory of a run, at an eighth, a quarter, a half and the whole of the
-events, and the bytes that are written. Nothing here is a test.
+events, the bytes that are written, and what Python's json module alone takes to read the log, since the speed of a
+machine may change from one minute to the next. Nothing here is a test.
 """
 import argparse
 import json
@@ -20,6 +21,11 @@ import tempfile
 import time
 
 TOP = pathlib.Path(__file__).resolve().parents[2]
+sys.dont_write_bytecode = True
+sys.path.insert(0, str(TOP / "bench"))
+
+from measure import read_by_python
+
 RECIPES = 9_999
 TOGETHER = 9
 
@@ -90,16 +96,18 @@ def main():
     parser.add_argument("--events", type=int, default=1_000_000)
     args = parser.parse_args()
     program = os.path.abspath(args.program)
-    print(f"{'events':>10}{'bytes':>12}{'replay':>10}{'serialise':>11}{'MiB':>8}{'written':>12}")
+    print(f"{'events':>10}{'bytes':>12}{'replay':>10}{'serialise':>11}{'MiB':>8}{'written':>12}{'python':>8}")
     with tempfile.TemporaryDirectory(prefix="race-bench-") as folder:
         lay_out(folder)
         for part in (8, 4, 2, 1):
             count = write_log(folder, args.events // part)
-            size = pathlib.Path(folder, "log").stat().st_size
+            log = pathlib.Path(folder, "log")
+            size = log.stat().st_size
+            python = min(read_by_python(log) for _ in range(args.runs))
             replays = [run(program, "replay", folder) for _ in range(args.runs)]
             runs = [run(program, "serialise", folder) for _ in range(args.runs)]
             replay, seconds, memory = min(r[0] for r in replays), min(r[0] for r in runs), max(r[1] for r in runs)
-            print(f"{count:10}{size:12}{replay:10.2f}{seconds:11.2f}{memory:8.1f}{runs[-1][2]:12}", flush=True)
+            print(f"{count:10}{size:12}{replay:10.2f}{seconds:11.2f}{memory:8.1f}{runs[-1][2]:12}{python:8.2f}", flush=True)
 
 
 if __name__ == "__main__":
