@@ -1,0 +1,5 @@
+pub mod Adding
+pub mod Cleaning
+pub mod Direct
+pub mod Fixing
+pub mod Racing

@@ -1,0 +1,5 @@
+pub mod Added
+pub mod AllRaces
+pub mod Fixes
+pub mod Laws
+pub mod Musts

@@ -1,0 +1,8 @@
+//! All races of jobs, and the edges that fix them.
+//!
+//! `races` lists all races. `laws` has what holds of every fix: it is the only one, the weakest, and makes jobs determinate.
+//! `specs/Fixes.antt` says what a fix is.
+#![tactic(auto)]
+
+pub mod laws;
+pub mod races;

@@ -1,0 +1,54 @@
+//! All races of jobs.
+ghost use Rattle.std.specs.Prelude.{ℕ, ◌≡◌, Err, IfErr, IfOk};
+ghost use Rattle.mk_name.specs.Gives.{HaltsAmong};
+ghost use Rattle.mk_jobs.specs.Shape.{IsWellFormed};
+ghost use Rattle.mk_decide.specs.Pairs.{ArePairs, HasManyPairs, too_many};
+ghost use Rattle.mk_fix.specs.AllRaces.{AreRaces};
+
+use mk_decide::pairs::clashing_pairs;
+use mk_jobs::jobs::Jobs;
+use mk_name::fault::Halt;
+use mk_order::before::Before;
+use std::alloc::{AllocError, Global};
+
+/// All races of these jobs, each once, by first and then second number. `before` must speak of the same jobs. Where more than
+/// `PAIR_LIMIT` pairs of nodes clash the fault is `TooManyPairs` in the jobs, at place 0 (profile).
+pub fn all_races<B: Before>(
+    alloc: Global,
+    jobs: &Jobs,
+    before: &mut B,
+) -> Result<Vec<(u32, u32)>, Halt>
+    requires same { B.jobs before.old ≡ jobs.now }
+    ensures races { IfOk result (λ races. AreRaces jobs.now races.items) }
+    ensures many { IfErr result (λ halt.
+        HaltsAmong {Y = ℕ} halt (λ answer. (answer ≡ Err too_many) × HasManyPairs jobs.now)) }
+    ensures keeps { IfOk result (λ races. B.jobs before.new ≡ B.jobs before.old) }
+{
+    let _count = jobs.count();
+    let pairs = clashing_pairs(alloc, jobs)?;
+    let races = races_among(alloc, jobs, before, &pairs)?;
+    Ok(races)
+}
+
+/// Those of all clashing pairs that are races. The only error is out of memory.
+fn races_among<B: Before>(
+    alloc: Global,
+    _jobs: &Jobs,
+    before: &mut B,
+    pairs: &[(u32, u32)],
+) -> Result<Vec<(u32, u32)>, AllocError>
+    requires same { B.jobs before.old ≡ _jobs.now }
+    requires shape { IsWellFormed _jobs.now }
+    requires pairs { ArePairs _jobs.now pairs.now }
+    ensures races { IfOk result (λ races. AreRaces _jobs.now races.items) }
+    ensures keeps { IfOk result (λ races. B.jobs before.new ≡ B.jobs before.old) }
+{
+    let mut races = Vec::new(alloc);
+    for i in 0..pairs.len() {
+        let (a, b) = pairs[i];
+        if !before.before(a, b) {
+            races.push((a, b))?;
+        }
+    }
+    Ok(races)
+}
