@@ -1,0 +1,1 @@
+echo '#define WORD "hello"'
