@@ -1,0 +1,50 @@
+"""What a verdict takes for granted: counted, with an example each."""
+
+from dataclasses import dataclass
+from typing import Dict, List
+
+TEXTS = {
+    "serial": "make decides goals in this order, without --shuffle, and recipes do not look at MAKEFLAGS, the number of processors or a terminal",
+    "up-to-date": "builds start from this tree: targets that were up to date stay so",
+    "at-once": "two processes of one recipe touch a file at the same time",
+    "sockets": "a process talks to a server, whose files nobody saw",
+    "hard-links": "files got a second name; links that were outside of the project before are not known",
+    "ring": "make dropped a prerequisite that closes a ring",
+    "search": "the search for implicit rules goes by a listing from before the first recipe (GNU make before 4.4)",
+    "outside": "names outside of the project changed; what was there before is taken from the disk after the build",
+    "queries": "makes that only look (-n, -q) are taken to hang on all that they looked at",
+    "flags": "recipes name MAKEFLAGS, which holds the recorder's words",
+    "libtool": "globs of libtool are about its own files",
+    "progress": "files under CMakeFiles/Progress steer only what is shown",
+    "tops": "two makes ran at once outside of any make",
+    "interpreters": "Perl, Python and other interpreters compare ages only of files that they looked at",
+}
+
+
+@dataclass
+class Assumption:
+    """One kind, how often it was met, and the first case."""
+
+    kind: str
+    count: int
+    example: str
+
+    def text(self) -> str:
+        """What it says."""
+        return TEXTS[self.kind]
+
+
+class Assumptions:
+    """All that was met."""
+
+    def __init__(self) -> None:
+        self.known: Dict[str, Assumption] = {}
+
+    def add(self, kind: str, example: str, count: int = 1) -> None:
+        """Counts one case."""
+        found = self.known.setdefault(kind, Assumption(kind, 0, example))
+        found.count += count
+
+    def all(self) -> List[Assumption]:
+        """In the order in which they were met."""
+        return list(self.known.values())

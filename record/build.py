@@ -1,0 +1,334 @@
+"""One round as a build: its tasks, with what each reads and writes."""
+
+import os
+import re
+from dataclasses import dataclass, field
+from fnmatch import fnmatchcase
+from typing import Dict, Iterable, List, Set, Tuple
+
+from record.assumptions import Assumptions
+from record.folders import add_folders
+from record.graph import Graph, Node, Task, befores, order_tasks
+from record.names import Names, join
+from record.owners import Make, Work
+
+CHANGES = "WCD"
+LOOKS = "RSN"
+
+
+@dataclass
+class Build:
+    """The tasks of one round, in a serial order."""
+
+    make: Make
+    stage: str
+    graph: Graph
+    tasks: List[Task] = field(default_factory=list)
+    bits: List[int] = field(default_factory=list)
+    writers: Dict[str, Set[int]] = field(default_factory=dict)
+    meanings: Dict[str, str] = field(default_factory=dict)
+
+    def is_before(self, first: int, second: int) -> bool:
+        """Whether one task has ended before another starts."""
+        return bool(self.bits[second] >> first & 1)
+
+    def unordered(self, first: int, second: int) -> bool:
+        """Whether nothing orders two tasks."""
+        return first != second and not self.is_before(first, second) and not self.is_before(second, first)
+
+
+class Builder:
+    """Makes the tasks of a round."""
+
+    def __init__(self, make: Make, number: int, names: Names, assumed: Assumptions) -> None:
+        self.graph = Graph(make, number)
+        self.make, self.number, self.names, self.assumed = make, number, names, assumed
+        self.build = Build(make, self.graph.round.stage, self.graph)
+        self.before = names.before
+        self.of_node: Dict[str, int] = {}
+        self.look_of: Dict[str, int] = {}
+        self.made: Set[str] = set()
+
+    def path_of(self, name: str) -> str:
+        """The real path of a target, as it was before the build or is now."""
+        spelled = self.graph.round.vpath.get(name, name)
+        archive = re.match(r"(.*)\((.*)\)$", spelled)
+        return self.names.find(self.make.folder, archive.group(1) if archive else spelled, True).path
+
+    def run(self) -> Build:
+        """All steps."""
+        for node in self.graph.nodes.values():
+            node.path = self.path_of(node.name)
+        self.make_recipes()
+        self.note_writers()
+        self.make_decisions()
+        self.build.writers.clear()
+        self.note_writers()
+        self.connect()
+        self.fill()
+        return self.build
+
+    # ---------------------------------------------------------------- tasks
+    def add(self, node: Node, kind: str, label: str) -> int:
+        self.build.tasks.append(Task(label, node, kind))
+        return len(self.build.tasks) - 1
+
+    def make_recipes(self) -> None:
+        for node in self.graph.nodes.values():
+            acts = self.make.acts.get((self.number, node.name)) if node.rule == 0 else None
+            if node.jobs or acts is not None or (node.must and node.has_recipe):
+                at = self.add(node, "recipe", node.label)
+                self.of_node[node.label] = at
+                task = self.build.tasks[at]
+                task.works = [self.make.work[id(j)] for j in node.jobs if id(j) in self.make.work]
+
+    def events(self, task: Task) -> Iterable[Tuple[str, str]]:
+        for work in task.works:
+            yield from work.events
+
+    def acts_of(self, node: Node) -> Iterable[Tuple[str, str]]:
+        work = self.make.acts.get((self.number, node.name)) if node.rule == 0 else None
+        return work.events if work is not None else ()
+
+    def note_writers(self) -> None:
+        """Which recipe writes, creates or removes which name, and who makes which folder."""
+        for at, task in enumerate(self.build.tasks):
+            looker = self.look_of.get(task.label, at) if task.kind == "recipe" else at
+            acts = self.acts_of(task.node) if task.kind == "recipe" else ()
+            for who, events in ((at, self.events(task)), (looker, acts)):
+                for kind, path in events:
+                    if kind in CHANGES and not path.endswith("/"):
+                        self.build.writers.setdefault(path, set()).add(who)
+                    elif kind in "MTX":
+                        self.made.add(path)
+
+    def is_written(self, path: str, but: int = -1) -> bool:
+        return bool(self.build.writers.get(path, set()) - {but}) or path in self.made
+
+    def make_decisions(self) -> None:
+        """A target that somebody writes, or one of whose prerequisites is written, is looked at, recipe or not."""
+        for node in self.graph.nodes.values():
+            own = self.of_node.get(node.label, -1)
+            needed = [node.path] if not node.phony else []
+            needed += [self.graph.nodes[p].path for p in self.plain(node)]
+            if own < 0 and any(self.is_written(p) for p in needed):
+                self.of_node[node.label] = self.add(node, "decision", node.label)
+            elif own >= 0 and self.is_leaf(node):
+                acts = self.acts_of(node)
+                if any(self.is_written(p, own) for p in needed) or acts:
+                    self.look_of[node.label] = self.add(node, "look", node.label + "@look")
+
+    def plain(self, node: Node) -> List[str]:
+        """Labels of the prerequisites whose ages count."""
+        only = self.graph.base.order_only.get(node.name, set())
+        return [p for p in node.asks if p in self.graph.nodes and p not in only and self.graph.nodes[p].name != node.name and not self.graph.nodes[p].phony]
+
+    def is_leaf(self, node: Node) -> bool:
+        """Whether no recipe runs below a target: make then decides in its first pass."""
+        if not hasattr(self, "_busy"):
+            self._busy = self.find_busy()
+        return node.label not in self._busy and node.rule == 0
+
+    def find_busy(self) -> Set[str]:
+        """Targets with a recipe that ran somewhere below them."""
+        users: Dict[str, List[str]] = {}
+        for node in self.graph.nodes.values():
+            for one in node.asks:
+                users.setdefault(one, []).append(node.label)
+        busy: Set[str] = set()
+        todo = [u for n in self.graph.nodes.values() if n.jobs for u in users.get(n.label, [])]
+        while todo:
+            label = todo.pop()
+            if label not in busy:
+                busy.add(label)
+                todo.extend(users.get(label, []))
+        return busy
+
+    # ---------------------------------------------------------------- order
+    def connect(self) -> None:
+        """Edges between tasks: what was asked for, the row of first looks, rows of serial makes."""
+        tasks = self.build.tasks
+        keep = self.kept()
+        for label in sorted(keep, key=lambda n: self.graph.nodes[n].first):
+            if label not in self.of_node:
+                self.of_node[label] = self.add(self.graph.nodes[label], "group", label)
+        after: List[Set[int]] = [set() for _ in tasks]
+        for label, at in self.of_node.items():
+            after[at].update(self.of_node[p] for p in self.graph.nodes[label].asks if p in self.of_node)
+        for label, look in self.look_of.items():
+            after[look].update(after[self.of_node[label]])
+            after[self.of_node[label]].add(look)
+        self.chain_looks(after)
+        if self.is_serial():
+            row = [self.of_node[j_label] for j_label in self.labels_of_jobs()]
+            for first, second in zip(row, row[1:]):
+                after[second].add(first)
+        for at, asks in enumerate(after):
+            asks.discard(at)
+        jobs = {label: n for n, label in enumerate(self.labels_of_jobs())}
+        keys = [(self.graph.nodes[t.node.label].first, jobs.get(t.node.label, 0)) for t in tasks]
+        order, dropped = order_tasks(tasks, after, keys)
+        if dropped:
+            self.assumed.add("ring", "make %s" % self.make.words.args, dropped)
+        self.renumber(order, after)
+
+    def labels_of_jobs(self) -> List[str]:
+        of_job = {id(j): n.label for n in self.graph.nodes.values() for j in n.jobs}
+        return list(dict.fromkeys(of_job[id(j)] for j in self.graph.round.jobs))
+
+    def is_serial(self) -> bool:
+        """Whether this make runs one recipe at a time whatever the user says."""
+        if self.graph.base.serial:
+            return True
+        words = re.findall(r"(?:^|\s)(?:-\w*j\s*|--jobs=?)(\d*)", self.make.words.args)
+        return bool(words) and words[-1] == "1"
+
+    def kept(self) -> Set[str]:
+        """Targets without a task of their own that stand above one."""
+        users: Dict[str, List[str]] = {}
+        for node in self.graph.nodes.values():
+            for one in node.asks:
+                users.setdefault(one, []).append(node.label)
+        seen: Set[str] = set()
+        todo = [u for label in self.of_node for u in users.get(label, [])]
+        while todo:
+            label = todo.pop()
+            if label not in seen:
+                seen.add(label)
+                todo.extend(users.get(label, []))
+        return {n for n in seen if n not in self.of_node and n in users}
+
+    def chain_looks(self, after: List[Set[int]]) -> None:
+        """In its first pass make looks at leaves one after the other, before a recipe starts that it considers later."""
+        nodes = self.graph.nodes
+        looks = [(nodes[label].first, at) for label, at in self.look_of.items()]
+        looks += [(nodes[label].first, at) for label, at in self.of_node.items() if self.build.tasks[at].kind == "decision" and self.is_leaf(nodes[label])]
+        looks.sort()
+        for (_, first), (_, second) in zip(looks, looks[1:]):
+            after[second].add(first)
+        for label, at in self.of_node.items():
+            node = nodes[label]
+            if self.build.tasks[at].kind == "recipe":
+                earlier = [a for index, a in looks if index < node.first]
+                if earlier:
+                    after[at].add(earlier[-1])
+
+    def renumber(self, order: List[int], after: List[Set[int]]) -> None:
+        number = {old: new for new, old in enumerate(order)}
+        tasks = [self.build.tasks[old] for old in order]
+        for old, task in zip(order, tasks):
+            task.after = {number[a] for a in after[old]}
+        self.of_node = {n: number[a] for n, a in self.of_node.items()}
+        self.look_of = {n: number[a] for n, a in self.look_of.items()}
+        self.build.tasks = tasks
+        self.build.writers = {p: {number[a] for a in w} for p, w in self.build.writers.items()}
+        self.build.bits = befores([t.after for t in tasks], list(range(len(tasks))))
+
+    # ---------------------------------------------------------------- footprints
+    def fill(self) -> None:
+        """What each task reads and writes."""
+        build = self.build
+        created = self.created()
+        for label, at in self.of_node.items():
+            task, node = build.tasks[at], self.graph.nodes[label]
+            self.add_events(at, self.events(task), created)
+            looker = self.look_of.get(label, at)
+            self.add_events(looker, self.acts_of(node), created)
+            if task.kind != "group":
+                self.add_decision(looker, at, node)
+        add_folders(self)
+        from record.ages import add_ages
+        add_ages(self)
+        self.drop_lonely()
+
+    def created(self) -> Dict[str, Dict[str, Set[int]]]:
+        """By folder: the names that recipes create or remove directly in it."""
+        table: Dict[str, Dict[str, Set[int]]] = {}
+        for at, task in enumerate(self.build.tasks):
+            if task.kind != "recipe":
+                continue
+            looker = self.look_of.get(task.label, at)
+            for who, events in ((at, self.events(task)), (looker, self.acts_of(task.node))):
+                for kind, path in events:
+                    if kind in "CDX":
+                        path = path.rstrip("/")
+                        table.setdefault(os.path.dirname(path), {}).setdefault(os.path.basename(path), set()).add(who)
+        return table
+
+    def add_events(self, at: int, events: Iterable[Tuple[str, str]], created: Dict[str, Dict[str, Set[int]]]) -> None:
+        task, writers = self.build.tasks[at], self.build.writers
+        for kind, path in events:
+            if kind in CHANGES and not path.endswith("/"):
+                task.writes.add(path)
+            elif kind in "RSNP" and path in writers:
+                task.reads.add(path)
+            elif kind == "L":
+                folder, pattern = path.split("\0")
+                for name, who in created.get(folder, {}).items():
+                    if (who != {at}) and join(folder, name) not in self.made and fnmatchcase(name, pattern):
+                        task.reads.add(join(folder, name))
+            elif kind == "H":
+                task.writes.add(path + "/@links")
+                self.build.meanings[path + "/@links"] = "how many names %s has" % path
+            elif kind == "h":
+                task.reads.add(path + "/@links")
+
+    def add_decision(self, looker: int, at: int, node: Node) -> None:
+        """Make looks at a target and at its prerequisites."""
+        task, writers = self.build.tasks[looker], self.build.writers
+        foreign = writers.get(node.path, set()) - {at}
+        cold = self.before.get(node.path) is None and self.is_known(node.path) and not foreign
+        names = [] if node.phony else [node.path]
+        names += [self.graph.nodes[p].path for p in self.plain(node)]
+        for path in names:
+            if path in writers and writers[path] - {at, looker}:
+                task.reads.add(path)
+            if not cold and not node.phony:
+                task.reads.add(path + "/@time")
+        if node.name in self.graph.base.implicit:
+            self.add_search(looker, node)
+
+    def is_known(self, path: str) -> bool:
+        """Whether the tree before the build says if a name was there."""
+        return any(path == top or path.startswith(top.rstrip("/") + "/") for top in self.names.tops)
+
+    def add_search(self, at: int, node: Node) -> None:
+        """The search for implicit rules sees a name that a recipe writes, where make had not listed the folder before."""
+        births = [l.born for l in self.make.life.children]
+        first = min((min((l.born for l in w.lives), default=1 << 60) for w in self.make.work.values()), default=1 << 60)
+        for path in self.searched(self.make, self.graph, node.name):
+            if path in self.build.writers:
+                listed = self.make.listed.get(os.path.dirname(path), 1 << 60)
+                if listed < first and births:
+                    self.assumed.add("search", path)
+                else:
+                    self.build.tasks[at].reads.add(path)
+
+    def searched(self, make: Make, graph: Graph, name: str) -> Set[str]:
+        """The names that one step of the search looks for."""
+        found: Set[str] = set()
+        for targets, asks in graph.base.patterns:
+            for target in targets:
+                head, _, tail = target.partition("%")
+                if "/" not in target:
+                    folder, last = os.path.split(name)
+                else:
+                    folder, last = "", name
+                if last.startswith(head) and last.endswith(tail) and len(last) > len(head) + len(tail):
+                    stem = last[len(head): len(last) - len(tail)]
+                    for ask in asks:
+                        if "%" in ask:
+                            found.add(os.path.normpath(os.path.join(make.folder, folder, ask.replace("%", stem, 1))))
+        return found
+
+    def drop_lonely(self) -> None:
+        """Paths that one task alone touches say nothing; nor do reads of what nobody writes."""
+        count: Dict[str, int] = {}
+        written: Set[str] = set()
+        for task in self.build.tasks:
+            written |= task.writes
+            for path in task.reads | task.writes:
+                count[path] = count.get(path, 0) + 1
+        for task in self.build.tasks:
+            task.reads = {p for p in task.reads if p in written and count[p] > 1 and p not in task.writes}
+            task.writes = {p for p in task.writes if count[p] > 1}

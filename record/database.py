@@ -1,0 +1,98 @@
+"""The reader of make's data base (`make -p`): what its other words do not say about targets."""
+
+import re
+from dataclasses import dataclass, field
+from typing import Dict, List, Set, Tuple
+
+TARGET = re.compile(r"^(.*?)(::?)(?: (.*))?$")
+PLACE = re.compile(r"^#  recipe to execute \(from '(.*)', line (\d+)\):")
+PATTERN = re.compile(r"^([^#\t:=]*%[^:=]*)::?(?!=) *(.*)$")
+
+
+@dataclass
+class Colons:
+    """One rule of a double-colon target."""
+
+    asks: List[str]
+    order_only: List[str]
+
+
+@dataclass
+class Base:
+    """What the data base tells; names as make shows them, cut at blanks."""
+
+    asks: Dict[str, List[str]] = field(default_factory=dict)
+    order_only: Dict[str, Set[str]] = field(default_factory=dict)
+    phony: Set[str] = field(default_factory=set)
+    also: Dict[str, List[str]] = field(default_factory=dict)
+    double: Dict[str, List[Colons]] = field(default_factory=dict)
+    recipes: Dict[str, List[str]] = field(default_factory=dict)
+    places: Dict[str, List[Tuple[str, int]]] = field(default_factory=dict)
+    implicit: Set[str] = field(default_factory=set)
+    patterns: List[Tuple[List[str], List[str]]] = field(default_factory=list)
+    serial: bool = False
+
+
+class _Files:
+    """The part of the data base that lists targets."""
+
+    def __init__(self, base: Base) -> None:
+        self.base, self.name, self.skip = base, "", False
+
+    def line(self, text: str) -> None:
+        base = self.base
+        if text == "":
+            self.name, self.skip = "", False
+        elif text == "# Not a target:":
+            self.skip = True
+        elif text.startswith("\t"):
+            if self.name and text.strip():
+                base.recipes.setdefault(self.name, []).append(text[1:])
+        elif text.startswith("#"):
+            self.remark(text)
+        elif not self.name:
+            self.target(text)
+
+    def remark(self, text: str) -> None:
+        base = self.base
+        place = PLACE.match(text)
+        if place and self.name:
+            base.places.setdefault(self.name, []).append((place.group(1), int(place.group(2))))
+        elif text.startswith("#  Implicit rule search has been done"):
+            base.implicit.add(self.name)
+        elif text.startswith("#  Phony target"):
+            base.phony.add(self.name)
+        elif text.startswith("#  Also makes:"):
+            base.also[self.name] = text.split(":", 1)[1].split()
+
+    def target(self, text: str) -> None:
+        match = TARGET.match(text)
+        if not match:
+            return
+        base, self.name = self.base, match.group(1)
+        first, _, second = ((match.group(3) or "") + " ").partition("| ")
+        if self.name == ".NOTPARALLEL":
+            base.serial = True
+        base.asks.setdefault(self.name, []).extend(first.split())
+        base.order_only.setdefault(self.name, set()).update(second.split())
+        if match.group(2) == "::":
+            base.double.setdefault(self.name, []).append(Colons(first.split(), second.split()))
+
+
+def read_base(lines: List[str]) -> Base:
+    """What one data base says."""
+    base = Base()
+    files = _Files(base)
+    inside = False
+    for text in lines:
+        if text.startswith("# Files"):
+            inside = True
+        elif text.startswith("# files hash-table stats"):
+            break
+        elif inside:
+            files.line(text)
+        else:
+            match = PATTERN.match(text)
+            if match:
+                base.patterns.append((match.group(1).split(), match.group(2).replace("|", " ").split()))
+    return base

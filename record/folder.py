@@ -1,0 +1,77 @@
+"""The folder of a record: what it holds, and how it is written."""
+
+import json
+import shutil
+from dataclasses import asdict, dataclass, field
+from pathlib import Path
+from typing import Any, Dict, List, Optional
+
+from record import VERSION
+from record.assumptions import Assumptions
+from record.build import Build
+from record.graph import Task
+from record.tasks import labels_of, lines_of, relative, shown
+
+
+@dataclass
+class Record:
+    """A recorded build."""
+
+    words: List[str]
+    folder: str
+    status: int
+    seconds: float
+    tools: Dict[str, str] = field(default_factory=dict)
+    holes: List[str] = field(default_factory=list)
+    assumptions: List[Dict[str, Any]] = field(default_factory=list)
+    builds: List[str] = field(default_factory=list)
+
+
+def place_of(build: Build, task: Task) -> Dict[str, Any]:
+    """Where the recipe of a task stands, and its first line."""
+    base = build.graph.base
+    places = base.places.get(task.node.name, [])
+    place = places[task.node.rule] if task.node.rule < len(places) else None
+    recipe = base.recipes.get(task.node.name, [])
+    return {"file": place[0] if place else "", "line": place[1] if place else 0, "recipe": shown(recipe[0]) if recipe else ""}
+
+
+def write_build(folder: Path, build: Build) -> None:
+    """One round: its tasks, and what its labels and names stand for."""
+    folder.mkdir(parents=True)
+    labels = labels_of(build.tasks)
+    root = build.make.folder
+    about: Dict[str, Any] = {}
+    for label, task in zip(labels, build.tasks):
+        about[label] = {"target": shown(task.node.name), "kind": task.kind, **place_of(build, task)}
+    edges = 0
+    with open(folder / "tasks", "w", encoding="utf-8", errors="backslashreplace") as file:
+        for label, line in lines_of(build, root, labels):
+            file.write(line + "\n")
+            about.setdefault(label, {"target": "", "kind": "group", "file": "", "line": 0, "recipe": ""})
+            edges += len(json.loads(line)["after"])
+    meanings = {relative(root, p): shown(m) for p, m in build.meanings.items()}
+    counts = {
+        "considered": len(build.graph.round.nodes), "tasks": len(about), "edges": edges,
+        "recipes": sum(1 for t in build.tasks if t.kind == "recipe"), "paths": sum(len(t.reads) + len(t.writes) for t in build.tasks),
+    }
+    text = {"folder": shown(root), "words": shown(build.make.words.args), "round": build.stage, "counts": counts, "labels": about, "meanings": meanings}
+    (folder / "build.json").write_text(json.dumps(text, indent=1, ensure_ascii=False) + "\n", encoding="utf-8")
+
+
+def write_record(folder: Path, record: Record, builds: List[Build], assumed: Assumptions) -> None:
+    """The whole record; an older one at the same place goes."""
+    if folder.exists():
+        shutil.rmtree(folder)
+    (folder / "builds").mkdir(parents=True)
+    for number, build in enumerate(builds, 1):
+        record.builds.append("%03d" % number)
+        write_build(folder / "builds" / ("%03d" % number), build)
+    record.assumptions = [{"kind": a.kind, "count": a.count, "example": shown(a.example), "text": a.text()} for a in assumed.all()]
+    text = {"version": VERSION, **asdict(record)}
+    (folder / "record.json").write_text(json.dumps(text, indent=1, ensure_ascii=True) + "\n", encoding="utf-8")
+
+
+def is_record(folder: Path) -> bool:
+    """Whether a folder may be replaced: it is absent, empty, or a record."""
+    return not folder.exists() or (folder / "record.json").is_file() or (folder.is_dir() and not any(folder.iterdir()))

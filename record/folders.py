@@ -1,0 +1,210 @@
+"""Folders that recipes make for themselves, and what is known of folders besides their names: times, modes, links.
+
+Makers that tell nobody who was first do not clash; each user needs one maker before it. A strict maker, a look at a
+folder that is not there yet, and a removal clash with all that nothing orders.
+"""
+
+import os
+from dataclasses import dataclass, field
+from typing import TYPE_CHECKING, Dict, List, Set, Tuple
+
+from record import shelltext
+from record.owners import Work
+
+if TYPE_CHECKING:
+    from record.build import Builder
+
+
+@dataclass
+class Folder:
+    """What tasks did to one folder that some of them made or removed."""
+
+    strict: Set[int] = field(default_factory=set)
+    quiet: Set[int] = field(default_factory=set)
+    gone: Set[int] = field(default_factory=set)
+    tried: Set[int] = field(default_factory=set)
+    looks: Dict[int, int] = field(default_factory=dict)  # task: its first look at the folder by its own name
+    absent: Set[int] = field(default_factory=set)
+    users: Set[int] = field(default_factory=set)
+    first_made: Dict[int, int] = field(default_factory=dict)
+    created: Set[int] = field(default_factory=set)
+
+
+def excused(works: List[Work], folder: str) -> bool:
+    """Whether the text of a recipe makes a folder in a form that tells nobody."""
+    return any(shelltext.is_excused(argv, folder) for work in works for life in work.lives for argv in life.ran)
+
+
+def parents(path: str) -> List[str]:
+    """The folders above a path."""
+    found = []
+    while path not in ("/", ""):
+        path = os.path.dirname(path)
+        found.append(path)
+    return found
+
+
+def gather(builder: "Builder") -> Dict[str, Folder]:
+    """All folders that recipes make or remove, with who uses them."""
+    table = {p: Folder() for p in builder.made}
+    renamed = {p for p in builder.build.writers if p in builder.made}
+    for at, events in each(builder):
+        touched: Set[str] = set()
+        for kind, path, place in events:
+            path = path.split("\0")[0]
+            folder = table.get(path)
+            if folder is not None and not path.endswith("/"):
+                note(folder, at, kind, place)
+            if kind in "RSWCDMTEXUL" and not path.endswith("/"):
+                touched.add(path)
+        for path in touched:
+            for above in parents(path):
+                if above in table:
+                    table[above].users.add(at)
+    for path in renamed:
+        table[path].created |= set()
+    return table
+
+
+def each(builder: "Builder") -> List[Tuple[int, List[Tuple[str, str, int]]]]:
+    """Tasks with their events, acts of make with the task that has them."""
+    found = []
+    for at, task in enumerate(builder.build.tasks):
+        if task.kind == "recipe":
+            found.append((at, [(k, p, s) for w in task.works for (k, p), s in w.events.items()]))
+            acts = builder.make.acts.get((builder.number, task.node.name)) if task.node.rule == 0 else None
+            if acts is not None:
+                looker = builder.look_of.get(task.label, at)
+                found.append((looker, [(k, p, s) for (k, p), s in acts.events.items()]))
+        elif task.kind in ("decision", "look"):
+            names = [] if task.node.phony else [task.node.path]
+            names += [builder.graph.nodes[p].path for p in builder.plain(task.node)]
+            found.append((at, [("S", p, 1 << 60) for p in names]))
+    return found
+
+
+def note(folder: Folder, at: int, kind: str, place: int) -> None:
+    """One event on the folder's own name."""
+    if kind in "ME":
+        folder.strict.add(at)
+    elif kind == "T":
+        folder.quiet.add(at)
+    elif kind in "XD":
+        folder.gone.add(at)
+    elif kind == "x":
+        folder.tried.add(at)
+    elif kind in "SRULW":
+        folder.users.add(at)
+    elif kind == "N":
+        folder.absent.add(at)
+    if kind in "MT":
+        folder.created.add(at)
+    if kind in "MTE":
+        folder.first_made[at] = min(place, folder.first_made.get(at, place))
+    if kind in "SN":
+        folder.looks[at] = min(place, folder.looks.get(at, place))
+
+
+def add_folders(builder: "Builder") -> None:
+    """Adds what folders ask for to the tasks."""
+    for path, folder in gather(builder).items():
+        add_folder(builder, path, folder)
+    add_listed(builder)
+    add_times(builder)
+    add_modes(builder)
+
+
+def add_folder(builder: "Builder", path: str, folder: Folder) -> None:
+    tasks = builder.build.tasks
+    for at in list(folder.strict):
+        if excused(tasks[at].works, path):
+            folder.strict.discard(at)
+            folder.quiet.add(at)
+            folder.looks.pop(at, None)
+    makers = folder.strict | folder.quiet
+    existed = builder.before.get(path) == "d"
+    if existed and not folder.gone:
+        makers = set()
+    for at in folder.strict & makers:
+        mark(builder, path + "/@make", "who makes the folder %s first" % path, makers - {at}, {at})
+    for at in (folder.users | folder.absent) - makers:
+        if at in folder.absent or not any(builder.build.is_before(m, at) for m in makers):
+            seen(builder, path, at, makers)
+    for at in makers:
+        look = folder.looks.get(at)
+        if look is not None and look < folder.first_made[at] and not excused(tasks[at].works, path):
+            seen(builder, path, at, makers - {at})
+    everyone = makers | folder.users | folder.absent | set(folder.looks) | folder.tried
+    for at in folder.gone:
+        mark(builder, path + "/@gone", "that the folder %s is there" % path, everyone - {at}, {at})
+    for at in folder.gone | folder.tried:
+        for who, events in each(builder):
+            if who != at:
+                for kind, name, _ in events:
+                    if kind in "CD" and os.path.dirname(name.rstrip("/")) == path:
+                        mark(builder, name.rstrip("/"), "", {at}, {who})
+
+
+def seen(builder: "Builder", path: str, at: int, makers: Set[int]) -> None:
+    """A task sees whether the folder is there already, and nothing orders it behind a maker."""
+    if makers:
+        name = "%s/@seen/%d" % (path, at)
+        mark(builder, name, "that the folder %s is there" % path, {at}, makers - {at})
+
+
+def mark(builder: "Builder", name: str, meaning: str, readers: Set[int], writers: Set[int]) -> None:
+    """A name that stands for something else."""
+    tasks = builder.build.tasks
+    for at in readers:
+        tasks[at].reads.add(name)
+    for at in writers:
+        tasks[at].writes.add(name)
+    if meaning:
+        builder.build.meanings[name] = meaning
+
+
+def add_listed(builder: "Builder") -> None:
+    """A listing sees the folders that recipes make in it."""
+    table = gather(builder)
+    for at, events in each(builder):
+        for kind, path, _ in events:
+            if kind != "L":
+                continue
+            where, pattern = path.split("\0")
+            for name, folder in table.items():
+                if os.path.dirname(name) == where and shelltext.matches(os.path.basename(name), pattern):
+                    makers = (folder.strict | folder.quiet) if builder.before.get(name) != "d" else set()
+                    makers = makers | folder.gone
+                    if at not in makers and (folder.gone - {at} or not any(builder.build.is_before(m, at) for m in makers)):
+                        seen(builder, name, at, makers)
+
+
+def add_times(builder: "Builder") -> None:
+    """Names that are created in or removed from a folder change its time."""
+    wanted = {p[: -len("/@time")] for t in builder.build.tasks for p in t.reads if p.endswith("/@time")}
+    if not wanted:
+        return
+    for at, events in each(builder):
+        for kind, path, _ in events:
+            where = path if kind == "t" else os.path.dirname(path.rstrip("/"))
+            if kind in "CDXt" and where in wanted:
+                mark(builder, where + "/@time", "the time of the folder " + where, set(), {at})
+
+
+def add_modes(builder: "Builder") -> None:
+    """The mode of a folder, and how many folders are in it."""
+    table = each(builder)
+    modes = {p for _, events in table for k, p, _ in events if k == "m"}
+    links = {p for _, events in table for k, p, _ in events if k == "h"}
+    for at, events in table:
+        for kind, path, _ in events:
+            if kind == "m":
+                mark(builder, path + "/@mode", "the mode of the folder " + path, set(), {at})
+            elif path in modes and kind in "SUL":
+                mark(builder, path + "/@mode", "", {at}, set())
+            elif kind in "WCD" and os.path.dirname(path) in modes:
+                mark(builder, os.path.dirname(path) + "/@mode", "", {at}, set())
+            if kind in "CX" and path.endswith("/") or kind == "X":
+                where = os.path.dirname(path.rstrip("/"))
+                if where in links:
+                    mark(builder, where + "/@links", "how many folders are in " + where, set(), {at})

@@ -1,0 +1,187 @@
+"""The order of one round: what make considered, as tasks and what each of them waits for."""
+
+import heapq
+from dataclasses import dataclass, field
+from typing import Dict, List, Optional, Set, Tuple
+
+from record.database import Base
+from record.owners import Make, Work
+from record.words import Job, Round
+
+
+@dataclass(eq=False)
+class Node:
+    """A target that make looked at, or one rule of a double-colon target."""
+
+    name: str
+    label: str
+    first: int
+    asks: Dict[str, None] = field(default_factory=dict)  # labels of other nodes
+    jobs: List[Job] = field(default_factory=list)
+    must: bool = False
+    has_recipe: bool = False
+    phony: bool = False
+    path: str = ""
+    rule: int = 0
+
+
+@dataclass(eq=False)
+class Task:
+    """One line of the text of tasks."""
+
+    label: str
+    node: Node
+    kind: str  # recipe, decision, look, group
+    after: Set[int] = field(default_factory=set)
+    reads: Set[str] = field(default_factory=set)
+    writes: Set[str] = field(default_factory=set)
+    works: List[Work] = field(default_factory=list)
+
+
+class Graph:
+    """The nodes of a round, and the tasks that are made of them."""
+
+    def __init__(self, make: Make, number: int) -> None:
+        self.make, self.number = make, number
+        self.round: Round = make.words.rounds[number]
+        self.base: Base = self.round.base or Base()
+        self.nodes: Dict[str, Node] = {}
+        self.notes: List[str] = []
+        self.read_nodes()
+        self.split_double_colons()
+        self.join_grouped()
+        self.goals = [n for n in self.round.goals if n in self.nodes]
+
+    # ---------------------------------------------------------------- nodes
+    def read_nodes(self) -> None:
+        base = self.base
+        for name, seen in self.round.nodes.items():
+            node = Node(name, name, seen.index, dict.fromkeys(seen.asks))
+            self.nodes[name] = node
+        for job in self.round.jobs:
+            if job.target not in self.nodes:
+                self.nodes[job.target] = Node(job.target, job.target, len(self.nodes))
+                self.round.goals.append(job.target)
+            self.nodes[job.target].jobs.append(job)
+        for name, node in self.nodes.items():
+            node.must = name in self.round.must
+            node.has_recipe = name in base.recipes
+            node.phony = name in base.phony
+
+    def split_double_colons(self) -> None:
+        """The rules of one target run one after the other; who asks for the target waits for the first alone."""
+        for name, rules in self.base.double.items():
+            node = self.nodes.get(name)
+            if node is None or len(rules) < 2:
+                continue
+            known = {p for rule in rules for p in rule.asks + rule.order_only}
+            loose = [p for p in node.asks if p not in known]
+            jobs, node.jobs = node.jobs, []
+            parts = [node]
+            for at in range(1, len(rules)):
+                label = self.free("%s@rule%d" % (name, at + 1))
+                part = Node(name, label, node.first, {}, [], node.must, node.has_recipe, node.phony, "", at)
+                self.nodes[label] = part
+                parts.append(part)
+            for at, (part, rule) in enumerate(zip(parts, rules)):
+                part.asks = dict.fromkeys([p for p in rule.asks + rule.order_only if p in self.nodes] + loose)
+                if at:
+                    part.asks[parts[at - 1].label] = None
+            self.share_jobs(parts, jobs, rules)
+            self.hold_back(parts)
+
+    def share_jobs(self, parts: List[Node], jobs: List[Job], rules: List[object]) -> None:
+        if len(jobs) == len(parts):
+            for part, job in zip(parts, jobs):
+                part.jobs = [job]
+        else:
+            parts[0].jobs = jobs
+            if jobs:
+                self.notes.append("double colons: not every rule of %s ran" % parts[0].name)
+
+    def hold_back(self, parts: List[Node]) -> None:
+        """What a later rule alone asks for is looked at when the rule before it has ended."""
+        for before, part in zip(parts, parts[1:]):
+            without = self.reached(part)
+            for label in list(part.asks):
+                if label not in without and label != before.label and label in self.nodes:
+                    for one in self.reached_from([label]) - without:
+                        if one not in (before.label, part.label):
+                            self.nodes[one].asks.setdefault(before.label)
+
+    def reached(self, but: Node) -> Set[str]:
+        """What is reached where one node asks for nothing."""
+        return self.reached_from(list(self.round.goals) + [n.label for n in self.nodes.values() if n.rule and n is not but], but)
+
+    def reached_from(self, starts: List[str], but: Optional[Node] = None) -> Set[str]:
+        seen: Set[str] = set()
+        todo = [s for s in starts if s in self.nodes]
+        while todo:
+            label = todo.pop()
+            if label not in seen:
+                seen.add(label)
+                node = self.nodes[label]
+                if node is not but:
+                    todo.extend(p for p in node.asks if p in self.nodes)
+        return seen
+
+    def free(self, label: str) -> str:
+        """A label that no node has."""
+        while label in self.nodes:
+            label += "+"
+        return label
+
+    def join_grouped(self) -> None:
+        """Targets of one recipe: the one that make names has it, the others wait for it."""
+        for name, others in self.base.also.items():
+            node = self.nodes.get(name)
+            if node is None or not node.jobs:
+                continue
+            for other in others:
+                member = self.nodes.get(other)
+                if member is not None and member is not node and not member.jobs:
+                    member.asks[name] = None
+                    node.asks.pop(other, None)
+
+
+def order_tasks(tasks: List[Task], after: List[Set[int]], keys: List[Tuple[int, int]]) -> Tuple[List[int], int]:
+    """A serial order of tasks; edges that close a ring are dropped and counted."""
+    users: List[List[int]] = [[] for _ in tasks]
+    left = [len(a) for a in after]
+    for at, asks in enumerate(after):
+        for one in asks:
+            users[one].append(at)
+    heap = [(keys[at], at) for at in range(len(tasks)) if not left[at]]
+    heapq.heapify(heap)
+    order: List[int] = []
+    done = [False] * len(tasks)
+    dropped = 0
+    while len(order) < len(tasks):
+        if not heap:
+            at = min((a for a in range(len(tasks)) if not done[a]), key=lambda a: (left[a], keys[a]))
+            dropped += left[at]
+            after[at] = {p for p in after[at] if done[p]}
+            left[at] = 0
+            heapq.heappush(heap, (keys[at], at))
+        _, at = heapq.heappop(heap)
+        if done[at]:
+            continue
+        done[at] = True
+        order.append(at)
+        for user in users[at]:
+            if not done[user] and at in after[user]:
+                left[user] -= 1
+                if left[user] == 0:
+                    heapq.heappush(heap, (keys[user], user))
+    return order, dropped
+
+
+def befores(after: List[Set[int]], order: List[int]) -> List[int]:
+    """For each task the set, as bits, of all that have ended before it starts."""
+    bits = [0] * len(after)
+    for at in order:
+        value = 0
+        for one in after[at]:
+            value |= bits[one] | (1 << one)
+        bits[at] = value
+    return bits

@@ -1,0 +1,217 @@
+"""`race-record -- make [GOALS]`: one recorded build, and the verdict of `race` on it."""
+
+import argparse
+import os
+import re
+import shutil
+import signal
+import subprocess
+import sys
+import tempfile
+import time
+from pathlib import Path
+from typing import Dict, List, Optional, Tuple
+
+from record.assumptions import Assumptions
+from record.build import Build, Builder
+from record.folder import Record, is_record, write_record
+from record.judge import find_race, judge
+from record.lives import Life, Replay
+from record.names import Names
+from record.owners import Make, Owners
+from record.report import Judged, read_json, report
+from record.strace import read_trace
+from record.words import read_logs
+
+HERE = Path(__file__).resolve().parent
+CALLS = ("%file,fchdir,getdents64,getdents,clone,clone3,fork,vfork,fchmod,fchown,ftruncate,fsetxattr,connect,bind")
+STRACE = ["strace", "-f", "-q", "-y", "--seccomp-bpf", "-s", "65536", "-e", "signal=none", "-e", "trace=" + CALLS]
+EXAMPLE = """example:
+  race-record -- make -C src all       one serial build, then the verdict
+statuses: 0 safe, 1 races, 2 no verdict, 3 usage or a tool that is missing"""
+
+
+class Missing(Exception):
+    """A tool is not there, or too old."""
+
+
+def version_of(program: str, pattern: str, least: Tuple[int, int], package: str) -> str:
+    """The version that a program tells of itself."""
+    path = shutil.which(program)
+    if path is None:
+        raise Missing("%s is missing (Debian: apt-get install %s)" % (program, package))
+    told = subprocess.run([path, "--version"], capture_output=True, text=True, errors="replace", env=dict(os.environ, LC_ALL="C")).stdout
+    match = re.search(pattern, told)
+    if not match or (int(match.group(1)), int(match.group(2))) < least:
+        raise Missing("%s is %s, and %d.%d or later is needed" % (program, told.split("\n")[0], least[0], least[1]))
+    return "%s.%s" % match.groups()
+
+
+def prepare_spool(spool: Path, real: str) -> None:
+    """The wrapper under the names of make."""
+    (spool / "bin").mkdir(parents=True)
+    (spool / "real").write_text(real)
+    text = "#!%s -ISB\n" % sys.executable + (HERE / "wrapper.py").read_text()
+    for name in ("make", "gmake"):
+        if name == "make" or shutil.which(name):
+            path = spool / "bin" / name
+            path.write_text(text)
+            path.chmod(0o755)
+
+
+def run_build(words: List[str], spool: Path) -> Tuple[int, float]:
+    """The build under strace; its status and seconds."""
+    env = dict(os.environ)
+    if "MAKELEVEL" in env:
+        for name in ("MAKELEVEL", "MAKEFLAGS", "MFLAGS", "MAKE_TERMOUT", "MAKE_TERMERR"):
+            env.pop(name, None)
+    env["PATH"] = "%s:%s" % (spool / "bin", env.get("PATH", os.defpath))
+    began = time.monotonic()
+    old = signal.signal(signal.SIGINT, signal.SIG_IGN)
+    status = subprocess.call(STRACE + ["-o", str(spool / "trace"), "--"] + words, env=env)
+    signal.signal(signal.SIGINT, old)
+    return status, time.monotonic() - began
+
+
+def replay_trace(spool: Path, names: Names, real: str, folder: str, tops: List[str]) -> Replay:
+    """The trace, played in the name space."""
+    replay = Replay(names, str(spool), os.path.realpath(real), folder, tops, None)
+    with open(spool / "trace", encoding="latin-1") as lines:
+        for event in read_trace(lines):
+            replay.play(event)
+    return replay
+
+
+def at_once(lives: List[Life], owners: Owners, assumed: Assumptions) -> None:
+    """Two processes of one recipe that touch a file at the same time."""
+    for make in owners.makes:
+        for job in (j for r in make.words.rounds for j in r.jobs):
+            work = make.work.get(id(job))
+            if work is None or len(work.lives) > 2000:
+                continue
+            table: Dict[str, List[Tuple[Life, bool]]] = {}
+            for life in work.lives:
+                for kind, path in life.events:
+                    if kind in "RWD":
+                        table.setdefault(path, []).append((life, kind in "WD"))
+            for path, who in table.items():
+                if any(w for _, w in who) and len({id(l) for l, _ in who}) > 1 and len(who) < 40 and overlap(who):
+                    assumed.add("at-once", "%s in %s" % (path, job.target))
+
+
+def overlap(who: List[Tuple[Life, bool]]) -> bool:
+    """Whether a writer lives while another, that is no parent or child of it, lives."""
+    for first, writes in who:
+        for second, _ in who:
+            if writes and first is not second and first.born < second.died and second.born < first.died:
+                if first not in second.up() and second not in first.up():
+                    return True
+    return False
+
+
+def import_record(spool: Path, names: Names, real: str, folder: str, record: Record) -> Tuple[List[Build], Assumptions]:
+    """Of a trace and make's words: the builds, the holes, and what was taken for granted."""
+    assumed = Assumptions()
+    assumed.add("serial", "")
+    replay = replay_trace(spool, names, real, folder, names.tops)
+    owners = Owners(replay.all, read_logs(spool))
+    record.holes += replay.holes + owners.holes
+    record.holes += ["a make ran past the recorder: " + p for p in replay.past]
+    if not owners.makes:
+        record.holes.append("no make ran")
+    for socket in replay.sockets:
+        assumed.add("sockets", socket)
+    for name in replay.hard_links:
+        assumed.add("hard-links", name)
+    at_once(replay.all, owners, assumed)
+    builds = []
+    for make in sorted(owners.makes, key=lambda m: m.life.born):
+        for number, one in enumerate(make.words.rounds):
+            acts = [t for n, t in make.acts if n == number]
+            if one.jobs or acts:
+                builds.append(Builder(make, number, names, assumed).run())
+    return builds, assumed
+
+
+def parse(args: List[str]) -> argparse.Namespace:
+    """The words of the command line."""
+    parser = argparse.ArgumentParser(prog="race-record", description="Builds once, serially, and says whether make -j is safe.",
+                                     epilog=EXAMPLE, formatter_class=argparse.RawDescriptionHelpFormatter)
+    parser.add_argument("-o", "--output", default=".race", metavar="DIR", help="the folder of the record (.race)")
+    parser.add_argument("--race", metavar="PROGRAM", help="the program race")
+    parser.add_argument("--top", action="append", default=[], metavar="DIR", help="another folder that the build works in")
+    parser.add_argument("--keep-trace", action="store_true", help="keep the trace in the record")
+    parser.add_argument("words", nargs=argparse.REMAINDER, metavar="-- COMMAND ..", help="what builds the project")
+    found = parser.parse_args(args)
+    if found.words[:1] == ["--"]:
+        found.words = found.words[1:]
+    if not found.words:
+        parser.error("which command builds the project? (race-record -- make)")
+    return found
+
+
+def stop(text: str) -> int:
+    """A usage fault or a missing tool."""
+    print("race-record: " + text, file=sys.stderr)
+    return 3
+
+
+def judge_record(out: Path, race: str) -> Tuple[int, List[Judged]]:
+    """Asks `race` about each build of a record; the worst status."""
+    record = read_json(out / "record.json")
+    judged = []
+    for number in record["builds"]:
+        about = read_json(out / "builds" / number / "build.json")
+        judged.append(Judged(number, about, judge(race, out / "builds" / number / "tasks", about["folder"])))
+    if record["holes"] or any(j.verdict.status not in (0, 1) for j in judged):
+        return 2, judged
+    return (1 if any(j.verdict.races for j in judged) else 0), judged
+
+
+def run(options: argparse.Namespace) -> int:
+    """Records, writes, asks, reports."""
+    race = find_race(options.race)
+    if race is None:
+        return stop("the program race is missing (--race PROGRAM, $RACE, or on PATH)")
+    try:
+        tools = {"strace": version_of("strace", r"version (\d+)\.(\d+)", (5, 10), "strace"), "make": version_of("make", r"GNU Make (\d+)\.(\d+)", (4, 2), "make")}
+    except Missing as missing:
+        return stop(str(missing))
+    out = Path(options.output).absolute()
+    if not is_record(out):
+        return stop("%s is there and is no record" % out)
+    if shutil.which(options.words[0]) is None:
+        return stop("%s: no such command" % options.words[0])
+    real = shutil.which("make") or "make"
+    folder = os.path.realpath(".")
+    names = Names()
+    if out.exists():
+        shutil.rmtree(out)
+    for top in dict.fromkeys([folder] + [os.path.realpath(t) for t in options.top]):
+        names.walk(top)
+    room = Path(tempfile.mkdtemp(prefix="race-record-", dir="/tmp" if os.path.isdir("/tmp") else None))
+    spool = Path(os.path.realpath(room))
+    try:
+        prepare_spool(spool, real)
+        status, seconds = run_build(options.words, spool)
+        record = Record(options.words, folder, status, round(seconds, 2), tools)
+        if status != 0:
+            record.holes.append("the build ended with status %d" % status)
+        builds, assumed = import_record(spool, names, real, folder, record)
+        write_record(out, record, builds, assumed)
+        if options.keep_trace:
+            shutil.copytree(spool, out / "trace", ignore=shutil.ignore_patterns("bin", "real"))
+    finally:
+        shutil.rmtree(room, ignore_errors=True)
+    ended, judged = judge_record(out, race)
+    print("\n".join(report(read_json(out / "record.json"), judged)))
+    return ended
+
+
+def main(args: Optional[List[str]] = None) -> int:
+    """The program."""
+    try:
+        options = parse(sys.argv[1:] if args is None else args)
+    except SystemExit as ended:
+        return 3 if ended.code else 0
+    return run(options)

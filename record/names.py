@@ -1,0 +1,190 @@
+"""One model of the name space: folders, links, and files with several names.
+
+It is filled from the tree before the build, and each call of the trace is replayed in it, in the order of the trace.
+Names outside of the folders that were walked are looked up on the disk when they are first met.
+"""
+
+import os
+import stat
+from dataclasses import dataclass, field
+from pathlib import Path
+from typing import Dict, Iterable, List, Optional, Tuple
+
+LINK_LIMIT = 40
+
+
+class Inode:
+    """A file (`f`), folder (`d`) or link (`l`); a folder knows its place, a file all of its names."""
+
+    __slots__ = ("kind", "entries", "target", "parent", "name", "walked", "names", "first")
+
+    def __init__(self, kind: str, target: str = "") -> None:
+        self.kind = kind
+        self.target = target
+        self.entries: Dict[str, "Inode"] = {}
+        self.parent: Optional["Inode"] = None
+        self.name = ""
+        self.walked = False
+        self.names: List[Tuple["Inode", str]] = []
+        self.first = False
+
+    def path(self) -> str:
+        """The folder's path."""
+        parts: List[str] = []
+        node: Inode = self
+        while node.parent is not None:
+            parts.append(node.name)
+            node = node.parent
+        return "/" + "/".join(reversed(parts))
+
+
+def join(folder: str, name: str) -> str:
+    """The path of a name in a folder."""
+    return folder + name if folder.endswith("/") else folder + "/" + name
+
+
+@dataclass
+class Found:
+    """Where a path leads: its real spelling, what is there, the links on the way, the first name that is not there."""
+
+    path: str
+    inode: Optional[Inode]
+    folder: Optional[Inode]
+    name: str
+    links: List[str] = field(default_factory=list)
+    missing: str = ""
+
+
+class Names:
+    """The name space; see the module."""
+
+    def __init__(self) -> None:
+        self.root = Inode("d")
+        self.before: Dict[str, str] = {}
+        self.tops: List[str] = []
+
+    def walk(self, top: str) -> None:
+        """Takes in the tree below a real path, as it is now."""
+        node = self.folder(top)
+        files: Dict[Tuple[int, int], Inode] = {}
+        todo = [(node, top)]
+        self.tops.append(top)
+        self.before[top] = "d"
+        while todo:
+            node, path = todo.pop()
+            node.walked = True
+            try:
+                entries = list(os.scandir(path))
+            except OSError:
+                continue
+            for entry in entries:
+                found = entry.stat(follow_symlinks=False)
+                child = self.made_of(found, join(path, entry.name), files)
+                self.put(node, entry.name, child)
+                child.first = True
+                self.before[join(path, entry.name)] = child.kind
+                if child.kind == "d":
+                    todo.append((child, join(path, entry.name)))
+
+    @staticmethod
+    def made_of(found: os.stat_result, path: str, files: Dict[Tuple[int, int], Inode]) -> Inode:
+        """What the disk has, as a node of the model."""
+        if stat.S_ISDIR(found.st_mode):
+            return Inode("d")
+        if stat.S_ISLNK(found.st_mode):
+            return Inode("l", os.readlink(path))
+        if found.st_nlink > 1:
+            return files.setdefault((found.st_dev, found.st_ino), Inode("f"))
+        return Inode("f")
+
+    def folder(self, path: str) -> Inode:
+        """The folder of a real path, with those above it."""
+        node = self.root
+        for part in Path(path).parts[1:]:
+            child = node.entries.get(part)
+            if child is None:
+                child = Inode("d")
+                self.put(node, part, child)
+            node = child
+        return node
+
+    @staticmethod
+    def put(folder: Inode, name: str, child: Inode) -> None:
+        """Gives a node a name."""
+        folder.entries[name] = child
+        if child.kind == "d":
+            child.parent, child.name = folder, name
+        else:
+            child.names.append((folder, name))
+
+    @staticmethod
+    def take(folder: Inode, name: str) -> Optional[Inode]:
+        """Takes a name away."""
+        child = folder.entries.pop(name, None)
+        if child is not None and child.kind != "d":
+            child.names = [(f, n) for f, n in child.names if not (f is folder and n == name)]
+        return child
+
+    def child_of(self, folder: Inode, name: str) -> Optional[Inode]:
+        """What a folder has under a name; outside of the walked folders the disk says it."""
+        child = folder.entries.get(name)
+        if child is None and not self.is_walked(folder):
+            path = join(folder.path(), name)
+            try:
+                child = self.made_of(os.lstat(path), path, {})
+            except OSError:
+                return None
+            self.put(folder, name, child)
+        return child
+
+    @staticmethod
+    def is_walked(folder: Inode) -> bool:
+        """Whether all names of a folder are known."""
+        return folder.walked
+
+    def find(self, base: str, path: str, follow: bool) -> Found:
+        """Follows a path from a folder; `follow`: the last name too, where it is a link."""
+        todo = [p for p in join(base, path).split("/") if p not in ("", ".")]
+        if path.endswith("/"):
+            follow = True
+        if path.startswith("/"):
+            todo = [p for p in path.split("/") if p not in ("", ".")]
+        todo.reverse()
+        node, links, hops = self.root, [], 0
+        while todo:
+            part = todo.pop()
+            if part == "..":
+                node = node.parent or self.root
+                continue
+            child = self.child_of(node, part)
+            here = join(node.path(), part)
+            if child is not None and child.kind == "l" and (todo or follow) and hops < LINK_LIMIT:
+                hops += 1
+                links.append(here)
+                if child.target.startswith("/"):
+                    node = self.root
+                todo += [p for p in reversed(child.target.split("/")) if p not in ("", ".")]
+                continue
+            if not todo:
+                return Found(here, child, node, part, links, "" if child else here)
+            if child is None or child.kind != "d":
+                rest = "/".join(reversed(todo))
+                return Found(os.path.normpath(join(here, rest)), None, None, "", links, here)
+            node = child
+        return Found(node.path(), node, node.parent, node.name, links)
+
+    def aliases(self, inode: Optional[Inode]) -> List[str]:
+        """All names of a file."""
+        if inode is None or inode.kind == "d":
+            return []
+        return [join(folder.path(), name) for folder, name in inode.names]
+
+    def below(self, inode: Inode, path: str) -> Iterable[Tuple[str, Inode]]:
+        """All names below a folder."""
+        todo = [(inode, path)]
+        while todo:
+            node, where = todo.pop()
+            for name, child in node.entries.items():
+                yield join(where, name), child
+                if child.kind == "d":
+                    todo.append((child, join(where, name)))

@@ -1,0 +1,222 @@
+"""Who did what: each process works for a recipe of each make above it; what make does itself between two jobs has an
+owner by its place among make's words."""
+
+import bisect
+import os
+import re
+from dataclasses import dataclass, field
+from typing import Dict, Iterable, List, Optional, Set, Tuple
+
+from record.lives import Act, Key, Life
+from record.words import Job, Round, Words, makefiles
+
+WILDCARD = re.compile(r"\$[({]wildcard ([^\n]*?)[)}](?=[\s)},]|$)", re.M)
+
+
+@dataclass
+class Work:
+    """What a recipe did: its processes, their events, and the makes below it."""
+
+    events: Dict[Key, int] = field(default_factory=dict)
+    lives: List[Life] = field(default_factory=list)
+    makes: List["Make"] = field(default_factory=list)
+
+    def add(self, kind: str, path: str, place: int) -> None:
+        """Takes one event; its first place counts."""
+        key = (kind, path)
+        if key not in self.events or self.events[key] > place:
+            self.events[key] = place
+
+
+@dataclass(eq=False)
+class Make:
+    """A make process: its words, its life, its folder, and what each of its jobs did."""
+
+    words: Words
+    life: Life
+    folder: str
+    work: Dict[int, Work] = field(default_factory=dict)  # by id of the job
+    acts: Dict[Tuple[int, str], Work] = field(default_factory=dict)  # by number of the round and target
+    globs: List[str] = field(default_factory=list)
+    listed: Dict[str, int] = field(default_factory=dict)  # folder: when it was first listed by make itself
+
+
+class Owners:
+    """Brings the words of makes and the lives of processes together."""
+
+    def __init__(self, lives: List[Life], words: List[Words]) -> None:
+        self.lives = lives
+        self.holes: List[str] = []
+        self.makes: List[Make] = []
+        self.of_life: Dict[int, Make] = {}
+        self.jobs: Dict[int, Job] = {}  # by id of a life that make started
+        by_key = {(w.pid, w.life): w for w in words}
+        for life in lives:
+            if life.is_make and life.number >= 0:
+                found = by_key.pop((life.pid, life.number), None)
+                if found is None:
+                    self.holes.append("a make has no words: " + " ".join(life.argv)[:100])
+                else:
+                    self.add_make(life, found)
+        for (pid, _), found in by_key.items():
+            self.holes.append("a make has no process in the trace: %d %s" % (pid, found.args))
+        for make in self.makes:
+            self.match_jobs(make)
+        for make in self.makes:
+            self.collect(make)
+
+    def add_make(self, life: Life, words: Words) -> None:
+        make = Make(words, life, self.folder_of(life, words))
+        make.globs = self.patterns_of(make)
+        self.makes.append(make)
+        self.of_life[id(life)] = make
+        if words.status is None:
+            self.holes.append("a make did not end: make " + words.args)
+        elif words.status != 0:
+            self.holes.append("a make failed: make %s" % words.args)
+
+    @staticmethod
+    def folder_of(life: Life, words: Words) -> str:
+        """The folder that make works in: `-C` moves it before it reads."""
+        folder = life.starts[0][1] if life.starts else life.folder
+        for act in life.acts:
+            if act.kind == "U":
+                folder = act.path
+            if act.kind == "R" and any(act.path.endswith("/" + os.path.basename(n)) for n in makefiles(words)):
+                break
+        return folder
+
+    @staticmethod
+    def patterns_of(make: Make) -> List[str]:
+        """The patterns of `$(wildcard ..)` in the makefiles that were read."""
+        found: Set[str] = set()
+        for name in makefiles(make.words):
+            try:
+                with open(os.path.join(make.folder, name), errors="replace") as file:
+                    text = file.read()
+            except OSError:
+                found.add("*")
+                continue
+            for words in WILDCARD.findall(text):
+                plain = re.sub(r"\$[({][^(){}]*[)}]|\$.", "\x02", words)
+                found.update("*" if "\x02" in w or "$" in w or "(" in w else p for w in plain.split() for p in w.split("/") if re.search(r"[*?\[\x02$(]", p))
+            if "wildcard" in WILDCARD.sub("", text):
+                found.add("*")
+        return sorted(found)
+
+    def match_jobs(self, make: Make) -> None:
+        """The k-th process of a number that make started is its k-th job of that number."""
+        kids: Dict[int, List[Life]] = {}
+        for life in make.life.children:
+            if life.pid in make.words.jobs:
+                kids.setdefault(life.pid, []).append(life)
+        for pid, jobs in make.words.jobs.items():
+            lives = kids.get(pid, [])
+            if len(lives) != len(jobs):
+                self.holes.append("a recipe that ran has no process: " + jobs[0].target if not lives else "a process number came again: %d" % pid)
+            for life, job in zip(lives, jobs):
+                self.jobs[id(life)] = job
+        for one in make.words.rounds:
+            births = [min((l.born for l in make.life.children if self.jobs.get(id(l)) is job), default=-1) for job in one.jobs]
+            if any(b < 0 for b in births):
+                self.holes.append("a recipe that ran has no process: " + one.jobs[births.index(-1)].target)
+            elif births != sorted(births):
+                self.holes.append("the jobs of make are not in the order of the trace: make " + make.words.args)
+
+    # ---------------------------------------------------------------- what jobs did
+    def below(self, life: Life) -> Iterable[Life]:
+        """A life and all that it started."""
+        todo = [life]
+        while todo:
+            one = todo.pop()
+            yield one
+            todo.extend(one.children)
+
+    def take(self, work: Work, life: Life) -> None:
+        """What a process and all below it did belongs to a recipe."""
+        for one in self.below(life):
+            work.lives.append(one)
+            make = self.of_life.get(id(one))
+            if make is not None and make not in work.makes:
+                work.makes.append(make)
+            for (kind, path), place in one.events.items():
+                if kind == "Q":
+                    for pattern in make.globs if make is not None else ["*"]:
+                        work.add("L", path + "\0" + pattern, place)
+                else:
+                    work.add(kind, path, place)
+
+    def collect(self, make: Make) -> None:
+        """The work of all jobs of a make, and of make itself."""
+        for life in make.life.children:
+            job = self.jobs.get(id(life))
+            if job is not None:
+                self.take(make.work.setdefault(id(job), Work()), life)
+        for act in make.life.acts:
+            if act.kind == "Q":
+                make.listed.setdefault(act.path, act.place)
+        for start, (begin, _) in enumerate(make.life.starts):
+            end = make.life.starts[start + 1][0] if start + 1 < len(make.life.starts) else 1 << 60
+            self.place_acts(make, start, self.read_by(make, start, begin, end), end)
+
+    def read_by(self, make: Make, start: int, begin: int, end: int) -> int:
+        """When make had read its makefiles: it looks at the first of them again."""
+        names = make.words.read[start] if start < len(make.words.read) else []
+        left = [os.path.basename(n) for n in names]
+        last = begin
+        for act in make.life.acts:
+            if begin <= act.place < end:
+                if left and act.kind == "R" and os.path.basename(act.path) in left:
+                    left.remove(os.path.basename(act.path))
+                    last = act.place
+                elif not left and act.word in names:
+                    return act.place
+        return last
+
+    def place_acts(self, make: Make, start: int, ready: int, end: int) -> None:
+        """Gives what make did itself, after it had read, to the targets that were being made then."""
+        rounds = [(n, r) for n, r in enumerate(make.words.rounds) if r.start == start]
+        table: List[Tuple[int, int, int]] = []  # birth, round, jobs of the round so far
+        for number, one in rounds:
+            for job in one.jobs:
+                table.append((min((l.born for l in make.life.children if self.jobs.get(id(l)) is job), default=0), number, job.number + 1))
+        table.sort()
+        births = [t[0] for t in table]
+        names = {n for _, r in rounds for n in r.nodes} | {v for _, r in rounds for v in r.vpath.values()}
+        pieces: List[Tuple[int, List[Tuple[str, str, int]]]] = []
+        for act in make.life.acts:
+            if ready < act.place < end and not (act.word and act.word in names):
+                pieces.append((act.place, [(act.kind, act.path, act.place)]))
+        for life in make.life.children:
+            if id(life) not in self.jobs and ready < life.born < end:
+                work = Work()
+                self.take(work, life)
+                pieces.append((life.born, [(k, p, s) for (k, p), s in work.events.items()]))
+        for place, events in pieces:
+            for number, target in self.owners_at(make, rounds, table, births, place):
+                work = make.acts.setdefault((number, target), Work())
+                for kind, path, when in events:
+                    if kind == "Q":
+                        for pattern in make.globs:
+                            work.add("L", path + "\0" + pattern, when)
+                    else:
+                        work.add(kind, path, when)
+
+    @staticmethod
+    def owners_at(make: Make, rounds: List[Tuple[int, Round]], table: List[Tuple[int, int, int]], births: List[int], place: int) -> Set[Tuple[int, str]]:
+        """The targets that were being made at a place: those that had to be since the last job, and that of the next."""
+        at = bisect.bisect_right(births, place)
+        owners: Set[Tuple[int, str]] = set()
+        before: Optional[Tuple[int, int]] = (table[at - 1][1], table[at - 1][2]) if at else None
+        if at < len(table):
+            _, number, done = table[at]
+            owners.add((number, make.words.rounds[number].jobs[done - 1].target))
+        for number, one in rounds:
+            done = before[1] if before and before[0] == number else 0
+            if before and number < before[0] or at < len(table) and number > table[at][1]:
+                continue
+            if before is None and at < len(table) and number != table[at][1] and one.jobs:
+                continue
+            recipes = one.base.recipes if one.base else {}
+            owners.update((number, t) for t, count in one.must.items() if count == done and t in recipes)
+        return owners

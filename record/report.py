@@ -1,0 +1,132 @@
+"""The verdict as text: races with both places, the fix, and what was taken for granted."""
+
+import json
+import os
+import re
+import sys
+from dataclasses import dataclass, field
+from pathlib import Path
+from typing import Any, Dict, List, Tuple
+
+from record.judge import Race, Verdict
+
+SHOWN_RACES = 30
+OWN_NAME = re.compile(r"/@(make|seen|gone|time|mode|links|age)(/.*)?$")
+
+
+@dataclass
+class Judged:
+    """One round of the record with what `race` said of it."""
+
+    number: str
+    about: Dict[str, Any]
+    verdict: Verdict
+
+
+@dataclass
+class Colours:
+    """Escapes, empty where the text goes to no terminal."""
+
+    bad: str = ""
+    good: str = ""
+    end: str = ""
+
+
+def colours() -> Colours:
+    """For standard output."""
+    if sys.stdout.isatty() and not os.environ.get("NO_COLOR"):
+        return Colours("\x1b[1;31m", "\x1b[1;32m", "\x1b[0m")
+    return Colours()
+
+
+def place(about: Dict[str, Any], label: str) -> str:
+    """`Makefile:26`, or nothing."""
+    found = about["labels"].get(label, {})
+    return "%s:%d" % (found["file"], found["line"]) if found.get("file") else "-"
+
+
+def verb(about: Dict[str, Any], label: str, does: str, path: str) -> str:
+    """What a task does to a path."""
+    kind = about["labels"].get(label, {}).get("kind", "")
+    if OWN_NAME.search(path):
+        return "settles it" if does == "writes" else "sees it"
+    if does == "writes":
+        return "writes it"
+    return "make looks at it" if kind in ("decision", "look") else "reads it"
+
+
+def target(about: Dict[str, Any], label: str) -> str:
+    """The target of a label."""
+    return about["labels"].get(label, {}).get("target") or label
+
+
+def race_text(about: Dict[str, Any], race: Race, fixes: List[str], is_fixed: bool) -> List[str]:
+    """The lines of one race."""
+    meaning = about["meanings"].get(race.path)
+    name = OWN_NAME.sub("", race.path) if meaning else race.path
+    lines = ["RACE  " + name + ("  (%s)" % meaning if meaning else "")]
+    rows = [(target(about, race.first), place(about, race.first), verb(about, race.first, race.first_does, race.path)),
+            (target(about, race.second), place(about, race.second), verb(about, race.second, race.second_does, race.path) + ", and does not wait for it")]
+    wide = [max(len(r[n]) for r in rows) for n in (0, 1)]
+    lines += ["  %s  %s  %s" % (r[0].ljust(wide[0]), r[1].ljust(wide[1]), r[2]) for r in rows]
+    lines.append("  fix: %s: %s%s" % (target(about, race.second), target(about, race.first), "          (checked: with all fixes the build is safe)" if is_fixed else ""))
+    return lines
+
+
+def races_text(judged: Judged, colour: Colours) -> Tuple[List[str], int, int]:
+    """All races of one round, by path and writer; the lines, the races shown, the files."""
+    groups: Dict[Tuple[str, str], List[Race]] = {}
+    for race in judged.verdict.races:
+        groups.setdefault((race.path, race.first if race.first_does == "writes" else race.second), []).append(race)
+    lines: List[str] = []
+    for (_, _), races in list(groups.items())[:SHOWN_RACES]:
+        text = race_text(judged.about, races[0], judged.verdict.fix, judged.verdict.is_fixed)
+        lines += [colour.bad + text[0] + colour.end] + text[1:]
+        if len(races) > 1:
+            lines.append("  and %d more on this file by the same writer" % (len(races) - 1))
+        lines.append("")
+    if len(groups) > SHOWN_RACES:
+        lines += ["%d more groups of races are in the record" % (len(groups) - SHOWN_RACES), ""]
+    return lines, len(judged.verdict.races), len({r.path for r in judged.verdict.races})
+
+
+def assumptions_text(record: Dict[str, Any], is_safe: bool) -> List[str]:
+    """What was taken for granted."""
+    lines = ["safe, if:" if is_safe else "Assumed:"]
+    for one in record["assumptions"]:
+        example = "" if one["count"] == 1 and not one["example"] else " (%d, such as %s)" % (one["count"], one["example"][:60])
+        lines.append("  - %s%s" % (one["text"], example))
+    return lines if len(lines) > 1 else []
+
+
+def report(record: Dict[str, Any], judged: List[Judged]) -> List[str]:
+    """The whole text."""
+    colour = colours()
+    lines: List[str] = []
+    races = files = 0
+    for one in judged:
+        if one.verdict.races:
+            if len(judged) > 1:
+                lines.append("make %s  in %s" % (one.about["words"], one.about["folder"]))
+            text, count, paths = races_text(one, colour)
+            lines += text
+            races, files = races + count, files + paths
+        if one.verdict.refused:
+            lines.append("no verdict on build %s: %s" % (one.number, one.verdict.refused))
+    if record["holes"]:
+        lines += [colour.bad + "NO VERDICT" + colour.end + "  the record has holes:"]
+        lines += ["  - " + hole for hole in record["holes"][:20]]
+    recipes = sum(j.about["counts"]["recipes"] for j in judged)
+    pairs = sum(j.verdict.pairs for j in judged)
+    is_safe = not races and not record["holes"] and not any(j.verdict.refused for j in judged)
+    if is_safe:
+        lines.append("%sSAFE%s  %d recipes in %d builds; %d pairs that conflict are in order." % (colour.good, colour.end, recipes, len(judged), pairs))
+    elif races:
+        lines.append("%d races on %d files. %d recipes, %d other pairs that conflict are in order." % (races, files, recipes, pairs - races))
+    return lines + assumptions_text(record, is_safe)
+
+
+def read_json(path: Path) -> Dict[str, Any]:
+    """One file of the record."""
+    found: Dict[str, Any] = json.loads(path.read_text(encoding="utf-8"))
+    return found

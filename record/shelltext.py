@@ -1,0 +1,108 @@
+"""What the words of a process say: folders made for oneself, patterns of names, ages that are compared."""
+
+import fnmatch
+import os
+import re
+from typing import Iterable, List
+
+SHELLS = ("sh", "dash", "bash", "ksh", "zsh", "ash")
+INTERPRETERS = re.compile(r"(python|perl|ruby|node|lua|tclsh|php)[\d.]*$")
+GLOB_WORD = re.compile(r"[^\s;|&<>()'\"`=]*[*?\[][^\s;|&<>()'\"`]*")
+AGES = re.compile(
+    r"(^|\s|\[)-(nt|ot|[ac]?newer\w*|mtime|mmin|atime|amin|cmin|ctime)\s|\b(cp|mv|install|rsync|tar|ar)\s+[^;|&\n]*?(-\w*u|--update)"
+    r"|\bar\s+\w*u|\btar\s+\w*u|\bls\s+[^;|&\n]*-\w*[tlc]|%[WXYZwxyz]|--sort=time|\bdate\s+[^;|&\n]*-r|-printf|\bls\s+-\w*t")
+DIRECTORY = r"(?:\"[^\"]*\"|'[^']*'|[^\s;|&<>()'\"`]+)"
+
+
+def base_name(argv: List[str]) -> str:
+    """The program's name without its folder."""
+    return os.path.basename(argv[0]) if argv else ""
+
+
+def shell_text(argv: List[str]) -> str:
+    """The text of `sh -c TEXT`, else nothing."""
+    if base_name(argv) in SHELLS and len(argv) > 2:
+        for at, word in enumerate(argv[1:-1], 1):
+            if re.match(r"-\w*c$", word):
+                return argv[at + 1]
+    return ""
+
+
+def is_script(argv: List[str]) -> bool:
+    """Whether a shell runs a file."""
+    return base_name(argv) in SHELLS and len(argv) > 1 and not shell_text(argv)
+
+
+def patterns(argv: List[str], cut: bool) -> Iterable[str]:
+    """The patterns that a listing of a folder by this process can be about."""
+    text = shell_text(argv)
+    if not text or cut or "$" in text or "`" in text or re.search(r"\beval\b", text):
+        return ["*"]
+    last = {os.path.basename(p.rstrip("/")) for p in GLOB_WORD.findall(text)}
+    middle = {part for word in GLOB_WORD.findall(text) for part in word.split("/") if re.search(r"[*?\[]", part)}
+    return sorted((last | middle) - {""}) or ["*"]
+
+
+def is_quiet_mkdir(argv: List[str]) -> bool:
+    """`mkdir -p` or `install -d`, which tell nobody whether the folder was there."""
+    name, words = base_name(argv), argv[1:]
+    loud = any(w == "--verbose" or re.match(r"-[a-zA-Z]*v", w) for w in words)
+    if name == "mkdir":
+        return not loud and any(w == "--parents" or re.match(r"-[a-zA-Z]*p", w) for w in words)
+    return name in ("install", "ginstall") and not loud and any(w == "--directory" or re.match(r"-[a-zA-Z]*[dD]", w) for w in words)
+
+
+def is_maker(argv: List[str]) -> bool:
+    """Scripts that make folders for themselves, as builds carry them."""
+    text = " ".join(argv[:6])
+    return any(w in text for w in ("install-sh -d", "mkinstalldirs", "install-sh -c -d")) or "-E make_directory" in text or "libtool" in text
+
+
+def is_excused(argv: List[str], folder: str) -> bool:
+    """Whether a shell's text makes a folder in one of the forms that tell nobody who was first."""
+    text = shell_text(argv)
+    if not text:
+        return False
+    name = os.path.basename(folder)
+    quiet = r"(?:\s*(?:2\s*)?>\s*/dev/null|\s*2>&1)*"
+    spelled = r"(?P<d>\"?'?[^\s;|&<>()'\"`]*" + re.escape(name) + r"/?'?\"?)"
+    ends = r"\s*(?:;|&&|\n|$|\))"
+    forms = (
+        r"mkdir\s+" + spelled + quiet + r"\s*\|\|\s*(?:true|:|test\s+-d\s+(?P=d)|\[\s+-d\s+(?P=d)\s+\])" + quiet + ends,
+        r"(?:test\s+-[de]\s+" + spelled + r"|\[\s+-[de]\s+" + spelled.replace("?P<d>", "?P<d2>") + r"\s+\])" + quiet
+        + r"\s*\|\|\s*(?:mkdir\s+-p|install\s+-d)\s+" + DIRECTORY + quiet + ends,
+    )
+    begin = r"(?:^|[;\n({&]|\bthen|\bdo)\s*"
+    if not any(re.search(begin + form, text) for form in forms):
+        return False
+    return len(re.findall(r"(?:-[defrwxs]\s+|\bls\s+|\bstat\s+)\S*" + re.escape(name) + r"(?![\w./-])", text)) <= 1
+
+
+def compares_ages(argv: List[str], folder: str) -> bool:
+    """Whether a process may hang on which of two files is newer."""
+    if INTERPRETERS.match(base_name(argv)):
+        return True
+    if is_script(argv) and "libtool" not in argv[1]:
+        try:
+            with open(os.path.join(folder, argv[1]), errors="replace") as file:
+                return bool(AGES.search(file.read(1 << 18)))
+        except OSError:
+            return "-c" not in argv
+    return bool(AGES.search(" ".join(argv) + " "))
+
+
+def looks_at_links(argv: List[str]) -> bool:
+    """Whether a process may hang on how many names a file or folder has."""
+    name, text = base_name(argv), " ".join(argv)
+    if name == "stat":
+        return "%h" in text or not re.search(r"-c|--format|--printf", text)
+    if name == "ls":
+        return bool(re.search(r"\s-\w*[lnogs]", text))
+    if name in ("find", "tar", "rsync", "cpio"):
+        return name != "find" or bool(re.search(r"-links|-printf|-ls|-samefile", text))
+    return bool(INTERPRETERS.match(name)) and "-c" not in argv[:1] and ("stat" in text)
+
+
+def matches(name: str, pattern: str) -> bool:
+    """Whether a pattern can match a name."""
+    return fnmatch.fnmatchcase(name, pattern)

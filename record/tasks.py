@@ -1,0 +1,62 @@
+"""The text of tasks that `race` reads: one JSON object a task."""
+
+import json
+from typing import Dict, Iterator, List, Set, Tuple
+
+from record.build import Build
+from record.graph import Task
+
+LABEL_LIMIT = 4096
+
+
+def shown(text: str) -> str:
+    """A name as valid text: bytes that are none are shown as \\xNN."""
+    return text.encode("utf-8", "surrogateescape").decode("utf-8", "backslashreplace")
+
+
+def relative(root: str, path: str) -> str:
+    """A path below the root without it."""
+    if path.startswith(root.rstrip("/") + "/"):
+        path = path[len(root.rstrip("/")) + 1:]
+    return shown(path)
+
+
+def labels_of(tasks: List[Task]) -> List[str]:
+    """A label for each task, no two the same."""
+    used: Set[str] = set()
+    found = []
+    for task in tasks:
+        label = shown(task.label)
+        while len(label.encode()) > LABEL_LIMIT - 16:
+            label = label[:-8]
+        while label in used:
+            label += "+"
+        used.add(label)
+        found.append(label)
+    return found
+
+
+def lines_of(build: Build, root: str, labels: List[str]) -> Iterator[Tuple[str, str]]:
+    """Labels and lines of the text; long lists of prerequisites that many share stand once."""
+    share: Dict[Tuple[int, ...], int] = {}
+    for task in build.tasks:
+        key = tuple(sorted(task.after))
+        if len(key) > 3:
+            share[key] = share.get(key, 0) + 1
+    sets: Dict[Tuple[int, ...], str] = {}
+    for task, label in zip(build.tasks, labels):
+        key = tuple(sorted(task.after))
+        after = [labels[a] for a in key]
+        if share.get(key, 0) > 1:
+            if key not in sets:
+                sets[key] = "set@%d" % len(sets)
+                while sets[key] in labels:
+                    sets[key] += "+"
+                yield sets[key], line(sets[key], after, [], [])
+            after = [sets[key]]
+        yield label, line(label, after, sorted(relative(root, p) for p in task.reads), sorted(relative(root, p) for p in task.writes))
+
+
+def line(label: str, after: List[str], reads: List[str], writes: List[str]) -> str:
+    """One task."""
+    return json.dumps({"task": label, "after": after, "reads": reads, "writes": writes}, ensure_ascii=False, separators=(",", ":"))

@@ -1,0 +1,177 @@
+"""The reader of make's words: rounds, the targets that it considered in each, and its jobs."""
+
+import re
+from dataclasses import dataclass, field
+from pathlib import Path
+from typing import Dict, Iterable, List, Optional, Set
+
+from record.database import Base, read_base
+
+CHILD = re.compile(r"(Putting child|Live child|Reaping (?:winning|losing) child|Removing child) (0x[0-9a-f]+) (?:\((.*)\) )?PID (\d+)")
+CONSIDERED = re.compile(r"^( *)(Considering target file|Pruning file) '(.*)'\.$|^( *)File '(.*)' was considered already\.$")
+VPATH = re.compile(r"^ *No need to remake target '(.*)'; using VPATH name '(.*)'\.$")
+MUST = re.compile(r"^ *Must remake target '(.*)'\.$")
+READING = re.compile(r"^Reading makefile '(.*)'((?: \([^)]*\))*)\.\.\.$")
+
+
+@dataclass
+class Job:
+    """A recipe that make ran: its target, and how many jobs of the round came before it."""
+
+    target: str
+    number: int
+    pids: List[int] = field(default_factory=list)
+
+
+@dataclass
+class Considered:
+    """A target that make looked at: when first, and the targets that it asked for."""
+
+    name: str
+    index: int
+    asks: List[str] = field(default_factory=list)
+
+
+@dataclass
+class Round:
+    """`makefiles` or `goals` of one start of make."""
+
+    stage: str
+    start: int
+    nodes: Dict[str, Considered] = field(default_factory=dict)
+    goals: List[str] = field(default_factory=list)
+    jobs: List[Job] = field(default_factory=list)
+    must: Dict[str, int] = field(default_factory=dict)  # target: jobs before its line
+    vpath: Dict[str, str] = field(default_factory=dict)
+    base: Optional[Base] = None
+
+
+@dataclass
+class Words:
+    """All that one make process said."""
+
+    pid: int
+    life: int
+    args: str = ""
+    flags: str = ""
+    version: str = ""
+    status: Optional[int] = None
+    rounds: List[Round] = field(default_factory=list)
+    jobs: Dict[int, List[Job]] = field(default_factory=dict)  # process number: its jobs, in order
+    read: List[List[str]] = field(default_factory=list)  # makefiles of each start
+    unread: List[str] = field(default_factory=list)
+
+
+class _Reader:
+    def __init__(self, words: Words) -> None:
+        self.words = words
+        self.round: Optional[Round] = None
+        self.stack: Dict[int, str] = {}
+        self.children: Dict[str, Job] = {}
+
+    def begin(self, stage: str) -> None:
+        self.round = Round(stage, len(self.words.read) - 1)
+        self.words.rounds.append(self.round)
+        self.stack, self.children = {}, {}
+
+    def child(self, what: str, pointer: str, name: str, pid: int) -> None:
+        if self.round is None:
+            return
+        if what == "Putting child":
+            job = Job(name, len(self.round.jobs))
+            self.round.jobs.append(job)
+            self.children[pointer] = job
+        owner = self.children.get(pointer)
+        if owner is not None:
+            known = self.words.jobs.setdefault(pid, [])
+            if not known or known[-1] is not owner:
+                known.append(owner)
+                owner.pids.append(pid)
+
+    def considered(self, depth: int, name: str) -> None:
+        assert self.round is not None
+        for deeper in [d for d in self.stack if d >= depth]:
+            del self.stack[deeper]
+        nodes = self.round.nodes
+        if name not in nodes:
+            nodes[name] = Considered(name, len(nodes))
+        if self.stack:
+            parent = nodes[self.stack[max(self.stack)]]
+            if name not in parent.asks and name != parent.name:
+                parent.asks.append(name)
+        elif name not in self.round.goals:
+            self.round.goals.append(name)
+        self.stack[depth] = name
+
+    def line(self, text: str) -> None:
+        words = self.words
+        child = CHILD.match(text)
+        if child:
+            self.child(child.group(1), child.group(2), child.group(3) or "", int(child.group(4)))
+        elif text.startswith("Reading makefiles..."):
+            words.read.append([])
+        elif text.startswith("Updating makefiles"):
+            self.begin("makefiles")
+        elif text.startswith("Updating goal targets"):
+            self.begin("goals")
+        elif text.startswith("# GNU Make ") and not words.version:
+            words.version = text[len("# GNU Make "):]
+        elif text.startswith("ARGS "):
+            words.args = text[5:]
+        elif text.startswith("FLAGS "):
+            words.flags = text[6:]
+        elif text.startswith("EXIT "):
+            words.status = int(text[5:])
+        elif READING.match(text) and words.read:
+            words.read[-1].append(READING.match(text).group(1))  # type: ignore[union-attr]
+        elif self.round is not None:
+            self.target(text)
+
+    def target(self, text: str) -> None:
+        assert self.round is not None
+        match = CONSIDERED.match(text)
+        if match and match.group(2):
+            self.considered(len(match.group(1)), match.group(3))
+        elif match:
+            self.considered(len(match.group(4)), match.group(5))
+        elif VPATH.match(text):
+            name, path = VPATH.match(text).groups()  # type: ignore[union-attr]
+            self.round.vpath[name] = path
+        elif MUST.match(text):
+            self.round.must.setdefault(MUST.match(text).group(1), len(self.round.jobs))  # type: ignore[union-attr]
+
+
+def read_words(pid: int, life: int, lines: Iterable[str]) -> Words:
+    """What a make process said, of the lines that the wrapper kept."""
+    words = Words(pid, life)
+    reader = _Reader(words)
+    base: Optional[List[str]] = None
+    for raw in lines:
+        text = raw.rstrip("\n")
+        if base is not None:
+            base.append(text)
+            if text.startswith("# Finished Make data base"):
+                found = read_base(base)
+                base = None
+                for one in words.rounds:
+                    one.base = one.base or found
+        elif text.startswith("# Make data base"):
+            base = []
+        else:
+            reader.line(text)
+    return words
+
+
+def read_logs(spool: Path) -> List[Words]:
+    """The words of all makes of a recorded build."""
+    logs = []
+    for path in sorted(spool.glob("*.make")):
+        pid, life, _ = path.name.split(".")
+        with open(path, encoding="utf-8", errors="surrogateescape") as lines:
+            logs.append(read_words(int(pid), int(life), lines))
+    return logs
+
+
+def makefiles(words: Words) -> Set[str]:
+    """All makefiles that a make read."""
+    return {name for start in words.read for name in start}

@@ -1,0 +1,228 @@
+"""Stands in front of GNU make while a build is recorded.
+
+`race-record` copies this file to SPOOL/bin/make, first on PATH, as a program of its own. It runs the real make (named
+in SPOOL/real) with words that let it say what it considers, takes make's own lines out of standard output again, into
+SPOOL/PID.make, and passes everything else on byte for byte. Queries (`make -n`, `-q`, `-t`, `-p`, `-v`, `-h`) and makes
+that were asked for debug words run untouched.
+"""
+
+import os
+import re
+import select
+import signal
+import sys
+
+WORDS = ["--debug=v,j,m", "-p"]
+LONG_QUERIES = ("--version", "--help", "--just-print", "--dry-run", "--recon", "--question", "--touch",
+                "--print-data-base", "--debug")
+VERSION_LINE = re.compile(rb"# (GNU Make \d|Built for |Copyright \(C\)|License |This is free software|There is NO WARR)")
+QUOTED = rb"'[^\n]*'"
+WORD_LINE = re.compile(
+    rb" *(Reading makefiles\.\.\.$|Reading makefile " + QUOTED + rb"( \([^)]*\))*\.\.\.$|Updating makefiles\.\.\.\.$"
+    rb"|Updating goal targets\.\.\.\.$|(Considering target file|Pruning file|Finished prerequisites of target file"
+    rb"|Must remake target|Successfully remade target file|Failed to remake target file|Still updating file"
+    rb"|Finished updating file|Giving up on target file|Recently tried and failed to update file|Ignoring VPATH name) "
+    + QUOTED + rb"\.$|File " + QUOTED + rb" (does not exist|was considered already)\.$|No need to remake target "
+    + QUOTED + rb"\.$|Prerequisite " + QUOTED + rb" (is (newer|older) than|of) target " + QUOTED
+    + rb"( does not exist)?\.$|(The prerequisites|Recipe) of " + QUOTED + rb" (are being made|is being run)\.$"
+    rb"|No recipe for " + QUOTED + rb" and no prerequisites actually changed\.$|Target " + QUOTED
+    + rb" is double-colon and has no prerequisites\.$|Making " + QUOTED + rb" due to always-make flag\.$"
+    rb"|Makefile " + QUOTED + rb" might loop; not remaking it\.$|Re-executing\[\d+\]:"
+    rb"|Got a SIGCHLD; \d+ unreaped|(Putting|Live|Reaping winning|Reaping losing|Removing) child 0x[0-9a-f]+ "
+    rb"|(Released|Obtained) token for child 0x|Need a job token; we |Jobserver (setup|client) \()")
+DIRECTORY = re.compile(rb"# ([^\n]*: (Entering|Leaving) (directory|an unknown directory))")
+
+
+def letters(word):
+    """The one-letter words that stand in one word of make's command line, up to one that takes an argument."""
+    match = re.match(r"-([^-CfIoWjlOE][^CfIoWjlOE]*|)", word)
+    return match.group(1) if match and not word.startswith("--") else ""
+
+
+def is_query(args, flags):
+    """Whether make would only look, or was asked for words that cannot be kept apart from the recorder's."""
+    first = flags.split(" ")[0]
+    own = list(args)
+    if first and not first.startswith("-") and "=" not in first:
+        own.append("-" + first)
+    skip = False
+    for word in own:
+        if skip:
+            skip = False
+            continue
+        if word == "--":
+            break
+        if word.startswith("--"):
+            if word.split("=")[0] in LONG_QUERIES:
+                return True
+            continue
+        if word in ("-C", "-f", "-I", "-o", "-W", "-E"):
+            skip = True
+        if set(letters(word)) & set("vhnqtpd"):
+            return True
+    return False
+
+
+def without_words(flags):
+    """MAKEFLAGS without what a wrapper above handed down."""
+    if "--debug=v,j,m" not in flags:
+        return flags
+    parts = [p for p in flags.split(" ") if p != "--debug=v,j,m"]
+    if parts and parts[0] and not parts[0].startswith("-") and "=" not in parts[0]:
+        parts[0] = parts[0].replace("p", "", 1)
+    if parts and parts[0] == "":
+        parts = parts[1:] if len(parts) > 1 else parts
+    return " ".join(parts)
+
+
+def asks_jobs(args, flags):
+    """Whether a number of jobs is among make's words."""
+    return any(re.match(r"-[a-zA-Z]*j|--jobs", w) for w in args) or bool(re.search(r"(^| )-j|--jobserver", flags))
+
+
+class Splitter:
+    """Takes what make and its recipes write, a packet a write: make's own words go to the log, the rest goes on."""
+
+    def __init__(self, log, out):
+        self.log, self.out = log, out
+        self.start = True  # nothing but make's version was written yet
+        self.base = False  # inside of the data base
+        self.blank = False  # an empty line that may belong to the data base is held back
+        self.tail = False  # the empty line behind the data base is due
+
+    def pass_on(self, data):
+        """Writes all of it to standard output."""
+        view = memoryview(data)
+        while view:
+            view = view[os.write(self.out, view):]
+
+    def take(self, packet):
+        """One write of make or of a recipe."""
+        if self.blank:
+            self.blank = False
+            self.base = packet.startswith(b"# Make data base, printed on")
+            if not self.base:
+                self.pass_on(b"\n")
+        tail, self.tail = self.tail, False
+        if self.base:
+            self.log.write(packet)
+            self.base = b"# Finished Make data base on" not in packet
+            self.tail = not self.base and not packet.endswith(b"\n\n")
+        elif packet == b"\n":
+            self.blank = not tail
+        elif self.start and VERSION_LINE.match(packet):
+            self.log.write(packet)
+        elif WORD_LINE.match(packet):
+            self.start = packet.startswith(b"Re-executing[")
+            self.log.write(packet)
+        else:
+            self.start = False
+            self.pass_on(packet[2:] if DIRECTORY.match(packet) else packet)
+
+    def end(self):
+        """What is still held back."""
+        if self.blank:
+            self.pass_on(b"\n")
+            self.blank = False
+
+
+def open_log(spool, pid):
+    """The file for the words of one life of a process number: numbers come again."""
+    number = 0
+    while True:
+        try:
+            return open("%s/%d.%d.make" % (spool, pid, number), "xb")
+        except FileExistsError:
+            number += 1
+
+
+def relay(splitter, reading):
+    """Passes on what processes write that outlive make."""
+    if os.fork() == 0:
+        try:
+            while packet := os.read(reading, 65536):
+                splitter.pass_on(packet)
+        finally:
+            os._exit(0)
+
+
+def serve(splitter, child, reading):
+    """Reads what make writes until it has ended; gives its raw status."""
+    watch = os.pidfd_open(child)
+    poller = select.poll()
+    poller.register(reading, select.POLLIN)
+    poller.register(watch, select.POLLIN)
+    os.set_blocking(reading, False)
+    ended = False
+    while True:
+        if not ended:
+            ended = watch in [fd for fd, _ in poller.poll()]
+        try:
+            packet = os.read(reading, 65536)
+        except BlockingIOError:
+            if not ended:
+                continue
+            splitter.end()
+            os.set_blocking(reading, True)
+            relay(splitter, reading)
+            break
+        if not packet:
+            splitter.end()
+            break
+        splitter.take(packet)
+    return os.waitpid(child, 0)[1]
+
+
+def run_logged(spool, name, real, args, flags):
+    """Runs make with the recorder's words and keeps what it says; gives its raw status."""
+    extra = WORDS + (["-j1"] if asks_jobs(args, flags) else [])
+    split = args.index("--") if "--" in args else len(args)
+    reading, writing = os.pipe2(os.O_DIRECT | os.O_CLOEXEC)
+    child = os.fork()
+    if child == 0:
+        signal.signal(signal.SIGPIPE, signal.SIG_DFL)
+        signal.signal(signal.SIGINT, signal.SIG_DFL)
+        os.dup2(writing, 1)
+        os.execv(real, [name] + args[:split] + extra + args[split:])
+    os.close(writing)
+    signal.signal(signal.SIGTERM, lambda *_: os.kill(child, signal.SIGTERM))
+    with open_log(spool, child) as log:
+        head = "ARGS %s\nFLAGS %s\n" % (" ".join(args).replace("\n", " "), flags.replace("\n", " "))
+        log.write(head.encode("utf-8", "surrogateescape"))
+        try:
+            raw = serve(Splitter(log, 1), child, reading)
+        except BrokenPipeError:
+            os.close(reading)
+            raw = os.waitpid(child, 0)[1]
+        log.write(b"EXIT %d\n" % raw)
+    return raw
+
+
+def main():
+    """Runs the real make, as the caller asked."""
+    signal.signal(signal.SIGINT, signal.SIG_IGN)
+    me = os.path.abspath(sys.argv[0])
+    spool, name, args = os.path.dirname(os.path.dirname(me)), os.path.basename(me), sys.argv[1:]
+    with open(spool + "/real") as file:
+        real = file.read()
+    if WORDS[0] in args:  # make has remade a makefile and begins again
+        os.execv(real, [name] + args)
+    flags = without_words(os.environ.get("MAKEFLAGS", ""))
+    if "MAKEFLAGS" in os.environ:
+        os.environ["MAKEFLAGS"] = flags
+    if os.environ.get("MFLAGS", "").startswith("-"):
+        words = without_words(os.environ["MFLAGS"][1:])
+        os.environ["MFLAGS"] = "-" + words if words and not words.startswith("-") else words
+    if is_query(args, flags):
+        signal.signal(signal.SIGPIPE, signal.SIG_DFL)
+        signal.signal(signal.SIGINT, signal.SIG_DFL)
+        os.execv(real, [name] + args)
+    raw = run_logged(spool, name, real, args, flags)
+    if os.WIFSIGNALED(raw):
+        signal.signal(os.WTERMSIG(raw), signal.SIG_DFL)
+        os.kill(os.getpid(), os.WTERMSIG(raw))
+    sys.exit(os.WEXITSTATUS(raw))
+
+
+if __name__ == "__main__":
+    main()
