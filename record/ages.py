@@ -28,14 +28,13 @@ def add_ages(builder: "Builder") -> None:
 
 def writers_of(builder: "Builder", path: str) -> Set[int]:
     """Who changes the age of a name: for a folder whoever changes what is in it."""
-    found = set(builder.build.writers.get(path, ()))
-    return found | {at for at, task in enumerate(builder.build.tasks) if path + "/@time" in task.writes}
+    return builder.build.writers.get(path, set()) | builder.timers.get(path, set())
 
 
 def compare(builder: "Builder", at: int, first: str, second: str, own: bool = False) -> None:
     """A task compares the ages of two names."""
     build = builder.build
-    one, two = build.writers.get(first), build.writers.get(second)
+    one, two = writers_of(builder, first), writers_of(builder, second)
     if not one or not two or first == second:
         return
     for a in one:
@@ -67,7 +66,7 @@ def inner_path(builder: "Builder", make: Make, name: str) -> str:
 def told_ages(builder: "Builder", at: int, work: Work) -> None:
     """Programs that compare ages: each two names that they looked at."""
     writers = builder.build.writers
-    seen = sorted({p for k, p in work.events if k == "A" and p in writers})
+    seen = sorted({p for k, p in work.events if k == "A" and (p in writers or p in builder.timers)})
     if len(seen) > PAIR_LIMIT:
         builder.assumed.add("interpreters", builder.build.tasks[at].label)
         seen = seen[:PAIR_LIMIT]

@@ -48,6 +48,7 @@ class Builder:
         self.of_node: Dict[str, int] = {}
         self.look_of: Dict[str, int] = {}
         self.made: Set[str] = set()
+        self.timers: Dict[str, Set[int]] = {}  # folder: who changes its time
 
     def path_of(self, name: str) -> str:
         """The real path of a target, as it was before the build or is now."""
@@ -62,7 +63,6 @@ class Builder:
         self.make_recipes()
         self.note_writers()
         self.make_decisions()
-        self.build.writers.clear()
         self.note_writers()
         self.connect()
         self.fill()
@@ -88,19 +88,25 @@ class Builder:
 
     def acts_of(self, node: Node) -> Iterable[Tuple[str, str]]:
         work = self.make.acts.get((self.number, node.name)) if node.rule == 0 else None
-        return work.events if work is not None else ()
+        if work is None:
+            return ()
+        if not self.build.writers:
+            return work.events
+        return [(k, p) for k, p in work.events if k not in "RSNPAU" or self.is_written(p)]
 
     def note_writers(self) -> None:
         """Which recipe writes, creates or removes which name, and who makes which folder."""
+        found: Dict[str, Set[int]] = {}
         for at, task in enumerate(self.build.tasks):
             looker = self.look_of.get(task.label, at) if task.kind == "recipe" else at
             acts = self.acts_of(task.node) if task.kind == "recipe" else ()
             for who, events in ((at, self.events(task)), (looker, acts)):
                 for kind, path in events:
                     if kind in CHANGES and not path.endswith("/"):
-                        self.build.writers.setdefault(path, set()).add(who)
+                        found.setdefault(path, set()).add(who)
                     elif kind in "MTX":
                         self.made.add(path)
+        self.build.writers = found
 
     def is_written(self, path: str, but: int = -1) -> bool:
         return bool(self.build.writers.get(path, set()) - {but}) or path in self.made
@@ -267,6 +273,8 @@ class Builder:
                 for name, who in created.get(folder, {}).items():
                     if (who != {at}) and join(folder, name) not in self.made and fnmatchcase(name, pattern):
                         task.reads.add(join(folder, name))
+            elif kind == "A":
+                task.reads.add(path + "/@time")
             elif kind == "H":
                 task.writes.add(path + "/@links")
                 self.build.meanings[path + "/@links"] = "how many names %s has" % path

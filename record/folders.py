@@ -116,6 +116,11 @@ def add_folders(builder: "Builder") -> None:
 
 def add_folder(builder: "Builder", path: str, folder: Folder) -> None:
     tasks = builder.build.tasks
+    if folder.created:
+        for at in folder.users | folder.absent:
+            if at not in folder.strict | folder.quiet and excused(tasks[at].works, path):
+                folder.quiet.add(at)
+                folder.first_made[at] = -1
     for at in list(folder.strict):
         if excused(tasks[at].works, path):
             folder.strict.discard(at)
@@ -188,6 +193,7 @@ def add_times(builder: "Builder") -> None:
         for kind, path, _ in events:
             where = path if kind == "t" else os.path.dirname(path.rstrip("/"))
             if kind in "CDXt" and where in wanted:
+                builder.timers.setdefault(where, set()).add(at)
                 mark(builder, where + "/@time", "the time of the folder " + where, set(), {at})
 
 

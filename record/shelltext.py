@@ -73,7 +73,9 @@ def is_excused(argv: List[str], folder: str) -> bool:
         + r"\s*\|\|\s*(?:mkdir\s+-p|install\s+-d)\s+" + DIRECTORY + quiet + ends,
     )
     begin = r"(?:^|[;\n({&]|\bthen|\bdo)\s*"
-    if not any(re.search(begin + form, text) for form in forms):
+    found = [m for form in forms for m in re.finditer(begin + form, text)]
+    spellings = {(m.groupdict().get("d") or m.groupdict().get("d2") or "").strip("'\"") for m in found}
+    if not any(folder.endswith("/" + os.path.normpath(s).lstrip("./")) for s in spellings if s):
         return False
     return len(re.findall(r"(?:-[defrwxs]\s+|\bls\s+|\bstat\s+)\S*" + re.escape(name) + r"(?![\w./-])", text)) <= 1
 
