@@ -43,6 +43,14 @@ def wide(part):
     return "".join(goals + rules), [o[:-1] + "c" for o in objects], []
 
 
+def long(part):
+    """4,700 targets whose names have 51 bytes, each behind one source, and a goal that needs them, in a text of 1 MiB."""
+    stems = [f"build_subsystem_component_module_number_{i:05}_objs" for i in range(int(4_700 * part))]
+    rules = [f"{stem}: {stem}.c\n\tcc -c x\n" for stem in stems]
+    goals = [f"all: {' '.join(stems[i:i + 1_200])}\n" for i in range(0, len(stems), 1_200)]
+    return "".join(goals + rules), [f"{stem}.c" for stem in stems], []
+
+
 def short(part):
     """A makefile of 1 MiB of short rules, of which the goal needs one."""
     rules, size, i = [], 0, 0
@@ -85,6 +93,7 @@ INPUTS = {
     "chain": chain,
     "dense": dense,
     "wide": wide,
+    "long": long,
     "short": short,
     "macros": macros,
     "includes": includes,
