@@ -115,14 +115,21 @@ class Builder:
         """A target that somebody writes, or one of whose prerequisites is written, is looked at, recipe or not."""
         for node in self.graph.nodes.values():
             own = self.of_node.get(node.label, -1)
-            needed = [node.path] if not node.phony else []
-            needed += [self.graph.nodes[p].path for p in self.plain(node)]
+            needed = self.looked_at(node, own)
             if own < 0 and any(self.is_written(p) for p in needed):
                 self.of_node[node.label] = self.add(node, "decision", node.label)
             elif own >= 0 and self.is_leaf(node):
                 acts = self.acts_of(node)
                 if any(self.is_written(p, own) for p in needed) or acts:
                     self.look_of[node.label] = self.add(node, "look", node.label + "@look")
+
+    def looked_at(self, node: Node, own: int) -> List[str]:
+        """The paths that decide whether a target is remade: none where it is phony; where it is absent, and nobody else
+        writes it, it is remade whatever the ages of its prerequisites are."""
+        if node.phony:
+            return []
+        is_cold = self.before.get(node.path) is None and self.is_known(node.path) and not self.is_written(node.path, own)
+        return [node.path] + ([] if is_cold else [self.graph.nodes[p].path for p in self.plain(node)])
 
     def plain(self, node: Node) -> List[str]:
         """Labels of the prerequisites whose ages count."""
@@ -166,7 +173,7 @@ class Builder:
             after[self.of_node[label]].add(look)
         self.chain_looks(after)
         if self.is_serial():
-            row = [self.of_node[j_label] for j_label in self.labels_of_jobs()]
+            row = [self.of_node[label] for label in self.labels_of_jobs()]
             for first, second in zip(row, row[1:]):
                 after[second].add(first)
         for at, asks in enumerate(after):
@@ -187,7 +194,10 @@ class Builder:
         if self.graph.base.serial:
             return True
         words = re.findall(r"(?:^|\s)(?:-\w*j\s*|--jobs=?)(\d*)", self.make.words.args)
-        return bool(words) and words[-1] == "1"
+        if words:
+            return words[-1] == "1"
+        is_inner = any(life.is_make for life in self.make.life.up() if life is not self.make.life)
+        return is_inner and not self.make.words.below and "-j" not in self.make.words.flags
 
     def kept(self) -> Set[str]:
         """Targets without a task of their own that stand above one."""
@@ -220,6 +230,9 @@ class Builder:
                     after[at].add(earlier[-1])
 
     def renumber(self, order: List[int], after: List[Set[int]]) -> None:
+        if self.is_serial():
+            for first, second in zip(order, order[1:]):
+                after[second].add(first)
         number = {old: new for new, old in enumerate(order)}
         tasks = [self.build.tasks[old] for old in order]
         for old, task in zip(order, tasks):
@@ -284,15 +297,11 @@ class Builder:
     def add_decision(self, looker: int, at: int, node: Node) -> None:
         """Make looks at a target and at its prerequisites."""
         task, writers = self.build.tasks[looker], self.build.writers
-        foreign = writers.get(node.path, set()) - {at}
-        cold = self.before.get(node.path) is None and self.is_known(node.path) and not foreign
-        names = [] if node.phony else [node.path]
-        names += [self.graph.nodes[p].path for p in self.plain(node)]
+        names = self.looked_at(node, at)
         for path in names:
             if path in writers and writers[path] - {at, looker}:
                 task.reads.add(path)
-            if not cold and not node.phony:
-                task.reads.add(path + "/@time")
+            task.reads.add(path + "/@time")
         if node.name in self.graph.base.implicit:
             self.add_search(looker, node)
 

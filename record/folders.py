@@ -77,9 +77,8 @@ def each(builder: "Builder") -> List[Tuple[int, List[Tuple[str, str, int]]]]:
                 looker = builder.look_of.get(task.label, at)
                 found.append((looker, [(k, p, s) for (k, p), s in acts.events.items()]))
         elif task.kind in ("decision", "look"):
-            names = [] if task.node.phony else [task.node.path]
-            names += [builder.graph.nodes[p].path for p in builder.plain(task.node)]
-            found.append((at, [("S", p, 1 << 60) for p in names]))
+            own = builder.of_node.get(task.node.label, at)
+            found.append((at, [("S", p, 1 << 60) for p in builder.looked_at(task.node, own)]))
     return found
 
 

@@ -73,9 +73,9 @@ class Life:
 class Replay:
     """Plays the events of a trace in the name space and keeps what each life did."""
 
-    def __init__(self, names: Names, spool: str, real: str, folder: str, tops: List[str], skip: Optional["re.Pattern[str]"]) -> None:
+    def __init__(self, names: Names, spool: str, real: str, folder: str, tops: List[str]) -> None:
         self.names, self.spool, self.real, self.tops = names, spool, real, tops
-        self.first_folder, self.skip = folder, skip
+        self.first_folder = folder
         self.lives: Dict[int, Life] = {}
         self.all: List[Life] = []
         self.place = 0

@@ -20,7 +20,7 @@ from record.lives import Life, Replay
 from record.names import Names
 from record.owners import Make, Owners
 from record.report import Judged, read_json, report
-from record.strace import read_trace
+from record.strace import read_trace, skipping
 from record.words import read_logs
 
 HERE = Path(__file__).resolve().parent
@@ -75,9 +75,10 @@ def run_build(words: List[str], spool: Path) -> Tuple[int, float]:
 
 def replay_trace(spool: Path, names: Names, real: str, folder: str, tops: List[str]) -> Replay:
     """The trace, played in the name space."""
-    replay = Replay(names, str(spool), os.path.realpath(real), folder, tops, None)
+    replay = Replay(names, str(spool), os.path.realpath(real), folder, tops)
+    skip = skipping(spool / "trace", tops)
     with open(spool / "trace", encoding="latin-1") as lines:
-        for event in read_trace(lines):
+        for event in read_trace(lines, skip):
             replay.play(event)
     return replay
 

@@ -69,8 +69,16 @@ def race_text(about: Dict[str, Any], race: Race, fixes: List[str], is_fixed: boo
             (target(about, race.second), place(about, race.second), verb(about, race.second, race.second_does, race.path) + ", and does not wait for it")]
     wide = [max(len(r[n]) for r in rows) for n in (0, 1)]
     lines += ["  %s  %s  %s" % (r[0].ljust(wide[0]), r[1].ljust(wide[1]), r[2]) for r in rows]
+    own = race.path in (target(about, race.first), target(about, race.second))
+    if race.first_does == race.second_does == "writes" and not meaning and not own:
+        lines.append("  advice: give each recipe a name of its own for this file, such as %s.$@" % os.path.basename(name))
     lines.append("  fix: %s: %s%s" % (target(about, race.second), target(about, race.first), "          (checked: with all fixes the build is safe)" if is_fixed else ""))
     return lines
+
+
+def plural(count: int, word: str) -> str:
+    """`1 race`, `2 races`."""
+    return "%d %s%s" % (count, word, "" if count == 1 else "s")
 
 
 def races_text(judged: Judged, colour: Colours) -> Tuple[List[str], int, int]:
@@ -122,7 +130,7 @@ def report(record: Dict[str, Any], judged: List[Judged]) -> List[str]:
     if is_safe:
         lines.append("%sSAFE%s  %d recipes in %d builds; %d pairs that conflict are in order." % (colour.good, colour.end, recipes, len(judged), pairs))
     elif races:
-        lines.append("%d races on %d files. %d recipes, %d other pairs that conflict are in order." % (races, files, recipes, pairs - races))
+        lines.append(plural(races, "race") + " on " + plural(files, "file") + ". %d recipes, %d other pairs that conflict are in order." % (recipes, pairs - races))
     return lines + assumptions_text(record, is_safe)
 
 

@@ -1,14 +1,23 @@
 """The reader of strace's lines: one lazy pass that gives calls and ends of processes in the order of the trace."""
 
+import mmap
+import os
 import re
 from dataclasses import dataclass
-from typing import Dict, Iterable, Iterator, List, Union
+from pathlib import Path
+from typing import Dict, Iterable, Iterator, List, Optional, Union
 
 LINE = re.compile(r"(\d+) +(.*)", re.S)
 CALL = re.compile(r"(\w+)\((.*)\)\s+= (-?\d+|\?)(?:<(?:[^<>\\]|\\.)*>)?(?: (E\w+))?(?: \(.*\))?$", re.S)
 ESCAPE = re.compile(r"\\([0-7]{1,3}|x[0-9a-f]{2}|.)", re.S)
 TEXT = re.compile(r'"((?:[^"\\]|\\.)*)"(\.\.\.)?')
 FOLDER = re.compile(r"(?:AT_FDCWD|\d+)<((?:[^<>\\]|\\.)*)>")
+SYSTEM = ["usr", "lib", "lib32", "lib64", "etc", "bin", "sbin"]
+AT = r"(?:AT_FDCWD<[^>]*>, )?"
+LOOKING = r'\d+ +(?:openat|open|access|faccessat2?|newfstatat|stat|lstat|statx|readlink|readlinkat|statfs)\(' + AT + r'"FOLDERS[^"]*"[^"]*(?:"[^"]*"[^"]*)? = (?:\d|-1 E(?:NO|INVAL))|\d+ +newfstatat\(\d+<[^>]*>, "", [^"]* = 0$'
+CHANGING = (
+    r'\b(?:open|openat)\(' + AT + r'"FOLDERS[^"]*", [^\n]*(?:O_WRONLY|O_RDWR|O_CREAT|O_TRUNC)'
+    r'|\b(?:creat|rename\w*|unlink\w*|rmdir|mkdir\w*|mknod\w*|link\w*|symlink\w*|truncate|f?ch(?:mod|own)\w*|utime\w*|futimesat)\([^\n]*"FOLDERS')
 PLAIN = {"n": "\n", "t": "\t", "r": "\r", "v": "\v", "f": "\f"}
 
 
@@ -81,10 +90,28 @@ def folders(args: str) -> List[str]:
 MAKES_PROCESS = ("clone", "clone3", "fork", "vfork")
 
 
-def read_trace(lines: Iterable[str]) -> Iterator[Event]:
-    """The events of a trace, one at a time."""
+def skipping(trace: Path, tops: List[str]) -> "Optional[re.Pattern[str]]":
+    """What need not be read: looks at the system's folders, where nobody changes a name of them and no top is there."""
+    safe = [p for p in SYSTEM if not any((t + "/").startswith("/%s/" % p) for t in tops)]
+    if not safe:
+        return None
+    folders_of_system = "/(?:%s)(?=[/\"])" % "|".join(safe)
+    changes = re.compile(CHANGING.replace("FOLDERS", folders_of_system).encode())
+    with open(trace, "rb") as file:
+        if os.fstat(file.fileno()).st_size == 0:
+            return None
+        with mmap.mmap(file.fileno(), 0, access=mmap.ACCESS_READ) as whole:
+            if changes.search(whole):
+                return None
+    return re.compile(LOOKING.replace("FOLDERS", folders_of_system))
+
+
+def read_trace(lines: Iterable[str], skip: "Optional[re.Pattern[str]]" = None) -> Iterator[Event]:
+    """The events of a trace, one at a time, but for lines that `skip` matches."""
     open_calls: Dict[int, str] = {}
     for line in lines:
+        if skip is not None and skip.match(line):
+            continue
         match = LINE.match(line.rstrip("\n"))
         if not match:
             if line.strip():

@@ -54,6 +54,7 @@ class Words:
     life: int
     args: str = ""
     flags: str = ""
+    below: bool = False  # the words of a make above came with MAKEFLAGS
     version: str = ""
     status: Optional[int] = None
     rounds: List[Round] = field(default_factory=list)
@@ -120,6 +121,8 @@ class _Reader:
             words.args = text[5:]
         elif text.startswith("FLAGS "):
             words.flags = text[6:]
+        elif text.startswith("BELOW "):
+            words.below = text == "BELOW 1"
         elif text.startswith("EXIT "):
             words.status = int(text[5:])
         elif READING.match(text) and words.read:

@@ -173,7 +173,7 @@ def serve(splitter, child, reading):
     return os.waitpid(child, 0)[1]
 
 
-def run_logged(spool, name, real, args, flags):
+def run_logged(spool, name, real, args, flags, below):
     """Runs make with the recorder's words and keeps what it says; gives its raw status."""
     extra = WORDS + (["-j1"] if asks_jobs(args, flags) else [])
     split = args.index("--") if "--" in args else len(args)
@@ -187,7 +187,7 @@ def run_logged(spool, name, real, args, flags):
     os.close(writing)
     signal.signal(signal.SIGTERM, lambda *_: os.kill(child, signal.SIGTERM))
     with open_log(spool, child) as log:
-        head = "ARGS %s\nFLAGS %s\n" % (" ".join(args).replace("\n", " "), flags.replace("\n", " "))
+        head = "ARGS %s\nFLAGS %s\nBELOW %d\n" % (" ".join(args).replace("\n", " "), flags.replace("\n", " "), below)
         log.write(head.encode("utf-8", "surrogateescape"))
         try:
             raw = serve(Splitter(log, 1), child, reading)
@@ -208,6 +208,7 @@ def main():
     if WORDS[0] in args:  # make has remade a makefile and begins again
         os.execv(real, [name] + args)
     flags = without_words(os.environ.get("MAKEFLAGS", ""))
+    below = WORDS[0] in os.environ.get("MAKEFLAGS", "")
     if "MAKEFLAGS" in os.environ:
         os.environ["MAKEFLAGS"] = flags
     if os.environ.get("MFLAGS", "").startswith("-"):
@@ -217,7 +218,7 @@ def main():
         signal.signal(signal.SIGPIPE, signal.SIG_DFL)
         signal.signal(signal.SIGINT, signal.SIG_DFL)
         os.execv(real, [name] + args)
-    raw = run_logged(spool, name, real, args, flags)
+    raw = run_logged(spool, name, real, args, flags, below)
     if os.WIFSIGNALED(raw):
         signal.signal(os.WTERMSIG(raw), signal.SIG_DFL)
         os.kill(os.getpid(), os.WTERMSIG(raw))
