@@ -1,0 +1,101 @@
+"""The report for programs: JSON of our own schema, and SARIF 2.1.0."""
+
+from __future__ import annotations
+
+import json
+from urllib.parse import quote
+
+from report import VERSION
+from report.kinds import KINDS
+from report.model import BadRecord, Race, Recipe, Report, Side
+from report.plain import summary
+
+SCHEMA = "https://json.schemastore.org/sarif-2.1.0.json"
+
+
+def side(it: Side) -> dict:
+    recipe = it.recipe
+    return {"target": recipe.target, "does": it.does, "file": recipe.file, "line": recipe.line, "recipe": recipe.text}
+
+
+def race_object(race: Race, report: Report) -> dict:
+    """A race as the schema has it; docs/REPORT.md says what each key means."""
+    return {
+        "fingerprint": race.fingerprint, "known": race.fingerprint in report.known, "kind": race.kind.name,
+        "build": race.build, "path": race.path, "meaning": race.meaning,
+        "first": side(race.first), "second": side(race.second), "fix": race.fix, "advice": race.kind.fix,
+    }
+
+
+def as_json(report: Report) -> str:
+    """The whole report as one object."""
+    text = {
+        "schema": "race-report", "version": VERSION, "verdict": report.verdict, "summary": summary(report),
+        "folder": report.folder, "words": report.words,
+        "counts": {"builds": report.builds, "recipes": report.recipes, "pairs": report.pairs, "races": len(report.races)},
+        "races": [race_object(it, report) for it in report.races],
+        "fixes": {"lines": report.fixes if report.races else [], "checked": bool(report.races) and report.is_fixed},
+        "assumptions": [{"text": it.text, "count": it.count, "example": it.example} for it in report.assumptions],
+        "holes": report.holes, "gone": report.gone,
+    }
+    return json.dumps(text, indent=1, ensure_ascii=True) + "\n"
+
+
+def read_baseline(text: str) -> dict[str, str]:
+    """The races of a baseline, which is a report in JSON: their fingerprints, each with what to call it."""
+    try:
+        found = json.loads(text)
+        if found["schema"] != "race-report" or found["version"] != VERSION:
+            raise BadRecord(f"the baseline is no race-report of version {VERSION}")
+        return {it["fingerprint"]: f"{it['path']}: {it['first']['target']} and {it['second']['target']}" for it in found["races"]}
+    except (ValueError, KeyError, TypeError) as error:
+        raise BadRecord(f"the baseline cannot be read: {error}") from error
+
+
+def location(recipe: Recipe, message: str, number: int | None = None) -> dict:
+    """A place of SARIF: physical where the rule's place is known, and the target as a logical one."""
+    found: dict = {"logicalLocations": [{"name": recipe.target, "kind": "resource"}], "message": {"text": message}}
+    if number is not None:
+        found["id"] = number
+    if recipe.file:
+        artifact: dict = {"uri": quote(recipe.file, safe="/")}
+        if not recipe.file.startswith("/"):
+            artifact["uriBaseId"] = "PROJECT"
+        else:
+            artifact["uri"] = "file://" + artifact["uri"]
+        found["physicalLocation"] = {"artifactLocation": artifact, "region": {"startLine": max(recipe.line, 1)}}
+    return found
+
+
+def result(race: Race, report: Report) -> dict:
+    """One race as a result, at the recipe that has to wait, with the other one as a related place."""
+    late, early = race.second, race.first
+    if not race.fix.startswith(f"{late.recipe.target}: "):
+        late, early = early, late
+    message = (f"{late.recipe.target} {late.does} {race.path}, {early.recipe.target} {early.does} it, and nothing orders the two. "
+               f"Fix: {race.fix}")
+    return {
+        "ruleId": race.kind.name, "ruleIndex": [it.name for it in KINDS].index(race.kind.name), "level": "error",
+        "message": {"text": message},
+        "locations": [location(late.recipe, f"{late.recipe.target} {late.does} {race.path}")],
+        "relatedLocations": [location(early.recipe, f"{early.recipe.target} {early.does} {race.path}", 0)],
+        "partialFingerprints": {"race/v1": race.fingerprint},
+        "baselineState": "unchanged" if race.fingerprint in report.known else "new",
+    }
+
+
+def as_sarif(report: Report) -> str:
+    """A log of SARIF 2.1.0 with one run: a rule for each kind, a result for each race."""
+    rules = [{
+        "id": it.name, "name": it.name, "shortDescription": {"text": it.title},
+        "fullDescription": {"text": f"Two recipes may run at once: {it.title}."},
+        "help": {"text": it.fix}, "defaultConfiguration": {"level": "error"},
+    } for it in KINDS]
+    notes = [{"level": "error", "message": {"text": it}} for it in report.holes]
+    run = {
+        "tool": {"driver": {"name": "race", "rules": rules}},
+        "originalUriBaseIds": {"PROJECT": {"uri": "file://" + quote(report.folder.rstrip("/") + "/", safe="/")}},
+        "invocations": [{"executionSuccessful": report.verdict != "none", "toolExecutionNotifications": notes}],
+        "results": [result(it, report) for it in report.races],
+    }
+    return json.dumps({"$schema": SCHEMA, "version": "2.1.0", "runs": [run]}, indent=1, ensure_ascii=True) + "\n"

@@ -1,0 +1,182 @@
+"""A record as it is reported: recipes with their places, races with their fixes, assumptions, and the verdict."""
+
+from __future__ import annotations
+
+import hashlib
+import json
+import os
+from collections.abc import Iterator
+from dataclasses import dataclass, field
+from pathlib import Path
+
+from report.kinds import Kind, kind_of
+
+
+class BadRecord(Exception):
+    """A record that cannot be read; what is wrong with it."""
+
+
+@dataclass(frozen=True)
+class Recipe:
+    """A recipe: its label in the tasks, its target, the place of its rule from the project's folder, its first line."""
+
+    label: str
+    target: str
+    file: str
+    line: int
+    text: str
+
+    @property
+    def place(self) -> str:
+        return f"{self.file}:{self.line}" if self.file else ""
+
+
+@dataclass(frozen=True)
+class Side:
+    """One of the two recipes of a race, what it does to the path, what it needs and what needs it."""
+
+    recipe: Recipe
+    does: str
+    needs: tuple[str, ...] = ()
+    needed_by: tuple[str, ...] = ()
+
+
+@dataclass(frozen=True)
+class Race:
+    """Two recipes that nothing orders, the path on which they meet, and the line that orders them."""
+
+    build: str
+    path: str
+    meaning: str
+    first: Side
+    second: Side
+    kind: Kind
+
+    @property
+    def before(self) -> tuple[str, ...]:
+        """What the two need, each once."""
+        return tuple(dict.fromkeys(self.first.needs + self.second.needs))
+
+    @property
+    def behind(self) -> tuple[str, ...]:
+        """What needs one of the two, each once."""
+        return tuple(dict.fromkeys(self.first.needed_by + self.second.needed_by))
+
+    @property
+    def fix(self) -> str:
+        """The line that orders the two: the writer first, where one of them only reads."""
+        early, late = (self.second, self.first) if self.first.does == "reads" else (self.first, self.second)
+        return f"{late.recipe.target}: {early.recipe.target}"
+
+    @property
+    def fingerprint(self) -> str:
+        """What stays the same where lines move: the kind, the path and the two targets."""
+        parts = (self.kind.name, self.path, *sorted((self.first.recipe.target, self.second.recipe.target)))
+        return hashlib.sha256("\0".join(parts).encode(errors="surrogateescape")).hexdigest()[:32]
+
+
+@dataclass(frozen=True)
+class Assumption:
+    """What was taken for granted: how often, with an example."""
+
+    text: str
+    count: int
+    example: str
+
+
+@dataclass
+class Report:
+    """All that the forms show. `verdict` is safe, race or none."""
+
+    folder: str
+    words: list[str]
+    verdict: str
+    races: list[Race] = field(default_factory=list)
+    fixes: list[str] = field(default_factory=list)
+    is_fixed: bool = False
+    assumptions: list[Assumption] = field(default_factory=list)
+    holes: list[str] = field(default_factory=list)
+    builds: int = 0
+    recipes: int = 0
+    pairs: int = 0
+    known: set[str] = field(default_factory=set)
+    gone: list[str] = field(default_factory=list)
+
+    def fresh(self) -> list[Race]:
+        """The races that the baseline has not."""
+        return [it for it in self.races if it.fingerprint not in self.known]
+
+    def by_path(self) -> Iterator[tuple[str, list[Race]]]:
+        """The races in groups by their path, in the order in which paths come first."""
+        groups: dict[str, list[Race]] = {}
+        for race in self.races:
+            groups.setdefault(race.path, []).append(race)
+        yield from groups.items()
+
+    def status(self) -> int:
+        """0 safe or nothing new, 1 races, 2 no verdict."""
+        return 2 if self.verdict == "none" else int(bool(self.fresh()))
+
+
+def read_json(path: Path) -> dict:
+    """One file of a record."""
+    try:
+        found = json.loads(path.read_text(encoding="utf-8"))
+    except (OSError, ValueError) as error:
+        raise BadRecord(f"{path}: {error}") from error
+    if not isinstance(found, dict):
+        raise BadRecord(f"{path}: no JSON object")
+    return found
+
+
+@dataclass
+class Build:
+    """One round of a make process: its tasks by label, those behind each, and what the labels stand for."""
+
+    number: str
+    folder: str
+    project: str
+    about: dict
+    after: dict[str, list[str]]
+    users: dict[str, list[str]] = field(default_factory=dict)
+
+    def __post_init__(self) -> None:
+        for label, after in self.after.items():
+            for it in after:
+                self.users.setdefault(it, []).append(label)
+
+    def recipe(self, label: str) -> Recipe:
+        """What a label stands for; its place is told from the project's folder where it lies below it."""
+        found = self.about["labels"].get(label, {})
+        file = found.get("file", "")
+        if file:
+            path = os.path.normpath(os.path.join(self.folder, file))
+            below = os.path.relpath(path, self.project)
+            file = path if below.startswith("..") else below
+        return Recipe(label, found.get("target") or label, file, found.get("line", 0), found.get("recipe", "").strip())
+
+    def targets(self, labels: list[str]) -> tuple[str, ...]:
+        """The targets of some labels, each once, at most four."""
+        return tuple(dict.fromkeys(self.recipe(it).target for it in labels))
+
+    def race(self, path: str, first: tuple[str, str], second: tuple[str, str]) -> Race:
+        """A race between two labels, each with what it does to the path."""
+        targets = (self.recipe(first[0]).target, self.recipe(second[0]).target)
+        other = lambda labels: tuple(it for it in self.targets(labels) if it not in targets)
+        sides = [Side(self.recipe(it), does, other(self.after.get(it, [])), other(self.users.get(it, []))) for it, does in (first, second)]
+        kind = kind_of(path, targets, (first[1], second[1]))
+        return Race(self.number, path, self.about.get("meanings", {}).get(path, ""), *sides, kind)
+
+
+def read_build(folder: Path, number: str, project: str) -> Build:
+    """One build of a record."""
+    about = read_json(folder / "build.json")
+    after = {}
+    try:
+        with open(folder / "tasks", encoding="utf-8", errors="surrogateescape") as lines:
+            for line in filter(str.strip, lines):
+                task = json.loads(line)
+                after[task["task"]] = task["after"]
+    except (OSError, ValueError, KeyError, TypeError) as error:
+        raise BadRecord(f"{folder / 'tasks'}: {error}") from error
+    return Build(number, about.get("folder", project), project, about, after)

@@ -1,0 +1,90 @@
+"""The report as text of 80 columns, and as annotations of GitHub."""
+
+from __future__ import annotations
+
+from collections.abc import Iterator
+
+from report.model import Race, Report
+
+HEADLINES = {"safe": "SAFE", "race": "RACE", "none": "NO VERDICT"}
+
+
+def counted(number: int, one: str, many: str = "") -> str:
+    """`1 race`, `2 races`."""
+    return f"{number} {one if number == 1 else many or one + 's'}"
+
+
+def summary(report: Report) -> str:
+    """The verdict in one sentence."""
+    recipes = f"{counted(report.recipes, 'recipe')} in {counted(report.builds, 'build')}"
+    if report.verdict == "none":
+        return f"No verdict: the record has {counted(len(report.holes), 'hole')}."
+    if report.verdict == "safe":
+        return f"make -j leaves what make leaves. {recipes}; {counted(report.pairs, 'pair')} that conflict are in order."
+    files = len({it.path for it in report.races})
+    return f"{counted(len(report.races), 'race')} on {counted(files, 'file')}. {recipes}."
+
+
+def does(race: Race) -> tuple[str, str]:
+    """What the two recipes do to the path, in words."""
+    words = {"writes": "writes it", "reads": "reads it"}
+    return words[race.first.does], words[race.second.does] + ", and nothing orders the two"
+
+
+def race_lines(race: Race, report: Report) -> Iterator[str]:
+    """One race: the path, both recipes with their places, and the line that orders them."""
+    known = "" if race.fingerprint not in report.known else "  (known)"
+    yield f"RACE  {race.path}{f'  ({race.meaning})' if race.meaning else ''}{known}"
+    sides = (race.first.recipe, race.second.recipe)
+    wide = [max(len(text) for text in column) for column in zip(*((it.target, it.place or "-") for it in sides))]
+    for recipe, verb in zip(sides, does(race)):
+        yield f"  {recipe.target:{wide[0]}}  {recipe.place or '-':{wide[1]}}  {verb}"
+    yield f"  {race.kind.advice}"
+    yield f"  fix: {race.fix}"
+    yield ""
+
+
+def text(report: Report) -> str:
+    """The whole report, the verdict first."""
+    lines = [f"{HEADLINES[report.verdict]}  {summary(report)}", ""]
+    lines += [line for race in report.races for line in race_lines(race, report)]
+    if report.races:
+        checked = "with these lines the build is safe (checked)" if report.is_fixed else "not checked"
+        lines += [f"All fixes, {checked}:", *(f"    {it}" for it in report.fixes), ""]
+    lines += ["The record has holes:", *(f"  - {it}" for it in report.holes), ""] if report.holes else []
+    lines += ["Fixed since the baseline:", *(f"  - {it}" for it in report.gone), ""] if report.gone else []
+    if report.assumptions:
+        lines.append("safe, if:" if report.verdict == "safe" else "Assumed:")
+    for it in report.assumptions:
+        such = f", such as {it.example}" if it.example else ""
+        lines.append(f"  - {it.text}" + (f" ({it.count}{such})" if it.count > 1 or such else ""))
+    return "\n".join(lines).rstrip("\n") + "\n"
+
+
+def escaped(value: str, is_property: bool = False) -> str:
+    """Text of a workflow command: its own signs as percent and two digits."""
+    for sign, code in (("%", "%25"), ("\r", "%0D"), ("\n", "%0A"), *(((":", "%3A"), (",", "%2C")) if is_property else ())):
+        value = value.replace(sign, code)
+    return value
+
+
+def annotation(level: str, title: str, message: str, file: str = "", line: int = 0) -> str:
+    """One workflow command; without a place where none is known."""
+    place = f"file={escaped(file, True)},line={line}," if file else ""
+    return f"::{level} {place}title={escaped(title, True)}::{escaped(message)}"
+
+
+def github(report: Report) -> str:
+    """An annotation for each race, at the recipe that has to wait; a warning for one that is known."""
+    lines = []
+    for race in report.races:
+        late = race.second.recipe if race.fix.startswith(f"{race.second.recipe.target}: ") else race.first.recipe
+        early = race.first.recipe if late is race.second.recipe else race.second.recipe
+        message = (f"{late.target} and {early.target} both use {race.path}, one of them writes it, and nothing orders the two. "
+                   f"{early.target}: {early.place or 'no place known'}.\nFix: {race.fix}")
+        level = "warning" if race.fingerprint in report.known else "error"
+        lines.append(annotation(level, f"race on {race.path}", message, late.file, late.line))
+    lines += [annotation("error", "race: no verdict", it) for it in report.holes]
+    lines += [annotation("notice", "race: fixed since the baseline", it) for it in report.gone]
+    lines.append(annotation("notice", f"race: {HEADLINES[report.verdict].lower()}", summary(report)))
+    return "\n".join(lines) + "\n"
