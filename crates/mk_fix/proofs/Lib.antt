@@ -2,4 +2,5 @@ pub mod Adding
 pub mod Cleaning
 pub mod Direct
 pub mod Fixing
+pub mod Musting
 pub mod Racing

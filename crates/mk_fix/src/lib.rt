@@ -1,8 +1,10 @@
 //! All races of jobs, and the edges that fix them.
 //!
-//! `races` lists all races. `laws` has what holds of every fix: it is the only one, the weakest, and makes jobs determinate.
-//! `specs/Fixes.antt` says what a fix is.
+//! `races` lists all races. `fix` finds the fix: the races that, as edges, make jobs race-free, and of which each is needed.
+//! `laws` has what holds of every fix: it is the only one, the weakest, and makes jobs determinate. `specs/Fixes.antt` says
+//! what a fix is.
 #![tactic(auto)]
 
+pub mod fix;
 pub mod laws;
 pub mod races;

@@ -1,2 +1,3 @@
 pub mod OrderLines
 pub mod PastTheEnd
+pub mod RaceLines

@@ -1,2 +1,3 @@
+pub mod RacesText
 pub mod ReportText
 pub mod Reports

@@ -44,7 +44,7 @@ fn push_head(out: &mut Vec<u8>, jobs: &Jobs, pairs: usize) -> Result<(), AllocEr
 }
 
 /// The least path on which two nodes clash, if they do. What is no node clashes with none.
-fn clash_of(jobs: &Jobs, a: u32, b: u32) -> Option<&Path>
+pub(crate) fn clash_of(jobs: &Jobs, a: u32, b: u32) -> Option<&Path>
     ensures least { IfSome result (λ path. IsLeastOverlap (uses_of jobs.now) a b path.now) }
     ensures clash { IsSome result ↔ Clash jobs.now a b }
 {
