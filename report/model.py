@@ -5,11 +5,15 @@ from __future__ import annotations
 import hashlib
 import json
 import os
+import re
 from collections.abc import Iterator
 from dataclasses import dataclass, field
 from pathlib import Path
 
 from report.kinds import Kind, kind_of
+
+# What the recorder adds to a path that stands for something else than the file: its age, its folder, that it is gone.
+OWN_NAME = re.compile(r"/@[a-z-]+(/.*)?$")
 
 
 class BadRecord(Exception):
@@ -18,13 +22,15 @@ class BadRecord(Exception):
 
 @dataclass(frozen=True)
 class Recipe:
-    """A recipe: its label in the tasks, its target, the place of its rule from the project's folder, its first line."""
+    """A recipe: its label in the tasks, its target, the place of its rule from the project's folder, its first line, and
+    whether it is none: only what `make` itself looks at to decide about the target."""
 
     label: str
     target: str
     file: str
     line: int
     text: str
+    is_look: bool = False
 
     @property
     def place(self) -> str:
@@ -36,9 +42,14 @@ class Side:
     """One of the two recipes of a race, what it does to the path, what it needs and what needs it."""
 
     recipe: Recipe
-    does: str
+    does: str  # reads or writes
     needs: tuple[str, ...] = ()
     needed_by: tuple[str, ...] = ()
+
+    @property
+    def verb(self) -> str:
+        """What it does to the path, in words."""
+        return "make looks at it" if self.recipe.is_look and self.does == "reads" else f"{self.does} it"
 
 
 @dataclass(frozen=True)
@@ -51,6 +62,11 @@ class Race:
     first: Side
     second: Side
     kind: Kind
+
+    @property
+    def shown(self) -> str:
+        """The path as people know it: of a path that stands for something else, the file that it is about."""
+        return OWN_NAME.sub("", self.path) if self.meaning else self.path
 
     @property
     def before(self) -> tuple[str, ...]:
@@ -153,7 +169,8 @@ class Build:
             path = os.path.normpath(os.path.join(self.folder, file))
             below = os.path.relpath(path, self.project)
             file = path if below.startswith("..") else below
-        return Recipe(label, found.get("target") or label, file, found.get("line", 0), found.get("recipe", "").strip())
+        is_look = found.get("kind") in ("decision", "look")
+        return Recipe(label, found.get("target") or label, file, found.get("line", 0), found.get("recipe", "").strip(), is_look)
 
     def targets(self, labels: list[str]) -> tuple[str, ...]:
         """The targets of some labels, each once, at most four."""

@@ -57,7 +57,7 @@ def figures(race: Race) -> str:
 def card(race: Race, report: Report, is_drawn: bool) -> str:
     """One race: who does what and where, what it is, the line that fixes it, and its pictures."""
     rows = "".join(f"<tr><td>{escape(it.recipe.target)}</td><td>{escape(it.recipe.place or 'no place known')}</td>"
-                   f"<td>{it.does} it</td></tr>" for it in (race.first, race.second))
+                   f"<td>{it.verb}</td></tr>" for it in (race.first, race.second))
     order = "Add this line:" if race.kind is FORGOTTEN else "Or put the two in order:"
     known = ' <span class="tag">known</span>' if race.fingerprint in report.known else ""
     return (f'<div class="card" id="r{race.fingerprint[:10]}"><table>{rows}</table>'
@@ -70,9 +70,9 @@ def races(report: Report) -> Iterator[str]:
     if report.races:
         yield "<h2>Races, file by file</h2>"
     drawn = 0
-    for path, group in report.by_path():
+    for _, group in report.by_path():
         meaning = f' <span class="soft">({escape(group[0].meaning)})</span>' if group[0].meaning else ""
-        yield f"<section><h3>{escape(path)}{meaning}</h3>"
+        yield f"<section><h3>{escape(group[0].shown)}{meaning}</h3>"
         for at, race in enumerate(group):
             is_drawn = drawn < PICTURES and at < 2
             drawn += is_drawn

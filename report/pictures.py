@@ -46,11 +46,11 @@ def schedule(race: Race) -> str:
         '<rect x="196" y="0" width="92" height="82" class="meet"/>',
         box(begin, 6, 288 - begin, f"{first} {race.first.does}", "run"), box(196, 50, 160, f"{second} {race.second.does}", "run"),
         '<line x1="44" y1="94" x2="356" y2="94" class="axis"/><path d="M350 90l6 4-6 4" class="axis"/>',
-        label(44, 110, "time", "lane", "start"), label(242, 110, "both use " + short(race.path, 24), "bad"),
+        label(44, 110, "time", "lane", "start"), label(242, 110, "both use " + short(race.shown, 24), "bad"),
     ]
     if race.before:
         parts.append(box(44, 6, 74, race.before[0], "done"))
-    return picture(116, f"Before: {before}. Then {first} and {second} run at once, and meet on {race.path}", parts)
+    return picture(116, f"Before: {before}. Then {first} and {second} run at once, and meet on {race.shown}", parts)
 
 
 def edge(x1: float, y1: float, x2: float, y2: float, style: str = "edge") -> str:

@@ -25,19 +25,13 @@ def summary(report: Report) -> str:
     return f"{counted(len(report.races), 'race')} on {counted(files, 'file')}. {recipes}."
 
 
-def does(race: Race) -> tuple[str, str]:
-    """What the two recipes do to the path, in words."""
-    words = {"writes": "writes it", "reads": "reads it"}
-    return words[race.first.does], words[race.second.does] + ", and nothing orders the two"
-
-
 def race_lines(race: Race, report: Report) -> Iterator[str]:
     """One race: the path, both recipes with their places, and the line that orders them."""
     known = "" if race.fingerprint not in report.known else "  (known)"
-    yield f"RACE  {race.path}{f'  ({race.meaning})' if race.meaning else ''}{known}"
+    yield f"RACE  {race.shown}{f'  ({race.meaning})' if race.meaning else ''}{known}"
     sides = (race.first.recipe, race.second.recipe)
     wide = [max(len(text) for text in column) for column in zip(*((it.target, it.place or "-") for it in sides))]
-    for recipe, verb in zip(sides, does(race)):
+    for recipe, verb in zip(sides, (race.first.verb, f"{race.second.verb}, and nothing orders the two")):
         yield f"  {recipe.target:{wide[0]}}  {recipe.place or '-':{wide[1]}}  {verb}"
     yield f"  {race.kind.advice}"
     yield f"  fix: {race.fix}"
@@ -80,10 +74,10 @@ def github(report: Report) -> str:
     for race in report.races:
         late = race.second.recipe if race.fix.startswith(f"{race.second.recipe.target}: ") else race.first.recipe
         early = race.first.recipe if late is race.second.recipe else race.second.recipe
-        message = (f"{late.target} and {early.target} both use {race.path}, one of them writes it, and nothing orders the two. "
+        message = (f"{late.target} and {early.target} both use {race.shown}, one of them writes it, and nothing orders the two. "
                    f"{early.target}: {early.place or 'no place known'}.\nFix: {race.fix}")
         level = "warning" if race.fingerprint in report.known else "error"
-        lines.append(annotation(level, f"race on {race.path}", message, late.file, late.line))
+        lines.append(annotation(level, f"race on {race.shown}", message, late.file, late.line))
     lines += [annotation("error", "race: no verdict", it) for it in report.holes]
     lines += [annotation("notice", "race: fixed since the baseline", it) for it in report.gone]
     lines.append(annotation("notice", f"race: {HEADLINES[report.verdict].lower()}", summary(report)))
