@@ -86,7 +86,7 @@ class Names:
             return
         elif CODE_NAME.match(span) and not {span} & (self.at.words | self.at.spec_words | self.at.names):
             yield f"no item {span}"
-        elif first == "race" or first.startswith("--"):
+        elif first == "race" and ":" not in words or first.startswith("--"):  # `race out : a writes b reads` is a report
             yield from self.lost_options(words)
 
     def lost_options(self, words: list[str]) -> Iterator[str]:
