@@ -37,7 +37,8 @@ abbrev pub paths_of : Jobs → ℕ → ℕ → List Path
 paths_of jobs a b = (reads_of jobs a ++ writes_of jobs a) ++ (reads_of jobs b ++ writes_of jobs b)
 
 -- two nodes clash on the path that a trace spells: they are different, it is a path of one of them, and they clash on what it
--- covers
+-- covers. This asks more than a clash on some path: the path has to stand in the footprint of one of the two, so that a trace
+-- names what a footprint says, and no folder above both
 pub record ClashesOn (jobs : Jobs) (a b : ℕ) (text : List ℕ) : Type 0 where
   pub different : a ≢ b
   pub path : Path

@@ -6,11 +6,11 @@ use Rattle.mk_name.specs.Told.{Told}
 use Rattle.mk_name.specs.declared.fault.Kind.TheVariants.{TooManyPairs}
 use Rattle.mk_name.specs.declared.fault.Source.TheVariants as sources
 use Rattle.mk_jobs.specs.Jobs.{Jobs, Clash}
-use Rattle.mk_proof.specs.Shapes.{pair_cmp}
+use Rattle.mk_proof.specs.Shapes.{most_chains, pair_cmp}
 
--- the most pairs that may clash
+-- the most pairs that may clash: as many as a certificate has chains
 abbrev pub pair_limit : ℕ
-pair_limit = 1000000
+pair_limit = most_chains
 
 -- each pair comes before those after it
 abbrev pub IsRising : List (ℕ × ℕ) → Type 0

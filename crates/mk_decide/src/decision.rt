@@ -44,7 +44,7 @@ pub fn decide_with<B: Before>(alloc: Global, jobs: &Jobs, before: &mut B) -> Res
     ensures few { IfOk result (λ verdict. HasFewPairs jobs.now) }
     ensures many { IfErr result (λ halt.
         HaltsAmong {Y = ℕ} halt (λ answer. (answer ≡ Err too_many) × HasManyPairs jobs.now)) }
-    ensures keeps { IfOk result (λ verdict. B.jobs before.new ≡ B.jobs before.old) }
+    ensures keeps { B.jobs before.new ≡ B.jobs before.old }
 {
     let _count = jobs.count();
     let pairs = clashing_pairs(alloc, jobs)?;
@@ -64,7 +64,7 @@ fn verdict_of<B: Before>(
     requires pairs { ArePairs jobs.now pairs.now }
     requires few { length pairs.now ≤ pair_limit }
     ensures answer { IfOk result (IsVerdict jobs.now) }
-    ensures keeps { IfOk result (λ verdict. B.jobs before.new ≡ B.jobs before.old) }
+    ensures keeps { B.jobs before.new ≡ B.jobs before.old }
 {
     if let Some((a, b)) = first_race(jobs, before, pairs) {
         let trace = trace_of_race(alloc, jobs, before, a, b)?;

@@ -7,12 +7,13 @@ ghost use Rattle.mk_path.specs.Uses.{Reaches};
 ghost use Rattle.mk_jobs.specs.Reaching.{uses_of};
 
 use mk_jobs::jobs::Jobs;
+use mk_jobs::plan::NODE_LIMIT;
 
 /// How many bits a word has.
 const WORD: u32 = 64;
 
 /// How many words a row has, so that each node of a plan has a bit.
-pub(crate) const WORDS: usize = 313;
+pub(crate) const WORDS: usize = (NODE_LIMIT + WORD as usize - 1) / WORD as usize;
 
 /// The row that has the bits of the nodes that reach b. It stands on the stack.
 pub(crate) fn row_of(jobs: &Jobs, b: u32) -> [u64; WORDS]

@@ -11,10 +11,11 @@ ghost use Rattle.mk_decide.specs.Pairs.{ArePairs, HasManyPairs, Holds, IsRising,
 use crate::marks::{next_bit, row_of};
 use mk_jobs::jobs::Jobs;
 use mk_name::fault::{Fault, Halt, Kind, Source};
+use mk_proof::certificate::MOST_CHAINS;
 use std::alloc::{AllocError, Global};
 
-/// The most pairs of nodes that may clash (profile).
-pub const PAIR_LIMIT: usize = 1_000_000;
+/// The most pairs of nodes that may clash (profile): as many as a certificate has chains.
+pub const PAIR_LIMIT: usize = MOST_CHAINS;
 
 /// How many pairs are gathered before those that stand there twice are dropped.
 const ROOM: usize = 2 * PAIR_LIMIT;

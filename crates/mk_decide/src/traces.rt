@@ -29,7 +29,7 @@ pub(crate) fn trace_of_race<B: Before>(
     ensures nodes { IfOk result (HasNodes first second) }
     ensures path { IfOk result (λ trace. SpellsLeast jobs.now first second trace.path) }
     ensures race { IfOk result (IsOfRace jobs.now) }
-    ensures keeps { IfOk result (λ trace. B.jobs before.new ≡ B.jobs before.old) }
+    ensures keeps { B.jobs before.new ≡ B.jobs before.old }
 {
     let path = least_path(alloc, jobs, first, second)?;
     let times = times_of(alloc, jobs)?;
@@ -79,7 +79,7 @@ fn early_nodes<B: Before>(
     requires second { second < node_count jobs.now }
     ensures long { IfOk result (λ early. length early.items ≡ node_count jobs.now) }
     ensures tells { IfOk result (λ early. TellsEarly jobs.now first second (λ n. get_or early.items n false)) }
-    ensures keeps { IfOk result (λ early. B.jobs before.new ≡ B.jobs before.old) }
+    ensures keeps { B.jobs before.new ≡ B.jobs before.old }
 {
     let mut early = Vec::new(alloc);
     for n in 0..jobs.count() {

@@ -1,6 +1,6 @@
 -- Names and their numbers.
 use Rattle.std.proofs.Common.{◌≡◌, ℕ, zero, suc, ◌+◌, ◌<◌, Bool, true, false, cond, List, [], ◌∷◌, ◌++◌, length, get_or, take, sym, ◌∙◌, ap, subst, inl, inr, refl, arith, append_assoc, length-append, Some, None, Option}
-use Rattle.std.specs.Prelude.{◌||◌, IsTrue, nat_eq, map}
+use Rattle.std.specs.Prelude.{◌||◌, IsTrue, OnErr, Ok, Err, Result, nat_eq, map}
 use Rattle.std.specs.List.{list_any, position_from}
 use Rattle.std.specs.Ordering.{is_eq, nat_cmp}
 use Rattle.std.specs.Cmp.Lexicographic.{slice_cmp, texts_ties}
@@ -13,7 +13,7 @@ use Rattle.mk_name.proofs.Names.{name_is_exact, nat_is_exact, in_head, in_tail, 
 use Rattle.std.specs.BTreeMap.{get}
 use Rattle.std.specs.declared.collections.BTreeMap.{BTreeMap}
 use Rattle.std.specs.Global.{Global}
-use Rattle.mk_jobs.specs.Numbered.{name_at, number_of, Stand}
+use Rattle.mk_jobs.specs.Numbered.{name_at, number_of, HasFirst, Stand}
 use Rattle.mk_jobs.specs.Numbers.{IsNumbered}
 
 from_other : (test : Name → Bool) (n : ℕ) (xs : List Name) (x : Name) → test x ≡ false → position_from test n (xs ++ x ∷ []) ≡ position_from test n xs
@@ -137,3 +137,9 @@ numbered_push old new names pushed x own key n i absent e k l is updates =
       distinct = distinct_push same_name name_is_exact names x i.distinct absent;
       index = index_push old new names x absent i.index (λ q. updates q ∙ ap (λ z. cond (is_eq (slice_cmp nat_cmp z q)) (Some n) (get (slice_cmp nat_cmp) old q)) k ∙ ap (λ m. cond (is_eq (slice_cmp nat_cmp x q)) (Some m) (get (slice_cmp nat_cmp) old q)) l);
     })
+
+-- where memory ends behind a step, the first names have been put
+pub put_begun : {X E : Type 0} (result : Result X E) (old some new : List Name) (i : ℕ) → i < length some → new ≡ kept same_name old (take (i + 1) some)
+    → OnErr result (HasFirst old some new)
+put_begun (Ok x) old some new i h is = tt
+put_begun (Err e) old some new i h is = record { count = i + 1; within = omega arith; names_are = is }

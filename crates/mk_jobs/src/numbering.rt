@@ -1,7 +1,7 @@
 //! Names in the order in which they are found, each with its place as its number.
-ghost use Rattle.std.specs.Prelude.{◌≡◌, ◌<◌, List, [], ◌∷◌, ℕ, length, IfOk};
+ghost use Rattle.std.specs.Prelude.{◌≡◌, ◌<◌, List, [], ◌∷◌, ℕ, length, IfOk, OnErr};
 ghost use Rattle.mk_name.specs.Names.{kept, same_name, IsDistinct};
-ghost use Rattle.mk_jobs.specs.Numbered.{name_at, number_of, Stand};
+ghost use Rattle.mk_jobs.specs.Numbered.{name_at, number_of, HasFirst, Stand};
 
 use mk_name::name::Name;
 use std::alloc::{AllocError, Global};
@@ -62,11 +62,13 @@ impl Numbering {
         self.numbers.get(name).copied()
     }
 
-    /// The number of a name, which is put last if it is new. The only error is want of memory.
+    /// The number of a name, which is put last if it is new. The only error is out of memory, and then the names
+    /// are as they were.
     pub fn put(&mut self, alloc: Global, name: &Name) -> Result<usize, AllocError>
         ensures kept { IfOk result (λ number. self.new ≡ kept same_name self.old (name.now ∷ [])) }
         ensures within { IfOk result (λ number. number < length self.new) }
         ensures name { IfOk result (λ number. name_at self.new number ≡ name.now) }
+        ensures same { OnErr result (self.new ≡ self.old) }
     {
         if let Some(number) = self.number(name) {
             return Ok(number);
@@ -80,10 +82,12 @@ impl Numbering {
         Ok(number)
     }
 
-    /// The numbers of some names, of which the new ones are put last. The only error is want of memory.
+    /// The numbers of some names, of which the new ones are put last. The only error is out of memory, and then the first
+    /// few of these names have been put.
     pub fn put_all(&mut self, alloc: Global, some: &[Name]) -> Result<Vec<usize>, AllocError>
         ensures kept { IfOk result (λ numbers. self.new ≡ kept same_name self.old some.now) }
         ensures stand { IfOk result (λ numbers. Stand self.new numbers.items some.now) }
+        ensures begun { OnErr result (HasFirst self.old some.now self.new) }
     {
         let mut numbers = Vec::new(alloc);
         for name in some {

@@ -2,7 +2,7 @@
 ghost use Rattle.std.specs.Prelude.{◌≡◌, ◌<◌, ◌||◌, ◌==◌, All, IfOk, false, get_or, length};
 ghost use Rattle.std.specs.List.{list_any};
 ghost use Rattle.mk_jobs.specs.Jobs.{node_count, prerequisites_of};
-ghost use Rattle.mk_order.specs.Marks.{AreMarked};
+ghost use Rattle.mk_order.specs.Marks.{AreMarkedBehind};
 
 use crate::before::Before;
 use mk_jobs::jobs::Jobs;
@@ -58,7 +58,7 @@ impl Before for Walk<'_> {
 /// Marks the nodes that have a before them, and no other.
 fn mark_after(jobs: &Jobs, a: u32, marks: &mut [bool])
     requires { length marks.old ≡ node_count jobs.now }
-    ensures { AreMarked jobs.now a marks.new (node_count jobs.now) }
+    ensures { AreMarkedBehind jobs.now a marks.new (node_count jobs.now) }
 {
     for x in 0..jobs.count() {
         let marked = has_marked(jobs.prerequisites(x), a, marks);
