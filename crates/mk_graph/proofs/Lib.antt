@@ -9,6 +9,7 @@ mod Measure
 mod NodeNames
 mod NodesOf
 mod Placing
+pub mod PlannedOnce
 mod Rowing
 mod Sets
 mod Sources

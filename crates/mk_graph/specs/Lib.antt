@@ -4,6 +4,7 @@ pub mod Collected
 pub mod Graph
 pub mod Least
 pub mod Makers
+pub mod Once
 pub mod Places
 pub mod Rows
 pub mod Seen

@@ -26,6 +26,7 @@ use Rattle.mk_race.specs.declared.planning.Graphed.{Graphed}
 use Rattle.mk_race.specs.declared.planning.Planned.{Planned}
 use Rattle.mk_race.specs.declared.preparing.Prepared.{Prepared}
 use Rattle.mk_race.proofs.Alike.{runs_alike}
+use Rattle.mk_race.proofs.OneBuild.{build_is_one}
 
 -- ---- the plan
 
@@ -145,6 +146,7 @@ headline_there : (texts : Texts) (lines : List ℕ) (jobs : Jobs) (given : Resul
 headline_there texts lines jobs (Ok prepared) is same determinate = record {
   prepared = prepared;
   build = is;
+  only = λ other so. build_is_one texts lines prepared other is so;
   alike = runs_alike texts lines prepared is (subst IsDeterminate same determinate);
 }
 headline_there texts lines jobs (Err told) is same determinate = absurd same

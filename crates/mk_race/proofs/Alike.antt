@@ -6,6 +6,7 @@ use Rattle.mk_race.specs.Judged.{IsSafe, NoScheduleShows, RunsAlike}
 use Rattle.mk_race.specs.Stages.{IsPrepared, Texts}
 use Rattle.mk_race.specs.declared.preparing.Prepared.{Prepared}
 use Rattle.mk_race.proofs.Listed.{store_agrees}
+use Rattle.mk_race.proofs.OneBuild.{build_is_one}
 
 -- a store that agrees with the listing agrees with the jobs, so the runs of determinate jobs are alike
 pub runs_alike : (texts : Texts) (footprints : List ℕ) (prepared : Prepared) → IsPrepared texts footprints (Ok prepared)
@@ -20,6 +21,7 @@ pub headline_of : {E : Type 0} (texts : Texts) (footprints : List ℕ) (prepared
 headline_of texts footprints prepared (Ok answer) build determinate = λ safe. record {
   prepared = prepared;
   build = build;
+  only = λ other is. build_is_one texts footprints prepared other build is;
   alike = runs_alike texts footprints prepared build (determinate safe);
 }
 headline_of texts footprints prepared (Err error) build determinate = tt

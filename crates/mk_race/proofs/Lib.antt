@@ -3,5 +3,6 @@ mod Alike
 mod GoalsLemmas
 mod InOrder
 mod Listed
+mod OneBuild
 mod ProofTexts
 mod Staging

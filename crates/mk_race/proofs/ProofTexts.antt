@@ -13,6 +13,7 @@ use Rattle.mk_cert.specs.Traces.{TraceHolds}
 use Rattle.mk_race.specs.Stages.{IsPrepared, Texts}
 use Rattle.mk_race.specs.Verified.{IsJudged, IsVerifiedOn, ProofShows}
 use Rattle.mk_race.specs.declared.preparing.Prepared.{Prepared}
+use Rattle.mk_race.proofs.OneBuild.{build_is_one}
 
 -- a halt of the proof is one of the whole
 pub proof_unread : (jobs : Jobs) (text : List ℕ) (halt : Halt) → HaltsAmong halt (IsRead text) → HaltsAmong halt (IsVerifiedOn jobs text)
@@ -38,6 +39,7 @@ shows_on texts footprints text prepared accepted build (Ok proof, read, judged) 
   prepared = prepared;
   proof = proof;
   build = build;
+  only = λ other is. build_is_one texts footprints prepared other build is;
   read = read;
   shown = judged.shown holds;
 }

@@ -4,7 +4,7 @@ use Rattle.mk_name.specs.Names.{has, same_name}
 use Rattle.mk_name.specs.Told.{Told}
 use Rattle.mk_jobs.specs.Jobs.{Jobs}
 use Rattle.mk_sched.specs.Events.{Event}
-use Rattle.mk_sched.specs.Laws.{SameOutcome}
+use Rattle.mk_sched.specs.Laws.{IsDeterminate, SameOutcome}
 use Rattle.mk_sched.specs.Runs.{IsComplete, IsRun, RecipesAgree}
 use Rattle.mk_sched.specs.Stores.{AgreesWithListing, Store}
 use Rattle.mk_cert.specs.Traces.{TraceHolds}
@@ -38,6 +38,12 @@ IsSafe (Safe jobs chains) = Unit {0}
 IsSafe (Race jobs trace) = ⊥
 IsSafe (Refused told) = ⊥
 
+-- the jobs that are handed out as safe are determinate
+abbrev pub HoldsOfSafe : Answer → Type 0
+HoldsOfSafe (Safe jobs chains) = IsDeterminate jobs
+HoldsOfSafe (Race jobs trace) = Unit {0}
+HoldsOfSafe (Refused told) = Unit {0}
+
 -- the trace of a race holds of its jobs
 abbrev pub HoldsOfRace : Answer → Type 0
 HoldsOfRace (Safe jobs chains) = Unit {0}
@@ -53,8 +59,9 @@ RunsAlike prepared =
     → IsRun prepared.jobs tie limit opening a → IsRun prepared.jobs tie other opening b
     → IsComplete prepared.jobs a → IsComplete prepared.jobs b → RecipesAgree a b → SameOutcome prepared.jobs opening a b
 
--- no schedule of a build shows in its files: its texts mean jobs and a listing, and the runs of these are alike
+-- no schedule of a build shows in its files: its texts mean jobs and a listing, and no others, and the runs of these are alike
 pub record NoScheduleShows (texts : Texts) (footprints : List ℕ) : Type 0 where
   pub prepared : Prepared
   pub build : IsPrepared texts footprints (Ok prepared)
+  pub only : (other : Prepared) → IsPrepared texts footprints (Ok other) → prepared ≡ other
   pub alike : RunsAlike prepared

@@ -1,5 +1,5 @@
 -- What a proof is to a build: whether its jobs accept it, and what it shows of them then.
-use Rattle.std.specs.Prelude.{◌↔◌, ℕ, Bool, List, Result, Ok, Err, IsTrue}
+use Rattle.std.specs.Prelude.{◌≡◌, ◌↔◌, ℕ, Bool, List, Result, Ok, Err, IsTrue}
 use Rattle.mk_name.specs.Told.{Told}
 use Rattle.mk_jobs.specs.Jobs.{Jobs}
 use Rattle.mk_proof.specs.ProofText.{IsRead}
@@ -40,10 +40,11 @@ IsVerifiedOn jobs text = ThenAny (IsRead text) (λ proof. IsVerdict jobs proof)
 abbrev pub IsVerified : Texts → List ℕ → List ℕ → Result Bool Told → Type 0
 IsVerified texts footprints proof = ThenAny (IsPrepared texts footprints) (λ prepared. IsVerifiedOn prepared.jobs proof)
 
--- the texts of a build mean jobs, the text of a proof means a proof, and what that shows is so of these jobs
+-- the texts of a build mean jobs, and no others, the text of a proof means a proof, and what that shows is so of these jobs
 pub record ProofShows (texts : Texts) (footprints text : List ℕ) : Type 0 where
   pub prepared : Prepared
   pub proof : Proof
   pub build : IsPrepared texts footprints (Ok prepared)
+  pub only : (other : Prepared) → IsPrepared texts footprints (Ok other) → prepared ≡ other
   pub read : IsRead text (Ok proof)
   pub shown : Shows prepared.jobs proof

@@ -4,7 +4,7 @@ ghost use Rattle.mk_name.specs.Told.{Told};
 ghost use Rattle.mk_name.specs.declared.fault.Halt.TheVariants as halts;
 ghost use Rattle.mk_report.specs.declared.answer.Answer.TheVariants as answers;
 ghost use Rattle.mk_sched.specs.Laws.{IsDeterminate};
-ghost use Rattle.mk_race.specs.Judged.{HoldsOfRace, IsAnswered, IsDecided, IsSafe, NoScheduleShows};
+ghost use Rattle.mk_race.specs.Judged.{HoldsOfRace, HoldsOfSafe, IsAnswered, IsDecided, IsSafe, NoScheduleShows};
 ghost use Rattle.mk_race.specs.Stages.{texts_of};
 
 use crate::input::Input;
@@ -25,6 +25,8 @@ pub fn judge(alloc: Global, input: &Input<'_>) -> Result<Answer, AllocError>
     // The headline: where the answer is that the build is safe, no schedule of its recipes shows in the files.
     ensures headline { IfOk result (λ answer. IsSafe answer
         → NoScheduleShows (texts_of input.now) input.now.footprints.now) }
+    // The jobs that are handed out with it are then determinate.
+    ensures determinate { IfOk result HoldsOfSafe }
     // Where it is a race, a run from any store that fits can follow the trace, and then both recipes run.
     ensures holds { IfOk result HoldsOfRace }
 {
@@ -38,6 +40,7 @@ pub fn judge(alloc: Global, input: &Input<'_>) -> Result<Answer, AllocError>
 pub(crate) fn decided(alloc: Global, jobs: Jobs) -> Result<Answer, AllocError>
     ensures answer { IfOk result (IsDecided jobs) }
     ensures determinate { IfOk result (λ answer. IsSafe answer → IsDeterminate jobs) }
+    ensures safe { IfOk result HoldsOfSafe }
     ensures holds { IfOk result HoldsOfRace }
 {
     match decide(alloc, &jobs) {

@@ -1,7 +1,7 @@
 //! From the texts of makefiles, and a listing and footprints that were read ahead, to the answer of a build.
 ghost use Rattle.std.specs.Prelude.{IfOk, List, ℕ};
 ghost use Rattle.mk_name.specs.Gives.{Answers};
-ghost use Rattle.mk_race.specs.Judged.{HoldsOfRace, IsAnswered, IsSafe, NoScheduleShows};
+ghost use Rattle.mk_race.specs.Judged.{HoldsOfRace, HoldsOfSafe, IsAnswered, IsSafe, NoScheduleShows};
 ghost use Rattle.mk_race.specs.Parts.{AreJobsWith, AreReadFrom, IsAttached, IsGraphedWith, texts_with};
 ghost use Rattle.mk_race.specs.Stages.{AreJobs, texts_of};
 
@@ -40,6 +40,8 @@ pub fn judge_parts(
     ensures headline { IfOk result (λ answer. IsSafe answer → (listed lines : List ℕ)
         → AreReadFrom (texts_with settings.now base.now makefile.now listed) lines listing footprints
         → NoScheduleShows (texts_with settings.now base.now makefile.now listed) lines) }
+    // The jobs that are handed out with it are then determinate.
+    ensures determinate { IfOk result HoldsOfSafe }
     // Where it is a race, a run from any store that fits can follow the trace, and then both recipes run.
     ensures holds { IfOk result HoldsOfRace }
 {

@@ -8,6 +8,7 @@ mod Notes
 mod Pairs
 pub mod PlacedLines
 mod Recipes
+pub mod SayOnce
 pub mod SecondRecipes
 pub mod SpelledWords
 mod Taken

@@ -2,6 +2,7 @@ pub mod Book
 pub mod Entries
 pub mod Hashing
 pub mod Index
+pub mod Once
 pub mod Placed
 pub mod Reading
 pub mod Special

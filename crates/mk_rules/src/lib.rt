@@ -8,6 +8,7 @@
 //! - The rulebook answers what the target rules, the inference rules and the special targets say of a name
 //!   (POSIX.1-2024 XCU make, "Target Rules", "Inference Rules", "Special Targets"), all read off the list
 //!   of entries: `specs/Book.antt`, and `specs/Special.antt` for names with a meaning of their own.
+//! - Makefiles say one thing: the law of `laws`, by `specs/Once.antt`.
 #![tactic(auto)]
 
 mod entries;
@@ -15,6 +16,7 @@ mod entry;
 mod hasher;
 mod index;
 mod inference;
+pub mod laws;
 mod lines;
 mod names;
 mod placed;

@@ -7,7 +7,7 @@ use Rattle.mk_foot.specs.Footprints.{Footprints}
 use Rattle.mk_report.specs.Reports.{IsReport}
 use Rattle.mk_report.specs.declared.answer.Answer.{Answer}
 use Rattle.mk_report.specs.declared.answer.Answer.TheVariants as answers
-use Rattle.mk_race.specs.Judged.{IsAnswered, IsSafe, NoScheduleShows}
+use Rattle.mk_race.specs.Judged.{HoldsOfRace, HoldsOfSafe, IsAnswered, IsSafe, NoScheduleShows}
 use Rattle.mk_race.specs.Parts.{AreReadFrom, texts_with}
 use Rattle.mk_race.specs.declared.input.Settings.{Settings}
 use Rattle.mk_run.specs.Run.{GaveAll, Given, IsFootprinted, IsListed, Tells, outcome_of, texts_given}
@@ -26,10 +26,11 @@ module _ (settings : Settings) (base makefile : List ℕ) (listed : Result (List
       → IsAnswered (texts_with settings base makefile listing) lines answer)
       → (IsSafe answer → (listing lines : List ℕ) → AreReadFrom (texts_with settings base makefile listing) lines listed read
       → NoScheduleShows (texts_with settings base makefile listing) lines)
+      → HoldsOfSafe answer → HoldsOfRace answer
       → IfOk result (λ told. (outcome told ≡ outcome_of answer) × IsReport answer settings.proof (text told))
       → IfOk result (λ told. (listing lines : List ℕ) → IsListed settings.root.now listing listed → IsFootprinted settings.root.now lines read
       → Tells settings (record { base = base; makefile = makefile; listing = listing; footprints = lines }) (outcome told) (text told))
-  tells (Ok told) outcome text answered headline said = λ listing lines listing_is lines_are.
+  tells (Ok told) outcome text answered headline determinate holds said = λ listing lines listing_is lines_are.
       let from : AreReadFrom (texts_with settings base makefile listing) lines listed read = record { listing = listing_is; footprints = lines_are } in
       record {
         answer = answer;
@@ -37,8 +38,10 @@ module _ (settings : Settings) (base makefile : List ℕ) (listed : Result (List
         outcome_is = said.0;
         report = said.1;
         headline = λ safe. headline (safe_answer answer (sym said.0 ∙ safe)) listing lines from;
+        determinate = determinate;
+        holds = holds;
       }
-  tells (Err error) outcome text answered headline said = tt
+  tells (Err error) outcome text answered headline determinate holds said = tt
 
 -- what a device gave is all that it held
 pub all_given : (old new : Option (List ℕ)) (bytes held : List ℕ) → GaveAll old new bytes → old ≡ Some held → bytes ≡ held

@@ -13,7 +13,7 @@ use Rattle.mk_foot.specs.Footprints.{Footprints, IsRead}
 use Rattle.mk_report.specs.Reports.{IsReport}
 use Rattle.mk_report.specs.declared.answer.Answer.{Answer}
 use Rattle.mk_report.specs.declared.answer.Answer.TheVariants as answers
-use Rattle.mk_race.specs.Judged.{IsAnswered, NoScheduleShows}
+use Rattle.mk_race.specs.Judged.{HoldsOfRace, HoldsOfSafe, IsAnswered, NoScheduleShows}
 use Rattle.mk_race.specs.Parts.{texts_with}
 use Rattle.mk_race.specs.Stages.{Texts}
 use Rattle.mk_race.specs.declared.input.Settings.{Settings}
@@ -87,11 +87,13 @@ pub record Given : Type 0 where
 abbrev pub texts_given : Settings → Given → Texts
 texts_given settings given = texts_with settings given.base given.makefile given.listing
 
--- a text tells of these bytes: it is the report of an answer to them, of this kind; and where that is that the build is safe,
--- no schedule of the build shows in its files
+-- a text tells of these bytes: it is the report of an answer to them, of this kind; where that is that the build is safe, no
+-- schedule of the build shows in its files, and its jobs are determinate; where it is a race, its trace holds
 pub record Tells (settings : Settings) (given : Given) (outcome : Outcome) (text : List ℕ) : Type 0 where
   pub answer : Answer
   pub answered : IsAnswered (texts_given settings given) given.footprints answer
   pub outcome_is : outcome ≡ outcome_of answer
   pub report : IsReport answer settings.proof text
   pub headline : outcome ≡ Safe → NoScheduleShows (texts_given settings given) given.footprints
+  pub determinate : HoldsOfSafe answer
+  pub holds : HoldsOfRace answer

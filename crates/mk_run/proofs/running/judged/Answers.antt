@@ -7,4 +7,5 @@ returns c =
     c.tell.result (λ told. told.outcome) (λ told. told.text.items)
     (rw (c.as_slice-base.ensures.value, c.as_slice-makefile.ensures.value) at c.in_ok-answer.ensures.answer)
     (rw (c.as_slice-base.ensures.value, c.as_slice-makefile.ensures.value) at c.in_ok-answer.ensures.headline)
+    c.in_ok-answer.ensures.determinate c.in_ok-answer.ensures.holds
     c.tell.ensures
