@@ -16,6 +16,7 @@ TEXTS = {
     "flags": "recipes name MAKEFLAGS, which holds the recorder's words",
     "libtool": "globs of libtool are about its own files",
     "progress": "files under CMakeFiles/Progress steer only what is shown",
+    "outlives": "a process changed files when its recipe had ended",
     "tops": "two makes ran at once outside of any make",
     "interpreters": "Perl, Python and other interpreters compare ages only of files that they looked at",
 }

@@ -139,8 +139,8 @@ class Builder:
     def is_leaf(self, node: Node) -> bool:
         """Whether no recipe runs below a target: make then decides in its first pass."""
         if not hasattr(self, "_busy"):
-            self._busy = self.find_busy()
-        return node.label not in self._busy and node.rule == 0
+            self._busy = self.find_busy() | self.graph.late()
+        return node.label not in self._busy
 
     def find_busy(self) -> Set[str]:
         """Targets with a recipe that ran somewhere below them."""

@@ -24,6 +24,7 @@ class Base:
     asks: Dict[str, List[str]] = field(default_factory=dict)
     order_only: Dict[str, Set[str]] = field(default_factory=dict)
     phony: Set[str] = field(default_factory=set)
+    intermediate: Set[str] = field(default_factory=set)
     also: Dict[str, List[str]] = field(default_factory=dict)
     double: Dict[str, List[Colons]] = field(default_factory=dict)
     recipes: Dict[str, List[str]] = field(default_factory=dict)
@@ -60,6 +61,8 @@ class _Files:
             base.places.setdefault(self.name, []).append((place.group(1), int(place.group(2))))
         elif text.startswith("#  Implicit rule search has been done"):
             base.implicit.add(self.name)
+        elif text.startswith("#  File is an intermediate prerequisite"):
+            base.intermediate.add(self.name)
         elif text.startswith("#  Phony target"):
             base.phony.add(self.name)
         elif text.startswith("#  Also makes:"):

@@ -125,6 +125,19 @@ class Graph:
                     todo.extend(p for p in node.asks if p in self.nodes)
         return seen
 
+    def late(self) -> Set[str]:
+        """What make may look at after its first pass: what only a later rule of a double-colon target asks for, and
+        intermediate files."""
+        later = [n for n in self.nodes.values() if n.rule]
+        early: Set[str] = set()
+        todo = [g for g in self.round.goals if g in self.nodes]
+        while todo:
+            label = todo.pop()
+            if label not in early and not self.nodes[label].rule:
+                early.add(label)
+                todo.extend(p for p in self.nodes[label].asks if p in self.nodes)
+        return {n.label for n in later} | (set(self.nodes) - early) | self.base.intermediate
+
     def free(self, label: str) -> str:
         """A label that no node has."""
         while label in self.nodes:

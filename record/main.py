@@ -16,7 +16,8 @@ from record.assumptions import Assumptions
 from record.build import Build, Builder
 from record.folder import Record, is_record, write_record
 from record.judge import find_race, judge
-from record.lives import Life, Replay
+from record.calls import Calls
+from record.lives import Life
 from record.names import Names
 from record.owners import Make, Owners
 from record.report import Judged, read_json, report
@@ -73,9 +74,9 @@ def run_build(words: List[str], spool: Path) -> Tuple[int, float]:
     return status, time.monotonic() - began
 
 
-def replay_trace(spool: Path, names: Names, real: str, folder: str, tops: List[str]) -> Replay:
+def replay_trace(spool: Path, names: Names, real: str, folder: str, tops: List[str]) -> Calls:
     """The trace, played in the name space."""
-    replay = Replay(names, str(spool), os.path.realpath(real), folder, tops)
+    replay = Calls(names, str(spool), os.path.realpath(real), folder, tops)
     skip = skipping(spool / "trace", tops)
     with open(spool / "trace", encoding="latin-1") as lines:
         for event in read_trace(lines, skip):
@@ -83,7 +84,7 @@ def replay_trace(spool: Path, names: Names, real: str, folder: str, tops: List[s
     return replay
 
 
-def at_once(lives: List[Life], owners: Owners, assumed: Assumptions) -> None:
+def at_once(owners: Owners, assumed: Assumptions) -> None:
     """Two processes of one recipe that touch a file at the same time."""
     for make in owners.makes:
         for job in (j for r in make.words.rounds for j in r.jobs):
@@ -98,6 +99,21 @@ def at_once(lives: List[Life], owners: Owners, assumed: Assumptions) -> None:
             for path, who in table.items():
                 if any(w for _, w in who) and len({id(l) for l, _ in who}) > 1 and len(who) < 40 and overlap(who):
                     assumed.add("at-once", "%s in %s" % (path, job.target))
+
+
+def outlived(owners: Owners, assumed: Assumptions) -> None:
+    """Processes that act on files when their recipe has ended, and makes that run beside each other without a make above."""
+    for make in owners.makes:
+        for life in make.life.children:
+            if id(life) in owners.jobs:
+                for one in owners.below(life):
+                    if one.died > life.died and any(k in "WCDMTX" and place > life.died for (k, _), place in one.events.items()):
+                        assumed.add("outlives", " ".join(one.argv)[:60])
+    tops = [m.life for m in owners.makes if not any(l.is_make for l in m.life.up() if l is not m.life)]
+    tops.sort(key=lambda l: l.born)
+    for first, second in zip(tops, tops[1:]):
+        if second.born < first.died:
+            assumed.add("tops", " ".join(second.argv)[:60])
 
 
 def overlap(who: List[Tuple[Life, bool]]) -> bool:
@@ -124,7 +140,8 @@ def import_record(spool: Path, names: Names, real: str, folder: str, record: Rec
         assumed.add("sockets", socket)
     for name in replay.hard_links:
         assumed.add("hard-links", name)
-    at_once(replay.all, owners, assumed)
+    at_once(owners, assumed)
+    outlived(owners, assumed)
     builds = []
     for make in sorted(owners.makes, key=lambda m: m.life.born):
         for number, one in enumerate(make.words.rounds):

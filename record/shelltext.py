@@ -33,6 +33,21 @@ def is_script(argv: List[str]) -> bool:
     return base_name(argv) in SHELLS and len(argv) > 1 and not shell_text(argv)
 
 
+def with_interpreter(argv: List[str], path: str) -> List[str]:
+    """The words of a script, as its first line lets an interpreter run it."""
+    try:
+        with open(path, "rb") as file:
+            first = file.readline(256)
+    except OSError:
+        return argv
+    if not first.startswith(b"#!"):
+        return argv
+    words = first[2:].decode("utf-8", "replace").split()
+    if words and os.path.basename(words[0]) == "env":
+        words = [w for w in words[1:] if not w.startswith("-") and "=" not in w][:1]
+    return words[:1] + [path] + argv[1:] if words else argv
+
+
 def patterns(argv: List[str], cut: bool) -> Iterable[str]:
     """The patterns that a listing of a folder by this process can be about."""
     text = shell_text(argv)
@@ -90,7 +105,8 @@ def compares_ages(argv: List[str], folder: str) -> bool:
                 return bool(AGES.search(file.read(1 << 18)))
         except OSError:
             return "-c" not in argv
-    return bool(AGES.search(" ".join(argv) + " "))
+    text = " ".join(argv) + " "
+    return bool(AGES.search(text)) or bool(shell_text(argv) and re.search(r"(^|[;&|\n]\s*)(\.|source|eval)\s", shell_text(argv)))
 
 
 def looks_at_links(argv: List[str]) -> bool:

@@ -1,0 +1,292 @@
+"""What each system call does to the name space, and which events it is."""
+
+import os
+import re
+from typing import Callable, Optional, Tuple
+
+from record import shelltext
+from record.lives import Life
+from record.names import Found, Inode
+from record.replay import Replay
+from record.strace import Call, folders, is_cut, texts
+
+WRITING = re.compile(r"O_WRONLY|O_RDWR|O_TRUNC|O_CREAT")
+LOOKS = {"stat", "lstat", "access", "getxattr", "lgetxattr", "listxattr", "llistxattr", "statfs", "newfstatat",
+         "faccessat", "faccessat2", "statx", "fstatat64", "readlink", "readlinkat", "statfs64", "stat64", "lstat64"}
+NOFOLLOW = {"lstat", "lstat64", "lgetxattr", "llistxattr", "readlink", "readlinkat", "unlink", "rmdir", "lchown"}
+CHANGES = {"chmod", "chown", "lchown", "utime", "utimes", "truncate", "setxattr", "lsetxattr", "removexattr", "fchmodat",
+           "fchmodat2", "fchownat", "utimensat", "futimesat", "fchmod", "fchown", "ftruncate", "fsetxattr"}
+TIMES = {"utime", "utimes", "utimensat", "futimesat"}
+TEXT_END = re.compile(r'^.*"(?:[^"\\]|\\.)*"', re.S)
+
+
+class Calls(Replay):
+    """The calls, one method each."""
+
+    def call(self, life: Life, call: Call) -> None:
+        """One finished call."""
+        name, ok = call.name, not call.error
+        if name in ("clone", "clone3", "fork", "vfork"):
+            if life.pid in self.begun:
+                self.begun.remove(life.pid)
+            if ok and call.result > 0:
+                self.child(life, call.result)
+            return
+        if life.is_wrapper and name != "execve":
+            return
+        handler: Optional[Callable[[Life, Call, bool], None]] = getattr(self, "on_" + name, None)
+        if handler is not None:
+            handler(life, call, ok)
+        elif name in LOOKS:
+            self.on_look(life, call, ok)
+        elif name in CHANGES:
+            self.on_change(life, call, ok)
+        elif name in ("connect", "bind"):
+            if ok and ("AF_UNIX" in call.args or name == "connect" and "AF_INET" in call.args):
+                self.sockets.append(" ".join(life.argv)[:100])
+
+    def base_and_path(self, life: Life, call: Call) -> Tuple[str, str]:
+        """The folder that the first path of an *at-call starts from, and the path."""
+        words = texts(call.args)
+        path = words[0] if words else ""
+        where = folders(call.args.split('"', 1)[0])
+        base = where[0] if where else ""
+        if base and call.args.startswith("AT_FDCWD"):
+            life.folder = base
+        if base and not path and (not words or "AT_EMPTY_PATH" in call.args or "NULL" in call.args):
+            return "", base
+        return base, path
+
+    def on_look(self, life: Life, call: Call, ok: bool) -> None:
+        base, path = self.base_and_path(life, call)
+        if not path or (call.args[:1].isdigit() and "AT_EMPTY_PATH" in call.args):
+            return
+        follow = call.name not in NOFOLLOW and "NOFOLLOW" not in call.args
+        plain = path if call.name == "stat" or (call.name == "newfstatat" and follow and not path.startswith("/")) else ""
+        link = call.name.startswith("readlink") and ok
+        found = self.look(life, path, ok or call.error == "EINVAL", follow, "R" if link else "S", base, plain)
+        if shelltext.looks_at_links(life.argv):
+            self.put(life, "h", found.path)
+        if life.is_query or self.ages(life):
+            self.put(life, "A", found.path)
+
+    def on_execve(self, life: Life, call: Call, ok: bool) -> None:
+        words = texts(call.args)
+        if not words:
+            return
+        if not ok:
+            if not life.is_wrapper:
+                self.look(life, words[0], False, True)
+            return
+        argv = words[1:]
+        was_wrapper, was_make = life.is_wrapper, life.is_make
+        forked = was_wrapper and not life.ran
+        found = self.names.find(life.folder, words[0], True)
+        argv = shelltext.with_interpreter(argv, found.path)
+        life.argv, life.cut = argv, is_cut(call.args)
+        life.ran.append(argv)
+        life.is_wrapper = words[0].startswith(self.spool + "/bin/")
+        if life.is_wrapper:
+            return
+        if os.path.realpath(found.path) == self.real or found.path == self.real:
+            self.begin_make(life, was_wrapper, was_make, forked)
+        else:
+            life.is_make = life.is_make and life.number >= 0 and was_make
+        self.look(life, words[0], True, True, "R")
+
+    def begin_make(self, life: Life, was_wrapper: bool, was_make: bool, forked: bool) -> None:
+        life.is_make = True
+        if was_make and life.number >= 0:
+            life.starts.append((self.place, life.folder))
+        elif forked:
+            life.number = self.makes.get(life.pid, 0)
+            self.makes[life.pid] = life.number + 1
+            life.starts.append((self.place, life.folder))
+        elif was_wrapper:
+            life.is_query = True
+        else:
+            self.past.append(" ".join(life.argv)[:200])
+
+    on_execveat = on_execve
+
+    def on_chdir(self, life: Life, call: Call, ok: bool) -> None:
+        found = self.look(life, texts(call.args)[0], ok, True)
+        if ok:
+            life.folder = found.path
+            self.put(life, "U", found.path)
+
+    def on_fchdir(self, life: Life, call: Call, ok: bool) -> None:
+        where = folders(call.args)
+        if ok and where:
+            life.folder = where[0]
+
+    def on_open(self, life: Life, call: Call, ok: bool) -> None:
+        base, path = self.base_and_path(life, call)
+        flags = TEXT_END.sub("", call.args)
+        changes = call.name == "creat" or bool(WRITING.search(flags))
+        if "O_TMPFILE" in flags or not path:
+            return
+        follow = "O_NOFOLLOW" not in flags and not ("O_EXCL" in flags and "O_CREAT" in flags)
+        if not ok:
+            found = self.look(life, path, call.error in ("EEXIST", "EISDIR", "ENXIO", "EACCES", "ENOTEMPTY"), follow, base=base)
+            if changes and call.error == "ENOENT" and found.missing != found.path:
+                self.put(life, "N", found.missing)
+            return
+        found = self.found(life, path, follow, base)
+        if not changes:
+            folder = found.inode is not None and found.inode.kind == "d"
+            self.look(life, path, True, follow, "S" if folder else "R", base)
+            return
+        if "O_WRONLY" not in flags and call.name != "creat":
+            self.put(life, "R", found.path)
+        self.write(life, found, False)
+
+    on_openat = on_openat2 = on_creat = on_open
+
+    def on_getdents64(self, life: Life, call: Call, ok: bool) -> None:
+        where = folders(call.args)
+        if not ok or not where:
+            return
+        if life.is_make:
+            self.put(life, "Q", where[0])
+        else:
+            for pattern in shelltext.patterns(life.argv, life.cut):
+                self.put(life, "L", where[0] + "\0" + pattern)
+
+    on_getdents = on_getdents64
+
+    def on_mkdir(self, life: Life, call: Call, ok: bool) -> None:
+        base, path = self.base_and_path(life, call)
+        found = self.found(life, path.rstrip("/") or "/", False, base)
+        quiet = shelltext.is_quiet_mkdir(life.argv) or any(shelltext.is_maker(up.argv) for up in life.up() if not up.is_make)
+        if ok:
+            if found.folder is not None and found.inode is None:
+                child = Inode("d")
+                child.walked = True
+                self.names.put(found.folder, found.name, child)
+            self.put(life, "T" if quiet else "M", found.path)
+            self.put(life, "C", found.path + "/")
+        elif call.error == "EEXIST":
+            self.put(life, "T" if quiet else "E", found.path)
+        else:
+            self.look(life, path, False, False, base=base)
+            if found.missing:
+                self.put(life, "N", found.missing)
+
+    on_mkdirat = on_mkdir
+
+    def on_mknod(self, life: Life, call: Call, ok: bool) -> None:
+        base, path = self.base_and_path(life, call)
+        if ok:
+            self.write(life, self.found(life, path, False, base), True)
+        else:
+            self.look(life, path, call.error == "EEXIST", False, base=base)
+
+    on_mknodat = on_mknod
+
+    def on_unlink(self, life: Life, call: Call, ok: bool) -> None:
+        base, path = self.base_and_path(life, call)
+        found = self.found(life, path.rstrip("/"), False, base)
+        folder = call.name == "rmdir" or "AT_REMOVEDIR" in call.args
+        if not ok:
+            there = call.error != "ENOENT"
+            self.look(life, path, there, False, base=base)
+            if folder and there:
+                self.put(life, "x", found.path)
+            return
+        others = [a for a in self.names.aliases(found.inode) if a != found.path]
+        if found.folder is not None:
+            self.names.take(found.folder, found.name)
+        self.put(life, "X" if folder else "D", found.path)
+        for other in others:
+            self.put(life, "H", other)
+
+    on_rmdir = on_unlinkat = on_unlink
+
+    def two(self, life: Life, call: Call) -> Tuple[Found, Found]:
+        words = texts(call.args)
+        where = folders(call.args)
+        bases = where if len(where) == 2 else [life.folder, life.folder]
+        follow = "AT_SYMLINK_FOLLOW" in call.args
+        return (self.found(life, words[0].rstrip("/"), follow, bases[0]), self.found(life, words[1].rstrip("/"), False, bases[1]))
+
+    def on_rename(self, life: Life, call: Call, ok: bool) -> None:
+        if len(texts(call.args)) < 2:
+            return
+        old, new = self.two(life, call)
+        if not ok:
+            self.put(life, "N" if old.inode is None else "S", old.path)
+            self.put(life, "N" if new.inode is None else "S", new.path)
+            if new.missing and new.missing != new.path:
+                self.put(life, "N", new.missing)
+            return
+        self.put(life, "R", old.path)
+        if "RENAME_EXCHANGE" in call.args:
+            self.holes.append("two names were exchanged in one step: " + old.path)
+        if old.folder is None or new.folder is None:
+            return
+        inode = self.names.take(old.folder, old.name) or Inode("f")
+        gone = self.names.take(new.folder, new.name)
+        self.put(life, "D", old.path)
+        self.put(life, "C", new.path)
+        self.put(life, "W", new.path)
+        for other in self.names.aliases(gone):
+            self.put(life, "H", other)
+        if inode.kind == "d":
+            for name, _ in self.names.below(inode, ""):
+                self.put(life, "D", old.path + name)
+                self.put(life, "C", new.path + name)
+                self.put(life, "W", new.path + name)
+        self.names.put(new.folder, new.name, inode)
+
+    on_renameat = on_renameat2 = on_rename
+
+    def on_link(self, life: Life, call: Call, ok: bool) -> None:
+        if len(texts(call.args)) < 2:
+            return
+        old, new = self.two(life, call)
+        self.put(life, "R" if ok else "S" if old.inode else "N", old.path)
+        if not ok:
+            self.put(life, "S" if call.error == "EEXIST" else "N", new.path)
+            return
+        inode = old.inode or Inode("f")
+        self.put(life, "C", new.path)
+        self.put(life, "W", new.path)
+        for other in self.names.aliases(inode):
+            self.put(life, "H", other)
+        if new.folder is not None:
+            self.names.put(new.folder, new.name, inode)
+        self.hard_links.append(new.path)
+
+    on_linkat = on_link
+
+    def on_symlink(self, life: Life, call: Call, ok: bool) -> None:
+        words, where = texts(call.args), folders(call.args)
+        if len(words) < 2:
+            return
+        found = self.found(life, words[1].rstrip("/"), False, where[-1] if where else life.folder)
+        if not ok:
+            self.put(life, "S" if call.error == "EEXIST" else "N", found.path)
+            return
+        self.put(life, "C", found.path)
+        self.put(life, "W", found.path)
+        if found.folder is not None:
+            self.names.put(found.folder, found.name, Inode("l", words[0]))
+
+    on_symlinkat = on_symlink
+
+    def on_change(self, life: Life, call: Call, ok: bool) -> None:
+        base, path = self.base_and_path(life, call)
+        if not path:
+            where = folders(call.args)
+            path = where[0] if where else ""
+        if not path or not path.startswith("/") and call.name in ("fchmod", "fchown", "ftruncate", "fsetxattr"):
+            return
+        if not ok:
+            self.look(life, path, False, True, base=base)
+            return
+        found = self.found(life, path, call.name not in NOFOLLOW and "NOFOLLOW" not in call.args, base)
+        if found.inode is not None and found.inode.kind == "d":
+            self.put(life, "t" if call.name in TIMES else "m", found.path)
+        else:
+            self.write(life, found, False)

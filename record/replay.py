@@ -1,0 +1,143 @@
+"""Plays the events of a trace, in its order, in the name space, and keeps what each life of a process did."""
+
+import re
+from typing import Dict, List
+
+from record import shelltext
+from record.lives import Act, Life
+from record.names import Found, Inode, Names
+from record.strace import Begun, Call, Ended, Event, Unread
+
+DEVICES = re.compile(r"/dev/(null|zero|full|u?random|tty\w*|ptmx|console|std(in|out|err)|fd(/.*)?|pts(/.*)?)$|/proc(/|$)|/sys(/|$)")
+
+
+class Replay:
+    """Plays the events of a trace in the name space and keeps what each life did."""
+
+    def __init__(self, names: Names, spool: str, real: str, folder: str, tops: List[str]) -> None:
+        self.names, self.spool, self.real, self.tops = names, spool, real, tops
+        self.first_folder = folder
+        self.lives: Dict[int, Life] = {}
+        self.all: List[Life] = []
+        self.place = 0
+        self.begun: List[int] = []
+        self.waiting: Dict[int, List[Event]] = {}
+        self.makes: Dict[int, int] = {}
+        self.holes: List[str] = []
+        self.past: List[str] = []
+        self.sockets: List[str] = []
+        self.hard_links: List[str] = []
+        self.outside: List[str] = []
+        self.aged: Dict[str, bool] = {}
+
+    # ---------------------------------------------------------------- processes
+    def life(self, pid: int) -> Life:
+        life = self.lives.get(pid)
+        if life is None or life.died <= self.place:
+            life = Life(pid, born=self.place, folder=self.first_folder)
+            if self.all:
+                parents = [self.lives[p] for p in self.begun if p in self.lives and p != pid]
+                if parents:
+                    self.inherit(life, parents[-1])
+            else:
+                life.adopted = True
+            self.lives[pid] = life
+            self.all.append(life)
+        return life
+
+    def ages(self, life: Life) -> bool:
+        """Whether the process may compare ages."""
+        key = "\0".join(life.argv[:8])
+        known = self.aged.get(key)
+        if known is None:
+            known = self.aged[key] = shelltext.compares_ages(life.argv, life.folder)
+        return known
+
+    @staticmethod
+    def inherit(child: Life, parent: Life) -> None:
+        child.folder, child.cut = parent.folder, parent.cut
+        child.argv = child.argv or parent.argv
+        child.is_wrapper = parent.is_wrapper if not child.ran else child.is_wrapper
+
+    def play(self, event: Event) -> None:
+        """One event of the trace; those of a process wait while it cannot be told who started it."""
+        self.place += 1
+        pid = getattr(event, "pid", -1)
+        if pid >= 0 and (pid in self.waiting or self.is_unclear(pid)):
+            self.waiting.setdefault(pid, []).append(event)
+        else:
+            self.take(event)
+
+    def is_unclear(self, pid: int) -> bool:
+        """Whether a process is new, and several that differ may have started it."""
+        life = self.lives.get(pid)
+        if life is not None and life.died > self.place or not self.all:
+            return False
+        parents = [self.lives[p] for p in self.begun if p in self.lives and p != pid]
+        return len({(p.folder, p.is_wrapper) for p in parents}) > 1
+
+    def take(self, event: Event) -> None:
+        """One event of a process that is known."""
+        if isinstance(event, Unread):
+            self.holes.append("a line of the trace cannot be read: " + event.text[:200])
+        elif isinstance(event, Begun):
+            self.life(event.pid)
+            self.begun.append(event.pid)
+        elif isinstance(event, Ended):
+            self.life(event.pid).died = self.place
+        else:
+            self.call(self.life(event.pid), event)
+
+    def child(self, parent: Life, pid: int) -> None:
+        """A process has started another."""
+        child = self.lives.get(pid)
+        if child is None or child.adopted:
+            child = Life(pid, born=self.place)
+            self.lives[pid] = child
+            self.all.append(child)
+        if not child.ran:
+            self.inherit(child, parent)
+        child.parent, child.adopted = parent, True
+        parent.children.append(child)
+        for event in self.waiting.pop(pid, []):
+            self.take(event)
+
+    # ---------------------------------------------------------------- events
+    def put(self, life: Life, kind: str, path: str, word: str = "") -> None:
+        if DEVICES.match(path) and not any(path == t or path.startswith(t + "/") for t in self.tops):
+            return
+        if path.startswith(self.spool):
+            return
+        if life.is_make and life.number >= 0:
+            life.acts.append(Act(self.place, kind, path, word))
+        life.events.setdefault((kind, path), self.place)
+
+    def found(self, life: Life, path: str, follow: bool, base: str = "") -> Found:
+        found = self.names.find(base or life.folder, path, follow)
+        for link in found.links:
+            self.put(life, "R", link)
+        return found
+
+    def look(self, life: Life, path: str, ok: bool, follow: bool, kind: str = "S", base: str = "", word: str = "") -> Found:
+        found = self.found(life, path, follow, base)
+        if ok and found.inode is None and found.folder is not None and self.names.is_walked(found.folder):
+            self.names.put(found.folder, found.name, Inode("f"))
+        self.put(life, kind if ok else "N", found.path, word)
+        if not ok and found.missing and found.missing != found.path:
+            self.put(life, "P", found.missing)
+        return found
+
+    def write(self, life: Life, found: Found, created: bool) -> None:
+        if found.inode is None and found.folder is not None:
+            found.inode = Inode("f")
+            self.names.put(found.folder, found.name, found.inode)
+            created = True
+            self.put(life, "C", found.path)
+        self.put(life, "W", found.path)
+        if found.inode is not None and len(found.inode.names) > 1:
+            for other in self.names.aliases(found.inode):
+                self.put(life, "W", other)
+
+    def call(self, life: Life, call: Call) -> None:
+        """One finished call."""
+        raise NotImplementedError
