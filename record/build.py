@@ -1,5 +1,6 @@
 """One round as a build: its tasks, with what each reads and writes."""
 
+import bisect
 import os
 import re
 from dataclasses import dataclass, field
@@ -48,6 +49,7 @@ class Builder:
         self.of_node: Dict[str, int] = {}
         self.look_of: Dict[str, int] = {}
         self.made: Set[str] = set()
+        self.timed: Dict[str, Set[int]] = {}  # name: who hangs on its time
         self.timers: Dict[str, Set[int]] = {}  # folder: who changes its time
 
     def path_of(self, name: str) -> str:
@@ -179,7 +181,7 @@ class Builder:
         for at, asks in enumerate(after):
             asks.discard(at)
         jobs = {label: n for n, label in enumerate(self.labels_of_jobs())}
-        keys = [(self.graph.nodes[t.node.label].first, jobs.get(t.node.label, 0)) for t in tasks]
+        keys = [(self.graph.nodes[t.node.label].done, jobs.get(t.node.label, 0)) for t in tasks]
         order, dropped = order_tasks(tasks, after, keys)
         if dropped:
             self.assumed.add("ring", "make %s" % self.make.words.args, dropped)
@@ -217,17 +219,17 @@ class Builder:
     def chain_looks(self, after: List[Set[int]]) -> None:
         """In its first pass make looks at leaves one after the other, before a recipe starts that it considers later."""
         nodes = self.graph.nodes
-        looks = [(nodes[label].first, at) for label, at in self.look_of.items()]
-        looks += [(nodes[label].first, at) for label, at in self.of_node.items() if self.build.tasks[at].kind == "decision" and self.is_leaf(nodes[label])]
+        looks = [(nodes[label].done, at) for label, at in self.look_of.items()]
+        looks += [(nodes[label].done, at) for label, at in self.of_node.items() if self.build.tasks[at].kind == "decision" and self.is_leaf(nodes[label])]
         looks.sort()
         for (_, first), (_, second) in zip(looks, looks[1:]):
             after[second].add(first)
         for label, at in self.of_node.items():
             node = nodes[label]
             if self.build.tasks[at].kind == "recipe":
-                earlier = [a for index, a in looks if index < node.first]
+                earlier = bisect.bisect_left(looks, (node.first, -1))
                 if earlier:
-                    after[at].add(earlier[-1])
+                    after[at].add(looks[earlier - 1][1])
 
     def renumber(self, order: List[int], after: List[Set[int]]) -> None:
         if self.is_serial():
@@ -287,12 +289,7 @@ class Builder:
                     if (who != {at}) and join(folder, name) not in self.made and fnmatchcase(name, pattern):
                         task.reads.add(join(folder, name))
             elif kind == "A":
-                task.reads.add(path + "/@time")
-            elif kind == "H":
-                task.writes.add(path + "/@links")
-                self.build.meanings[path + "/@links"] = "how many names %s has" % path
-            elif kind == "h":
-                task.reads.add(path + "/@links")
+                self.timed.setdefault(path, set()).add(at)
 
     def add_decision(self, looker: int, at: int, node: Node) -> None:
         """Make looks at a target and at its prerequisites."""
@@ -301,7 +298,7 @@ class Builder:
         for path in names:
             if path in writers and writers[path] - {at, looker}:
                 task.reads.add(path)
-            task.reads.add(path + "/@time")
+            self.timed.setdefault(path, set()).add(looker)
         if node.name in self.graph.base.implicit:
             self.add_search(looker, node)
 

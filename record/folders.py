@@ -151,9 +151,14 @@ def add_folder(builder: "Builder", path: str, folder: Folder) -> None:
 
 def seen(builder: "Builder", path: str, at: int, makers: Set[int]) -> None:
     """A task sees whether the folder is there already, and nothing orders it behind a maker."""
-    if makers:
-        name = "%s/@seen/%d" % (path, at)
-        mark(builder, name, "that the folder %s is there" % path, {at}, makers - {at})
+    apart(builder, path + "/@seen", "that the folder %s is there" % path, at, makers)
+
+
+def apart(builder: "Builder", name: str, meaning: str, at: int, others: Set[int]) -> None:
+    """A name for a task and each other that nothing orders: one sees what the other changes."""
+    for other in sorted(others):
+        if builder.build.unordered(at, other):
+            mark(builder, "%s/%d/%d" % (name, at, other), meaning, {at}, {other})
 
 
 def mark(builder: "Builder", name: str, meaning: str, readers: Set[int], writers: Set[int]) -> None:
@@ -185,15 +190,15 @@ def add_listed(builder: "Builder") -> None:
 
 def add_times(builder: "Builder") -> None:
     """Names that are created in or removed from a folder change its time."""
-    wanted = {p[: -len("/@time")] for t in builder.build.tasks for p in t.reads if p.endswith("/@time")}
-    if not wanted:
-        return
+    wanted = builder.timed
     for at, events in each(builder):
         for kind, path, _ in events:
             where = path if kind == "t" else os.path.dirname(path.rstrip("/"))
             if kind in "CDXt" and where in wanted:
                 builder.timers.setdefault(where, set()).add(at)
-                mark(builder, where + "/@time", "the time of the folder " + where, set(), {at})
+    for where, changers in builder.timers.items():
+        for at in wanted[where]:
+            apart(builder, where + "/@time", "the time of the folder " + where, at, changers - {at})
 
 
 def add_modes(builder: "Builder") -> None:
@@ -209,7 +214,13 @@ def add_modes(builder: "Builder") -> None:
                 mark(builder, path + "/@mode", "", {at}, set())
             elif kind in "WCD" and os.path.dirname(path) in modes:
                 mark(builder, os.path.dirname(path) + "/@mode", "", {at}, set())
-            if kind in "CX" and path.endswith("/") or kind == "X":
-                where = os.path.dirname(path.rstrip("/"))
-                if where in links:
-                    mark(builder, where + "/@links", "how many folders are in " + where, set(), {at})
+    counted: Dict[str, Set[int]] = {}
+    for at, events in table:
+        for kind, path, _ in events:
+            where = path if kind == "H" else os.path.dirname(path.rstrip("/"))
+            if where in links and (kind in "HX" or kind == "C" and path.endswith("/")):
+                counted.setdefault(where, set()).add(at)
+    for at, events in table:
+        for kind, path, _ in events:
+            if kind == "h" and path in counted:
+                apart(builder, path + "/@links", "how many names %s has" % path, at, counted[path] - {at})

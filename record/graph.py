@@ -16,6 +16,7 @@ class Node:
     name: str
     label: str
     first: int
+    done: int
     asks: Dict[str, None] = field(default_factory=dict)  # labels of other nodes
     jobs: List[Job] = field(default_factory=list)
     must: bool = False
@@ -56,11 +57,11 @@ class Graph:
     def read_nodes(self) -> None:
         base = self.base
         for name, seen in self.round.nodes.items():
-            node = Node(name, name, seen.index, dict.fromkeys(seen.asks))
+            node = Node(name, name, seen.index, max(seen.index, seen.done), dict.fromkeys(seen.asks))
             self.nodes[name] = node
         for job in self.round.jobs:
             if job.target not in self.nodes:
-                self.nodes[job.target] = Node(job.target, job.target, len(self.nodes))
+                self.nodes[job.target] = Node(job.target, job.target, 0, 0)
                 self.round.goals.append(job.target)
             self.nodes[job.target].jobs.append(job)
         for name, node in self.nodes.items():
@@ -80,7 +81,7 @@ class Graph:
             parts = [node]
             for at in range(1, len(rules)):
                 label = self.free("%s@rule%d" % (name, at + 1))
-                part = Node(name, label, node.first, {}, [], node.must, node.has_recipe, node.phony, "", at)
+                part = Node(name, label, node.first, node.done, {}, [], node.must, node.has_recipe, node.phony, "", at)
                 self.nodes[label] = part
                 parts.append(part)
             for at, (part, rule) in enumerate(zip(parts, rules)):

@@ -95,10 +95,13 @@ def is_excused(argv: List[str], folder: str) -> bool:
     return len(re.findall(r"(?:-[defrwxs]\s+|\bls\s+|\bstat\s+)\S*" + re.escape(name) + r"(?![\w./-])", text)) <= 1
 
 
+def is_interpreter(argv: List[str]) -> bool:
+    """Whether a program of unknown words runs."""
+    return bool(INTERPRETERS.match(base_name(argv)))
+
+
 def compares_ages(argv: List[str], folder: str) -> bool:
     """Whether a process may hang on which of two files is newer."""
-    if INTERPRETERS.match(base_name(argv)):
-        return True
     if is_script(argv) and "libtool" not in argv[1]:
         try:
             with open(os.path.join(folder, argv[1]), errors="replace") as file:

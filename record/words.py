@@ -10,6 +10,7 @@ from record.database import Base, read_base
 CHILD = re.compile(r"(Putting child|Live child|Reaping (?:winning|losing) child|Removing child) (0x[0-9a-f]+) (?:\((.*)\) )?PID (\d+)")
 CONSIDERED = re.compile(r"^( *)(Considering target file|Pruning file) '(.*)'\.$|^( *)File '(.*)' was considered already\.$")
 VPATH = re.compile(r"^ *No need to remake target '(.*)'; using VPATH name '(.*)'\.$")
+FINISHED = re.compile(r"^ *Finished prerequisites of target file '(.*)'\.$")
 MUST = re.compile(r"^ *Must remake target '(.*)'\.$")
 READING = re.compile(r"^Reading makefile '(.*)'((?: \([^)]*\))*)\.\.\.$")
 
@@ -25,10 +26,11 @@ class Job:
 
 @dataclass
 class Considered:
-    """A target that make looked at: when first, and the targets that it asked for."""
+    """A target that make looked at: when first, when it had looked at what it asks for, and the targets that it asks for."""
 
     name: str
     index: int
+    done: int
     asks: List[str] = field(default_factory=list)
 
 
@@ -69,6 +71,7 @@ class _Reader:
         self.round: Optional[Round] = None
         self.stack: Dict[int, str] = {}
         self.children: Dict[str, Job] = {}
+        self.clock = 0
 
     def begin(self, stage: str) -> None:
         self.round = Round(stage, len(self.words.read) - 1)
@@ -95,7 +98,7 @@ class _Reader:
             del self.stack[deeper]
         nodes = self.round.nodes
         if name not in nodes:
-            nodes[name] = Considered(name, len(nodes))
+            nodes[name] = Considered(name, self.clock, -1)
         if self.stack:
             parent = nodes[self.stack[max(self.stack)]]
             if name not in parent.asks and name != parent.name:
@@ -132,11 +135,16 @@ class _Reader:
 
     def target(self, text: str) -> None:
         assert self.round is not None
+        self.clock += 1
         match = CONSIDERED.match(text)
         if match and match.group(2):
             self.considered(len(match.group(1)), match.group(3))
         elif match:
             self.considered(len(match.group(4)), match.group(5))
+        elif FINISHED.match(text):
+            seen = self.round.nodes.get(FINISHED.match(text).group(1))  # type: ignore[union-attr]
+            if seen is not None and seen.done < 0:
+                seen.done = self.clock
         elif VPATH.match(text):
             name, path = VPATH.match(text).groups()  # type: ignore[union-attr]
             self.round.vpath[name] = path
