@@ -1,5 +1,5 @@
 //! What the four devices of a build give.
-ghost use Rattle.std.specs.Prelude.{◌≡◌, IfErr, IfOk, List, OnOk, false, is_err, ℕ};
+ghost use Rattle.std.specs.Prelude.{◌≡◌, IfErr, IfOk, List, OnOk, false, is_err, true, ℕ};
 ghost use Rattle.mk_run.specs.Run.{GaveAll, HasStopped, IsFootprinted, IsListed, IsUnread, none_failed};
 
 use crate::footprints::read_footprints;
@@ -71,6 +71,7 @@ pub(crate) fn read_makefiles<B: Intake, M: Intake>(
       base = B.has_failed base.new;
       makefile = M.has_failed makefile.new;
     })) }
+    ensures base_first { B.has_failed base.new ≡ true → makefile.new ≡ makefile.old }
 {
     let base = read_text(alloc, Source::Base, base)?;
     let makefile = read_text(alloc, Source::Makefile, makefile)?;
@@ -98,6 +99,7 @@ pub(crate) fn read_lists<L: Intake, F: Intake>(
       listing = L.has_failed listing.new;
       footprints = F.has_failed footprints.new;
     })) }
+    ensures listing_first { L.has_failed listing.new ≡ true → footprints.new ≡ footprints.old }
 {
     let listing = listing_in(alloc, root, listing)?;
     let footprints = footprints_in(alloc, root, footprints)?;

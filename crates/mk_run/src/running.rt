@@ -1,5 +1,5 @@
 //! From four devices to a written report.
-ghost use Rattle.std.specs.Prelude.{◌≡◌, ◌≢◌, IfErr, IfOk, IsErrOf, List, Ok, OnOk, Some, false, ℕ};
+ghost use Rattle.std.specs.Prelude.{◌≡◌, ◌≢◌, IfErr, IfOk, IsErrOf, List, Ok, OnOk, Some, false, true, ℕ};
 ghost use Rattle.std.specs.Io.KnownBytes.{Appends};
 ghost use Rattle.mk_device.specs.Device.{AppendsBeginning};
 ghost use Rattle.mk_race.specs.Judged.{NoScheduleShows};
@@ -30,7 +30,8 @@ struct Told {
 /// is answered after all four were read.
 ///
 /// `IoStop::Read` of a text, in the sources `Base`, `Makefile`, `Listing` and `Footprints`, comes exactly where its device
-/// fails, and `IoStop::Write` exactly where `out` does; a device that has failed is not used again. The only other error is
+/// fails; of several that would, the first in this order is answered, and those behind it are not used.
+/// `IoStop::Write` comes exactly where `out` fails; a device that has failed is not used again. The only other error is
 /// want of memory. Nothing is written before all is read and judged.
 pub fn run<B: Intake, M: Intake, L: Intake, F: Intake, O: Outlet>(
     alloc: Global,
@@ -74,6 +75,12 @@ pub fn run<B: Intake, M: Intake, L: Intake, F: Intake, O: Outlet>(
       footprints = F.has_failed footprints.new;
       out = O.has_failed out.new;
     })) }
+    // They are read in their order: behind the one that fails no other is used.
+    ensures base_first { B.has_failed base.new ≡ true → (makefile.new ≡ makefile.old)
+        × (listing.new ≡ listing.old) × (footprints.new ≡ footprints.old) }
+    ensures makefile_next { M.has_failed makefile.new ≡ true → (listing.new ≡ listing.old)
+        × (footprints.new ≡ footprints.old) }
+    ensures listing_next { L.has_failed listing.new ≡ true → footprints.new ≡ footprints.old }
     // What is not the whole report is nothing, or what the device took of it before it failed.
     ensures nothing { IfErr result (λ stop. stop ≢ IoStop.Write → out.new ≡ out.old) }
     ensures beginning { IsErrOf result IoStop.Write → (given : Given)
@@ -122,6 +129,11 @@ fn told_of<B: Intake, M: Intake, L: Intake, F: Intake>(
       listing = L.has_failed listing.new;
       footprints = F.has_failed footprints.new;
     })) }
+    ensures base_first { B.has_failed base.new ≡ true → (makefile.new ≡ makefile.old)
+        × (listing.new ≡ listing.old) × (footprints.new ≡ footprints.old) }
+    ensures makefile_next { M.has_failed makefile.new ≡ true → (listing.new ≡ listing.old)
+        × (footprints.new ≡ footprints.old) }
+    ensures listing_next { L.has_failed listing.new ≡ true → footprints.new ≡ footprints.old }
 {
     let makefiles = read_makefiles(alloc, base, makefile)?;
     told_with(alloc, &makefiles, listing, footprints, settings)
@@ -155,6 +167,7 @@ fn told_with<L: Intake, F: Intake>(
       listing = L.has_failed listing.new;
       footprints = F.has_failed footprints.new;
     })) }
+    ensures listing_first { L.has_failed listing.new ≡ true → footprints.new ≡ footprints.old }
 {
     let lists = read_lists(alloc, settings.root, listing, footprints)?;
     match judged(alloc, makefiles, lists, settings) {

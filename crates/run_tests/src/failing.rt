@@ -50,9 +50,46 @@ fn a_report_that_is_not_written_is_told(rt: HostRuntime) -> Result<(), AllocErro
     Ok(())
 }
 
+/// Of two devices that fail, the one that is read first is told.
+#[test]
+fn the_first_that_fails_is_told(rt: HostRuntime) {
+    for first in 0..3 {
+        for second in first + 1..4 {
+            let mut out = taking(rt.alloc(), usize::MAX);
+            assert_eq!(rt; told_of_two(rt.alloc(), first, second, &mut out), first);
+        }
+    }
+}
+
 /// Which device a run tells where one of them fails after some bytes: 0 to 3 one that gives, 4 the one that takes; 5 where none
 /// is told.
 fn told_of(alloc: Global, broken: usize, good: usize, out: &mut Drip) -> usize
+    requires { out.old.failed ≡ false }
+{
+    let good = [
+        good_for(0, broken, good),
+        good_for(1, broken, good),
+        good_for(2, broken, good),
+        good_for(3, broken, good),
+    ];
+    told_with(alloc, good, out)
+}
+
+/// Which device a run tells where two of them fail at once, as `told_of` does.
+fn told_of_two(alloc: Global, first: usize, second: usize, out: &mut Drip) -> usize
+    requires { out.old.failed ≡ false }
+{
+    let good = [
+        good_of_two(0, first, second),
+        good_of_two(1, first, second),
+        good_of_two(2, first, second),
+        good_of_two(3, first, second),
+    ];
+    told_with(alloc, good, out)
+}
+
+/// Which device a run tells where the devices give so many bytes.
+fn told_with(alloc: Global, good: [usize; 4], out: &mut Drip) -> usize
     requires { out.old.failed ≡ false }
 {
     let settings = Settings {
@@ -61,10 +98,10 @@ fn told_of(alloc: Global, broken: usize, good: usize, out: &mut Drip) -> usize
         includes: &[],
         proof: false,
     };
-    let mut base = giving(BASE, good_for(0, broken, good));
-    let mut makefile = giving(MAKEFILE, good_for(1, broken, good));
-    let mut listing = giving(LISTING, good_for(2, broken, good));
-    let mut footprints = giving(FOOTPRINTS, good_for(3, broken, good));
+    let mut base = giving(BASE, good[0]);
+    let mut makefile = giving(MAKEFILE, good[1]);
+    let mut listing = giving(LISTING, good[2]);
+    let mut footprints = giving(FOOTPRINTS, good[3]);
     let ran = run(
         alloc,
         &mut base,
@@ -80,6 +117,15 @@ fn told_of(alloc: Global, broken: usize, good: usize, out: &mut Drip) -> usize
 /// How many bytes a device gives: of the broken one so many, and of the others all.
 fn good_for(device: usize, broken: usize, good: usize) -> usize {
     if device == broken { good } else { usize::MAX }
+}
+
+/// How many bytes a device gives: of the two that are broken one, and of the others all.
+fn good_of_two(device: usize, first: usize, second: usize) -> usize {
+    if device == first || device == second {
+        1
+    } else {
+        usize::MAX
+    }
 }
 
 /// The device that is told; 5 where none is.
