@@ -6,18 +6,22 @@ pub const ABOUT: &str = "\
 Reads a makefile as POSIX `make` does, and says what a build of it does, with a view to `make -j`.";
 
 pub const DETAILS: &str = "\
-`race check` says whether the recipes of a build may run in parallel, or which two of them race. `race order` prints the
-serial order of a build. `race verify` says whether a proof is good for a build: where it accepts a certificate, every run of
-the recipes leaves the same files. `race replay` says whether a log of a build is a run that
-`make -j` may make. `race serialise` writes the log of a parallel build as that of the same build with one job. `race order`
-and `race replay` end with 0 also on a build whose recipes race.
+`race check` says whether the recipes of a build may run in parallel, or which two of them race.
+`race order` prints the serial order of a build. `race verify` says whether a proof is good for a
+build: where it accepts a certificate, every run of the recipes leaves the same files.
+`race replay` says whether a log of a build is a run that `make -j` may make. `race serialise`
+writes the log of a parallel build as that of the same build with one job. `race order` and
+`race replay` end with 0 also on a build whose recipes race.
 
 Statuses:
-  0  check: the build is safe; order: the order is printed; verify: the proof is accepted; replay: the log is a run, complete or not; serialise: the
-     new log is printed; the help or the version is printed
-  1  check: two recipes race; verify: the proof is not accepted; replay: the log is no run; serialise: it is none or not complete, or recipes race
+  0  check: the build is safe; order: the order is printed; verify: the proof is accepted; replay:
+     the log is a run, complete or not; serialise: the new log is printed; the help or the version
+     is printed
+  1  check: two recipes race; verify: the proof is not accepted; replay: the log is no run;
+     serialise: it is none or not complete, recipes race, or its times are too large
   2  the inputs are refused: the report says where and why
-  3  a file cannot be read or written, memory is short, or the words are wrong: a line on the standard error says which";
+  3  a file cannot be read or written, memory is short, or the words are wrong: a line on the
+     standard error says which";
 
 pub const MAKEFILE: &str = "The makefile";
 
@@ -28,6 +32,9 @@ pub const ROOT: &str =
 
 pub const BASE: &str = "A makefile with the rules and macros that come before those of MAKEFILE";
 
+pub const POSIX_BASE: &str =
+    "The base is the rules and macros that POSIX.1-2024 lists, in place of --base";
+
 pub const INCLUDES: &str = "The paths of the texts that include lines may name, one a line";
 
 pub const OPERANDS: &str = "A goal, which is to be built, or NAME=VALUE, which defines a macro";
@@ -36,17 +43,21 @@ pub const ORDER_ABOUT: &str =
     "Prints the serial order of a build: each file after all that it needs.";
 
 pub const ORDER_DETAILS: &str = "\
-MAKEFILE is the path of a makefile, and BASE of one that is read before it. LISTING is the path of a file that names the
-files that are there before the build, one path a line. Paths that are not absolute are below DIR, which has to be
-absolute: --root \"$PWD\". An OPERAND that holds `=` defines a macro; any other is a goal. Without a goal the first target of
-BASE and then of MAKEFILE is built whose name does not begin with a period, or holds a slash.
+MAKEFILE is the path of a makefile, and BASE of one that is read before it; with --posix-base that
+is the one that the standard lists, which is built in. LISTING is the path of a file that names
+the files that are there before the build, one path a line. Paths that are not absolute are below
+DIR, which has to be absolute: --root \"$PWD\". An OPERAND that holds `=` defines a macro; any other
+is a goal. Without a goal the first target of BASE and then of MAKEFILE is built whose name does
+not begin with a period, or holds a slash.
 
-An include line takes its texts from FILE alone, which names them, one path a line, empty lines skipped. Each is opened as
-it is written there, and is the text of that path below DIR. They are read before all other files.
+An include line takes its texts from FILE alone, which names them, one path a line, empty lines
+skipped. Each is opened as it is written there, and is the text of that path below DIR. They are
+read before all other files.
 
-Each line that comes out is `NUMBER KIND NAME`, and ` : NAME ..` where the file needs others. KIND is `recipe` (a rule
-with commands makes it), `inferred` (an inference rule does), `default` (the commands of .DEFAULT do) or `plain` (it is
-there, or nothing is run for it). Inputs that are refused give `refused`, the fault, its place and names.
+Each line that comes out is `NUMBER KIND NAME`, and ` : NAME ..` where the file needs others. KIND
+is `recipe` (a rule with commands makes it), `inferred` (an inference rule does), `default` (the
+commands of .DEFAULT do) or `plain` (it is there, or nothing is run for it). Inputs that are
+refused give `refused`, the fault, its place and names.
 
 Example:
   $ printf 'prog: a.o\\n\\tcc -o prog a.o\\na.o: a.c\\n\\tcc -c a.c\\n' > makefile
@@ -66,22 +77,34 @@ pub const CHECK_ABOUT: &str =
     "Says whether the recipes of a build may run in parallel, or which two of them race.";
 
 pub const CHECK_DETAILS: &str = "\
-MAKEFILE, BASE, FILE, LISTING, DIR and the operands are those of `race order`. FOOTPRINTS is the path of a file that has for
-each recipe that may run an object of JSON on a line of its own: its target, and the paths that it reads and writes, where a
-path that ends in `/` stands for all that is below it too.
+MAKEFILE, BASE, FILE, LISTING, DIR and the operands are those of `race order`. FOOTPRINTS is the
+path of a file that has for each recipe that may run an object of JSON on a line of its own: its
+target, and the paths that it reads and writes, where a path that ends in `/` stands for all that
+is below it too.
 
-`safe`: any two recipes that touch one file, which one of them writes, are put in order by prerequisites. However many
-recipes `make -j` runs at once, it leaves the same files as one recipe at a time, as far as FOOTPRINTS says all that the
-recipes read and write. Then come the numbers of nodes, of recipes that may run, of those that cannot, of .WAIT and of the
-pairs in question, and for each pair a line `order PATH : NAME NAME ..` with the prerequisites that put it in order.
+`safe`: any two recipes that touch one file, which one of them writes, are put in order by
+prerequisites. However many recipes `make -j` runs at once, it leaves the same files as one recipe
+at a time, as far as FOOTPRINTS says all that the recipes read and write. Then come the numbers of
+nodes, of recipes that may run, of those that cannot, of .WAIT and of the pairs in question, and
+for each pair a line `order PATH : NAME NAME ..` with the prerequisites that put it in order.
 
-`race`: two recipes touch one file, one of them writes it, and nothing keeps them apart. After the numbers come the PATH, what
-the two do to it, and how they come to run at once: the times of the files that are there, and then what is skipped,
-starts and finishes. Name the one as a prerequisite of the other, or let each have a file of its own.
+`race`: two recipes touch one file, one of them writes it, and nothing keeps them apart. After the
+numbers come the PATH, what the two do to it, and how they come to run at once: the times of the
+files that are there, and then what is skipped, starts and finishes. Name the one as a
+prerequisite of the other, or let each have a file of its own.
 
-`refused`: the inputs have a fault; its name, its place and names follow. docs/FAULTS.md has what each means.
+`refused`: the inputs have a fault; its name, its place and names follow. docs/FAULTS.md has what
+each means.
 
-With --print-proof the certificate or the trace comes in place of the report, as `race verify` reads it.
+With --print-proof the certificate or the trace comes in place of the report, as `race verify`
+reads it.
+
+`safe` rests on premises that race cannot see:
+  - the makefile, the base, the goals and the macros are those of the build;
+  - LISTING has just the files that are there when the build begins;
+  - FOOTPRINTS says all that each recipe reads and writes;
+  - a recipe that reads the same bytes writes the same: `a: ; date > a` does not, and is `safe`;
+  - two names are two files, and a file that is written is newer than all others.
 
 Example, a header that is generated, and used by a recipe that does not say so:
   $ printf 'all: gen.h a.o\\ngen.h: gen.sh\\n\\tsh gen.sh\\na.o: a.c\\n\\tcc -c a.c\\n' > makefile
@@ -114,32 +137,44 @@ Example, a header that is generated, and used by a recipe that does not say so:
   order gen.h : gen.h a.o
 
 Statuses:
-  0  the build is safe: `make -j` may be used on it
+  0  the build is safe: `make -j` may be used on it, where the premises hold
   1  two recipes race: mend the makefile, and check again
-  2  the makefile, the base, an included text, the listing, the root, an operand or the footprints is refused, or more than
-     1,000,000 pairs of recipes meet on a path: mend what the report names
-  3  a file cannot be read or written, memory is short, or the words are wrong: nothing is said of the build
+  2  the makefile, the base, an included text, the listing, the root, an operand or the footprints
+     is refused, or more than 1,000,000 pairs of recipes meet on a path: mend what the report
+     names
+  3  a file cannot be read or written, memory is short, or the words are wrong: nothing is said of
+     the build
 ";
 
 pub const PRINT_PROOF: &str = "Print the certificate or the trace in place of the report";
 
 pub const VERIFY_ABOUT: &str =
-    "Says whether a proof is good for a build: that its recipes may run in parallel, or that two of them race.";
+    "Says whether a proof is good: that a build's recipes may run in parallel, or that two race.";
 
 pub const VERIFY_DETAILS: &str = "\
-MAKEFILE, BASE, FILE, LISTING, DIR and the operands are those of `race order`, and FOOTPRINTS is that of `race replay`. PROOF
-is the path of a certificate or a trace, by the numbers that `race order` prints.
+MAKEFILE, BASE, FILE, LISTING, DIR and the operands are those of `race order`, and FOOTPRINTS is
+that of `race replay`. PROOF is the path of a certificate or a trace, by the numbers that
+`race order` prints.
 
-A certificate has, for each two recipes that touch one file which one of them writes, a chain of prerequisites from the one to
-the other. Where it is accepted, every run of the recipes leaves the same files, whatever runs at once, as far as FOOTPRINTS
-says all that they read and write. A trace leads to two such recipes that run at once.
+A certificate has, for each two recipes that touch one file which one of them writes, a chain of
+prerequisites from the one to the other. Where it is accepted, every run of the recipes leaves the
+same files, whatever runs at once, as far as FOOTPRINTS says all that they read and write. A trace
+leads to two such recipes that run at once.
   certificate COUNT      trace FIRST SECOND
   NODE NODE ..           path HEX
   ..                     time NODE TIME        for each file of LISTING that is a node
                          skip NODE             start NODE and finish NODE likewise
                          end
 
-What comes out is `accepted` or `not accepted`. Inputs that are refused give `refused`, the fault, its place and names.
+The certificate rests on premises that race cannot see:
+  - the makefile, the base, the goals and the macros are those of the build;
+  - LISTING has just the files that are there when the build begins;
+  - FOOTPRINTS says all that each recipe reads and writes;
+  - a recipe that reads the same bytes writes the same: `a: ; date > a` does not;
+  - two names are two files, and a file that is written is newer than all others.
+
+What comes out is `accepted` or `not accepted`. Inputs that are refused give `refused`, the fault,
+its place and names.
 
 Example:
   $ printf 'all: x y\\nx: s\\n\\tc\\ny: s x\\n\\tc\\n' > makefile
@@ -147,13 +182,15 @@ Example:
   $ echo '{\"target\":\"x\",\"reads\":[\"s\"],\"writes\":[\"x\"]}' > footprints
   $ echo '{\"target\":\"y\",\"reads\":[\"s\",\"x\"],\"writes\":[\"y\"]}' >> footprints
   $ printf 'certificate 1\\n1 2\\n' > proof
-  $ race verify --makefile makefile --listing listing --root \"$PWD\" --footprints footprints --proof proof
+  $ race verify --makefile makefile --listing listing --root \"$PWD\" \\
+      --footprints footprints --proof proof
   accepted
 
 Statuses:
   0  the proof is accepted
   1  it is not
-  2  the makefile, the base, the listing, the root, an operand, the footprints or the proof is refused
+  2  the makefile, the base, an included text, the listing, the root, an operand, the footprints
+     or the proof is refused
   3  a file cannot be read or written, memory is short, or the words are wrong
 ";
 
@@ -163,22 +200,24 @@ pub const REPLAY_ABOUT: &str =
     "Says whether a log of a build is a run that `make -j` may make, and what it leaves.";
 
 pub const REPLAY_DETAILS: &str = "\
-MAKEFILE, BASE, FILE, LISTING, DIR and the operands are those of `race order`. FOOTPRINTS is the path of a file that has for
-each recipe that may run an object of JSON on a line of its own: its target, and the paths that it reads and writes, where a
-path that ends in `/` stands for all that is below it too. LOG is the path of a file that has first an object for each file
-that is there, and these are the files of LISTING, and then one for each event, in the order in which they happened. PATH
-and NODE are paths, NODE that of a file of the build; HEX is what a file holds, in lower case hexadecimal; TIME is a whole
-number.
-  {\"do\":\"file\",\"path\":PATH,\"bytes\":HEX,\"time\":TIME}              a file that is there, written at that time
-  {\"do\":\"skip\",\"node\":NODE}                                      NODE stays as it is; start and finish: of its recipe
-  {\"do\":\"look\",\"node\":NODE,\"path\":PATH,\"bytes\":HEX}              the recipe reads PATH; null where nothing is there
-  {\"do\":\"put\",\"node\":NODE,\"path\":PATH,\"bytes\":HEX,\"time\":TIME}   the recipe writes PATH, at a time after all others
-  {\"do\":\"erase\",\"node\":NODE,\"path\":PATH}                         the recipe removes PATH
+MAKEFILE, BASE, FILE, LISTING, DIR and the operands are those of `race order`. FOOTPRINTS is the
+path of a file that has for each recipe that may run an object of JSON on a line of its own: its
+target, and the paths that it reads and writes, where a path that ends in `/` stands for all that
+is below it too. LOG is the path of a file that has first an object for each file that is there,
+and these are the files of LISTING, and then one for each event, in the order in which they
+happened. PATH and NODE are paths, NODE that of a file of the build; HEX is what a file holds, in
+lower case hexadecimal; TIME is a whole number.
+  {\"do\":\"file\",\"path\":PATH,\"bytes\":HEX,\"time\":TIME}              a file that is there, of that time
+  {\"do\":\"skip\",\"node\":NODE}                                      NODE stays; start, finish: it runs
+  {\"do\":\"look\",\"node\":NODE,\"path\":PATH,\"bytes\":HEX}              it reads PATH; null: nothing there
+  {\"do\":\"put\",\"node\":NODE,\"path\":PATH,\"bytes\":HEX,\"time\":TIME}   it writes PATH, later than others
+  {\"do\":\"erase\",\"node\":NODE,\"path\":PATH}                         it removes PATH
 
-What comes out is `allowed complete`, or `allowed incomplete` where some NODE was neither skipped nor finished, and for
-each file that is then there a line `file NAME TIME HEX`, where HEX is `-` for a file without bytes. A log that is no run
-gives `not allowed NUMBER WORD at PLACE`: why, and which event, counted from 1, or 0 where the files are not those of
-LISTING. Inputs that are refused give `refused`, the fault, its place and names.
+What comes out is `allowed complete`, or `allowed incomplete` where some NODE was neither skipped
+nor finished, and for each file that is then there a line `file NAME TIME HEX`, where HEX is `-`
+for a file without bytes. A log that is no run gives `not allowed NUMBER WORD at PLACE`: why, and
+which event, counted from 1, or 0 where the files are not those of LISTING. Inputs that are
+refused give `refused`, the fault, its place and names.
 
 Example:
   $ printf 'a.o: a.c\\n\\tcc -c a.c\\n' > makefile
@@ -190,7 +229,8 @@ Example:
   $ echo '{\"do\":\"look\",\"node\":\"a.o\",\"path\":\"a.c\",\"bytes\":\"61\"}' >> log
   $ echo '{\"do\":\"put\",\"node\":\"a.o\",\"path\":\"a.o\",\"bytes\":\"6f67\",\"time\":2}' >> log
   $ echo '{\"do\":\"finish\",\"node\":\"a.o\"}' >> log
-  $ race replay --makefile makefile --listing listing --root \"$PWD\" --footprints footprints --log log
+  $ race replay --makefile makefile --listing listing --root \"$PWD\" \\
+      --footprints footprints --log log
   allowed complete
   file a.c 1 61
   file a.o 2 6f67
@@ -198,7 +238,8 @@ Example:
 Statuses:
   0  the log is a run, complete or not, whether or not the recipes race
   1  it is not
-  2  the makefile, the base, an included text, the listing, the root, an operand, the footprints or the log is refused
+  2  the makefile, the base, an included text, the listing, the root, an operand, the footprints
+     or the log is refused
   3  a file cannot be read or written, memory is short, or the words are wrong
 ";
 
@@ -206,20 +247,21 @@ pub const SERIALISE_ABOUT: &str =
     "Writes the log of a parallel build as the log of the same build with one job.";
 
 pub const SERIALISE_DETAILS: &str = "\
-The files and options are those of `race replay`. LOG has to be a whole build, in which every NODE was skipped or finished,
-and no two recipes may race. What comes out is a log again: the same files, and then node after node in the order of `race
-order` all that the node did, in its old order. The first put has the time behind the greatest of the files, and each further
-put the next.
+The files and options are those of `race replay`. LOG has to be a whole build, in which every NODE
+was skipped or finished, and no two recipes may race. What comes out is a log again: the same
+files, and then node after node in the order of `race order` all that the node did, in its old
+order. The first put has the time behind the greatest of the files, and each further put the next.
 
-The new log is a build with one job from the same files. In it the same recipes run, each looks at the same bytes and writes
-the same, and the files end with the same bytes. So what went wrong in the parallel build goes wrong in this one, where one
-recipe can be watched at a time.
+The new log is a build with one job from the same files. In it the same recipes run, each looks at
+the same bytes and writes the same, and the files end with the same bytes. So what went wrong in
+the parallel build goes wrong in this one, where one recipe can be watched at a time.
 
-A log that is no run gives the line of `race replay`, one of a build that is not whole `not complete`. Where two recipes
-race, `race`, the number of nodes, of recipes that may run, of those that cannot and of .WAIT, then the path on which two
-of them meet, both recipes, and the times and steps that lead to their running at once. `not complete: times too large`
-stands where there is no number left for the times of new puts. Inputs that are refused give `refused`, the fault, its place
-and names.
+A log that is no run gives the line of `race replay`, one of a build that is not whole
+`not complete`. Where two recipes race, `race`, the number of nodes, of recipes that may run, of
+those that cannot and of .WAIT, then the path on which two of them meet, both recipes, and the
+times and steps that lead to their running at once. `not complete: times too large` stands where
+there is no number left for the times of new puts. Inputs that are refused give `refused`, the
+fault, its place and names.
 
 Example, in the log of two jobs `b` starts and ends before `a` has written:
   $ printf 'all: a b\\na:\\n\\tdate >a\\nb:\\n\\tdate >b\\n' > makefile
@@ -233,7 +275,8 @@ Example, in the log of two jobs `b` starts and ends before `a` has written:
   $ echo '{\"do\":\"put\",\"node\":\"a\",\"path\":\"a\",\"bytes\":\"3132\",\"time\":9}' >> log
   $ echo '{\"do\":\"finish\",\"node\":\"a\"}' >> log
   $ echo '{\"do\":\"skip\",\"node\":\"all\"}' >> log
-  $ race serialise --makefile makefile --listing listing --root \"$PWD\" --footprints footprints --log log --limit 2
+  $ race serialise --makefile makefile --listing listing --root \"$PWD\" \\
+      --footprints footprints --log log --limit 2
   {\"do\":\"start\",\"node\":\"a\"}
   {\"bytes\":\"3132\",\"do\":\"put\",\"node\":\"a\",\"path\":\"a\",\"time\":1}
   {\"do\":\"finish\",\"node\":\"a\"}
@@ -245,8 +288,8 @@ Example, in the log of two jobs `b` starts and ends before `a` has written:
 Statuses:
   0  the new log is printed
   1  the log is no run, or not complete, or its recipes race, or its times are too large
-  2  the makefile, the base, an included text, the listing, the root, an operand, the footprints or the log is refused, or
-     more than 1,000,000 pairs of recipes meet on a path
+  2  the makefile, the base, an included text, the listing, the root, an operand, the footprints
+     or the log is refused, or more than 1,000,000 pairs of recipes meet on a path
   3  a file cannot be read or written, memory is short, or the words are wrong
 ";
 
