@@ -1,5 +1,5 @@
 -- How a failure is told.
-use Rattle.std.specs.Prelude.{ℕ, ◌⊎◌, List, ◌++◌, Option, codes, string_bytes}
+use Rattle.std.specs.Prelude.{ℕ, List, ◌++◌, Option, codes, string_bytes}
 use Rattle.std.specs.Io.KnownBytes.{Appends}
 use Rattle.mk_name.specs.Shown.{line}
 use Rattle.mk_program.specs.declared.failures.Failure.{Failure}
@@ -17,15 +17,18 @@ word_of inputs.Footprints = codes "footprints"
 word_of inputs.Proof = codes "proof"
 word_of inputs.Log = codes "log"
 
+-- that an input cannot be opened, or cannot be read
+abbrev pub unread_text : InputFile → List ℕ
+unread_text input = codes "race: read failed: " ++ word_of input
+
 -- the text of a failure
 abbrev pub failure_text : Failure → List ℕ
-failure_text (failures.Read input) = codes "race: read failed: " ++ word_of input
+failure_text (failures.Read input) = unread_text input
 failure_text failures.Write = codes "race: write failed"
 failure_text failures.Memory = codes "race: out of memory"
 failure_text failures.NotText = codes "race: not text"
 failure_text (failures.Usage text) = string_bytes text
 
--- the line of the failure was written behind what stood there; or that of memory, where it is too short to tell another
+-- the line of the failure was written behind what stood there
 abbrev pub TellsFailure : Failure → Option (List ℕ) → Option (List ℕ) → Type 0
-TellsFailure failure old new =
-    Appends old new (line (failure_text failure)) ⊎ Appends old new (line (failure_text failures.Memory))
+TellsFailure failure old new = Appends old new (line (failure_text failure))

@@ -1,5 +1,6 @@
 //! Failures: why the program gives no answer.
 ghost use Rattle.std.specs.Prelude.{◌≡◌, Some};
+ghost use Rattle.mk_program.specs.Failures.{failure_text, unread_text};
 
 use std::alloc::{AllocError, AllocFailed};
 use std::fmt;
@@ -18,24 +19,6 @@ pub enum InputFile {
     Log,
 }
 
-impl fmt::Display for InputFile {
-    ghost use Rattle.mk_program.specs.Failures.{word_of};
-
-    ghost output = { λ input. Some (word_of input) };
-
-    fn fmt<W: fmt::Write>(&self, f: &mut fmt::Formatter<W>) -> fmt::Result {
-        f.write_str(match self {
-            InputFile::Include => "include",
-            InputFile::Base => "base",
-            InputFile::Makefile => "makefile",
-            InputFile::Listing => "listing",
-            InputFile::Footprints => "footprints",
-            InputFile::Proof => "proof",
-            InputFile::Log => "log",
-        })
-    }
-}
-
 /// Why the program ends with the status of a device, of memory or of usage. Its text is what stands on the standard
 /// error, without the newline.
 #[derive(Debug, Drop, Error)]
@@ -52,19 +35,41 @@ pub enum Failure {
     Usage(String),
 }
 
-impl fmt::Display for Failure {
-    ghost use Rattle.mk_program.specs.Failures.{failure_text};
+impl Failure {
+    /// What stands on the standard error, without the newline.
+    pub fn text(&self) -> &str
+        ensures { result.now ≡ failure_text self.now }
+    {
+        match self {
+            Failure::Read(input) => unread_text(*input),
+            Failure::Write => "race: write failed",
+            Failure::Memory => "race: out of memory",
+            Failure::NotText => "race: not text",
+            Failure::Usage(text) => text.as_str(),
+        }
+    }
+}
 
+impl fmt::Display for Failure {
     ghost output = { λ failure. Some (failure_text failure) };
 
     fn fmt<W: fmt::Write>(&self, f: &mut fmt::Formatter<W>) -> fmt::Result {
-        match self {
-            Failure::Read(input) => write!(f, "race: read failed: {input}"),
-            Failure::Write => f.write_str("race: write failed"),
-            Failure::Memory => f.write_str("race: out of memory"),
-            Failure::NotText => f.write_str("race: not text"),
-            Failure::Usage(text) => f.write_str(text.as_str()),
-        }
+        f.write_str(self.text())
+    }
+}
+
+/// That an input cannot be opened, or cannot be read.
+fn unread_text(input: InputFile) -> &'static str
+    ensures { result.now ≡ unread_text input }
+{
+    match input {
+        InputFile::Include => "race: read failed: include",
+        InputFile::Base => "race: read failed: base",
+        InputFile::Makefile => "race: read failed: makefile",
+        InputFile::Listing => "race: read failed: listing",
+        InputFile::Footprints => "race: read failed: footprints",
+        InputFile::Proof => "race: read failed: proof",
+        InputFile::Log => "race: read failed: log",
     }
 }
 

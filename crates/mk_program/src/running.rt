@@ -1,11 +1,12 @@
 //! The program: from the words of the command line to what is written.
-ghost use Rattle.std.specs.Prelude.{◌≡◌, ◌≢◌, ◌↔◌, ◌⊎◌, [], IfErr, IfOk, IsErrOf, OnErr, OnOk, String, false, true};
+ghost use Rattle.std.specs.Prelude.{◌≡◌, ◌≢◌, ◌↔◌, ◌⊎◌, [], IfErr, IfOk, IsErrOf, OnErr, OnOk, String, false, is_err, true};
 ghost use Rattle.std.specs.Global.{Global};
+ghost use Rattle.std.specs.Io.KnownBytes.{Appends};
 ghost use Rattle.clap.specs.Words.{kind_of};
 ghost use Rattle.mk_name.specs.Shown.{line};
 ghost use Rattle.mk_program.specs.Answers as spec;
 ghost use Rattle.mk_program.specs.CommandLine.{IsAnswerable, IsCall, asked, wrong};
-ghost use Rattle.mk_program.specs.Failures.{TellsFailure, failure_text};
+ghost use Rattle.mk_program.specs.Failures.{TellsFailure};
 
 use crate::answers::{Answer, answer_of};
 use crate::failures::Failure;
@@ -13,8 +14,8 @@ use crate::openers::Opener;
 use crate::statuses::Status;
 use crate::words::read_words;
 use clap::error::ErrorKind;
-use mk_device::device::{Outlet, write_all};
-use std::alloc::{AllocError, Global};
+use mk_device::device::{Broken, Outlet, write_all};
+use std::alloc::Global;
 
 /// Runs the program on the words of the command line, of which the first is its own name. The answer, the help or the
 /// version goes to `out`; what is wrong with the words, a device or memory to `err`, whose own failure is passed over.
@@ -54,32 +55,32 @@ pub fn race_words<'a, P: Opener, O: Outlet, E: Outlet>(
 {
     match answer_written(alloc, words, opener, out) {
         Ok(status) => status,
-        Err(failure) => fail(alloc, &failure, err),
+        Err(failure) => fail(&failure, err),
     }
 }
 
-/// Tells a failure by a line on the standard error, whose own failure is passed over, and says how the program ends.
-pub fn fail<E: Outlet>(alloc: Global, failure: &Failure, err: &mut E) -> Status
+/// Tells a failure by a line on the standard error, whose own failure is passed over, and says how the program ends. It needs
+/// no memory.
+pub fn fail<E: Outlet>(failure: &Failure, err: &mut E) -> Status
     requires { E.has_failed err.old ≡ false }
     ensures status { result ≡ Status.Failed }
     ensures told { E.has_failed err.new ≡ false
         → TellsFailure failure.now (E.written err.old) (E.written err.new) }
 {
-    let told = match line_of(alloc, failure) {
-        Ok(line) => write_all(err, line.as_bytes()),
-        Err(_) => write_all(err, b"race: out of memory\n"),
-    };
+    let told = write_line(err, failure.text().as_bytes());
     let _ = told;
     Status::Failed
 }
 
-/// The line that tells a failure. The only error is want of memory.
-fn line_of(alloc: Global, failure: &Failure) -> Result<String, AllocError>
-    ensures { IfOk result (λ told. told.bytes.items ≡ line (failure_text failure.now)) }
+/// Writes a text and a newline. `Broken` comes exactly where the device fails.
+fn write_line<E: Outlet>(device: &mut E, text: &[u8]) -> Result<(), Broken>
+    requires { E.has_failed device.old ≡ false }
+    ensures written { OnOk result (Appends (E.written device.old) (E.written device.new) (line text.now)) }
+    ensures failed { E.has_failed device.new ≡ is_err result }
 {
-    let mut line = failure.to_string(alloc)?;
-    line.push('\n')?;
-    Ok(line)
+    write_all(device, text)?;
+    write_all(device, b"\n")?;
+    Ok(())
 }
 
 /// Writes the answer, the help or the version.

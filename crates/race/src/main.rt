@@ -19,7 +19,7 @@ fn main(rt: HostRuntime) -> ExitCode {
 fn run(rt: &HostRuntime) -> Status {
     match answered(rt) {
         Ok(status) => status,
-        Err(failure) => fail(rt.alloc(), &failure, &mut Spout::new(rt.stderr())),
+        Err(failure) => fail(&failure, &mut Spout::new(rt.stderr())),
     }
 }
 
