@@ -1,4 +1,4 @@
-# The default rules of POSIX.1-2024 make (XCU make, "Default Rules"), for `race .. --base share/posix-base.mk`.
+# The default rules of POSIX.1-2024 make (XCU make, "Default Rules"): the base makefile of `race .. --posix-base`.
 # The commands are never read by race; they stand here so that a make can run this file too.
 #
 # Left out, since race does not read it: the rules and suffixes of SCCS files (.c~ .y~ .l~ .sh~) with the macros GET,

@@ -1,7 +1,10 @@
 -- Lemmas on the subcommand that the words name.
 use Rattle.std.proofs.Common.{◌≡◌, ◌∙◌, ◌⊎◌, inl, inr, Bool, true, false, List, [], ◌∷◌, codes, Option, Some, None, option_map, sym, ap, ap₂, subst, refl, cond}
 use Rattle.std.proofs.lemmas.Option.{none-some, same_Some}
-use Rattle.clap.specs.Words.{Row, Text, built, subcommand_name_of, subcommand_of, subcommand_rows_of}
+use Rattle.clap.specs.Kinds.{or_else}
+use Rattle.clap.specs.Words.{HasKind, Kinds, Row, Text, built, kind_of, subcommand_name_of, subcommand_of, subcommand_rows_of}
+use Rattle.clap.specs.declared.error.Error.{Error}
+use Rattle.clap.specs.declared.error.kind.ErrorKind.TheVariants.{ArgumentConflict}
 use Rattle.clap.specs.declared.parser.matches.ArgMatches.{ArgMatches}
 use Rattle.clap.specs.declared.parser.matches.ArgMatches.TheViews.{out-ArgMatches}
 use Rattle.clap.specs.Walk.{answers_to, stop_after}
@@ -58,3 +61,24 @@ found_is m o name rows same n r =
 -- what was asked is what was found
 pub asks : (request : Request) (o : Option (Text × List Row)) (name : Text) (rows : List Row) → o ≡ Some (name, rows) → spec.IsFor request name rows → spec.Asks request o
 asks request o name rows e is = subst (spec.Asks request) (sym e) is
+
+-- what `clap` finds wrong is wrong
+pub still_wrong : (kinds more : Kinds) (error : Error) → HasKind kinds error → HasKind (or_else kinds more) error
+still_wrong [] more error (inl memory) = inl memory
+still_wrong [] more error (inr among) = absurd among
+still_wrong (kind ∷ kinds) more error has = has
+
+-- where neither is wrong, nothing is
+pub none_wrong : (kinds more : Kinds) → kinds ≡ [] → more ≡ [] → or_else kinds more ≡ []
+none_wrong kinds more none no_more = ap₂ or_else none no_more
+
+-- one base at most is nothing wrong
+pub one_base : (o : Option (Text × List Row)) (name : Text) (rows : List Row) → o ≡ Some (name, rows) → spec.has_two_bases rows ≡ false → spec.value_kinds o ≡ []
+one_base o name rows is one = ap spec.value_kinds is ∙ ap (λ (b : Bool). cond b (ArgumentConflict ∷ []) []) one
+
+-- two bases are wrong
+pub two_wrong : (o : Option (Text × List Row)) (name : Text) (rows : List Row) (kinds : Kinds) (error : Error) → o ≡ Some (name, rows) → spec.has_two_bases rows ≡ true
+    → kinds ≡ [] → kind_of error ≡ ArgumentConflict → HasKind (or_else kinds (spec.value_kinds o)) error
+two_wrong o name rows kinds error is two none conflict =
+    let found : spec.value_kinds o ≡ ArgumentConflict ∷ [] = ap spec.value_kinds is ∙ ap (λ (b : Bool). cond b (ArgumentConflict ∷ []) []) two in
+    subst (λ (k : Kinds). HasKind k error) (sym (ap₂ or_else none found)) (inr (inl conflict))

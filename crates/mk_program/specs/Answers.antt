@@ -29,6 +29,7 @@ use Rattle.mk_program.specs.Inputs.{Hold, IsInputFailure}
 use Rattle.mk_program.specs.OrderText.{IsOrderText, order_status}
 use Rattle.mk_program.specs.OutcomeText.{IsOutcomeText}
 use Rattle.mk_program.specs.PlanText.{plan_text}
+use Rattle.mk_program.specs.PosixBase.{posix_base}
 use Rattle.mk_program.specs.Requests.{includes_path, inputs_of}
 use Rattle.mk_program.specs.declared.failures.Failure.{Failure}
 use Rattle.mk_program.specs.declared.failures.Failure.TheVariants as failures
@@ -124,12 +125,16 @@ IsSerialiseAnswer texts footprints log limit tie statuses.Refused text =
     (told : Told) × IsSerialised texts footprints log limit tie (Err told) × (text ≡ refused_text told)
 IsSerialiseAnswer texts footprints log limit tie statuses.Failed text = ⊥
 
+-- the base makefile of a build, where this text was read for one
+abbrev pub base_of : BuildArgs → List ℕ → List ℕ
+base_of build text = if build.posix_base then posix_base else text
+
 -- the texts that a build is planned from
 abbrev pub texts_for : BuildArgs → List Pair → (InputFile → List ℕ) → Texts
 texts_for build includes text = record {
   root = build.root.now;
   operands = map (λ operand. operand.now) build.operands.items;
-  base = text inputs.Base;
+  base = base_of build (text inputs.Base);
   makefile = text inputs.Makefile;
   includes = includes;
   listing = text inputs.Listing;

@@ -1,13 +1,14 @@
 -- What the program is asked by its words, as `clap` reads them.
-use Rattle.std.specs.Prelude.{ℕ, ◌≡◌, ◌⊎◌, Bool, true, List, [], map, Option, Some, None, codes, false, option_map, unwrap_or}
+use Rattle.std.specs.Prelude.{ℕ, ◌≡◌, ◌⊎◌, ◌&&◌, Bool, true, List, [], ◌∷◌, map, Option, Some, None, codes, false, is_some, option_map, unwrap_or, if◌then◌else◌}
 use Rattle.std.specs.Str.{bytes_eq}
 use Rattle.std.specs.Str.Parse.{digits_value, without_leading_plus}
 use Rattle.std.specs.Borrow.{Bor}
+use Rattle.clap.specs.Kinds.{or_else}
 use Rattle.clap.specs.Words.{App, IsAmong, IsUnsignedIn, Kinds, Row, Rule, Text, all_of, fault_of, first_of, new_app, new_rule, subcommand_of, with_rule, with_subcommand}
 use Rattle.clap.specs.declared.builder.action.ArgAction.TheVariants.{Append, Set, SetTrue}
 use Rattle.clap.specs.declared.builder.value_parser.ValueParser.TheVariants.{Unsigned}
 use Rattle.clap.specs.declared.error.kind.ErrorKind.{ErrorKind}
-use Rattle.clap.specs.declared.error.kind.ErrorKind.TheVariants.{DisplayHelp, DisplayVersion}
+use Rattle.clap.specs.declared.error.kind.ErrorKind.TheVariants.{ArgumentConflict, DisplayHelp, DisplayVersion}
 use Rattle.mk_program.specs.declared.requests.BuildArgs.{BuildArgs}
 use Rattle.mk_program.specs.declared.requests.CheckArgs.{CheckArgs}
 use Rattle.mk_program.specs.declared.requests.ReplayArgs.{ReplayArgs}
@@ -23,6 +24,10 @@ option id = record (new_rule id) { long = Some id; action = Some Set; value_name
 abbrev pub base : Rule
 base = record (option (codes "base")) { required = false }
 
+-- an option without a value
+abbrev pub flag : Text → Rule
+flag id = record (new_rule id) { long = Some id; action = Some SetTrue }
+
 -- the option that names a file of includes, which may be left out
 abbrev pub includes : Rule
 includes = record (option (codes "includes")) { required = false }
@@ -34,8 +39,8 @@ operands = record (new_rule (codes "operands")) { action = Some Append; value_na
 -- a command with the options and operands that every subcommand takes
 abbrev pub with_build : App → App
 with_build app =
-    with_rule (with_rule (with_rule (with_rule (with_rule (with_rule app
-    (option (codes "makefile"))) (option (codes "listing"))) (option (codes "root"))) base) includes) operands
+    with_rule (with_rule (with_rule (with_rule (with_rule (with_rule (with_rule app
+    (option (codes "makefile"))) (option (codes "listing"))) (option (codes "root"))) base) (flag (codes "posix-base"))) includes) operands
 
 abbrev pub order_app : App
 order_app = with_build (new_app (codes "order"))
@@ -87,9 +92,24 @@ race_app =
 abbrev pub asked : List (Bor Text) → Option (Text × List Row)
 asked words = subcommand_of race_app (map (λ word. word.now) words)
 
--- what is wrong with these words; that they call for help or the version is told so too
+-- the flag is set
+abbrev pub is_true : Option Text → Bool
+is_true None = false
+is_true (Some text) = bytes_eq text (codes "true")
+
+-- two base makefiles are given: a file, and the one that the standard lists
+abbrev pub has_two_bases : List Row → Bool
+has_two_bases rows = is_true (first_of (codes "posix-base") rows) && is_some (first_of (codes "base") rows)
+
+-- what is wrong with the values that were found
+abbrev pub value_kinds : Option (Text × List Row) → Kinds
+value_kinds None = []
+value_kinds (Some found) = if has_two_bases found.1 then ArgumentConflict ∷ [] else []
+
+-- what is wrong with these words: what `clap` finds, and where that is nothing, two base makefiles; that they call for help or
+-- the version is told so too
 abbrev pub wrong : List (Bor Text) → Kinds
-wrong words = fault_of race_app (map (λ word. word.now) words)
+wrong words = or_else (fault_of race_app (map (λ word. word.now) words)) (value_kinds (asked words))
 
 -- the value of an option, which is empty where there is none
 abbrev pub value_of : Text → List Row → Text
@@ -103,6 +123,7 @@ operands_of rows = unwrap_or (all_of (codes "operands") rows) []
 pub record HasValues (build : BuildArgs) (rows : List Row) : Type 0 where
   pub includes : option_map (λ word. word.now) build.includes ≡ first_of (codes "includes") rows
   pub base : option_map (λ word. word.now) build.base ≡ first_of (codes "base") rows
+  pub posix_base : build.posix_base ≡ is_true (first_of (codes "posix-base") rows)
   pub makefile : build.makefile.now ≡ value_of (codes "makefile") rows
   pub listing : build.listing.now ≡ value_of (codes "listing") rows
   pub root : build.root.now ≡ value_of (codes "root") rows
@@ -112,11 +133,6 @@ pub record HasValues (build : BuildArgs) (rows : List Row) : Type 0 where
 abbrev pub IsLimit : Option Text → ℕ → Type 0
 IsLimit None limit = limit ≡ 1
 IsLimit (Some text) limit = IsUnsignedIn 1 65535 text × (limit ≡ digits_value 10 (without_leading_plus text))
-
--- the flag is set
-abbrev pub is_true : Option Text → Bool
-is_true None = false
-is_true (Some text) = bytes_eq text (codes "true")
 
 -- the check and its build have the values that were found
 pub record HasCheck (check : CheckArgs) (rows : List Row) : Type 0 where

@@ -6,5 +6,6 @@ pub mod Inputs
 pub mod OrderText
 pub mod OutcomeText
 pub mod PlanText
+pub mod PosixBase
 pub mod Requests
 pub mod Statuses

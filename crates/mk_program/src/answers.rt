@@ -17,6 +17,7 @@ use crate::inputs::{InputText, read_inputs, text_of};
 use crate::openers::Opener;
 use crate::outcome_lines::outcome_text;
 use crate::plan_lines::plan_text;
+use crate::posix_base::posix_base;
 use crate::requests::{BuildArgs, ReplayArgs, Request, VerifyArgs, includes_path, inputs_of};
 use crate::serialising::serialise_answer;
 use crate::statuses::Status;
@@ -165,13 +166,25 @@ pub(crate) fn input_of<'a>(
         → result.footprints.now ≡ text InputFile.Footprints }
 {
     Input {
-        base: text_of(texts, InputFile::Base),
+        base: base_of(build, texts),
         makefile: text_of(texts, InputFile::Makefile),
         includes,
         listing: text_of(texts, InputFile::Listing),
         footprints: text_of(texts, InputFile::Footprints),
         root: build.root.as_bytes(),
         operands,
+    }
+}
+
+/// The base makefile of a build.
+fn base_of<'a>(build: &BuildArgs<'_>, texts: &'a [InputText]) -> &'a [u8]
+    ensures { (text : InputFile → List ℕ) → AreTexts texts.now text
+        → result.now ≡ spec.base_of build.now (text InputFile.Base) }
+{
+    if build.posix_base {
+        posix_base()
+    } else {
+        text_of(texts, InputFile::Base)
     }
 }
 

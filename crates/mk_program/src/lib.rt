@@ -14,6 +14,7 @@
 //! - `Includes.antt`: the texts that the file of includes hands in (`includes_in`);
 //! - `Inputs.antt`: that the files hold the texts of the inputs (`Hold`), and which input fails (`IsInputFailure`): the first
 //!   that cannot be opened, or one that cannot be read though all were opened;
+//! - `PosixBase.antt`: the base makefile of `--posix-base`;
 //! - `Answers.antt`: the answer to a request over what its files hold (`IsAnswer`), and that it was written (`WritesAnswer`);
 //! - `PlanText.antt`, `OutcomeText.antt` and `OrderText.antt`: the texts of `race order`, of `race replay` and of `race serialise`;
 //! - `Failures.antt` and `Statuses.antt`: the line of a failure, and the statuses as numbers.
@@ -31,6 +32,7 @@ mod openers;
 mod order_lines;
 mod outcome_lines;
 mod plan_lines;
+mod posix_base;
 mod requests;
 mod running;
 mod serialising;

@@ -6,12 +6,13 @@ use crate::failures::InputFile;
 use crate::inputs::InputPath;
 use std::alloc::{AllocError, Global};
 
-/// What a build is read from: the paths of files, those of includes and of the base makefile where they are given, the
-/// root and the operands, as they were given.
+/// What a build is read from: the paths of files, those of includes and of the base makefile where they are given, whether
+/// the base is the one that the standard lists, the root and the operands, as they were given.
 #[derive(Drop)]
 pub struct BuildArgs<'a> {
     pub includes: Option<&'a str>,
     pub base: Option<&'a str>,
+    pub posix_base: bool,
     pub makefile: &'a str,
     pub listing: &'a str,
     pub root: &'a str,

@@ -1,6 +1,6 @@
 //! The words of the command line.
 ghost use Rattle.std.specs.Prelude.{◌≡◌, ◌⊎◌, IfOk, Ok, codes, false, option_map};
-ghost use Rattle.clap.specs.Words.{FailsBy, app_of, found_of, rows_of, rule_of, with_subcommand};
+ghost use Rattle.clap.specs.Words.{FailsBy, app_of, found_of, kind_of, rows_of, rule_of, with_subcommand};
 ghost use Rattle.clap.specs.declared.builder.command.Command.TheViews.{out-Command as fields_of};
 ghost use Rattle.mk_program.specs.CommandLine as spec;
 
@@ -12,6 +12,7 @@ mod verify_words;
 
 use crate::requests::{BuildArgs, Request};
 use check_words::{check_args, check_command};
+use clap::error::ErrorKind;
 use clap::{Arg, ArgAction, ArgMatches, Command, Error};
 use replay_words::{replay_args, replay_command};
 use serialise_words::serialise_command;
@@ -26,9 +27,29 @@ pub fn read_words<'a>(alloc: Global, words: &'a [&'a str]) -> Result<Request<'a>
 {
     let matches = race_command(alloc)?.try_get_matches_from(words)?;
     match matches.subcommand() {
-        Some((name, found)) => Ok(request_of(alloc, name, found)?),
+        Some((name, found)) => {
+            if has_two_bases(found) {
+                return Err(two_bases(alloc)?);
+            }
+            Ok(request_of(alloc, name, found)?)
+        }
         None => unreachable!(),
     }
+}
+
+/// Whether these matches of a subcommand give two base makefiles.
+fn has_two_bases<'a>(found: &ArgMatches<'a>) -> bool
+    ensures { result ≡ spec.has_two_bases (rows_of (found_of found.now)) }
+{
+    is_true(found.get_str("posix-base")) && found.get_str("base").is_some()
+}
+
+/// That two base makefiles are given. The only error is want of memory.
+fn two_bases(alloc: Global) -> Result<Error, AllocError>
+    ensures { IfOk result (λ error. kind_of error ≡ ErrorKind.ArgumentConflict) }
+{
+    let message = "the argument '--posix-base' cannot be used with '--base <BASE>'";
+    race_command(alloc)?.error(ErrorKind::ArgumentConflict, message)
 }
 
 /// What the matches of the subcommand with this name ask for. The only error is want of memory.
@@ -120,6 +141,7 @@ fn with_build<'a>(alloc: Global, command: Command<'a>) -> Result<Command<'a>, Al
         .arg(option(alloc, "listing", "LISTING", help::LISTING))?
         .arg(option(alloc, "root", "DIR", help::ROOT))?
         .arg(base(alloc))?
+        .arg(flag(alloc, "posix-base", help::POSIX_BASE))?
         .arg(includes(alloc))?
         .arg(operands(alloc))
 }
@@ -147,6 +169,17 @@ fn option<'a>(alloc: Global, name: &'a str, value: &'a str, about: &'a str) -> A
         .help(about)
 }
 
+/// A flag.
+fn flag<'a>(alloc: Global, name: &'a str, about: &'a str) -> Arg<'a>
+    ensures rule { rule_of result ≡ spec.flag name.entry.now }
+    ensures local { result.global ≡ false }
+{
+    Arg::new(alloc, name)
+        .long(name)
+        .action(ArgAction::SetTrue)
+        .help(about)
+}
+
 /// The option that names a base makefile, which may be left out.
 fn base<'a>(alloc: Global) -> Arg<'a>
     ensures rule { rule_of result ≡ spec.base }
@@ -170,6 +203,7 @@ fn build_args<'a>(alloc: Global, found: &ArgMatches<'a>) -> Result<BuildArgs<'a>
     Ok(BuildArgs {
         includes: found.get_str("includes"),
         base: found.get_str("base"),
+        posix_base: is_true(found.get_str("posix-base")),
         makefile: found.get_str("makefile").unwrap_or(""),
         listing: found.get_str("listing").unwrap_or(""),
         root: found.get_str("root").unwrap_or(""),

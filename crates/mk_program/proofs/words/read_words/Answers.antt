@@ -1,9 +1,9 @@
-use Rattle.std.proofs.Common.{ap, refl, subst, ◌∙◌, ◌≡◌, true, List, [], map}
+use Rattle.std.proofs.Common.{ap, refl, subst, sym, ◌∙◌, ◌≡◌, true, List, [], map}
 use Rattle.std.proofs.lemmas.Result.{err_from_is_err_and}
 use Rattle.std.specs.Borrow.{Bor}
 use Rattle.clap.specs.Words.{App, HasKind, Text, fault_of, is_simple, is_simple_and_free, subcommand_of}
 use Rattle.mk_program.specs.CommandLine as spec
-use Rattle.mk_program.proofs.Asked.{asks, found_is, one_named}
+use Rattle.mk_program.proofs.Asked.{asks, found_is, none_wrong, one_base, one_named, still_wrong, two_wrong}
 use Rattle.mk_program.proofs.words.read_words.Goals as goal
 
 pub request_of-requires : goal.request_of-requires
@@ -29,11 +29,31 @@ returns-in_err-matches-clause-kinds c =
     let words : List Text = map (λ (word : Bor Text). word.now) c.args.words.now in
     let app = c.in_ok-race_command.ensures.app in
     let free : is_simple_and_free spec.race_app ≡ true = refl in
-    rw (p.1, p.2) (subst (λ (a : App). HasKind (fault_of a words) c.in_err-matches.field-0.0) app (c.in_err-matches.ensures.kinds (ap is_simple_and_free app ∙ free)))
+    rw (p.1, p.2) (still_wrong (fault_of spec.race_app words) (spec.value_kinds (subcommand_of spec.race_app words)) c.in_err-matches.field-0.0
+    (subst (λ (a : App). HasKind (fault_of a words) c.in_err-matches.field-0.0) app (c.in_err-matches.ensures.kinds (ap is_simple_and_free app ∙ free))))
 
 pub returns-clause-kinds : goal.returns-clause-kinds
 returns-clause-kinds c =
     let words : List Text = map (λ (word : Bor Text). word.now) c.args.words.now in
     let app = c.in_ok-race_command.ensures.app in
     let free : is_simple_and_free spec.race_app ≡ true = refl in
-    subst (λ (a : App). fault_of a words ≡ []) app (c.in_ok-matches.ensures.kinds (ap is_simple_and_free app ∙ free))
+    let simple : is_simple spec.race_app ≡ true = refl in
+    let same = (c.in_ok-matches.ensures.matches (ap is_simple app ∙ simple)).1 ∙ ap (λ (a : App). subcommand_of a words) app in
+    none_wrong (fault_of spec.race_app words) (spec.value_kinds (subcommand_of spec.race_app words))
+    (subst (λ (a : App). fault_of a words ≡ []) app (c.in_ok-matches.ensures.kinds (ap is_simple_and_free app ∙ free)))
+    (one_base (subcommand_of spec.race_app words) _ _
+    (found_is c.in_ok-matches.matches _ c.in-Some.name.now _ same c.in-Some.ensures.name c.in-Some.ensures.rows)
+    (sym c.has_two_bases.ensures ∙ c.if-has_two_bases.false))
+
+pub returns-then-has_two_bases-clause-kinds : goal.returns-then-has_two_bases-clause-kinds
+returns-then-has_two_bases-clause-kinds c =
+    let words : List Text = map (λ (word : Bor Text). word.now) c.args.words.now in
+    let app = c.in_ok-race_command.ensures.app in
+    let free : is_simple_and_free spec.race_app ≡ true = refl in
+    let simple : is_simple spec.race_app ≡ true = refl in
+    let same = (c.in_ok-matches.ensures.matches (ap is_simple app ∙ simple)).1 ∙ ap (λ (a : App). subcommand_of a words) app in
+    two_wrong (subcommand_of spec.race_app words) _ _ (fault_of spec.race_app words) c.in_ok-two_bases-in-Some.field-0
+    (found_is c.in_ok-matches.matches _ c.in-Some.name.now _ same c.in-Some.ensures.name c.in-Some.ensures.rows)
+    (sym c.has_two_bases.ensures ∙ c.if-has_two_bases.true)
+    (subst (λ (a : App). fault_of a words ≡ []) app (c.in_ok-matches.ensures.kinds (ap is_simple_and_free app ∙ free)))
+    c.in_ok-two_bases-in-Some.ensures
