@@ -48,7 +48,9 @@ class Builder:
         self.before = names.before
         self.of_node: Dict[str, int] = {}
         self.look_of: Dict[str, int] = {}
+        self.first_of: Dict[str, int] = {}
         self.made: Set[str] = set()
+        self.began = -1
         self.timed: Dict[str, Set[int]] = {}  # name: who hangs on its time
         self.timers: Dict[str, Set[int]] = {}  # folder: who changes its time
 
@@ -66,6 +68,7 @@ class Builder:
         self.note_writers()
         self.make_decisions()
         self.note_writers()
+        self.make_first_looks()
         self.connect()
         self.fill()
         return self.build
@@ -125,6 +128,27 @@ class Builder:
                 if any(self.is_written(p, own) for p in needed) or acts:
                     self.look_of[node.label] = self.add(node, "look", node.label + "@look")
 
+    def make_first_looks(self) -> None:
+        """Whether a target is there make asks once, when it considers it first, though its prerequisites are made later."""
+        users: Dict[str, List[Node]] = {}
+        for node in self.graph.nodes.values():
+            for one in node.asks:
+                users.setdefault(one, []).append(node)
+        late = self.graph.late()
+        for node in self.graph.nodes.values():
+            if node.phony or node.rule or node.label in late or self.is_leaf(node):
+                continue
+            own = self.of_node.get(node.label, -1)
+            others = [self.build.tasks[at].node for at in self.build.writers.get(node.path, set()) - {own, self.look_of.get(node.label, -1)}]
+            others = [o for o in others if o.name != node.name and node.name not in self.graph.base.also.get(o.name, [])]
+            if others and (self.has_effect(node) or any(len(self.looked_at(u, self.of_node.get(u.label, -1))) > 1 for u in users.get(node.label, []))):
+                self.first_of[node.label] = self.add(node, "first", node.label + "@first")
+
+    def has_effect(self, node: Node) -> bool:
+        """Whether a target has a recipe that is more than `:`."""
+        lines = [line.strip().lstrip("@+-").strip() for line in self.graph.base.recipes.get(node.name, [])]
+        return any(line not in ("", ":", "true") for line in lines)
+
     def looked_at(self, node: Node, own: int) -> List[str]:
         """The paths that decide whether a target is remade: none where it is phony; where it is absent, and nobody else
         writes it, it is remade whatever the ages of its prerequisites are."""
@@ -173,6 +197,9 @@ class Builder:
         for label, look in self.look_of.items():
             after[look].update(after[self.of_node[label]])
             after[self.of_node[label]].add(look)
+        for label, look in self.first_of.items():
+            if label in self.of_node:
+                after[self.of_node[label]].add(look)
         self.chain_looks(after)
         if self.is_serial():
             row = [self.of_node[label] for label in self.labels_of_jobs()]
@@ -181,7 +208,7 @@ class Builder:
         for at, asks in enumerate(after):
             asks.discard(at)
         jobs = {label: n for n, label in enumerate(self.labels_of_jobs())}
-        keys = [(self.graph.nodes[t.node.label].done, jobs.get(t.node.label, 0)) for t in tasks]
+        keys = [(t.node.first if t.kind == "first" else t.node.done, jobs.get(t.node.label, 0)) for t in tasks]
         order, dropped = order_tasks(tasks, after, keys)
         if dropped:
             self.assumed.add("ring", "make %s" % self.make.words.args, dropped)
@@ -221,6 +248,7 @@ class Builder:
         nodes = self.graph.nodes
         looks = [(nodes[label].done, at) for label, at in self.look_of.items()]
         looks += [(nodes[label].done, at) for label, at in self.of_node.items() if self.build.tasks[at].kind == "decision" and self.is_leaf(nodes[label])]
+        looks += [(nodes[label].first, at) for label, at in self.first_of.items()]
         looks.sort()
         for (_, first), (_, second) in zip(looks, looks[1:]):
             after[second].add(first)
@@ -241,6 +269,7 @@ class Builder:
             task.after = {number[a] for a in after[old]}
         self.of_node = {n: number[a] for n, a in self.of_node.items()}
         self.look_of = {n: number[a] for n, a in self.look_of.items()}
+        self.first_of = {n: number[a] for n, a in self.first_of.items()}
         self.build.tasks = tasks
         self.build.writers = {p: {number[a] for a in w} for p, w in self.build.writers.items()}
         self.build.bits = befores([t.after for t in tasks], list(range(len(tasks))))
@@ -257,6 +286,8 @@ class Builder:
             self.add_events(looker, self.acts_of(node), created)
             if task.kind != "group":
                 self.add_decision(looker, at, node)
+        for label, at in self.first_of.items():
+            build.tasks[at].reads.add(self.graph.nodes[label].path)
         add_folders(self)
         from record.ages import add_ages
         add_ages(self)
@@ -308,15 +339,19 @@ class Builder:
 
     def add_search(self, at: int, node: Node) -> None:
         """The search for implicit rules sees a name that a recipe writes, where make had not listed the folder before."""
-        births = [l.born for l in self.make.life.children]
-        first = min((min((l.born for l in w.lives), default=1 << 60) for w in self.make.work.values()), default=1 << 60)
         for path in self.searched(self.make, self.graph, node.name):
             if path in self.build.writers:
                 listed = self.make.listed.get(os.path.dirname(path), 1 << 60)
-                if listed < first and births:
+                if listed < self.first_birth():
                     self.assumed.add("search", path)
                 else:
                     self.build.tasks[at].reads.add(path)
+
+    def first_birth(self) -> int:
+        """When the first recipe of this make began."""
+        if self.began < 0:
+            self.began = min((l.born for w in self.make.work.values() for l in w.lives), default=1 << 60)
+        return self.began
 
     def searched(self, make: Make, graph: Graph, name: str) -> Set[str]:
         """The names that one step of the search looks for."""

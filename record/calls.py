@@ -67,12 +67,10 @@ class Calls(Replay):
         found = self.look(life, path, ok or call.error == "EINVAL", follow, "R" if link else "S", base, plain)
         if shelltext.looks_at_links(life.argv):
             self.put(life, "h", found.path)
-        if life.is_query or shelltext.is_interpreter(life.argv):
+        if life.is_query or shelltext.is_interpreter(life.argv) or self.ages(life):
             is_folder = found.inode is not None and found.inode.kind == "d"
-            if not is_folder or path != "." and not path.startswith("/"):
+            if not is_folder or path != "." and not path.startswith("/") or shelltext.names_here(life.argv):
                 self.put(life, "A", found.path)
-        elif self.ages(life):
-            self.put(life, "A", found.path)
 
     def on_execve(self, life: Life, call: Call, ok: bool) -> None:
         words = texts(call.args)

@@ -134,6 +134,8 @@ def import_record(spool: Path, names: Names, real: str, folder: str, record: Rec
     owners = Owners(replay.all, read_logs(spool))
     record.holes += replay.holes + owners.holes
     record.holes += ["a make ran past the recorder: " + p for p in replay.past]
+    for path in sorted(spool.glob("*.past")):
+        record.holes += ["a make that prints its own words (-d, -p, --debug) ran past the recorder: " + t for t in path.read_text(errors="replace").splitlines()]
     if not owners.makes:
         record.holes.append("no make ran")
     for socket in replay.sockets:

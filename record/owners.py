@@ -50,6 +50,7 @@ class Owners:
         self.makes: List[Make] = []
         self.of_life: Dict[int, Make] = {}
         self.jobs: Dict[int, Job] = {}  # by id of a life that make started
+        self.births: Dict[int, int] = {}  # by id of a job: when its first process was born
         by_key = {(w.pid, w.life): w for w in words}
         for life in lives:
             if life.is_make and life.number >= 0:
@@ -116,8 +117,12 @@ class Owners:
                 self.holes.append("a recipe that ran has no process: " + jobs[0].target if not lives else "a process number came again: %d" % pid)
             for life, job in zip(lives, jobs):
                 self.jobs[id(life)] = job
+        for life in make.life.children:
+            job = self.jobs.get(id(life))
+            if job is not None:
+                self.births[id(job)] = min(life.born, self.births.get(id(job), life.born))
         for one in make.words.rounds:
-            births = [min((l.born for l in make.life.children if self.jobs.get(id(l)) is job), default=-1) for job in one.jobs]
+            births = [self.births.get(id(job), -1) for job in one.jobs]
             if any(b < 0 for b in births):
                 self.holes.append("a recipe that ran has no process: " + one.jobs[births.index(-1)].target)
             elif births != sorted(births):
@@ -179,7 +184,7 @@ class Owners:
         table: List[Tuple[int, int, int]] = []  # birth, round, jobs of the round so far
         for number, one in rounds:
             for job in one.jobs:
-                table.append((min((l.born for l in make.life.children if self.jobs.get(id(l)) is job), default=0), number, job.number + 1))
+                table.append((self.births.get(id(job), 0), number, job.number + 1))
         table.sort()
         births = [t[0] for t in table]
         names = {n for _, r in rounds for n in r.nodes} | {v for _, r in rounds for v in r.vpath.values()}

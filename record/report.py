@@ -4,6 +4,7 @@ import json
 import os
 import re
 import sys
+import textwrap
 from dataclasses import dataclass, field
 from pathlib import Path
 from typing import Any, Dict, List, Tuple
@@ -11,7 +12,7 @@ from typing import Any, Dict, List, Tuple
 from record.judge import Race, Verdict
 
 SHOWN_RACES = 30
-OWN_NAME = re.compile(r"/@(make|seen|gone|time|mode|links|age)(/.*)?$")
+OWN_NAME = re.compile(r"(^|/)@(make|seen|gone|time|mode|links|age)(/.*)?$")
 
 
 @dataclass
@@ -52,7 +53,7 @@ def verb(about: Dict[str, Any], label: str, does: str, path: str) -> str:
         return "settles it" if does == "writes" else "sees it"
     if does == "writes":
         return "writes it"
-    return "make looks at it" if kind in ("decision", "look") else "reads it"
+    return "make looks at it" if kind in ("decision", "look", "first") else "reads it"
 
 
 def target(about: Dict[str, Any], label: str) -> str:
@@ -63,7 +64,7 @@ def target(about: Dict[str, Any], label: str) -> str:
 def race_text(about: Dict[str, Any], race: Race, fixes: List[str], is_fixed: bool) -> List[str]:
     """The lines of one race."""
     meaning = about["meanings"].get(race.path)
-    name = OWN_NAME.sub("", race.path) if meaning else race.path
+    name = (OWN_NAME.sub("", race.path) or ".") if meaning else race.path
     lines = ["RACE  " + name + ("  (%s)" % meaning if meaning else "")]
     rows = [(target(about, race.first), place(about, race.first), verb(about, race.first, race.first_does, race.path)),
             (target(about, race.second), place(about, race.second), verb(about, race.second, race.second_does, race.path) + ", and does not wait for it")]
@@ -72,6 +73,8 @@ def race_text(about: Dict[str, Any], race: Race, fixes: List[str], is_fixed: boo
     own = race.path in (target(about, race.first), target(about, race.second))
     if race.first_does == race.second_does == "writes" and not meaning and not own:
         lines.append("  advice: give each recipe a name of its own for this file, such as %s.$@" % os.path.basename(name))
+    if "first" in (about["labels"].get(race.first, {}).get("kind"), about["labels"].get(race.second, {}).get("kind")):
+        return lines + ["  advice: let one recipe alone write it; make asks whether it is there before that recipe has run"]
     lines.append("  fix: %s: %s%s" % (target(about, race.second), target(about, race.first), "          (checked: with all fixes the build is safe)" if is_fixed else ""))
     return lines
 
@@ -103,7 +106,7 @@ def assumptions_text(record: Dict[str, Any], is_safe: bool) -> List[str]:
     lines = ["safe, if:" if is_safe else "Assumed:"]
     for one in record["assumptions"]:
         example = "" if one["count"] == 1 and not one["example"] else " (%d, such as %s)" % (one["count"], one["example"][:60])
-        lines.append("  - %s%s" % (one["text"], example))
+        lines += textwrap.wrap(one["text"] + example, 78, initial_indent="  - ", subsequent_indent="    ", break_long_words=False, break_on_hyphens=False)
     return lines if len(lines) > 1 else []
 
 

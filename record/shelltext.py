@@ -100,6 +100,11 @@ def is_interpreter(argv: List[str]) -> bool:
     return bool(INTERPRETERS.match(base_name(argv)))
 
 
+def names_here(argv: List[str]) -> bool:
+    """Whether the words name the folder that a process is in; shells look at it anyway."""
+    return bool(re.search(r"\s(\./?|\$PWD)(\s|$)", " ".join(argv)))
+
+
 def compares_ages(argv: List[str], folder: str) -> bool:
     """Whether a process may hang on which of two files is newer."""
     if is_script(argv) and "libtool" not in argv[1]:

@@ -13,8 +13,8 @@ import signal
 import sys
 
 WORDS = ["--debug=v,j,m", "-p"]
-LONG_QUERIES = ("--version", "--help", "--just-print", "--dry-run", "--recon", "--question", "--touch",
-                "--print-data-base", "--debug")
+LONG_QUERIES = {"--version": "v", "--help": "h", "--just-print": "n", "--dry-run": "n", "--recon": "n", "--question": "q",
+                "--touch": "t", "--print-data-base": "p", "--debug": "d"}
 VERSION_LINE = re.compile(rb"# (GNU Make \d|Built for |Copyright \(C\)|License |This is free software|There is NO WARR)")
 QUOTED = rb"'[^\n]*'"
 WORD_LINE = re.compile(
@@ -30,6 +30,10 @@ WORD_LINE = re.compile(
     rb"|Makefile " + QUOTED + rb" might loop; not remaking it\.$|Re-executing\[\d+\]:"
     rb"|Got a SIGCHLD; \d+ unreaped|(Putting|Live|Reaping winning|Reaping losing|Removing) child 0x[0-9a-f]+ "
     rb"|(Released|Obtained) token for child 0x|Need a job token; we |Jobserver (setup|client) \()")
+MUST = re.compile(rb" *Must remake target '(.*)'\.\n")
+STARTED = re.compile(rb"Putting child (0x[0-9a-f]+) \((.*)\) PID ")
+REMADE = re.compile(rb" *(?:Successfully remade|Failed to remake) target file '(.*)'\.\n")
+OF_JOB = re.compile(rb"(Live|Reaping winning|Reaping losing|Removing) child (0x[0-9a-f]+) |Got a SIGCHLD; \d+ unreaped")
 DIRECTORY = re.compile(rb"# ([^\n]*: (Entering|Leaving) (directory|an unknown directory))")
 
 
@@ -39,28 +43,26 @@ def letters(word):
     return match.group(1) if match and not word.startswith("--") else ""
 
 
-def is_query(args, flags):
-    """Whether make would only look, or was asked for words that cannot be kept apart from the recorder's."""
+def asked(args, flags):
+    """Which of -v, -h, -n, -q, -t, -p and -d (and --debug) make was asked for, in words or in MAKEFLAGS; long words may be cut."""
     first = flags.split(" ")[0]
     own = list(args)
     if first and not first.startswith("-") and "=" not in first:
         own.append("-" + first)
-    skip = False
+    own += [word for word in flags.split(" -- ")[0].split(" ") if word.startswith("--")]
+    found, skip = set(), False
     for word in own:
         if skip:
             skip = False
-            continue
-        if word == "--":
+        elif word == "--":
             break
-        if word.startswith("--"):
-            if word.split("=")[0] in LONG_QUERIES:
-                return True
-            continue
-        if word in ("-C", "-f", "-I", "-o", "-W", "-E"):
-            skip = True
-        if set(letters(word)) & set("vhnqtpd"):
-            return True
-    return False
+        elif word.startswith("--"):
+            begun = word.split("=")[0]
+            found.update(letter for name, letter in LONG_QUERIES.items() if len(begun) > 3 and name.startswith(begun))
+        else:
+            skip = word in ("-C", "-f", "-I", "-o", "-W", "-E")
+            found.update(set(letters(word)) & set("vhnqtpd"))
+    return found
 
 
 def without_words(flags):
@@ -81,7 +83,11 @@ def asks_jobs(args, flags):
 
 
 class Splitter:
-    """Takes what make and its recipes write, a packet a write: make's own words go to the log, the rest goes on."""
+    """Takes what make and its recipes write, a packet a write: make's own words go to the log, the rest goes on.
+
+    Make runs one recipe at a time and says nothing but job lines until it has ended: what else is written meanwhile is
+    the recipe's, though it looks like make's words.
+    """
 
     def __init__(self, log, out):
         self.log, self.out = log, out
@@ -89,6 +95,8 @@ class Splitter:
         self.base = False  # inside of the data base
         self.blank = False  # an empty line that may belong to the data base is held back
         self.tail = False  # the empty line behind the data base is due
+        self.next = None  # the target that make is about to remake
+        self.job = b""  # the recipe that runs, by make's number for it
 
     def pass_on(self, data):
         """Writes all of it to standard output."""
@@ -96,8 +104,36 @@ class Splitter:
         while view:
             view = view[os.write(self.out, view):]
 
+    def is_of_recipe(self, packet):
+        """Whether a write comes while a recipe runs, and is not one of make's lines about it."""
+        if not self.job:
+            return self.is_early(packet)
+        about = OF_JOB.match(packet)
+        if about is None or about.group(2) not in (None, self.job):
+            return True
+        if about.group(1) == b"Removing":
+            self.job = b""
+        return False
+
+    def is_early(self, packet):
+        """The same where no recipe runs for all that make has said: its first words may come before make's line about it."""
+        must, begun, remade = MUST.match(packet), STARTED.match(packet), REMADE.match(packet)
+        if self.next is None:
+            self.next = must.group(1) if must else None
+        elif begun and begun.group(2) == self.next:
+            self.job, self.next = begun.group(1), None
+        elif remade and remade.group(1) == self.next:
+            self.next = None
+        else:
+            return bool(WORD_LINE.match(packet))
+        return False
+
     def take(self, packet):
         """One write of make or of a recipe."""
+        if not self.base and self.is_of_recipe(packet):
+            self.release()
+            self.pass_on(packet)
+            return
         if self.blank:
             self.blank = False
             self.base = packet.startswith(b"# Make data base, printed on")
@@ -106,7 +142,7 @@ class Splitter:
         tail, self.tail = self.tail, False
         if self.base:
             self.log.write(packet)
-            self.base = b"# Finished Make data base on" not in packet
+            self.base = not packet.lstrip(b"\n").startswith(b"# Finished Make data base on")
             self.tail = not self.base and not packet.endswith(b"\n\n")
         elif packet == b"\n":
             self.blank = not tail
@@ -119,11 +155,13 @@ class Splitter:
             self.start = False
             self.pass_on(packet[2:] if DIRECTORY.match(packet) else packet)
 
-    def end(self):
-        """What is still held back."""
+    def release(self):
+        """Passes on what is held back."""
         if self.blank:
             self.pass_on(b"\n")
-            self.blank = False
+        self.blank = self.tail = self.start = False
+
+    end = release
 
 
 def open_log(spool, pid):
@@ -134,6 +172,12 @@ def open_log(spool, pid):
             return open("%s/%d.%d.make" % (spool, pid, number), "xb")
         except FileExistsError:
             number += 1
+
+
+def note_past(spool, args):
+    """A make that prints its own words, and yet runs recipes: nobody can say what they do."""
+    with open("%s/%d.past" % (spool, os.getpid()), "a", encoding="utf-8", errors="surrogateescape") as file:
+        file.write("make " + " ".join(args).replace("\n", " ") + "\n")
 
 
 def relay(splitter, reading):
@@ -173,6 +217,14 @@ def serve(splitter, child, reading):
     return os.waitpid(child, 0)[1]
 
 
+def is_one_file(first, second):
+    """Whether two descriptors lead to one file or pipe: what is written to both then stays in its order."""
+    try:
+        return os.path.samestat(os.fstat(first), os.fstat(second))
+    except OSError:
+        return False
+
+
 def run_logged(spool, name, real, args, flags, below):
     """Runs make with the recorder's words and keeps what it says; gives its raw status."""
     extra = WORDS + (["-j1"] if asks_jobs(args, flags) else [])
@@ -182,6 +234,8 @@ def run_logged(spool, name, real, args, flags, below):
     if child == 0:
         signal.signal(signal.SIGPIPE, signal.SIG_DFL)
         signal.signal(signal.SIGINT, signal.SIG_DFL)
+        if is_one_file(1, 2):
+            os.dup2(writing, 2)
         os.dup2(writing, 1)
         os.execv(real, [name] + args[:split] + extra + args[split:])
     os.close(writing)
@@ -214,7 +268,10 @@ def main():
     if os.environ.get("MFLAGS", "").startswith("-"):
         words = without_words(os.environ["MFLAGS"][1:])
         os.environ["MFLAGS"] = "-" + words if words and not words.startswith("-") else words
-    if is_query(args, flags):
+    query = asked(args, flags)
+    if query:
+        if not query & set("vhnqt"):
+            note_past(spool, args)
         signal.signal(signal.SIGPIPE, signal.SIG_DFL)
         signal.signal(signal.SIGINT, signal.SIG_DFL)
         os.execv(real, [name] + args)

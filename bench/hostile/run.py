@@ -172,6 +172,29 @@ def below_one_another(part):
     return footprints([row for _ in range(int(5_000 * part))])
 
 
+def deep_trees(part):
+    """A recipe with 5,000 trees and 5,000 files, all 1,990 folders deep."""
+    folder = "d/" * 1_989
+    count = int(5_000 * part)
+    return footprints([[f"{folder}t{i}/" for i in range(count)] + [f"{folder}u{i}" for i in range(count)]])
+
+
+def deep_looks(part):
+    """12,000 looks of a recipe below 2,000 trees that are 1,990 folders deep."""
+    folder = "d/" * 1_989
+    looks = [{"do": "look", "node": "t0000", "path": f"{folder}t{i % 2_000}/{i}", "bytes": None} for i in range(int(12_000 * part))]
+    log = [{"do": "skip", "node": "s"}, {"do": "start", "node": "t0000"}, *looks, {"do": "finish", "node": "t0000"}]
+    texts = footprints([[f"{folder}t{i}/" for i in range(2_000)]])
+    return {**texts, "log": texts["log"] + "".join(json.dumps(it) + "\n" for it in log)}
+
+
+def trees_beside(part):
+    """5,000 files 1,990 folders deep, and beside each folder a tree that stands right before it in order."""
+    folder = "d/" * 1_989
+    beside = ["d/" * depth + "d$/" for depth in range(1_988)]
+    return footprints([beside + [f"{folder}u{i}" for i in range(int(5_000 * part))]])
+
+
 def in_no_order(part):
     """Nearly 1,000,000 footprint paths of 19,990 recipes, each of four letters and in no order."""
     numbers = random.Random(7)
@@ -268,6 +291,9 @@ INPUTS = {
     "listing of 10^7 lines": long_listing,
     "paths with one prefix": shared_prefix,
     "paths below one another": below_one_another,
+    "trees and files that lie deep": deep_trees,
+    "looks below trees that lie deep": deep_looks,
+    "trees beside each folder of deep files": trees_beside,
     "paths in no order": in_no_order,
     "one line of continued lines": one_line,
     "one long command and further key": one_command,

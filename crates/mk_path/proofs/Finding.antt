@@ -3,7 +3,7 @@ use Rattle.std.proofs.Common.{ℕ, ◌≡◌, ◌<◌, ◌≤◌, ◌+◌, ◌�
 use Rattle.std.specs.List.{filter}
 use Rattle.std.specs.List.Sorted.{IsBinarySearchResult, IsSearchInRange, IsStrictlySortedBy}
 use Rattle.std.proofs.lemmas.Bool.{both_ways, cases_Bool, cases_order, cases_lt, cond-true, cond-false}
-use Rattle.std.proofs.lemmas.List.{get_or-map, length-map, length_push, get_or_push, get_or_append_left}
+use Rattle.std.proofs.lemmas.List.{get_or-map, get_or_default, length-map, length_push, get_or_push, get_or_append_left}
 use Rattle.std.proofs.lemmas.List.Elements.{All-contains, All-contains_itself, All-filter, Contains-get_or}
 use Rattle.std.proofs.lemmas.List.Kept.{IsStrictlySortedBy-filter}
 use Rattle.mk_name.specs.Names.{Name}
@@ -14,6 +14,7 @@ use Rattle.mk_path.specs.Laws.{IsFolderOf}
 use Rattle.mk_path.specs.Nearest.{AreNearest, AreTrees, Finds, IsInner, IsInnermost, IsNext, IsOther, IsOuter, IsOverName, IsOverPath, IsOverText, IsOwn, IsTreeAt, depth_of, is_tree}
 use Rattle.mk_path.specs.Paths.{path_cmp}
 use Rattle.mk_path.proofs.Begin.{own_folder}
+use Rattle.mk_path.proofs.Between.{IsBound, miss_behind, none_longer}
 use Rattle.mk_path.proofs.FolderKinds.{absolute_take, kinds, outer_of_inner, over_folder, over_name_folder, over_name_less, shorter_folder, slash_folder}
 use Rattle.mk_path.proofs.Numbering.{behind, behind_some, equal_path_is, not_missed}
 use Rattle.mk_text.specs.Spelling.{is_absolute, top_of}
@@ -46,18 +47,37 @@ pub tree_found : (paths trees : List (Bor Path)) (place u : ℕ) (tree : Bor Pat
 tree_found paths trees place u tree name below is at equal =
     (omega (arith, below, length-map paths behind), is ∙ ap behind at ∙ equal_path_is (get_or trees place tree).now (tree_at name) equal)
 
+-- a tree among the paths is one of the trees, which rise as the paths do
+tree_kept : (paths trees : List (Bor Path)) (v : ℕ) (y : Name) → AreTrees (map behind paths) (map behind trees) → IsTreeAt (map behind paths) v y
+    → Contains (map behind trees) (tree_at y)
+tree_kept paths trees v y are tree =
+    let nothing : Path = record { name = []; tree = false } in
+    let there : Contains (map behind paths) (tree_at y) = subst (Contains (map behind paths)) tree.1 (Contains-get_or (map behind paths) v nothing tree.0) in
+    subst (λ (ps : List Path). Contains ps (tree_at y)) (sym are.trees_are) (filter_has is_tree (map behind paths) (tree_at y) refl there)
+
+trees_rise : (paths trees : List (Bor Path)) → AreTrees (map behind paths) (map behind trees) → IsStrictlySortedBy path_cmp (map behind trees)
+trees_rise paths trees are =
+    subst (λ (ps : List Path). IsStrictlySortedBy path_cmp ps) (sym are.trees_are) (IsStrictlySortedBy-filter path_cmp is_tree (map behind paths) are.paths_are.rise)
+
+-- a tree whose name is longer than the bound, and begins the text that a search did not find, is none of the paths
+pub longer_missed : (paths trees : List (Bor Path)) (i v most k : ℕ) (text : Name) → AreTrees (map behind paths) (map behind trees) → IsSearchInRange (Err i) (length trees)
+    → IsBinarySearchResult (λ (t : Bor Path). path_cmp t.now (tree_at text)) trees (Err i) → IsBound (map behind trees) text i most → most < k → k ≤ length text
+    → IsTreeAt (map behind paths) v (take k text) → ⊥
+longer_missed paths trees i v most k text are inside found bound longer within tree =
+    let kept = tree_kept paths trees v (take k text) are tree in
+    let b = behind_some trees (tree_at (take k text)) kept in
+    let rise = trees_rise paths trees are in
+    none_longer (map behind trees) rise text i (miss_behind trees b.ref text i rise inside found) most bound k longer within kept.0 kept.1
+    (get_or_default (map behind trees) kept.0 (record { name = []; tree = false }) (tree_at (take k text)) kept.1 ∙ kept.2)
+
 -- a tree that it does not find is none of the paths
 pub tree_missed : (paths trees : List (Bor Path)) (i v : ℕ) (name y : Name) → AreTrees (map behind paths) (map behind trees) → IsSearchInRange (Err i) (length trees)
     → IsBinarySearchResult (λ (t : Bor Path). path_cmp t.now (tree_at name)) trees (Err i) → y ≡ name → IsTreeAt (map behind paths) v y → ⊥
 tree_missed paths trees i v name y are inside found same tree =
-    let nothing : Path = record { name = []; tree = false } in
     let asked = tree_at name in
-    let is : path_at (map behind paths) v ≡ asked = tree.1 ∙ ap tree_at same in
-    let there : Contains (map behind paths) asked = subst (Contains (map behind paths)) is (Contains-get_or (map behind paths) v nothing tree.0) in
-    let kept : Contains (map behind trees) asked = subst (λ (ps : List Path). Contains ps asked) (sym are.trees_are) (filter_has is_tree (map behind paths) asked refl there) in
+    let kept = tree_kept paths trees v name are (tree.0, tree.1 ∙ ap tree_at same) in
     let b = behind_some trees asked kept in
-    let rise : IsStrictlySortedBy path_cmp (map behind trees) =
-    subst (λ (ps : List Path). IsStrictlySortedBy path_cmp ps) (sym are.trees_are) (IsStrictlySortedBy-filter path_cmp is_tree (map behind paths) are.paths_are.rise) in
+    let rise = trees_rise paths trees are in
     not_missed trees b.ref i rise inside (subst (λ (p : Path). IsBinarySearchResult (λ (t : Bor Path). path_cmp t.now p) trees (Err i)) (sym b.is) found)
     (subst (Contains (map behind trees)) (sym b.is) kept)
 

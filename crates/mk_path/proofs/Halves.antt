@@ -26,7 +26,7 @@ module _ {K : Type 0} (cmp : K → K → Ordering) (total : IsTotalOrder cmp) wh
       let later : cmp b x ≡ Greater = total.antisymm b x ∙ ap ordering_reverse (total.trans x a b below less) in
       rw (high, later) (omega arith))
 
-  rises : (xs : List K) (x : K) → IsStrictlySortedBy cmp xs → IsNonDecreasingBy (λ y. ordering_index (cmp y x)) xs
+  pub rises : (xs : List K) (x : K) → IsStrictlySortedBy cmp xs → IsNonDecreasingBy (λ y. ordering_index (cmp y x)) xs
   rises xs x sorted i j d le inside = elim (cases_order i j) [
     | inl same ↦ subst (λ (k : ℕ). ordering_index (cmp (get_or xs i d) x) ≤ ordering_index (cmp (get_or xs k d) x)) same (omega arith)
     | inr (inl less) ↦ rank_up (get_or xs i d) (get_or xs j d) x (Less-from_sorted cmp xs i j d sorted less inside)

@@ -1,5 +1,6 @@
 pub mod Ascents
 pub mod Begin
+pub mod Between
 pub mod Building
 pub mod ByComponents
 pub mod Climbing

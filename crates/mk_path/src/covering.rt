@@ -1,6 +1,6 @@
 //! Whether some paths cover a name. The folders of the name are looked for among the trees, so nothing is spelled anew
 //! and no memory is taken.
-ghost use Rattle.std.specs.Prelude.{◌≡◌, ◌||◌};
+ghost use Rattle.std.specs.Prelude.{ℕ, ◌≡◌, ◌<◌, ◌≤◌, ◌||◌, IfErr, IfOk, false, length, take, true};
 ghost use Rattle.std.specs.List.{list_any};
 ghost use Rattle.std.specs.List.Sorted.{IsStrictlySortedBy};
 ghost use Rattle.mk_name.specs.Names.{has};
@@ -31,14 +31,53 @@ fn has_path(paths: &[Path], name: &[u8], tree: bool) -> bool
         .is_ok()
 }
 
-/// Whether a tree of the paths is a folder that the text spells, other than the text itself.
+/// A bound of the beginnings that two texts have in common: none of these is longer. It is found by halves.
+pub(crate) fn common(first: &[u8], second: &[u8]) -> usize
+    ensures { (k : ℕ) → k ≤ length first.now → k ≤ length second.now → take k first.now ≡ take k second.now → k ≤ result }
+{
+    let mut low = 0;
+    let mut high = first.len().min(second.len());
+    while low < high {
+        let middle = high - (high - low) / 2;
+        if first[low..middle] == second[low..middle] {
+            low = middle;
+        } else {
+            high = middle - 1;
+        }
+    }
+    high
+}
+
+/// Whether the tree of this name is one of the paths, which rise; and where it is not, how long at most a beginning of the name
+/// is whose tree is one of them. The nearest path before the name bounds that: such a beginning is one of that path's name too.
+fn find_tree(paths: &[Path], name: &[u8]) -> Result<(), usize>
+    requires { IsStrictlySortedBy path_cmp paths.now }
+    ensures found { IfOk result (λ _. has_tree paths.now name.now ≡ true) }
+    ensures missed { IfErr result (λ _. has_tree paths.now name.now ≡ false) }
+    ensures bound { IfErr result (λ most. (k : ℕ) → most < k → k ≤ length name.now → has_tree paths.now (take k name.now) ≡ false) }
+{
+    match paths.binary_search_by(|path| order(path, name, true)) {
+        Ok(_) => Ok(()),
+        Err(0) => Err(0),
+        Err(place) => Err(common(paths[place - 1].name.as_bytes(), name)),
+    }
+}
+
+/// Whether a tree of the paths is a folder that the text spells, other than the text itself. The longest folders are looked
+/// for first, and those that a miss rules out are passed over.
 fn has_inner_folder(paths: &[Path], text: &[u8]) -> bool
     requires { IsStrictlySortedBy path_cmp paths.now }
     ensures { result ≡ list_any (has_tree paths.now) (inner_folders text.now) }
 {
-    for i in 1..text.len() {
-        if text[i] == b'/' && has_path(paths, &text[..i], true) {
-            return true;
+    let mut i = text.len();
+    let mut most = i;
+    while i > 1 {
+        i -= 1;
+        if i <= most && text[i] == b'/' {
+            match find_tree(paths, &text[..i]) {
+                Ok(()) => return true,
+                Err(bound) => most = bound,
+            }
         }
     }
     false

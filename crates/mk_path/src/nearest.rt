@@ -1,10 +1,10 @@
 //! The nearest tree over each path.
-ghost use Rattle.std.specs.Prelude.{List, ℕ, ◌≡◌, ◌<◌, IfOk, length, map, true};
+ghost use Rattle.std.specs.Prelude.{List, ℕ, ◌≡◌, ◌<◌, ◌≤◌, IfErr, IfOk, length, map, take, true};
 ghost use Rattle.std.specs.List.{filter};
-ghost use Rattle.mk_path.specs.Nearest.{AreNearest, ArePaths, AreRanks, AreTrees, AreWaysUp, Finds, IsInner, IsNext, IsOther, IsOuter, IsOverName, IsOverPath, IsOverText, IsOwn, is_tree, rank_of};
+ghost use Rattle.mk_path.specs.Nearest.{AreNearest, ArePaths, AreRanks, AreTrees, AreWaysUp, Finds, IsInner, IsInnermost, IsNext, IsOther, IsOuter, IsOverName, IsOverPath, IsOverText, IsOwn, IsTreeAt, is_tree, rank_of};
 ghost use Rattle.mk_text.specs.Spelling.{is_absolute, top_of};
 
-use crate::covering::order;
+use crate::covering::{common, order};
 use crate::path::Path;
 use crate::places::number;
 use crate::ups::Ups;
@@ -77,17 +77,36 @@ fn other_tree(paths: &[&Path], trees: &[&Path], name: &[u8], folder: &[u8]) -> O
     }
 }
 
-/// The innermost tree whose name is what a text begins with before a slash, but for a slash at its begin.
+/// The number of the tree with this name; or where there is none, how long at most a beginning of the name is that has one.
+/// The nearest tree before the name bounds that: such a beginning is one of that tree's name too.
+fn find_tree(paths: &[&Path], trees: &[&Path], name: &[u8]) -> Result<u32, usize>
+    requires { AreTrees (map (λ path. path.now) paths.now) (map (λ tree. tree.now) trees.now) }
+    ensures found { IfOk result (λ u. (root : List ℕ) → IsInnermost root (map (λ path. path.now) paths.now) (λ y. y ≡ name.now) u) }
+    ensures missed { IfErr result (λ _. (v : ℕ) → IsTreeAt (map (λ path. path.now) paths.now) v name.now → ⊥) }
+    ensures bound { IfErr result (λ most. (v k : ℕ) → most < k → k ≤ length name.now
+        → IsTreeAt (map (λ path. path.now) paths.now) v (take k name.now) → ⊥) }
+{
+    match trees.binary_search_by(|&tree| order(tree, name, true)) {
+        Ok(place) => Ok(number(paths, trees[place])),
+        Err(0) => Err(0),
+        Err(place) => Err(common(trees[place - 1].name.as_bytes(), name)),
+    }
+}
+
+/// The innermost tree whose name is what a text begins with before a slash, but for a slash at its begin. The longest names
+/// are looked for first, and those that a miss rules out are passed over.
 fn inner(paths: &[&Path], trees: &[&Path], text: &[u8]) -> Option<u32>
     requires { AreTrees (map (λ path. path.now) paths.now) (map (λ tree. tree.now) trees.now) }
     ensures { (root : List ℕ) → Finds root (map (λ path. path.now) paths.now) (IsInner text.now) result }
 {
     let mut i = text.len();
+    let mut most = i;
     while i > 1 {
         i -= 1;
-        if text[i] == b'/' {
-            if let Some(u) = tree_of(paths, trees, &text[..i]) {
-                return Some(u);
+        if i <= most && text[i] == b'/' {
+            match find_tree(paths, trees, &text[..i]) {
+                Ok(u) => return Some(u),
+                Err(bound) => most = bound,
             }
         }
     }

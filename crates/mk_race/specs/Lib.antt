@@ -1,5 +1,6 @@
 pub mod Judged
 pub mod Laws
+pub mod Listed
 pub mod Parts
 pub mod Played
 pub mod Serialised

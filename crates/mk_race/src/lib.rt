@@ -7,6 +7,7 @@
 //! - [`prepare`] reads footprints too, and gives [`Prepared`]: the root, the listing and the jobs.
 //! - [`judge`] decides those jobs, and gives the [`Answer`](mk_report::answer::Answer) of the build; [`judge_parts`] does it
 //!   for a listing and footprints that were read ahead.
+//! - [`list_races`] lists all races of those jobs ([`RaceList`]).
 //! - [`verify_proof`] reads footprints and a proof, and says whether the jobs accept it.
 //! - [`replay_log`] reads a log too, and says whether its events are a run of the jobs, and what they leave ([`Played`]).
 //! - [`serialise_log`] reads a log too, and puts its events in serial order where they are a complete run of race-free jobs
@@ -16,13 +17,15 @@
 //!
 //! What comes out is defined in `specs/`: `Stages.antt` has the order of the stages and the answers of the first two,
 //! `Settings.antt` what operands say, `Judged.antt` the answer of a build, `Parts.antt` the same of a listing and footprints
-//! that were read ahead, `Verified.antt` the answer to a proof, `Played.antt` that to a log, and `Serialised.antt` what comes
-//! of a log in serial order. The module `laws` says what the jobs of a build have to do with its listing (`Laws.antt`).
+//! that were read ahead, `Listed.antt` all races of a build, `Verified.antt` the answer to a proof, `Played.antt` that to a
+//! log, and `Serialised.antt` what comes of a log in serial order. The module `laws` says what the jobs of a build have to do
+//! with its listing (`Laws.antt`).
 #![tactic(auto)]
 
 pub mod input;
 pub mod judging;
 pub mod laws;
+pub mod listing;
 pub mod parts;
 pub mod planning;
 pub mod preparing;
@@ -33,6 +36,7 @@ pub mod verifying;
 
 pub use crate::input::Input;
 pub use crate::judging::judge;
+pub use crate::listing::{RaceList, list_races};
 pub use crate::parts::judge_parts;
 pub use crate::planning::{Planned, plan_of};
 pub use crate::preparing::{Prepared, prepare};

@@ -27,13 +27,11 @@ pub const MAKEFILE: &str = "The makefile";
 
 pub const LISTING: &str = "The paths that are there before the build, one a line";
 
-pub const ROOT: &str =
-    "The folder that other paths are below, as an absolute path: --root \"$PWD\"";
+pub const ROOT: &str = "The folder of all other paths, absolute, such as --root \"$PWD\"";
 
-pub const BASE: &str = "A makefile with the rules and macros that come before those of MAKEFILE";
+pub const BASE: &str = "A makefile whose rules and macros come before those of MAKEFILE";
 
-pub const POSIX_BASE: &str =
-    "The base is the rules and macros that POSIX.1-2024 lists, in place of --base";
+pub const POSIX_BASE: &str = "The rules and macros that POSIX.1-2024 lists, in place of --base";
 
 pub const INCLUDES: &str = "The paths of the texts that include lines may name, one a line";
 
@@ -149,7 +147,7 @@ Statuses:
 pub const PRINT_PROOF: &str = "Print the certificate or the trace in place of the report";
 
 pub const VERIFY_ABOUT: &str =
-    "Says whether a proof is good: that a build's recipes may run in parallel, or that two race.";
+    "Says whether a proof is good: that recipes may run in parallel, or that two race.";
 
 pub const VERIFY_DETAILS: &str = "\
 MAKEFILE, BASE, FILE, LISTING, DIR and the operands are those of `race order`, and FOOTPRINTS is
@@ -295,7 +293,7 @@ Statuses:
 
 pub const FOOTPRINTS: &str = "What the recipes read and write, one object of JSON a line";
 
-pub const LOG: &str = "The files that are there and what happened, one object of JSON a line";
+pub const LOG: &str = "The files that are there and what happened, a JSON object a line";
 
 pub const LIMIT: &str = "How many recipes may run at once, from 1 to 65535; without it 1";
 

@@ -1,12 +1,32 @@
-use Rattle.std.proofs.Common.{sym, ◌∙◌, arith}
+use Rattle.std.proofs.Common.{sym, ap, ◌≡◌, ◌-◌, ◌∙◌, take, inl, inr, arith}
+use Rattle.std.proofs.lemmas.Bool.{cases_lt}
+use Rattle.std.proofs.lemmas.List.{length-take-le, take-take}
 use Rattle.mk_path.specs.Covering.{has_tree}
 use Rattle.mk_path.proofs.Folders.{any_inner_found, any_inner_none}
 use Rattle.mk_path.proofs.covering.has_inner_folder.Goals as goal
 
-pub returns-then-has_path : goal.returns-then-has_path
-returns-then-has_path c =
-    sym (any_inner_found (has_tree c.args.paths.now) c.args.text.now c.loop-i.i (omega arith) (omega arith) c.if-text-i-eq47.true (sym c.has_path.ensures ∙ c.if-has_path.true))
+pub returns-in-Ok : goal.returns-in-Ok
+returns-in-Ok c =
+    sym (any_inner_found (has_tree c.args.paths.now) c.args.text.now (c.loop-i.i - 1) (omega arith) (omega (arith, c.loop-i.invariant.within)) c.if-text-i-eq47.true c.in-Ok.ensures.found)
+
+pub loop-i-preserved-then-text-i-eq47 : goal.loop-i-preserved-then-text-i-eq47
+loop-i-preserved-then-text-i-eq47 c =
+    let paths = c.args.paths.now in
+    let text = c.args.text.now in
+    let i = c.loop-i.i - 1 in
+    record {
+      within = omega (arith, c.loop-i.invariant.within);
+      none = λ k some most below slash. elim (cases_lt k c.loop-i.i) [
+        | inl before ↦
+            let same : k ≡ i = omega arith in
+            ap (λ n. has_tree paths (take n text)) same ∙ c.in-Err.ensures.missed
+        | inr after ↦ c.loop-i.invariant.none k some after below slash
+      ];
+      long = λ k more less.
+          let long = length-take-le i text (omega (arith, c.loop-i.invariant.within)) in
+          ap (has_tree paths) (sym (take-take k i text (omega (arith, less)))) ∙ c.in-Err.ensures.bound k more (omega (arith, less, long));
+    }
 
 pub returns : goal.returns
 returns c =
-    sym (any_inner_none (has_tree c.args.paths.now) c.args.text.now (λ k some less slash. c.loop-i.invariant k some (omega arith) slash))
+    sym (any_inner_none (has_tree c.args.paths.now) c.args.text.now (λ k some less slash. c.loop-i.invariant.none k some (omega arith) less slash))

@@ -6,6 +6,7 @@ abbrev pub invariant-loop-i : goal.invariant-loop-i
 invariant-loop-i l = record {
   within : l.i ≤ length l.text;
   none : (v k : ℕ) → 0 < k → l.i ≤ k → k < length l.text → get_or l.text k 0 ≡ 47 → IsTreeAt (map (λ path. path.now) l.paths) v (take k l.text) → ⊥;
+  long : (v k : ℕ) → l.most < k → k < l.i → IsTreeAt (map (λ path. path.now) l.paths) v (take k l.text) → ⊥;
 }
 
 abbrev pub decreases-loop-i : goal.decreases-loop-i

@@ -1,0 +1,3 @@
+all: a b
+a: ; echo a > a
+b: ; cat a > b

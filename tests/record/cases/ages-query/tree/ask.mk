@@ -1,0 +1,1 @@
+one: two ; touch one

@@ -1,0 +1,92 @@
+"""What the tests of the recorder share: the tools that they need, a project in a folder of its own, a recorded build."""
+
+import json
+import os
+import shutil
+import subprocess
+import sys
+import tempfile
+from dataclasses import dataclass
+from pathlib import Path
+from typing import Any, Dict, List, Mapping, Optional, Sequence
+
+HERE = Path(__file__).resolve().parent
+TOP = HERE.parent.parent
+RECORDER = TOP / "record" / "race-record"
+STAND_IN = HERE / "race_tasks.py"
+SECONDS = 150
+
+sys.path.insert(0, str(TOP))
+
+
+def race_program() -> str:
+    """What answers over tasks: `$RACE`, or the model that stands in for it."""
+    return os.environ.get("RACE") or str(STAND_IN)
+
+
+@dataclass
+class Told:
+    """What a run of `race-record` left: its status, its streams, and the record."""
+
+    status: int
+    stdout: bytes
+    stderr: bytes
+    record: Optional[Dict[str, Any]]
+    builds: List[Dict[str, Any]]
+
+    def text(self) -> str:
+        """Standard output."""
+        return self.stdout.decode("utf-8", "replace")
+
+
+class Project:
+    """A folder with files, gone again at the end of the `with`."""
+
+    def __init__(self, files: Optional[Mapping[str, str]] = None, below: Optional[str] = None) -> None:
+        self.room = tempfile.TemporaryDirectory(prefix="race-test-", dir=below)
+        self.folder = Path(self.room.name) / "project"
+        self.folder.mkdir()
+        for name, text in (files or {}).items():
+            path = self.folder / name
+            path.parent.mkdir(parents=True, exist_ok=True)
+            path.write_text(text)
+
+    def __enter__(self) -> "Project":
+        return self
+
+    def __exit__(self, *_: object) -> None:
+        self.room.cleanup()
+
+    def copy(self, tree: Path) -> None:
+        """Puts a tree in the place of the folder."""
+        shutil.rmtree(self.folder)
+        shutil.copytree(tree, self.folder, symlinks=True)
+
+    def sh(self, text: str) -> None:
+        """Runs lines of the shell in the folder; the first that fails is an error."""
+        subprocess.run(["sh", "-e", "-c", text], cwd=self.folder, check=True, stdin=subprocess.DEVNULL, timeout=SECONDS)
+
+    def plain(self, words: Sequence[str]) -> "subprocess.CompletedProcess[bytes]":
+        """Runs a command that is not recorded."""
+        return subprocess.run(list(words), cwd=self.folder, capture_output=True, stdin=subprocess.DEVNULL, timeout=SECONDS, check=False)
+
+    def record(self, words: Sequence[str] = ("make",), options: Sequence[str] = (), env: Optional[Dict[str, str]] = None) -> Told:
+        """Runs `race-record` over a command, and reads what it left."""
+        command = [str(RECORDER), "--race", race_program(), *options, "--", *words]
+        ran = subprocess.run(command, cwd=self.folder, capture_output=True, stdin=subprocess.DEVNULL, timeout=SECONDS, check=False, env=env)
+        record, builds = self.left()
+        return Told(ran.returncode, ran.stdout, ran.stderr, record, builds)
+
+    def left(self) -> "tuple[Optional[Dict[str, Any]], List[Dict[str, Any]]]":
+        """The record in the folder, if there is one."""
+        path = self.folder / ".race"
+        if not (path / "record.json").is_file():
+            return None, []
+        record = json.loads((path / "record.json").read_text())
+        return record, [json.loads((path / "builds" / n / "build.json").read_text()) for n in record["builds"]]
+
+
+def tasks_of(folder: Path, number: str = "001") -> Dict[str, Dict[str, Any]]:
+    """The tasks of one build of a record, by label."""
+    lines = (folder / ".race" / "builds" / number / "tasks").read_text().splitlines()
+    return {one["task"]: one for one in map(json.loads, lines)}

@@ -1,0 +1,89 @@
+"""A recorded build writes what a plain one does: standard output and every file, byte for byte."""
+
+import unittest
+from typing import Dict, Tuple
+
+import support
+
+INNER = "all: c d\nc d: ; @echo out; echo error >&2; echo more; echo $@ > $@\n"
+VERDICTS = (b"SAFE", b"RACE", b"NO VERDICT", b"make ")
+
+
+class Output(unittest.TestCase):
+    """Each makefile is run plainly and recorded."""
+
+    def both(self, makefile: str, **files: str) -> int:
+        """Compares the two runs; the recorded status."""
+        names = {"Makefile": makefile, **{n.replace("_", "."): t for n, t in files.items()}}
+        plain, recorded = self.one(names, False), self.one(names, True)
+        self.assertEqual(plain[1], recorded[1][: len(plain[1])])
+        self.assertTrue(recorded[1][len(plain[1]):].startswith(VERDICTS), recorded[1][len(plain[1]):][:300])
+        self.assertEqual(plain[2], recorded[2])
+        return recorded[0]
+
+    @staticmethod
+    def one(files: Dict[str, str], recorded: bool) -> Tuple[int, bytes, Dict[str, bytes]]:
+        """Status, standard output, and the files, with the name of the folder taken out."""
+        with support.Project(files) as project:
+            here = str(project.folder).encode()
+            if recorded:
+                told = project.record()
+                status, out = told.status, told.stdout
+            else:
+                ran = project.plain(["make"])
+                status, out = ran.returncode, ran.stdout
+            kept = [p for p in sorted(project.folder.rglob("*")) if p.is_file() and ".race" not in p.parts]
+            left = {str(p.relative_to(project.folder)): p.read_bytes().replace(here, b".") for p in kept}
+        return status, out.replace(here, b"."), left
+
+    def test_odd_output_of_recipes(self) -> None:
+        self.both("all: a b c\na: ; @echo; echo; printf 'x'\nb: ; @printf '\\n'; printf '\\000\\377\\n\\n'\nc: ; @seq 1 9000; seq 1 3000 | tr '\\n' ' '\n")
+
+    def test_words_of_make_itself(self) -> None:
+        self.both("$(info )\n$(info # GNU Make 9)\n$(info hello)\nall: ; $(info   x)@echo 1\n\t-false\n\techo 2\n$(info )\n")
+
+    def test_recipes_that_print_words_of_make(self) -> None:
+        text = ("all: a b\na: ; @echo; echo '# Make data base, printed on Monday'; echo \"Must remake target 'z'.\"; echo '# x: Entering directory y'\n"
+                "b: ; @echo \"Putting child 0x1 (a) PID 5 on the chain.\"; echo '# Finished Make data base on Monday'\n")
+        self.assertEqual(0, self.both(text))
+
+    def test_race_behind_words_of_make(self) -> None:
+        self.assertEqual(1, self.both("all: a b\na: ; @echo; echo '# Make data base, printed on x'; touch a\nb: ; @echo hello; cp a b\n"))
+
+    def test_data_base_of_an_inner_make_is_not_that_of_the_outer(self) -> None:
+        text = "all: ask a b\nask: ; -@$(MAKE) -pq -f in.mk | grep -v -e '^# ' -e '^[A-Z_]* = ' -e PID -e PATH -e RACE | grep -c NOTPARALLEL; true\na: ; echo a > a\nb: ; cat a > b\n"
+        self.assertEqual(1, self.both(text, in_mk=".NOTPARALLEL:\nx: ; touch x\n"))
+        with support.Project({"Makefile": text.replace("| grep", "# "), "in.mk": ".NOTPARALLEL:\nx: ; touch x\n"}) as project:
+            self.assertEqual(1, project.record().status)
+
+    def test_output_of_inner_makes(self) -> None:
+        self.both("all: ; $(MAKE) -f in.mk\n\t$(MAKE) -w -f in.mk\n\t$(MAKE) -s -f in.mk\n\t$(MAKE) -C .  -f in.mk\n", in_mk=INNER)
+
+    def test_output_that_a_recipe_keeps(self) -> None:
+        self.both("all: ; $(MAKE) -f in.mk > log\n\t$(MAKE) -s -f in.mk >> log\n\t$(MAKE) -Otarget -f in.mk >> log\n", in_mk=INNER)
+
+    def test_both_streams_in_one_file_keep_their_order(self) -> None:
+        self.both("all: ; $(MAKE) -f in.mk > log 2>&1\n", in_mk="all: c d e\nc d e: ; echo out; echo error >&2; echo more; echo end >&2; touch $@\n")
+
+    def test_queries(self) -> None:
+        self.both("all: ; $(MAKE) -n -f in.mk > log; $(MAKE) -s -n -f in.mk >> log; $(MAKE) -q -f in.mk || echo old >> log\n"
+                  "\t@$(MAKE) -v | head -1; $(MAKE) --version | head -1; $(MAKE) --help | head -1\n", in_mk=INNER)
+
+    def test_words_that_inner_makes_get(self) -> None:
+        self.both("all: ; $(MAKE) -f in.mk A=1 B='x y'\n", in_mk="all: ; @echo '$(A)' '$(B)' '$(MAKE)' '$(MAKELEVEL)' $(MAKECMDGOALS) '$(MAKEOVERRIDES)'\n")
+
+    def test_letters_that_makefiles_look_for(self) -> None:
+        self.both("f = $(firstword -$(MAKEFLAGS))\nall: ; @echo $(foreach x,n q k s t i,$(findstring $x,$f))\n")
+
+    def test_own_words_of_a_make_that_was_asked_for_them(self) -> None:
+        status = self.both("all: ; @$(MAKE) --debug=b -f in.mk > log; grep -c . log; rm log\n", in_mk="all: a b\na: ; echo a > a\nb: ; cat a > b\n")
+        self.assertEqual(2, status)
+
+    def test_input_and_standard_error(self) -> None:
+        with support.Project({"Makefile": "all: ; @echo error >&2; echo out\n"}) as project:
+            told = project.record()
+        self.assertEqual(b"error\n", told.stderr)
+
+
+if __name__ == "__main__":
+    unittest.main()

@@ -1,0 +1,106 @@
+"""Trace lines, played in their order: what once gave an empty footprint, and so a wrong yes."""
+
+import unittest
+from typing import List, Set, Tuple
+
+import support  # noqa: F401
+from record.calls import Calls
+from record.lives import Life
+from record.names import Names
+from record.strace import read_trace
+
+TOP = "/no/such/project"
+SPOOL = "/no/such/spool"
+MAKE = "/usr/bin/make"
+
+
+def played(*lines: str) -> Calls:
+    """A replay of some lines in an empty project."""
+    names = Names()
+    folder = names.folder(TOP)
+    folder.walked = True
+    names.tops.append(TOP)
+    replay = Calls(names, SPOOL, MAKE, TOP, [TOP])
+    for event in read_trace(line + "\n" for line in lines):
+        replay.play(event)
+    return replay
+
+
+def lives_of(replay: Calls, pid: int) -> List[Life]:
+    """The lives of a process number, in order."""
+    return [life for life in replay.all if life.pid == pid]
+
+
+def events_of(life: Life) -> Set[Tuple[str, str]]:
+    """Events with paths below the project."""
+    return {(kind, path[len(TOP) + 1:]) for kind, path in life.events if path.startswith(TOP)}
+
+
+class Lives(unittest.TestCase):
+    """Processes: their parents, and their numbers that come again."""
+
+    def test_child_ends_before_its_parents_call_returns(self) -> None:
+        replay = played('1 execve("/bin/sh", ["sh", "-c", "x"], 0x1 /* 1 var */) = 0', "1 vfork( <unfinished ...>",
+                        f'2 openat(AT_FDCWD<{TOP}>, "a", O_WRONLY|O_CREAT|O_TRUNC, 0666) = 3<{TOP}/a>', "2 +++ exited with 0 +++",
+                        "1 <... vfork resumed>) = 2")
+        (child,) = lives_of(replay, 2)
+        self.assertIs(child.parent, lives_of(replay, 1)[0])
+        self.assertIn(("W", "a"), events_of(child))
+
+    def test_folder_of_a_child_that_is_seen_first(self) -> None:
+        replay = played("1 vfork( <unfinished ...>", '2 chdir("sub") = 0', f'2 openat(AT_FDCWD<{TOP}/sub>, "a", O_WRONLY|O_CREAT, 0666) = 3<{TOP}/sub/a>',
+                        "1 <... vfork resumed>) = 2")
+        self.assertIn(("W", "sub/a"), events_of(lives_of(replay, 2)[0]))
+
+    def test_number_that_comes_again_is_another_life(self) -> None:
+        one = ["1 vfork() = 2", f'2 openat(AT_FDCWD<{TOP}>, "a", O_WRONLY|O_CREAT, 0666) = 3<{TOP}/a>', "2 +++ exited with 0 +++"]
+        two = ["1 vfork() = 2", f'2 openat(AT_FDCWD<{TOP}>, "b", O_WRONLY|O_CREAT, 0666) = 3<{TOP}/b>', "2 +++ exited with 0 +++"]
+        first, second = lives_of(played(*one, *two), 2)
+        self.assertIn(("W", "a"), events_of(first))
+        self.assertNotIn(("W", "b"), events_of(first))
+        self.assertIn(("W", "b"), events_of(second))
+
+    def test_birth_and_death_are_in_one_order(self) -> None:
+        replay = played("1 vfork() = 2", "1 vfork() = 3", "2 +++ exited with 0 +++", '3 chdir("x") = 0', "3 +++ exited with 0 +++")
+        two, three = lives_of(replay, 2)[0], lives_of(replay, 3)[0]
+        self.assertTrue(two.born < three.born < two.died < three.died)
+
+    def test_make_that_changes_its_folder(self) -> None:
+        replay = played(f'1 execve("{MAKE}", ["make"], 0x1 /* 1 var */) = 0', '1 chdir("sub") = 0',
+                        f'1 openat(AT_FDCWD<{TOP}/sub>, "x", O_RDONLY) = -1 ENOENT (No such file or directory)')
+        self.assertEqual(TOP + "/sub", lives_of(replay, 1)[0].folder)
+
+    def test_make_without_the_wrapper_is_noted(self) -> None:
+        self.assertEqual(["/usr/bin/make -f x"], played('1 execve("/usr/bin/make", ["/usr/bin/make", "-f", "x"], 0x1 /* 1 var */) = 0').past)
+
+
+class Footprints(unittest.TestCase):
+    """Calls, and what they read and write."""
+
+    def events(self, *lines: str) -> Set[Tuple[str, str]]:
+        return events_of(lives_of(played(*("1 " + line for line in lines)), 1)[0])
+
+    def test_open(self) -> None:
+        self.assertIn(("N", "a"), self.events(f'openat(AT_FDCWD<{TOP}>, "a", O_RDONLY) = -1 ENOENT (No such file or directory)'))
+        self.assertEqual({("C", "a"), ("W", "a")}, self.events(f'openat(AT_FDCWD<{TOP}>, "a", O_WRONLY|O_CREAT|O_TRUNC, 0666) = 3<{TOP}/a>'))
+
+    def test_rename_of_a_folder_moves_all_below(self) -> None:
+        found = self.events('mkdir("d", 0777) = 0', f'openat(AT_FDCWD<{TOP}>, "d/x", O_WRONLY|O_CREAT, 0666) = 3<{TOP}/d/x>', 'rename("d", "e") = 0')
+        self.assertLessEqual({("D", "d"), ("D", "d/x"), ("C", "e/x"), ("W", "e/x")}, found)
+
+    def test_write_through_a_link_is_of_the_name_behind_it(self) -> None:
+        found = self.events('symlink("d", "l") = 0', 'mkdir("d", 0777) = 0', f'openat(AT_FDCWD<{TOP}>, "l/x", O_WRONLY|O_CREAT, 0666) = 3<{TOP}/d/x>', 'unlink("l") = 0')
+        self.assertLessEqual({("C", "l"), ("R", "l"), ("W", "d/x"), ("D", "l")}, found)
+        self.assertNotIn(("W", "l/x"), found)
+
+    def test_write_through_one_name_is_of_all_names(self) -> None:
+        found = self.events(f'openat(AT_FDCWD<{TOP}>, "a", O_WRONLY|O_CREAT, 0666) = 3<{TOP}/a>', 'link("a", "b") = 0',
+                            f'openat(AT_FDCWD<{TOP}>, "b", O_WRONLY|O_APPEND) = 3<{TOP}/b>')
+        self.assertLessEqual({("W", "a"), ("W", "b")}, found)
+
+    def test_line_that_cannot_be_read_is_a_hole(self) -> None:
+        self.assertEqual(1, len(played("1 gibberish").holes))
+
+
+if __name__ == "__main__":
+    unittest.main()

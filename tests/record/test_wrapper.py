@@ -1,0 +1,93 @@
+"""The wrapper in front of make: what is make's own goes to the log, everything else on, byte for byte."""
+
+import io
+import os
+import unittest
+from typing import Tuple
+
+import support  # noqa: F401
+from record import wrapper
+
+MUST = b" Must remake target 'a'.\n"
+BEGIN = b"Putting child 0x5f (a) PID 7 on the chain.\n"
+END = b"Removing child 0x5f PID 7 from chain.\n"
+
+
+def split(*packets: bytes) -> Tuple[bytes, bytes]:
+    """What goes on, and what goes to the log."""
+    log = io.BytesIO()
+    reading, writing = os.pipe()
+    splitter = wrapper.Splitter(log, writing)
+    for packet in packets:
+        splitter.take(packet)
+    splitter.end()
+    os.close(writing)
+    with open(reading, "rb") as file:
+        return file.read(), log.getvalue()
+
+
+class Splits(unittest.TestCase):
+    """Packets, as pipes hand them over."""
+
+    def test_words_of_make_are_kept(self) -> None:
+        words = (b"Reading makefiles...\n", b"Considering target file 'a'.\n", b" File 'a' does not exist.\n")
+        self.assertEqual((b"", b"".join(words)), split(*words))
+
+    def test_output_of_recipes_goes_on(self) -> None:
+        packets = (b"cc -c a.c\n", b"\n", b"\n", b"x\0\xff", b"\n")
+        self.assertEqual((b"".join(packets), b""), split(*packets))
+
+    def test_recipe_that_prints_words_of_make(self) -> None:
+        for text in (b"Must remake target 'z'.\n", b" Considering target file 'b'.\n", b"# Make data base, printed on x\n",
+                     b"# x: Entering directory 'y'\n", b"Putting child 0x1 (b) PID 8 on the chain.\n", b"\n", b"# GNU Make 4.3\n",
+                     b"Removing child 0x60 PID 9 from chain.\n"):
+            self.assertEqual((text, MUST + BEGIN + END), split(MUST, BEGIN, text, END), text)
+
+    def test_recipe_that_speaks_before_the_line_about_it(self) -> None:
+        for text in (b"Must remake target 'z'.\n", b" Considering target file 'b'.\n", b"Putting child 0x1 (b) PID 8 on the chain.\n"):
+            self.assertEqual((text, MUST + BEGIN + END), split(MUST, text, BEGIN, END), text)
+
+    def test_target_without_a_recipe(self) -> None:
+        words = (MUST, b" Successfully remade target file 'a'.\n", b"Must remake target 'b'.\n", b"Failed to remake target file 'b'.\n", MUST)
+        self.assertEqual((b"", b"".join(words)), split(*words))
+
+    def test_second_line_of_a_recipe_is_of_the_same_job(self) -> None:
+        lines = (b"Live child 0x5f (a) PID 7 \n", b"Reaping winning child 0x5f PID 7 \n", b"Live child 0x5f (a) PID 8 \n")
+        out, log = split(MUST, BEGIN, *lines, b"Must remake target 'z'.\n", END, b"Must remake target 'b'.\n")
+        self.assertEqual((b"Must remake target 'z'.\n", MUST + BEGIN + b"".join(lines) + END + b"Must remake target 'b'.\n"), (out, log))
+
+    def test_data_base_with_the_empty_lines_around_it(self) -> None:
+        out, log = split(b"x\n", b"\n", b"# Make data base, printed on Monday\n", b"A = 1\n", b"# Finished Make data base on Monday\n", b"\n")
+        self.assertEqual(b"x\n", out)
+        self.assertIn(b"A = 1\n", log)
+
+    def test_folder_that_make_enters_is_shown_as_without_data_base(self) -> None:
+        self.assertEqual((b"make: Entering directory '/x'\n", b""), split(b"# make: Entering directory '/x'\n"))
+
+
+class Asked(unittest.TestCase):
+    """Which makes only look."""
+
+    def test_letters(self) -> None:
+        for args, wanted in ((["-n"], "n"), (["-kq"], "q"), (["-C", "-n"], ""), (["-fn"], ""), (["--", "-n"], ""), (["-j4"], ""),
+                             (["-Cd"], ""), (["-sd"], "d"), (["-i", "all"], ""), (["-Ot"], "")):
+            self.assertEqual(set(wanted), wrapper.asked(args, ""), args)
+
+    def test_long_words_and_cut_ones(self) -> None:
+        for args, wanted in ((["--dry-run"], "n"), (["--question"], "q"), (["--quest"], "q"), (["--debug=b"], "d"),
+                             (["--no-print-directory"], ""), (["--eval=n"], ""), (["--trace"], "")):
+            self.assertEqual(set(wanted), wrapper.asked(args, ""), args)
+
+    def test_flags_of_the_make_above(self) -> None:
+        for flags, wanted in (("kn", "n"), ("ks", ""), ("", ""), ("w -- A=n", ""), ("-j4 --jobserver-auth=3,4", ""), (" -- N=nq", ""),
+                              ("A=n", ""), ("w --debug=b", "d")):
+            self.assertEqual(set(wanted), wrapper.asked([], flags), flags)
+
+    def test_words_of_a_wrapper_above_are_taken_out(self) -> None:
+        for flags, wanted in (("p --debug=v,j,m", ""), ("kps --debug=v,j,m", "ks"), ("pw --debug=v,j,m -- A=p", "w -- A=p"), ("ks", "ks"), ("", "")):
+            self.assertEqual(wanted, wrapper.without_words(flags), flags)
+
+    def test_number_of_jobs(self) -> None:
+        self.assertTrue(wrapper.asks_jobs(["-kj4"], ""))
+        self.assertTrue(wrapper.asks_jobs([], "k -j4 --jobserver-auth=3,4"))
+        self.assertFalse(wrapper.asks_jobs(["-k", "all"], "k"))
