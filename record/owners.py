@@ -62,6 +62,7 @@ class Owners:
         for (pid, _), found in by_key.items():
             self.holes.append("a make has no process in the trace: %d %s" % (pid, found.args))
         for make in self.makes:
+            self.holes.extend(make.words.holes)
             self.match_jobs(make)
         for make in self.makes:
             self.collect(make)

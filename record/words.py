@@ -62,7 +62,7 @@ class Words:
     rounds: List[Round] = field(default_factory=list)
     jobs: Dict[int, List[Job]] = field(default_factory=dict)  # process number: its jobs, in order
     read: List[List[str]] = field(default_factory=list)  # makefiles of each start
-    unread: List[str] = field(default_factory=list)
+    holes: List[str] = field(default_factory=list)
 
 
 class _Reader:
@@ -152,24 +152,49 @@ class _Reader:
             self.round.must.setdefault(MUST.match(text).group(1), len(self.round.jobs))  # type: ignore[union-attr]
 
 
+def base_hole(lines: List[str]) -> str:
+    """Why lines are not the whole data base of a make; nothing where they are."""
+    if any(text.startswith("# Make data base") for text in lines[1:]):
+        return "begins twice"
+    if not any(text.startswith("# files hash-table stats") for text in lines):
+        return "lists no targets"
+    return "" if is_end(lines) else "has no end"
+
+
+def is_end(base: List[str]) -> bool:
+    """Whether a data base has its last line."""
+    return base[-1].startswith("# Finished Make data base")
+
+
+def take_base(words: Words, lines: List[str]) -> None:
+    """One data base: that of all rounds since the last."""
+    hole = base_hole(lines)
+    if hole:
+        words.holes.append("the data base of a make %s: make %s" % (hole, words.args))
+    found = read_base(lines)
+    for one in words.rounds:
+        one.base = one.base or found
+
+
 def read_words(pid: int, life: int, lines: Iterable[str]) -> Words:
-    """What a make process said, of the lines that the wrapper kept."""
+    """What a make process said, of the lines that the wrapper kept: each of its starts ends in a data base."""
     words = Words(pid, life)
     reader = _Reader(words)
-    base: Optional[List[str]] = None
+    bases: List[List[str]] = []
     for raw in lines:
         text = raw.rstrip("\n")
-        if base is not None:
-            base.append(text)
-            if text.startswith("# Finished Make data base"):
-                found = read_base(base)
-                base = None
-                for one in words.rounds:
-                    one.base = one.base or found
+        if bases and not is_end(bases[-1]):
+            bases[-1].append(text)
+            if is_end(bases[-1]):
+                take_base(words, bases[-1])
         elif text.startswith("# Make data base"):
-            base = []
+            bases.append([text])
         else:
             reader.line(text)
+    if bases and not is_end(bases[-1]):
+        take_base(words, bases[-1])
+    if len(bases) != len(words.read):
+        words.holes.append("a make that began %d times printed %d data bases: make %s" % (len(words.read), len(bases), words.args))
     return words
 
 

@@ -34,6 +34,7 @@ MUST = re.compile(rb" *Must remake target '(.*)'\.\n")
 STARTED = re.compile(rb"Putting child (0x[0-9a-f]+) \((.*)\) PID ")
 REMADE = re.compile(rb" *(?:Successfully remade|Failed to remake) target file '(.*)'\.\n")
 OF_JOB = re.compile(rb"(Live|Reaping winning|Reaping losing|Removing) child (0x[0-9a-f]+) |Got a SIGCHLD; \d+ unreaped")
+BASE = b"# Make data base, printed on"
 DIRECTORY = re.compile(rb"# ([^\n]*: (Entering|Leaving) (directory|an unknown directory))")
 
 
@@ -97,6 +98,7 @@ class Splitter:
         self.tail = False  # the empty line behind the data base is due
         self.next = None  # the target that make is about to remake
         self.job = b""  # the recipe that runs, by make's number for it
+        self.unclear = []  # what looks like the data base, and may be the first words of a recipe
 
     def pass_on(self, data):
         """Writes all of it to standard output."""
@@ -130,13 +132,32 @@ class Splitter:
 
     def take(self, packet):
         """One write of make or of a recipe."""
-        if not self.base and self.is_of_recipe(packet):
+        if self.unclear:
+            self.take_unclear(packet)
+        elif not self.base and self.is_of_recipe(packet):
             self.release()
             self.pass_on(packet)
-            return
+        elif self.next is not None and self.blank and packet.startswith(BASE):
+            self.blank, self.unclear = False, [b"\n", packet]
+        else:
+            self.take_own(packet)
+
+    def take_unclear(self, packet):
+        """The data base is the last that make says: what looked like it was a recipe's where make starts that recipe now."""
+        begun = STARTED.match(packet)
+        if begun and begun.group(2) == self.next:
+            held, self.unclear = self.unclear, []
+            self.pass_on(b"".join(held))
+            self.job, self.next = begun.group(1), None
+            self.log.write(packet)
+        else:
+            self.unclear.append(packet)
+
+    def take_own(self, packet):
+        """One write of make, or of nobody that is known."""
         if self.blank:
             self.blank = False
-            self.base = packet.startswith(b"# Make data base, printed on")
+            self.base = packet.startswith(BASE)
             if not self.base:
                 self.pass_on(b"\n")
         tail, self.tail = self.tail, False
@@ -161,7 +182,12 @@ class Splitter:
             self.pass_on(b"\n")
         self.blank = self.tail = self.start = False
 
-    end = release
+    def end(self):
+        """Nothing more is written: what is still unclear is the data base."""
+        held, self.unclear, self.next = self.unclear, [], None
+        for packet in held:
+            self.take_own(packet)
+        self.release()
 
 
 def open_log(spool, pid):

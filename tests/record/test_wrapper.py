@@ -47,6 +47,17 @@ class Splits(unittest.TestCase):
         for text in (b"Must remake target 'z'.\n", b" Considering target file 'b'.\n", b"Putting child 0x1 (b) PID 8 on the chain.\n"):
             self.assertEqual((text, MUST + BEGIN + END), split(MUST, text, BEGIN, END), text)
 
+    def test_recipe_whose_first_words_look_like_the_data_base(self) -> None:
+        forged = (b"\n", b"# Make data base, printed on x\n", b"# Finished Make data base on x\n", b"hello\n")
+        for count in range(1, len(forged) + 1):
+            early, late = forged[:count], forged[count:]
+            self.assertEqual((b"".join(forged), MUST + BEGIN + END), split(MUST, *early, BEGIN, *late, END), count)
+
+    def test_data_base_of_a_make_that_stops_before_a_recipe(self) -> None:
+        base = (b"# Make data base, printed on Monday\n", b"A = 1\n", b"# Finished Make data base on Monday\n")
+        out, log = split(MUST, b"\n", *base, b"\n", b"# make: Leaving directory '/x'\n")
+        self.assertEqual((b"make: Leaving directory '/x'\n", MUST + b"".join(base)), (out, log))
+
     def test_target_without_a_recipe(self) -> None:
         words = (MUST, b" Successfully remade target file 'a'.\n", b"Must remake target 'b'.\n", b"Failed to remake target file 'b'.\n", MUST)
         self.assertEqual((b"", b"".join(words)), split(*words))

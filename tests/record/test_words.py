@@ -1,0 +1,52 @@
+"""What a make said: the lines that the wrapper kept, and what is wrong with them."""
+
+import unittest
+from typing import List
+
+import support  # noqa: F401
+from record.words import Words, read_words
+
+HEAD = ["ARGS all", "FLAGS ", "BELOW 0", "Reading makefiles...", "Updating goal targets....", "Considering target file 'a'."]
+BASE = ["# Make data base, printed on Monday", "# Files", "a:", "", "# files hash-table stats:", "# Finished Make data base on Monday"]
+
+
+class Holes(unittest.TestCase):
+    """A data base that is not make's own, whole, is a hole."""
+
+    @staticmethod
+    def words(*lines: str) -> Words:
+        return read_words(7, 0, HEAD + list(lines) + ["EXIT 0"])
+
+    def holes(self, lines: List[str]) -> List[str]:
+        return self.words(*lines).holes
+
+    def test_whole_data_base(self) -> None:
+        words = self.words(*BASE)
+        self.assertEqual(([], 0), (words.holes, words.status))
+        self.assertIn("a", words.rounds[0].base.asks)
+
+    def test_no_data_base(self) -> None:
+        self.assertEqual(["a make that began 1 times printed 0 data bases: make all"], self.holes([]))
+
+    def test_make_that_begins_again(self) -> None:
+        self.assertEqual([], self.holes(BASE + HEAD[3:] + BASE))
+
+    def test_data_base_that_a_recipe_prints_whole(self) -> None:
+        self.assertEqual(["a make that began 1 times printed 2 data bases: make all"], self.holes(BASE + BASE))
+
+    def test_data_base_that_begins_in_what_a_recipe_prints(self) -> None:
+        self.assertEqual(["the data base of a make begins twice: make all"], self.holes(BASE[:1] + ["hello"] + BASE))
+
+    def test_data_base_that_a_variable_ends(self) -> None:
+        self.assertEqual("the data base of a make lists no targets: make all", self.holes(BASE[:1] + BASE[-1:] + BASE[1:])[-1])
+
+    def test_data_base_that_is_cut(self) -> None:
+        self.assertEqual(["the data base of a make has no end: make all"], self.holes(BASE[:-1]))
+
+    def test_variable_with_a_line_of_the_log(self) -> None:
+        words = self.words(BASE[0], "EXIT x", *BASE[1:])
+        self.assertEqual(([], 0), (words.holes, words.status))
+
+
+if __name__ == "__main__":
+    unittest.main()
