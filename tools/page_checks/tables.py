@@ -1,4 +1,4 @@
-"""Tables that say in which file a name stands: each name has to stand in the file of its row."""
+"""Tables that say in which file a name is: each name has to be in the file of its row."""
 import re
 from collections.abc import Iterator
 from dataclasses import dataclass
@@ -8,14 +8,16 @@ from .texts import SPAN, Line
 
 NAME = re.compile(r"^[\w:-]*[A-Za-z]\w*$")
 DEFINITION = re.compile(r"`(\w+\.antt)`(?: of `(mk_\w+)`)?")
+CRATE_SECTION = re.compile(r"^## `(\w+)`$")
 
 
 @dataclass(frozen=True)
 class Row:
-    """A row of a table, with the heads of its columns."""
+    """A row of a table, with the heads of its columns and the crate that its section is about, if it is about one."""
 
     line: Line
     cells: dict[str, str]
+    crate: str = ""
 
 
 def cells_of(text: str) -> list[str]:
@@ -25,30 +27,33 @@ def cells_of(text: str) -> list[str]:
 def rows(lines: list[Line]) -> Iterator[Row]:
     """The rows of the tables of a page, without their heads."""
     heads: list[str] = []
+    crate = ""
     for before, line in zip([None, *lines], lines):
+        if line.text.startswith("## "):
+            found = CRATE_SECTION.match(line.text)
+            crate = found[1] if found else ""
         if not line.text.startswith("|") or line.is_block:
             heads = []
         elif not before or not before.text.startswith("|"):
             heads = cells_of(line.text)
         elif not re.fullmatch(r"[|\s:-]+", line.text):
-            yield Row(line, dict(zip(heads, cells_of(line.text))))
+            yield Row(line, dict(zip(heads, cells_of(line.text))), crate)
 
 
 def wrong(at: Repository, lines: list[Line]) -> Iterator[str]:
     """What the tables of a page say of names and files that is not so."""
-    file, crate = "", ""
+    file = ""
     for row in rows(lines):
         if "file" in row.cells and "names" in row.cells:
             found = SPAN.findall(row.cells["file"])
             file = found[0] if found else file
             yield from names_not_in_file(at, row, file)
-        if "crate" in row.cells and "definition" in row.cells:
-            crate = (SPAN.findall(row.cells["crate"]) or [crate])[0]
-            yield from calls_and_definitions(at, row, crate)
+        if row.crate and "definition" in row.cells:
+            yield from calls_and_definitions(at, row, row.crate)
 
 
 def names_not_in_file(at: Repository, row: Row, file: str) -> Iterator[str]:
-    """The names of a row that stand neither in its file nor, as laws do, in the code of its crate."""
+    """The names of a row that are neither in its file nor, as laws are, in the code of its crate."""
     path = f"crates/{file}"
     if path not in at.files:
         yield f"{row.line.place}: no file {path}"
@@ -57,7 +62,7 @@ def names_not_in_file(at: Repository, row: Row, file: str) -> Iterator[str]:
     texts = "\n".join(at.text(it) for it in [path, *at.sources(crate)])
     for name in SPAN.findall(row.cells["names"]):
         if NAME.match(name) and not re.search(rf"(?<![\w-]){re.escape(name)}(?![\w-])", texts):
-            yield f"{row.line.place}: {name} does not stand in {path}"
+            yield f"{row.line.place}: {name} is not in {path}"
 
 
 def calls_and_definitions(at: Repository, row: Row, crate: str) -> Iterator[str]:
