@@ -1,0 +1,30 @@
+"""Which words compare the ages of files: too many make false races, one too few may hide a race."""
+
+import unittest
+
+import support  # noqa: F401
+from record.shelltext import compares_ages
+
+COMPARE = ("test x -nt y", "[ x -ot y ]", "find . -newer y", "find . -mtime 1", "cp -u x y", "cp -a --update x y", "mv -u x y", "rsync -au x y",
+           "tar -uf x.tar y", "tar uf x.tar y", "tar --newer=x -cf y.tar z", "ls -t", "ls -l x", "ls x -lt", "stat -c %y x", "stat --format=%Y x",
+           "ls --sort=time", "date -r x", "find . -printf %T@")
+DO_NOT = ("ar rcu lib.a x.o y.o", "ar cru lib.a x.o", "ar -rcu lib.a x.o", "install -c -m 644 gnu-utils.h d", "cp gnu-utils.h d", "mv x-u y",
+          "ls my-tool", "printf %x 10", "cc -c x.c", "test -f x", "stat -c %s x", "date +%Y")
+
+
+class Ages(unittest.TestCase):
+    """Each text as the words of a process, and as a shell's."""
+
+    def test_words_that_compare(self) -> None:
+        for text in COMPARE:
+            self.assertTrue(compares_ages(text.split(), "/"), text)
+            self.assertTrue(compares_ages(["sh", "-c", text], "/"), text)
+
+    def test_words_that_do_not(self) -> None:
+        for text in DO_NOT:
+            self.assertFalse(compares_ages(text.split(), "/"), text)
+            self.assertFalse(compares_ages(["sh", "-c", text], "/"), text)
+
+
+if __name__ == "__main__":
+    unittest.main()
