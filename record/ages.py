@@ -12,7 +12,7 @@ PAIR_LIMIT = 400
 
 
 def add_ages(builder: "Builder") -> None:
-    """Adds a name of its own for each two ages whose order hangs on the schedule."""
+    """Adds a name of its own for each two ages whose order depends on the schedule."""
     build = builder.build
     for label, at in list(builder.of_node.items()):
         node = builder.graph.nodes[label]

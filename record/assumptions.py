@@ -12,7 +12,7 @@ TEXTS = {
     "ring": "make dropped a prerequisite that closes a ring",
     "search": "the search for implicit rules goes by a listing from before the first recipe (GNU make before 4.4)",
     "outside": "names outside of the project changed; what was there before is taken from the disk after the build",
-    "queries": "makes that only look (-n, -q) are taken to hang on all that they looked at",
+    "queries": "makes that only look (-n, -q) are taken to depend on all that they looked at",
     "flags": "recipes name MAKEFLAGS, which holds the recorder's words",
     "libtool": "globs of libtool are about its own files",
     "progress": "files under CMakeFiles/Progress steer only what is shown",

@@ -51,7 +51,7 @@ class Builder:
         self.first_of: Dict[str, int] = {}
         self.made: Set[str] = set()
         self.began = -1
-        self.timed: Dict[str, Set[int]] = {}  # name: who hangs on its time
+        self.timed: Dict[str, Set[int]] = {}  # name: who depends on its time
         self.timers: Dict[str, Set[int]] = {}  # folder: who changes its time
 
     def path_of(self, name: str) -> str:

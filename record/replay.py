@@ -60,7 +60,7 @@ class Replay:
         child.is_wrapper = parent.is_wrapper if not child.ran else child.is_wrapper
 
     def play(self, event: Event) -> None:
-        """One event of the trace; those of a process wait while it cannot be told who started it."""
+        """One event of the trace; those of a process wait until it is known who started it."""
         self.place += 1
         pid = getattr(event, "pid", -1)
         if pid >= 0 and (pid in self.waiting or self.is_unclear(pid)):

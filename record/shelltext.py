@@ -108,7 +108,7 @@ def names_here(argv: List[str]) -> bool:
 
 
 def compares_ages(argv: List[str], folder: str) -> bool:
-    """Whether a process may hang on which of two files is newer."""
+    """Whether a process may depend on which of two files is newer."""
     if is_script(argv) and "libtool" not in argv[1]:
         try:
             with open(os.path.join(folder, argv[1]), errors="replace") as file:
@@ -120,7 +120,7 @@ def compares_ages(argv: List[str], folder: str) -> bool:
 
 
 def looks_at_links(argv: List[str]) -> bool:
-    """Whether a process may hang on how many names a file or folder has."""
+    """Whether a process may depend on how many names a file or folder has."""
     name, text = base_name(argv), " ".join(argv)
     if name == "stat":
         return "%h" in text or not re.search(r"-c|--format|--printf", text)

@@ -107,7 +107,7 @@ def skipping(trace: Path, tops: List[str]) -> "Optional[re.Pattern[str]]":
 
 
 def read_trace(lines: Iterable[str], skip: "Optional[re.Pattern[str]]" = None) -> Iterator[Event]:
-    """The events of a trace, one at a time, but for lines that `skip` matches."""
+    """The events of a trace, one at a time, except lines that `skip` matches."""
     open_calls: Dict[int, str] = {}
     for line in lines:
         if skip is not None and skip.match(line):

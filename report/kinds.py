@@ -8,7 +8,7 @@ from dataclasses import dataclass
 
 @dataclass(frozen=True)
 class Kind:
-    """A kind of race: its name in reports, what it is as a rule, and the fix."""
+    """A kind of race: its name in reports, what it usually is, and the fix."""
 
     name: str
     title: str
@@ -27,10 +27,10 @@ LOG = Kind("shared-log", "a log to which both append", "give each recipe a log o
 OUTPUT = Kind("second-output", "a second output of a recipe", "let the reader need the target of the writer, such as a stamp file")
 ARCHIVE = Kind("archive", "`ar -r` in two recipes", "one recipe that makes it of all its members")
 FOLDER = Kind(
-    "folder", "a folder that the one makes or fills, and the other makes, fills or goes over",
+    "folder", "a folder that one makes or fills, and the other makes, fills or reads",
     "let the reader need the target of the writer, or give each a folder of its own",
 )
-TIME = Kind("compared-time", "two files whose ages a recipe or `make` compares", "let prerequisites order all who write what is compared")
+TIME = Kind("compared-time", "two files whose ages a recipe or `make` compares", "let prerequisites order all recipes that write what is compared")
 WIDE = Kind("wide-footprint", "a footprint that is too wide: a tree where a few files were meant", "write down the single files")
 
 # WIDE is advice for footprints that are written by hand: nothing in a race shows it, so no race is given this kind.

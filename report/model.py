@@ -162,7 +162,7 @@ class Build:
                 self.users.setdefault(it, []).append(label)
 
     def recipe(self, label: str) -> Recipe:
-        """What a label stands for; its place is told from the project's folder where it lies below it."""
+        """What a label stands for; its place is relative to the project's folder if it is below it."""
         found = self.about["labels"].get(label, {})
         file = found.get("file", "")
         if file:
