@@ -11,8 +11,8 @@ GLOB_WORD = re.compile(r"[^\s;|&<>()'\"`=]*[*?\[][^\s;|&<>()'\"`]*")
 # `ar` with `u` is not among them: it compares a file with the member's date in the archive, and a date that this build put
 # there was read from the file.
 AGES = re.compile(
-    r"(^|\s|\[)--?(nt|ot|[ac]?newer[\w-]*|mtime|mmin|atime|amin|cmin|ctime)[\s=]|\b(cp|mv|rsync|tar)\s+([^;|&\n]*?\s)?(-\w*u|--update)"
-    r"|\btar\s+\w*u|\bls\s+([^;|&\n]*?\s)?-\w*[tlc]|\bstat\b[^;|&\n]*%[WXYZwxyz]|--sort=time|\bdate\s+[^;|&\n]*-r|-printf")
+    r"(^|\s|\[)--?(nt|ot|[ac]?newer[\w-]*|mtime|mmin|atime|amin|cmin|ctime|f?printf)[\s=]|\b(cp|mv|rsync|tar)\s+([^;|&\n]*?\s)?(-\w*u|--update)"
+    r"|\btar\s+\w*u|\bls\s+([^;|&\n]*?\s)?-\w*[tlc]|\bstat\b[^;|&\n]*%[WXYZwxyz]|--sort=time|\bdate\s+[^;|&\n]*-r")
 DIRECTORY = r"(?:\"[^\"]*\"|'[^']*'|[^\s;|&<>()'\"`]+)"
 
 

@@ -9,7 +9,7 @@ COMPARE = ("test x -nt y", "[ x -ot y ]", "find . -newer y", "find . -mtime 1", 
            "tar -uf x.tar y", "tar uf x.tar y", "tar --newer=x -cf y.tar z", "ls -t", "ls -l x", "ls x -lt", "stat -c %y x", "stat --format=%Y x",
            "ls --sort=time", "date -r x", "find . -printf %T@")
 DO_NOT = ("ar rcu lib.a x.o y.o", "ar cru lib.a x.o", "ar -rcu lib.a x.o", "install -c -m 644 gnu-utils.h d", "cp gnu-utils.h d", "mv x-u y",
-          "ls my-tool", "printf %x 10", "cc -c x.c", "test -f x", "stat -c %s x", "date +%Y")
+          "ls my-tool", "printf %x 10", "cc -c x.c", "ar cr lib.a x-printf-frexp.o", "gcc -o x-printf.o -c printf.c", "test -f x", "stat -c %s x", "date +%Y")
 
 
 class Ages(unittest.TestCase):
