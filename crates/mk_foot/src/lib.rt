@@ -22,7 +22,7 @@ pub mod attaching;
 pub mod foot_reader;
 pub mod footprints;
 pub mod json;
-mod line;
+pub mod line;
 mod owned;
 pub mod reading;
 pub mod reading_laws;

@@ -73,8 +73,9 @@ fn paths_in(alloc: Global, values: &[Value], root: &Root) -> Result<Option<Vec<P
     Ok(Some(paths))
 }
 
-/// The paths of the list under a key.
-fn paths_under(
+/// The paths of the list under a key of an object; nothing where there is no such key, no list under it, or an item that is
+/// no text that spells a path. A path whose last byte is `/` is a tree. The only error is want of memory.
+pub fn paths_under(
     alloc: Global,
     object: &Value,
     key: &str,

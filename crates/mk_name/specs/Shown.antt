@@ -57,6 +57,12 @@ number_of kinds.BadProof = 25
 number_of kinds.UnknownInclude = 26
 number_of kinds.IncludeTooDeep = 27
 number_of kinds.TooManyIncludes = 28
+number_of kinds.BadTask = 29
+number_of kinds.TaskTwice = 30
+number_of kinds.UnknownTask = 31
+number_of kinds.TooManyTasks = 32
+number_of kinds.TasksTooLarge = 33
+number_of kinds.UnusedFootprint = 34
 
 -- the word by which reports tell it
 abbrev pub word_of : Kind → List ℕ
@@ -87,6 +93,12 @@ word_of kinds.BadProof = codes "BadProof"
 word_of kinds.UnknownInclude = codes "UnknownInclude"
 word_of kinds.IncludeTooDeep = codes "IncludeTooDeep"
 word_of kinds.TooManyIncludes = codes "TooManyIncludes"
+word_of kinds.BadTask = codes "BadTask"
+word_of kinds.TaskTwice = codes "TaskTwice"
+word_of kinds.UnknownTask = codes "UnknownTask"
+word_of kinds.TooManyTasks = codes "TooManyTasks"
+word_of kinds.TasksTooLarge = codes "TasksTooLarge"
+word_of kinds.UnusedFootprint = codes "UnusedFootprint"
 
 -- how the text of this name is shown, which an include line names
 abbrev pub include_text : List ℕ → List ℕ
@@ -104,6 +116,7 @@ source_text sources.Jobs = codes "jobs"
 source_text sources.Log = codes "log"
 source_text sources.Proof = codes "proof"
 source_text sources.Includes = codes "includes"
+source_text sources.Tasks = codes "tasks"
 source_text (sources.Include name) = include_text name
 
 -- the number and the word of a kind

@@ -22,6 +22,8 @@ pub enum Source {
     Proof,
     /// The list of texts that include lines may name.
     Includes,
+    /// The text of tasks.
+    Tasks,
     /// The text that an include line names.
     Include(Name),
 }
@@ -42,6 +44,7 @@ impl Source {
             Source::Log => Source::Log,
             Source::Proof => Source::Proof,
             Source::Includes => Source::Includes,
+            Source::Tasks => Source::Tasks,
             Source::Include(name) => Source::Include(name.copy(alloc)?),
         })
     }
@@ -77,6 +80,12 @@ pub enum Kind {
     UnknownInclude,
     IncludeTooDeep,
     TooManyIncludes,
+    BadTask,
+    TaskTwice,
+    UnknownTask,
+    TooManyTasks,
+    TasksTooLarge,
+    UnusedFootprint,
 }
 
 impl Kind {
@@ -114,6 +123,12 @@ impl Kind {
             Kind::UnknownInclude => 26,
             Kind::IncludeTooDeep => 27,
             Kind::TooManyIncludes => 28,
+            Kind::BadTask => 29,
+            Kind::TaskTwice => 30,
+            Kind::UnknownTask => 31,
+            Kind::TooManyTasks => 32,
+            Kind::TasksTooLarge => 33,
+            Kind::UnusedFootprint => 34,
         }
     }
 
@@ -149,6 +164,12 @@ impl Kind {
             Kind::UnknownInclude => "UnknownInclude",
             Kind::IncludeTooDeep => "IncludeTooDeep",
             Kind::TooManyIncludes => "TooManyIncludes",
+            Kind::BadTask => "BadTask",
+            Kind::TaskTwice => "TaskTwice",
+            Kind::UnknownTask => "UnknownTask",
+            Kind::TooManyTasks => "TooManyTasks",
+            Kind::TasksTooLarge => "TasksTooLarge",
+            Kind::UnusedFootprint => "UnusedFootprint",
         }
     }
 }

@@ -120,6 +120,7 @@ pub fn push_source(out: &mut Vec<u8>, source: &Source) -> Result<(), AllocError>
         Source::Log => "log",
         Source::Proof => "proof",
         Source::Includes => "includes",
+        Source::Tasks => "tasks",
         Source::Include(name) => return push_include(out, name),
     };
     out.extend_from_slice(word.as_bytes())
