@@ -59,6 +59,7 @@ HasStopped (Read sources.Jobs) failed = ⊥
 HasStopped (Read sources.Log) failed = ⊥
 HasStopped (Read sources.Proof) failed = ⊥
 HasStopped (Read sources.Includes) failed = ⊥
+HasStopped (Read sources.Tasks) failed = ⊥
 HasStopped (Read (sources.Include name)) failed = ⊥
 HasStopped Write failed = failed ≡ record none_failed { out = true }
 HasStopped Memory failed = failed ≡ none_failed
