@@ -7,6 +7,7 @@ from dataclasses import dataclass
 from functools import cached_property
 from pathlib import Path
 
+from .helps import Help
 from .repository import Repository
 from .tables import cells_of
 from .texts import SPAN, Line
@@ -16,13 +17,16 @@ HEADING = "## Words that we do not use"
 # Scripts whose comments and strings people read.
 SCRIPTS = ("record/", "report/", "tools/")
 INTERPOLATED = re.compile(r"\{[^{}]*\}")
+# A line of the glossary that names banned words which the help still has.
+STILL_IN_HELP = re.compile(r"(?m)^The help still says (.*)$")
 
 
 @dataclass(frozen=True)
 class Banned:
-    """The banned words of a glossary, each with what to write instead."""
+    """The banned words of a glossary, each with what to write instead, and those that the help still has."""
 
     instead: dict[str, str]
+    still_in_help: frozenset[str] = frozenset()
 
     @cached_property
     def pattern(self) -> re.Pattern[str]:
@@ -30,28 +34,38 @@ class Banned:
         return re.compile(rf"(?<![\w-])(?:{words})(?![\w-])", re.IGNORECASE)
 
     def wrong(self, place: str, text: str) -> Iterator[str]:
-        """The banned words of a text; what stands between backticks is code."""
-        for found in self.pattern.findall(SPAN.sub("``", text)) if self.instead else ():
-            word = " ".join(found.lower().split())
+        """The banned words of a text; what is between backticks is code."""
+        for word in self.words(text):
             yield f"{place}: banned word '{word}': write {self.instead[word]} (docs/GLOSSARY.md)"
+
+    def words(self, text: str) -> Iterator[str]:
+        for found in self.pattern.findall(SPAN.sub("``", text)) if self.instead else ():
+            yield " ".join(found.lower().split())
+
+    def wrong_in_help(self, told: Help) -> Iterator[str]:
+        """The banned words of a help, except those that it may still have."""
+        for word in self.words(told.text):
+            if word not in self.still_in_help:
+                yield f"race {told.command} --help: banned word '{word}': write {self.instead[word]} (docs/GLOSSARY.md)"
 
     def wrong_in_page(self, lines: list[Line]) -> Iterator[str]:
         """The banned words of a page outside blocks; an expression may go over the end of a line."""
         for line, after in zip(lines, [*lines[1:], None]):
             if line.is_block or line.path == GLOSSARY:
                 continue
-            own = len([*self.wrong(line.place, line.text)])
-            both = f"{line.text} {after.text}" if after and not after.is_block else line.text
-            crossing = len([*self.wrong("", both)]) - own - len([*self.wrong("", after.text if after else "")])
-            yield from [*self.wrong(line.place, both)][: own + max(0, crossing)]
+            next_text = after.text if after and not after.is_block else ""
+            later = [*self.words(next_text)]
+            both = [*self.wrong(line.place, f"{line.text} {next_text}")]
+            yield from both[: len(both) - len(later)]
 
 
 def read(top: Path) -> Banned:
     """The table of banned words in the glossary: each word of the left column, with the right one."""
     path = top / GLOSSARY
-    _, _, table = path.read_text(encoding="utf-8").partition(HEADING) if path.is_file() else ("", "", "")
-    rows = [cells_of(it) for it in table.splitlines() if it.startswith("|")][2:]
-    return Banned({word.strip(): row[1] for row in rows for word in row[0].split(",")})
+    _, _, part = path.read_text(encoding="utf-8").partition(HEADING) if path.is_file() else ("", "", "")
+    rows = [cells_of(it) for it in part.splitlines() if it.startswith("|")][2:]
+    still = {word for line in STILL_IN_HELP.findall(part) for word in SPAN.findall(line)}
+    return Banned({word.strip(): row[1] for row in rows for word in row[0].split(",")}, frozenset(still))
 
 
 def abouts(at: Repository) -> Iterator[tuple[str, str]]:
