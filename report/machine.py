@@ -34,7 +34,7 @@ def as_json(report: Report) -> str:
         "folder": report.folder, "words": report.words,
         "counts": {"builds": report.builds, "recipes": report.recipes, "pairs": report.pairs, "races": len(report.races)},
         "races": [race_object(it, report) for it in report.races],
-        "fixes": {"lines": report.fixes if report.races else [], "checked": bool(report.races) and report.is_fixed},
+        "fixes": {"lines": report.fixes if report.races else [], "checked": report.is_checked},
         "assumptions": [{"text": it.text, "count": it.count, "example": it.example} for it in report.assumptions],
         "holes": report.holes, "gone": report.gone,
     }

@@ -9,32 +9,57 @@ import sys
 from pathlib import Path
 
 from report.asking import judge
+from report.direct import inputs, judge_makefile
 from report.machine import as_json, as_sarif, read_baseline
 from report.model import BadRecord, Report
 from report.page import as_html
 from report.plain import github, text
 
 FORMS = {"text": text, "json": as_json, "sarif": as_sarif, "github": github, "html": as_html}
+USAGE = """race-report [DIR] [options]
+       race-report --makefile FILE --listing FILE --footprints FILE [--root FOLDER] [GOAL or NAME=VALUE ..] [options]"""
+DESCRIPTION = "Shows a record of race-record, or what race says of a makefile, in a form for people or for CI."
 EXAMPLE = """
 example:
   race-record -- make                          record a build into .race
   race-report --format html -o race.html       and show it as a page
   race-report --format json -o baseline.json   keep the races that are known
   race-report --format github --baseline baseline.json
+  race-report --makefile Makefile --listing listing --footprints footprints all
+                                               judge a makefile of POSIX without a record, with its goal all
 
 status: 0 safe, or no race that the baseline has not; 1 races; 2 no verdict; 3 usage, a file or a missing tool
 """
 
 
 def parse(words: list[str] | None) -> argparse.Namespace:
-    parser = argparse.ArgumentParser(prog="race-report", description=__doc__, epilog=EXAMPLE,
+    parser = argparse.ArgumentParser(prog="race-report", usage=USAGE, description=DESCRIPTION, epilog=EXAMPLE,
                                      formatter_class=argparse.RawDescriptionHelpFormatter)
-    parser.add_argument("record", nargs="?", type=Path, default=Path(".race"), metavar="DIR", help="the folder of the record (.race)")
+    parser.add_argument("words", nargs="*", metavar="DIR", help="the folder of the record (.race); "
+                        "with --makefile goals and NAME=VALUE instead")
     parser.add_argument("--format", choices=sorted(FORMS), default="text", help="the form (text)")
     parser.add_argument("-o", "--output", type=Path, metavar="FILE", help="write to FILE instead of standard output")
     parser.add_argument("--baseline", type=Path, metavar="FILE", help="a report in JSON: its races are known, and do not fail")
     parser.add_argument("--race", metavar="PROGRAM", help="the program race (else $RACE, the checkout's, or the one on PATH)")
-    return parser.parse_args(words)
+    direct = parser.add_argument_group("a makefile without a record", "What `race check` takes; docs/FORMATS.md says what the files hold.")
+    direct.add_argument("--makefile", type=Path, metavar="FILE", help="the makefile")
+    direct.add_argument("--listing", type=Path, metavar="FILE", help="the files that are there, one a line (find . > FILE)")
+    direct.add_argument("--footprints", type=Path, metavar="FILE", help="what each recipe reads and writes")
+    direct.add_argument("--root", metavar="FOLDER", help="the folder that paths start from (the working folder)")
+    direct.add_argument("--base", type=Path, metavar="FILE", help="a base makefile")
+    direct.add_argument("--posix-base", action="store_true", help="the base of the standard")
+    direct.add_argument("--includes", type=Path, metavar="FILE", help="the paths of included texts")
+    args = parser.parse_intermixed_args(words)
+    if not args.makefile and len(args.words) > 1:
+        parser.error("more than one DIR")
+    return args
+
+
+def read(args: argparse.Namespace, program: Path) -> Report:
+    """The report that is asked for: of a makefile, or of a record."""
+    if args.makefile:
+        return judge_makefile(inputs(args), program)
+    return judge(Path(*(args.words or [".race"])), program)
 
 
 def find_race(named: str | None) -> Path | None:
@@ -68,7 +93,7 @@ def main(words: list[str] | None = None) -> int:
     if not program:
         return stop("the program race is missing: --race PROGRAM, $RACE, or on PATH")
     try:
-        report = judge(args.record, program)
+        report = read(args, program)
         if args.baseline:
             hold_against(report, args.baseline)
         shown = FORMS[args.format](report).encode("utf-8", "backslashreplace")

@@ -117,6 +117,12 @@ class Report:
     pairs: int = 0
     known: set[str] = field(default_factory=set)
     gone: list[str] = field(default_factory=list)
+    is_direct: bool = False  # of a makefile, without a record
+
+    @property
+    def is_checked(self) -> bool:
+        """Whether the build was found safe with the fixes; never where the record has a hole."""
+        return bool(self.races) and self.is_fixed and self.verdict != "none"
 
     def fresh(self) -> list[Race]:
         """The races that the baseline has not."""

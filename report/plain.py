@@ -25,14 +25,19 @@ def summary(report: Report) -> str:
     return f"{counted(len(report.races), 'race')} on {counted(files, 'file')}. {recipes}."
 
 
-def race_lines(race: Race, report: Report) -> Iterator[str]:
-    """One race: the path, both recipes with their places, and the line that orders them."""
-    known = "" if race.fingerprint not in report.known else "  (known)"
-    yield f"RACE  {race.shown}{f'  ({race.meaning})' if race.meaning else ''}{known}"
+def side_rows(race: Race) -> Iterator[str]:
+    """Both recipes of a race with their places and what they do, in columns."""
     sides = (race.first.recipe, race.second.recipe)
     wide = [max(len(text) for text in column) for column in zip(*((it.target, it.place or "-") for it in sides))]
     for recipe, verb in zip(sides, (race.first.verb, f"{race.second.verb}, and nothing orders the two")):
         yield f"  {recipe.target:{wide[0]}}  {recipe.place or '-':{wide[1]}}  {verb}"
+
+
+def race_lines(race: Race, number: int, report: Report) -> Iterator[str]:
+    """One race: its number, the path, both recipes with their places, and the line that orders them."""
+    known = "" if race.fingerprint not in report.known else "  (known)"
+    yield f"RACE {number}  {race.shown}{f'  ({race.meaning})' if race.meaning else ''}{known}"
+    yield from side_rows(race)
     yield f"  {race.kind.advice}"
     yield f"  fix: {race.fix}"
     yield ""
@@ -41,9 +46,9 @@ def race_lines(race: Race, report: Report) -> Iterator[str]:
 def text(report: Report) -> str:
     """The whole report, the verdict first."""
     lines = [f"{HEADLINES[report.verdict]}  {summary(report)}", ""]
-    lines += [line for race in report.races for line in race_lines(race, report)]
+    lines += [line for at, race in enumerate(report.races, 1) for line in race_lines(race, at, report)]
     if report.races:
-        checked = "with these lines the build is safe (checked)" if report.is_fixed else "not checked"
+        checked = "with these lines the build is safe (checked)" if report.is_checked else "not checked"
         lines += [f"All fixes, {checked}:", *(f"    {it}" for it in report.fixes), ""]
     lines += ["The record has holes:", *(f"  - {it}" for it in report.holes), ""] if report.holes else []
     lines += ["Fixed since the baseline:", *(f"  - {it}" for it in report.gone), ""] if report.gone else []

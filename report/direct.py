@@ -1,0 +1,123 @@
+"""The report of a makefile without a record: `race` reads it, with a listing and footprints, and says which recipes race."""
+
+from __future__ import annotations
+
+import argparse
+import os
+import re
+import subprocess
+from collections.abc import Iterator, Sequence
+from dataclasses import dataclass
+from pathlib import Path
+
+from report.asking import RACE, unshown
+from report.model import Assumption, BadRecord, Build, Report
+
+ORDER = re.compile(r"^\d+ (plain|recipe|inferred) (\S+)(?: :((?: \S+)*))?$")
+# What is taken for granted where footprints are written by hand: README, "Premises".
+PREMISES = (
+    "the makefile, the goals, the macros and the base are those that the build uses",
+    "the listing has just the files that are there when the build begins",
+    "the footprints have all that the recipes read and write",
+    "what a recipe does next depends on the bytes that it saw, and on nothing else",
+    "two names are two files, and a file that is written is newer than all others",
+)
+
+
+@dataclass(frozen=True)
+class Inputs:
+    """The words of `race` for one makefile; `graph` are those that every command takes."""
+
+    makefile: Path
+    root: str
+    graph: tuple[str, ...]
+    footprints: Path
+    operands: tuple[str, ...]
+
+    def words(self, command: str) -> list[str]:
+        of_recipes = [] if command == "order" else ["--footprints", str(self.footprints)]
+        return [command, *self.graph, *of_recipes, *self.operands]
+
+
+def inputs(args: argparse.Namespace) -> Inputs:
+    """The inputs that a command line names; the root is the working folder where none is given."""
+    for name in ("listing", "footprints"):
+        if not getattr(args, name):
+            raise BadRecord(f"--makefile needs --{name} FILE, too")
+    root = os.path.abspath(args.root or ".")
+    graph = ["--makefile", str(args.makefile), "--listing", str(args.listing), "--root", root]
+    graph += ["--base", str(args.base)] if args.base else ["--posix-base"] if args.posix_base else []
+    graph += ["--includes", str(args.includes)] if args.includes else []
+    return Inputs(args.makefile, root, tuple(graph), args.footprints, tuple(args.words))
+
+
+def asked(program: Path, words: Sequence[str]) -> subprocess.CompletedProcess[str]:
+    how = {"capture_output": True, "text": True, "errors": "replace", "stdin": subprocess.DEVNULL}
+    done = subprocess.run([str(program), *words], check=False, **how)
+    if done.returncode not in (0, 1, 2):
+        raise BadRecord(f"race {words[0]}: {done.stderr.strip() or f'status {done.returncode}'}")
+    return done
+
+
+def refusal(done: subprocess.CompletedProcess[str], command: str) -> str:
+    """Why `race` refused its input; nothing where it did not."""
+    said = " ".join((done.stdout + done.stderr).split())
+    return f"race {command}: {said or 'no reason given'}" if done.returncode == 2 else ""
+
+
+def rules(makefile: Path) -> Iterator[tuple[str, int, str]]:
+    """The rules of a makefile whose targets stand there as they are: each target, its line, and the first line of its recipe."""
+    open_at, targets = 0, []
+    for number, line in enumerate(makefile.read_text(encoding="utf-8", errors="surrogateescape").splitlines(), 1):
+        if line.startswith("\t") and open_at:
+            yield from ((it, open_at, line.strip()) for it in targets)
+            open_at = 0
+        elif found := re.match(r"([^\s#:=][^#:=]*):(?![:=])([^;]*);?(.*)", line):
+            targets, open_at = found[1].split(), number
+            yield from ((it, number, found[3].strip()) for it in targets)
+
+
+def graph_of(order: str, given: Inputs) -> Build:
+    """The graph that `race order` prints, with places in the makefile."""
+    labels: dict[str, dict] = {}
+    after: dict[str, list[str]] = {}
+    for found in filter(None, map(ORDER.match, order.splitlines())):
+        name = unshown(found[2])
+        labels[name] = {"target": name, "kind": found[1]}
+        after[name] = [unshown(it) for it in (found[3] or "").split()]
+    for target, line, recipe in rules(given.makefile):
+        about = labels.get(os.path.normpath(target))
+        if about and (recipe or "line" not in about):
+            about.update(file=os.path.abspath(given.makefile), line=line, recipe=recipe)
+    return Build("makefile", given.root, given.root, {"labels": labels, "counts": {}, "meanings": {}}, after)
+
+
+def judge_makefile(given: Inputs, program: Path) -> Report:
+    """The report of a makefile: what `race list` and `race fix` say of it."""
+    report = Report(given.root, ["race", *given.words("list")], "safe", is_fixed=True, builds=1, is_direct=True)
+    order, listed = asked(program, given.words("order")), asked(program, given.words("list"))
+    report.holes = [*filter(None, [refusal(order, "order") or refusal(listed, "list")])]
+    report.assumptions = [Assumption(it, 1, "") for it in PREMISES]
+    build = graph_of(order.stdout, given)
+    for line in listed.stdout.splitlines():
+        word, _, rest = line.partition(" ")
+        if found := RACE.match(line):
+            path, first, does, second, also = map(unshown, found.groups())
+            report.races.append(build.race(path, (first, does), (second, also)))
+        elif word in ("pairs", "recipes"):
+            setattr(report, word, int(rest))
+    if not report.holes and (listed.returncode == 1) != bool(report.races):
+        report.holes = ["race list: its lines and its status differ"]
+    fix(report, given, program)
+    report.verdict = "none" if report.holes else "race" if report.races else "safe"
+    return report
+
+
+def fix(report: Report, given: Inputs, program: Path) -> None:
+    """The lines that fix the makefile, as `race fix` checked them; else the line of each race, unchecked."""
+    if not report.races:
+        return
+    fixed = asked(program, given.words("fix"))
+    report.is_fixed = fixed.returncode == 0
+    lines = [it.partition(" #")[0].rstrip() for it in fixed.stdout.splitlines() if ": " in it and it[:1] != "#"]
+    report.fixes = [*dict.fromkeys(lines if report.is_fixed else (it.fix for it in report.races))]
