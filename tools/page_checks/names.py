@@ -6,7 +6,7 @@ from pathlib import Path
 from .repository import Repository
 from .texts import Line
 
-TOPS = "crates docs cases examples tests tools bench share record report".split()
+TOPS = "crates docs cases examples tests tools bench share record report confirm".split()
 # A path in running text or in a span: one that begins with a folder of the top or with a crate.
 PATH = re.compile(rf"(?<![\w/.$~<>-])((?:{'|'.join(TOPS)}|[a-z_]+_tests|mk_[a-z]+)/[\w.*/-]*[\w*/])")
 PLACEHOLDER = re.compile(r"(?<=/)(?:NAME|CRATE|N)\b")

@@ -15,7 +15,7 @@ from .texts import SPAN, Line
 GLOSSARY = Path("docs/GLOSSARY.md")
 HEADING = "## Words that we do not use"
 # Scripts whose comments and strings people read.
-SCRIPTS = ("record/", "report/", "tools/")
+SCRIPTS = ("record/", "report/", "confirm/", "tools/")
 INTERPOLATED = re.compile(r"\{[^{}]*\}")
 # A line of the glossary that names banned words which the help still has.
 STILL_IN_HELP = re.compile(r"(?m)^The help still says (.*)$")

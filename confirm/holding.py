@@ -1,0 +1,215 @@
+"""Runs a build with one of the two recipes held, and notes where they came."""
+
+from __future__ import annotations
+
+import os
+import selectors
+import signal
+import socket
+import subprocess
+import time
+from collections.abc import Sequence
+from dataclasses import dataclass, field
+from pathlib import Path
+
+from confirm.races import SIDES, Chosen
+from confirm.room import Room
+from confirm.schedules import Points, Schedule
+
+TICK = 0.02
+# A recipe whose next line does not begin for so long has ended, where the number of its lines is not known.
+BETWEEN_LINES = 0.5
+# Nothing else of the build ran in so many looks, one after another: what is held will not be waited for.
+IDLE_LOOKS = 4
+IDLE_TICK = 0.06
+
+
+@dataclass
+class Life:
+    """What is known of one side: how many of its lines run, how many have ended, and when the last did."""
+
+    alive: int = 0
+    done: int = 0
+    since: float = 0.0
+
+    def has_ended(self, lines: int) -> bool:
+        long_ago = time.monotonic() - self.since > BETWEEN_LINES
+        return self.alive == 0 and self.done > 0 and (long_ago or 0 < lines <= self.done)
+
+
+@dataclass
+class Built:
+    """How a build went: its status, None where it did not end in time; where the recipes came, and whether the schedule
+    came about."""
+
+    status: int | None
+    points: Points
+    lines: dict[str, int]
+    seconds: float
+    is_reached: bool
+    output: str = ""
+
+    @property
+    def is_complete(self) -> bool:
+        return self.status is not None
+
+
+@dataclass
+class Holding:
+    """A build that runs; it answers the processes of the two recipes."""
+
+    race: Chosen | None
+    schedule: Schedule | None
+    lines: dict[str, int]
+    points: Points = field(default_factory=Points)
+    lives: dict[str, Life] = field(default_factory=lambda: {it: Life() for it in SIDES})
+    held: list[tuple[socket.socket, str]] = field(default_factory=list)
+    has_come: bool = False
+    is_reached: bool = False
+    is_open: bool = False
+
+    def take(self, channel: socket.socket, choose: selectors.BaseSelector) -> None:
+        """One connection: the beginning of a line of a recipe, or a point."""
+        words = channel.recv(256).decode("utf-8", "replace").split()
+        if len(words) < 6 or words[1] not in SIDES:
+            channel.close()
+        elif words[0] == "life":
+            self.lives[words[1]].alive += 1
+            choose.register(channel, selectors.EVENT_READ, words[1])
+        else:
+            self.hold(channel, words[1], words[3], words[4], words[5])
+
+    def hold(self, channel: socket.socket, side: str, when: str, does: str, program: str) -> None:
+        """A process at a point: it goes on, or waits."""
+        is_first = not self.points.of(side)
+        point = self.points.add(side, when, does, program)
+        is_here = bool(self.schedule and point == self.schedule.at) and not self.has_come
+        self.has_come |= is_here
+        waits = self.schedule and not self.is_open and (is_here or is_first and not self.schedule.is_start and side != self.schedule.held)
+        self.held.append((channel, side))
+        if not waits:
+            self.let_go(len(self.held) - 1)
+
+    def let_go(self, at: int) -> None:
+        channel, _ = self.held.pop(at)
+        try:
+            channel.sendall(b"g")
+        except OSError:
+            pass
+        channel.close()
+
+    def has_ended(self, side: str) -> bool:
+        return self.lives[side].has_ended(self.lines.get(side, 0))
+
+    def release(self) -> None:
+        """Lets go whatever has waited for long enough."""
+        for at in reversed(range(len(self.held))):
+            side = self.held[at][1]
+            other = SIDES[1 - SIDES.index(side)]
+            is_held = bool(self.schedule and side == self.schedule.held)
+            if self.has_ended(other) or not is_held and self.has_come:
+                self.is_reached |= is_held
+                self.let_go(at)
+
+    def give_up(self) -> None:
+        """Nothing else of the build runs: what is held goes on, and nothing is held any more. That is what was meant where the
+        other side is no recipe."""
+        assert self.race and self.schedule
+        self.is_reached |= self.has_come and not self.race.other(self.schedule.held).is_recipe
+        self.is_open = True
+        for at in reversed(range(len(self.held))):
+            self.let_go(at)
+
+    def end_of_line(self, side: str) -> None:
+        life = self.lives[side]
+        life.alive, life.done, life.since = life.alive - 1, life.done + 1, time.monotonic()
+
+
+def processes(session: int) -> dict[int, tuple[int, str]]:
+    """The processes of a session: of each its parent and its state."""
+    found = {}
+    for name in filter(str.isdigit, os.listdir("/proc")):
+        try:
+            words = Path("/proc", name, "stat").read_text(errors="replace").rpartition(")")[2].split()
+        except OSError:
+            continue
+        if int(words[3]) == session and words[0] not in "ZX":
+            found[int(name)] = (int(words[1]), words[0])
+    return found
+
+
+def is_idle(session: int, held: int) -> bool:
+    """Whether all of a build waits: its processes sleep, and no more of them have no child than are held."""
+    found = processes(session)
+    parents = {parent for parent, _ in found.values()}
+    return all(state in "SD" for _, state in found.values()) and len(found.keys() - parents) <= held
+
+
+def listen(room: Room) -> socket.socket:
+    room.socket.unlink(missing_ok=True)
+    listener = socket.socket(socket.AF_UNIX)
+    listener.bind(str(room.socket))
+    listener.listen(128)
+    return listener
+
+
+def serve(holding: Holding, process: subprocess.Popen[bytes], listener: socket.socket, limit: float) -> bool:
+    """Answers until the build has ended; false where it did not in time."""
+    began, looks, look_at = time.monotonic(), 0, 0.0
+    with selectors.DefaultSelector() as choose:
+        choose.register(listener, selectors.EVENT_READ)
+        while process.poll() is None:
+            for key, _ in choose.select(TICK):
+                looks = 0
+                answer(holding, key, choose, listener)
+            holding.release()
+            now = time.monotonic()
+            if now - began > limit:
+                return False
+            if holding.held and now > look_at:
+                looks, look_at = looks + 1 if is_idle(process.pid, len(holding.held)) else 0, now + IDLE_TICK
+                if looks >= IDLE_LOOKS:
+                    holding.give_up()
+    return True
+
+
+def answer(holding: Holding, key: selectors.SelectorKey, choose: selectors.BaseSelector, listener: socket.socket) -> None:
+    """One thing that was said: a new connection, or the end of one."""
+    if key.fileobj is listener:
+        channel, _ = listener.accept()
+        channel.settimeout(2)
+        try:
+            holding.take(channel, choose)
+        except OSError:
+            channel.close()
+    elif isinstance(key.fileobj, socket.socket):
+        choose.unregister(key.fileobj)
+        key.fileobj.close()
+        holding.end_of_line(key.data)
+
+
+def end(process: subprocess.Popen[bytes]) -> None:
+    """Ends what is left of a build: the processes of its own session."""
+    for pid in [*processes(process.pid), process.pid]:
+        try:
+            os.kill(pid, signal.SIGKILL)
+        except OSError:
+            pass
+    process.wait()
+
+
+def build(room: Room, words: Sequence[str], jobs: int, limit: float, race: Chosen | None = None,
+          schedule: Schedule | None = None, lines: dict[str, int] | None = None) -> Built:
+    """One build of a fresh copy; with a race its recipes say where they are, and with a schedule one is held."""
+    room.renew()
+    holding, log, began = Holding(race, schedule, lines or {}), room.top / "output", time.monotonic()
+    with listen(room) as listener, open(log, "wb") as output:
+        process = subprocess.Popen(words, env=room.environment(jobs, race), stdin=subprocess.DEVNULL, stdout=output, stderr=output,
+                                   preexec_fn=room.enter(), start_new_session=True)
+        try:
+            is_complete = serve(holding, process, listener, limit)
+        finally:
+            end(process)
+    done = {side: it.done + it.alive for side, it in holding.lives.items()}
+    status = process.returncode if is_complete else None
+    return Built(status, holding.points, done, time.monotonic() - began, holding.is_reached, log.read_text(errors="replace"))

@@ -1,0 +1,182 @@
+"""The command race-confirm."""
+
+from __future__ import annotations
+
+import argparse
+import contextlib
+import os
+import subprocess
+import sys
+from collections.abc import Iterator, Sequence
+from pathlib import Path
+
+from confirm.races import CannotConfirm, Chosen, chosen, written_outside
+from confirm.room import Room, furnish, new_room, settle, tools
+from confirm.text import body, heading, summary
+from confirm.tree import copy, remove, take_back
+from confirm.trial import Finding, Trial
+from record.main import Missing
+from report.main import find_race, judge
+from report.model import BadRecord, Report, read_json
+from report.plain import counted
+
+DESCRIPTION = """Makes a race of a record happen: builds copies of the project with its two recipes held so that they meet, and compares
+what they leave with what a serial build leaves. It writes nothing to the project."""
+EXAMPLE = """
+example:
+  race-record -- make          record a build into .race
+  race-confirm                 try each race of the record
+  race-confirm .race 3         the third race, as race-report lists them
+  race-confirm .race lex.o     the races in which lex.o is a file or a target
+
+status: 0 not confirmed: no difference was seen, which is no yes; 1 confirmed: a difference was seen; 2 cannot be confirmed;
+        3 usage, a file or a missing tool. Over several races: 1 where one is confirmed, else 2 where one cannot be
+"""
+
+
+def parse(words: Sequence[str] | None) -> argparse.Namespace:
+    """The command line; a first word that is no record is the name of a race."""
+    parser = argparse.ArgumentParser(prog="race-confirm", usage="race-confirm [DIR] [RACE ..] [options]", description=DESCRIPTION,
+                                     epilog=EXAMPLE, formatter_class=argparse.RawDescriptionHelpFormatter)
+    parser.add_argument("words", nargs="*", metavar="DIR, RACE", help="the folder of the record (.race); a race by its number "
+                        "in race-report, or by its file and targets (all races)")
+    parser.add_argument("--runs", type=positive, default=12, metavar="N", help="try at most N schedules of a race (12)")
+    parser.add_argument("--schedule", type=positive, default=0, metavar="N", help="try the schedule N alone")
+    parser.add_argument("--prepare", metavar="COMMAND", help="make the copy ready by this, such as 'make clean'; else what the record says "
+                        "that the build wrote is taken away in it")
+    parser.add_argument("--keep", type=Path, metavar="FOLDER", help="keep what the serial and the last parallel build left")
+    parser.add_argument("--race", metavar="PROGRAM", help="the program race (else $RACE, the checkout's, or the one on PATH)")
+    args = parser.parse_intermixed_args(words)
+    is_folder = bool(args.words) and (Path(args.words[0]) / "record.json").is_file()
+    args.record, args.names = (Path(args.words[0]), args.words[1:]) if is_folder else (Path(".race"), args.words)
+    return args
+
+
+def positive(text: str) -> int:
+    """A number from 1 on."""
+    if not text.isascii() or not text.isdigit() or int(text) < 1:
+        raise argparse.ArgumentTypeError(f"{text} is no number from 1 on")
+    return int(text)
+
+
+def say(text: str) -> None:
+    """Where it is, on a terminal alone."""
+    if sys.stderr.isatty():
+        print(f"\r\x1b[K{text[:100]}", end="\n" if not text else "", file=sys.stderr, flush=True)
+
+
+@contextlib.contextmanager
+def prepared(args: argparse.Namespace, folder: str) -> Iterator[Room]:
+    """A room with a copy of the project as it was before the build; it is gone at the end."""
+    room = Room(new_room(folder), folder)
+    try:
+        furnish(room.top)
+        copy(Path(folder), room.fresh)
+        inner = os.path.relpath(os.path.realpath(args.record), folder)
+        if inner != "." and not inner.startswith(".."):
+            remove(room.fresh / inner)
+        settle(room)
+        if args.prepare:
+            prepare(room, args.prepare)
+        else:
+            take_back(room.fresh, folder, args.record)
+        yield room
+    finally:
+        remove(room.top)
+
+
+def prepare(room: Room, command: str) -> None:
+    """Runs the user's command in the copy."""
+    room.renew()
+    done = subprocess.run(["sh", "-c", command], env=room.environment(1), preexec_fn=room.enter(), stdin=subprocess.DEVNULL,
+                          capture_output=True, text=True, errors="replace", check=False)
+    if done.returncode:
+        raise CannotConfirm(f"`{command}` ended with {done.returncode} in the copy: {' '.join(done.stderr.split())[:200]}")
+    remove(room.fresh)
+    room.tree.rename(room.fresh)
+
+
+def keep(room: Room, to: Path) -> None:
+    """Leaves what the serial and the last parallel build left."""
+    to.mkdir(parents=True, exist_ok=True)
+    for name, tree in (("serial", room.top / "serial"), ("parallel", room.tree)):
+        if (to / name).exists():
+            raise BadRecord(f"{to / name} is there already")
+        if tree.exists():
+            copy(tree, to / name)
+
+
+def show(lines: Iterator[str]) -> None:
+    text = "\n".join(lines)
+    sys.stdout.buffer.write(text.encode("utf-8", "backslashreplace") + b"\n")
+    sys.stdout.buffer.flush()
+
+
+def try_all(args: argparse.Namespace, report: Report, races: Sequence[Chosen], room: Room) -> list[Finding]:
+    """Tries each race, and shows what is found of it."""
+    trial, findings = Trial(room, report.words, say), []
+    trial.begin()
+    for race in races:
+        trial.unstable.clear()
+        findings.append(trial.confirm(race, args.runs, args.schedule))
+        say("")
+        show(heading(findings[-1], len(report.races)))
+        show(body(findings[-1], args.record, trial.unstable))
+        show(iter([""]))
+    if args.keep:
+        keep(room, args.keep)
+        show(iter([f"Kept: diff -r {args.keep}/serial {args.keep}/parallel"]))
+    return findings
+
+
+def status_of(findings: Sequence[Finding]) -> int:
+    if any(it.is_confirmed for it in findings):
+        return 1
+    return 2 if any(it.why for it in findings) else 0
+
+
+def run(args: argparse.Namespace) -> int:
+    tools()
+    program = find_race(args.race)
+    if not program:
+        raise Missing("the program race is missing: --race PROGRAM, $RACE, or on PATH")
+    report = judge(args.record, program)
+    if not report.races:
+        if report.holes:
+            raise CannotConfirm(f"there is no verdict on this record: {report.holes[0]}")
+        show(iter(["The record has no race: there is nothing to confirm."]))
+        return 0
+    races = [*chosen(report, args.record, args.names)]
+    if not races:
+        called = " ".join(args.names)
+        raise BadRecord(f"{args.record} has no race that is called {called}; it has {counted(len(report.races), 'race')}")
+    folder = read_json(args.record / "record.json")["folder"]
+    if not os.path.isdir(folder):
+        raise CannotConfirm(f"the project's folder {folder} is not there")
+    if outside := next(written_outside(args.record, folder), None):
+        raise CannotConfirm(f"the build writes {outside}, which is not below the project's folder {folder}, so a build of a copy "
+                            "would write it, too")
+    with prepared(args, folder) as room:
+        findings = try_all(args, report, races, room)
+    if len(findings) > 1:
+        show(iter([summary(findings)]))
+    return status_of(findings)
+
+
+def main(words: Sequence[str] | None = None) -> int:
+    """Reads, builds, compares; the status."""
+    try:
+        args = parse(words)
+    except SystemExit as end:
+        return 3 if end.code else 0
+    try:
+        return run(args)
+    except CannotConfirm as error:
+        show(iter([f"CANNOT BE CONFIRMED  {error}"]))
+        return 2
+    except KeyboardInterrupt:
+        print("race-confirm: stopped; the temporary folder is gone", file=sys.stderr)
+        return 3
+    except (Missing, BadRecord, OSError) as error:
+        print(f"race-confirm: {error}", file=sys.stderr)
+        return 3

@@ -1,0 +1,93 @@
+"""Which races of a record are to be confirmed, and what has to be held for each."""
+
+from __future__ import annotations
+
+import json
+import os
+from collections.abc import Iterator, Sequence
+from dataclasses import dataclass
+from pathlib import Path
+
+from report.model import OWN_NAME, Race, Report, read_json
+
+SIDES = ("first", "second")
+# Signs that a target's name may have, and that a makefile takes with a backslash before them.
+ESCAPED = " \t:#%*?[]~\\"
+
+
+class CannotConfirm(Exception):
+    """No build can show the race; why."""
+
+
+@dataclass(frozen=True)
+class Held:
+    """One side of a race: whose recipe it is, the target, and the folder in which its make works."""
+
+    side: str
+    target: str
+    folder: str
+    is_recipe: bool
+
+    def in_makefile(self) -> str:
+        """The target as a line of a makefile names it."""
+        if any(sign in "=;|&\n" for sign in self.target):
+            raise CannotConfirm(f"no line of a makefile can name the target {self.target}")
+        return "".join("\\" + it if it in ESCAPED else "$$" if it == "$" else it for it in self.target)
+
+
+@dataclass(frozen=True)
+class Chosen:
+    """A race, its number in the report, the file on which the two meet, and what is to be held."""
+
+    number: int
+    race: Race
+    path: str
+    sides: tuple[Held, Held]
+
+    def other(self, side: str) -> Held:
+        return self.sides[1 - SIDES.index(side)]
+
+    def of(self, side: str) -> Held:
+        return self.sides[SIDES.index(side)]
+
+
+def names(race: Race) -> set[str]:
+    """What a race is called by: its file, its two targets, its fingerprint."""
+    return {race.shown, race.path, race.first.recipe.target, race.second.recipe.target, race.fingerprint}
+
+
+def chosen(report: Report, record: Path, words: Sequence[str]) -> Iterator[Chosen]:
+    """The races that the words mean: one by its number, or all that have each of the names; all without words."""
+    for number, race in enumerate(report.races, 1):
+        if list(words) == [str(number)] or set(words) <= names(race):
+            yield choice(number, race, record)
+
+
+def written(record: Path) -> Iterator[tuple[str, str]]:
+    """What the recorded build wrote, as far as tasks have it: the folder of each make, and the path from there."""
+    for number in read_json(record / "record.json").get("builds", []):
+        folder = read_json(record / "builds" / number / "build.json")["folder"]
+        with open(record / "builds" / number / "tasks", encoding="utf-8", errors="surrogateescape") as lines:
+            for task in map(json.loads, filter(str.strip, lines)):
+                yield from ((folder, OWN_NAME.sub("", it)) for it in task["writes"])
+
+
+def written_outside(record: Path, folder: str) -> Iterator[str]:
+    """What the recorded build wrote outside of the project's folder."""
+    for inner, path in written(record):
+        whole = os.path.normpath(os.path.join(inner, path))
+        if whole != folder and not whole.startswith(folder.rstrip("/") + "/"):
+            yield whole
+
+
+def choice(number: int, race: Race, record: Path) -> Chosen:
+    """A race with what its build says of it."""
+    about = read_json(record / "builds" / race.build / "build.json")
+    folder = about["folder"]
+    sides = []
+    for side, recipe in zip(SIDES, (race.first.recipe, race.second.recipe)):
+        kind = about["labels"].get(recipe.label, {}).get("kind", "")
+        sides.append(Held(side, recipe.target, folder, kind == "recipe"))
+    path = OWN_NAME.sub("", race.path) or "."
+    whole = os.path.normpath(os.path.join(folder, path))
+    return Chosen(number, race, whole + "/" * path.endswith("/"), (sides[0], sides[1]))

@@ -1,0 +1,177 @@
+"""The room of a confirmation: a temporary folder with the copy, and the way in which a build runs in it.
+
+Where the system lets a process have mounts of its own, the copy lies for the build in the place of the project: it sees
+the same paths as ever, and the project itself is out of its reach. Elsewhere it runs in the temporary folder.
+"""
+
+from __future__ import annotations
+
+import ctypes
+import os
+import shutil
+import subprocess
+import tempfile
+from collections.abc import Callable, Sequence
+from dataclasses import dataclass
+from pathlib import Path
+
+from confirm.races import CannotConfirm, Chosen
+from confirm.tree import copy, names_its_folder, remove
+from record.main import Missing, version_of
+
+HOLD = Path(__file__).resolve().parent / "hold.c"
+NEW_MOUNTS, NEW_USER = 0x20000, 0x10000000
+BIND, ALL_BELOW, PRIVATE = 0x1000, 0x4000, 0x40000
+# What a make above hands down: it is none of this build's.
+OF_MAKE = ("MAKELEVEL", "MAKEFLAGS", "MFLAGS", "MAKE_TERMOUT", "MAKE_TERMERR", "MAKEFILES", "OLDPWD")
+SHIM = """#!/bin/sh
+# The make that the build calls: the real one, with as many jobs as are asked for.
+if [ "${MAKELEVEL:-0}" != 0 ]; then exec REAL "$@"; fi
+for word; do
+  if [ "$word" = -- ]; then exec REAL "-j$RACE_JOBS" "$@"; fi
+done
+exec REAL "$@" "-j$RACE_JOBS"
+"""
+
+
+def must(answer: int, what: str) -> None:
+    if answer != 0:
+        raise OSError(ctypes.get_errno(), what)
+
+
+def enter(tree: Path, folder: str) -> None:
+    """Lays a tree over a folder, for this process and those that it starts."""
+    system = ctypes.CDLL(None, use_errno=True)
+    user, group = os.getuid(), os.getgid()
+    if system.unshare(NEW_MOUNTS) != 0:
+        must(system.unshare(NEW_USER | NEW_MOUNTS), "unshare")
+        for name, text in (("setgroups", "deny"), ("uid_map", f"{user} {user} 1"), ("gid_map", f"{group} {group} 1")):
+            Path("/proc/self", name).write_text(text)
+    must(system.mount(None, b"/", None, ALL_BELOW | PRIVATE, None), "mount")
+    must(system.mount(os.fsencode(tree), os.fsencode(folder), None, BIND | ALL_BELOW, None), "mount")
+    os.chdir(folder)
+
+
+def can_enter(tree: Path, folder: str) -> bool:
+    """Whether the system lets a process have mounts of its own."""
+    try:
+        subprocess.run(["true"], check=True, preexec_fn=lambda: enter(tree, folder))
+    except (OSError, subprocess.SubprocessError):
+        return False
+    return True
+
+
+@dataclass
+class Room:
+    """The temporary folder, the project's folder, and whether builds see the copy in its place."""
+
+    top: Path
+    folder: str
+    is_in_place: bool = False
+
+    @property
+    def tree(self) -> Path:
+        """The copy in which the next build runs."""
+        return self.top / "tree"
+
+    @property
+    def fresh(self) -> Path:
+        """The project as it was before the build."""
+        return self.top / "fresh"
+
+    @property
+    def socket(self) -> Path:
+        return self.top / "socket"
+
+    def place(self, path: str) -> str:
+        """A path of the project as a build sees it."""
+        if self.is_in_place:
+            return path
+        return str(self.tree) + path[len(self.folder):] if (path + "/").startswith(self.folder + "/") else path
+
+    def renew(self) -> None:
+        """A fresh copy for the next build."""
+        remove(self.tree)
+        copy(self.fresh, self.tree)
+
+    def enter(self) -> Callable[[], None]:
+        """What a process does before it begins to build."""
+        return lambda: enter(self.tree, self.folder) if self.is_in_place else os.chdir(self.tree)
+
+    def environment(self, jobs: int, race: Chosen | None = None) -> dict[str, str]:
+        """The environment of a build; with a race, make marks the two recipes."""
+        env = {name: it for name, it in os.environ.items() if name not in OF_MAKE}
+        env |= {"PATH": f"{self.top / 'bin'}:{env.get('PATH', os.defpath)}", "PWD": self.place(self.folder), "RACE_JOBS": str(jobs)}
+        if race:
+            (self.top / "marks.mk").write_text(self.marks(race), encoding="utf-8", errors="surrogateescape")
+            env["MAKEFILES"] = str(self.top / "marks.mk")
+        return env
+
+    def marks(self, race: Chosen) -> str:
+        """A makefile that make reads first: it hands the library to the two recipes, and to no other."""
+        mine, lines = self.top / "marks.mk", []
+        above = os.environ.get("LD_PRELOAD")
+        for held in filter(lambda it: it.is_recipe, race.sides):
+            words = {
+                "LD_PRELOAD": f"{self.top / 'hold.so'}{':' + above if above else ''}", "RACE_HOLD_SIDE": held.side, "RACE_HOLD_LIFE": "new",
+                "RACE_HOLD_SOCKET": str(self.socket), "RACE_HOLD_PATH": self.place(race.path),
+            }
+            lines += [f'ifeq "$(CURDIR)" "{in_value(self.place(held.folder))}"']
+            lines += [f"{held.in_makefile()}: private export {name} := {in_value(it)}" for name, it in words.items()] + ["endif"]
+        return "\n".join([*lines, "MAKEFILE_LIST :=", f"{mine}: ;", ""])
+
+
+def in_value(text: str) -> str:
+    """A text as a makefile's line has it."""
+    if '"' in text or "\n" in text:
+        raise CannotConfirm(f"no line of a makefile can name {text}")
+    return text.replace("$", "$$").replace("#", "\\#")
+
+
+def tools() -> tuple[str, str]:
+    """The make and the C compiler; `Missing` says which of them is not there."""
+    version_of("make", r"GNU Make (\d+)\.(\d+)", (4, 2), "make")
+    compiler = shutil.which(os.environ.get("CC", "")) or shutil.which("cc")
+    if not compiler:
+        raise Missing("cc is missing (Debian: apt-get install gcc)")
+    return shutil.which("make") or "make", compiler
+
+
+def run_tool(words: Sequence[str], what: str) -> None:
+    done = subprocess.run(words, capture_output=True, text=True, errors="replace", stdin=subprocess.DEVNULL, check=False)
+    if done.returncode:
+        raise Missing(f"{what}: {done.stderr.strip() or done.returncode}")
+
+
+def furnish(top: Path) -> None:
+    """The library that holds, and the make that builds call."""
+    real, compiler = tools()
+    words = [compiler, "-O1", "-fPIC", "-shared", "-o", str(top / "hold.so"), str(HOLD), "-ldl"]
+    run_tool(words, f"{compiler} cannot build the library that holds recipes")
+    (top / "bin").mkdir()
+    for name in ("make", "gmake"):
+        if name == "make" or shutil.which(name):
+            (top / "bin" / name).write_text(SHIM.replace("REAL", f"'{real}'"))
+            (top / "bin" / name).chmod(0o755)
+
+
+def new_room(folder: str) -> Path:
+    """A temporary folder that does not lie in the project."""
+    for place in filter(os.path.isdir, (tempfile.gettempdir(), "/tmp", "/var/tmp", "/dev/shm")):
+        if not (os.path.realpath(place) + "/").startswith(folder.rstrip("/") + "/"):
+            return Path(tempfile.mkdtemp(prefix="race-confirm-", dir=os.path.realpath(place)))
+    raise CannotConfirm(f"each folder for temporary files lies in {folder}")
+
+
+def settle(room: Room) -> None:
+    """Decides where builds run; refuses a project that would write to itself from elsewhere."""
+    room.is_in_place = can_enter(room.fresh, room.folder)
+    if room.is_in_place:
+        return
+    if found := names_its_folder(room.fresh, room.folder):
+        raise CannotConfirm(f"{found} names the project's folder by its whole path, so a build of a copy would write to the project. "
+                            "Where the system allows a process mounts of its own (user namespaces), the copy takes its place")
+    for name, it in os.environ.items():
+        if room.folder in it and name not in ("PWD", "OLDPWD", "PATH", "RACE", "_"):
+            raise CannotConfirm(f"the variable {name} of the environment names the project's folder, so a build of a copy would write "
+                                "to the project")

@@ -1,0 +1,64 @@
+"""What is found, as text."""
+
+from __future__ import annotations
+
+import shlex
+from collections.abc import Iterator, Sequence
+from pathlib import Path
+
+from confirm.trial import Finding, some
+from report.plain import counted, side_rows
+
+SHOWN_FILES = 8
+
+
+def heading(finding: Finding, of: int) -> Iterator[str]:
+    """The race: its number, its file, and both recipes with their places."""
+    race = finding.race.race
+    meaning = f"  ({race.meaning})" if race.meaning else ""
+    yield f"race {finding.race.number} of {of}: {race.shown}{meaning}"
+    yield from side_rows(race)
+    yield ""
+
+
+def how(finding: Finding) -> Iterator[str]:
+    """What differs."""
+    if finding.status:
+        yield f"  the build fails with status {finding.status}; the serial build ends with 0"
+        yield from (f"    {it[:160]}" for it in finding.errors)
+    shown = [] if finding.status else finding.differences[:SHOWN_FILES]
+    yield from (f"  {it.name}: {it.how}" for it in shown)
+    if len(finding.differences) > len(shown) > 0:
+        yield f"  and {counted(len(finding.differences) - len(shown), 'more file')}"
+
+
+def body(finding: Finding, record: Path, unstable: set[str]) -> Iterator[str]:
+    """What was found of one race."""
+    if finding.why:
+        yield f"CANNOT BE CONFIRMED  {finding.why}"
+    elif finding.schedule:
+        yield f"CONFIRMED  {finding.schedule.text(finding.race)}:"
+        yield from how(finding)
+        order = ", and not where the two ran in the order of the serial build" if finding.has_order else ""
+        yield f"  Seen in 2 of 2 such builds{order}."
+        again = shlex.join([str(record), str(finding.race.number), "--schedule", str(finding.number), "--keep", "/tmp/kept"])
+        yield f"  see it again: race-confirm {again}"
+        yield f"  fix: {finding.race.race.fix}"
+    else:
+        yield f"NOT CONFIRMED in {counted(finding.builds, 'try', 'tries')}: each left what the serial build leaves."
+        if finding.reached < finding.builds:
+            yield f"  In {finding.builds - finding.reached} of them the schedule did not come about."
+        if finding.stuck:
+            yield f"  {finding.stuck} of them did not end in time, and were stopped."
+        if finding.is_cut:
+            yield "  There are more schedules: --runs N tries more of them."
+        yield "  This does not say that the race is harmless: other inputs, or a schedule that was not tried, may show it."
+    if unstable and not finding.why:
+        yield f"  The build is not reproducible: {some(unstable)} differ between serial builds already, and were not compared."
+
+
+def summary(findings: Sequence[Finding]) -> str:
+    """All races in a line."""
+    confirmed, cannot = sum(it.is_confirmed for it in findings), sum(bool(it.why) for it in findings)
+    rest = len(findings) - confirmed - cannot
+    return f"{counted(len(findings), 'race')}: {confirmed} confirmed, {rest} not confirmed, {cannot} cannot be confirmed."

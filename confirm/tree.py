@@ -1,0 +1,149 @@
+"""Trees of files: a copy of the project as it was before the build, what a tree holds, and how two trees differ."""
+
+from __future__ import annotations
+
+import hashlib
+import os
+import shutil
+import subprocess
+from collections.abc import Iterator
+from dataclasses import dataclass
+from pathlib import Path
+
+from confirm.races import CannotConfirm, written
+from report.model import BadRecord, read_json
+
+# Folders of version control: builds may refresh what is in them.
+UNCOMPARED = {".git", ".hg", ".svn"}
+CHUNK = 1 << 20
+
+
+def copy(source: Path, to: Path) -> None:
+    """A tree as it is, with links, times and modes."""
+    to.mkdir(parents=True)
+    done = subprocess.run(["cp", "-a", f"{source}/.", str(to)], capture_output=True, text=True, errors="replace", check=False)
+    if done.returncode:
+        raise CannotConfirm("the project cannot be copied: " + " ".join(done.stderr.split("\n")[:2]).strip())
+
+
+def remove(path: Path) -> None:
+    """A tree, with folders that nobody may write."""
+    def again(call: object, name: str, _: object) -> None:
+        os.chmod(os.path.dirname(name), 0o700)
+        os.unlink(name) if os.path.islink(name) or not os.path.isdir(name) else shutil.rmtree(name)
+
+    if path.exists():
+        shutil.rmtree(path, onerror=again)
+
+
+def made(record: Path) -> Iterator[str]:
+    """What the recorded build made, as whole paths: what tasks write, and targets whose recipes ran."""
+    yield from (os.path.normpath(os.path.join(folder, it)) for folder, it in written(record))
+    for number in read_json(record / "record.json").get("builds", []):
+        about = read_json(record / "builds" / number / "build.json")
+        for label in about["labels"].values():
+            if label.get("kind") == "recipe":
+                yield os.path.normpath(os.path.join(about["folder"], label["target"]))
+
+
+def take_back(tree: Path, folder: str, record: Path) -> None:
+    """Takes away what the recorded build wrote, so that its recipes run again; of folders those that are empty then."""
+    folders = []
+    for path in made(record):
+        below = os.path.relpath(path, folder)
+        if below == "." or below.startswith(".."):
+            continue
+        it = tree / below
+        if it.is_dir() and not it.is_symlink():
+            folders.append(it)
+        elif it.is_symlink() or it.exists():
+            it.unlink()
+    for it in sorted(set(folders), key=lambda path: -len(path.parts)):
+        if it.is_dir() and not any(it.iterdir()):
+            it.rmdir()
+
+
+def digest(path: Path) -> str:
+    """What a name of a tree holds, in short; the mode counts as far as it says that a file can be run."""
+    if path.is_symlink():
+        return "link " + os.readlink(path)
+    if path.is_dir():
+        return "folder"
+    if not path.is_file():
+        return "special"
+    sum_ = hashlib.sha256()
+    try:
+        with open(path, "rb") as file:
+            while chunk := file.read(CHUNK):
+                sum_.update(chunk)
+    except OSError as error:
+        return f"unreadable {error.errno}"
+    return f"{'program' if os.access(path, os.X_OK) else 'file'} {sum_.hexdigest()}"
+
+
+def held_by(tree: Path) -> dict[str, str]:
+    """The names of a tree with what each holds."""
+    found = {}
+    for folder, folders, files in os.walk(tree):
+        folders[:] = [it for it in folders if it not in UNCOMPARED]
+        for name in (*folders, *files):
+            path = Path(folder, name)
+            found[str(path.relative_to(tree))] = digest(path)
+    return found
+
+
+def differing(one: dict[str, str], other: dict[str, str]) -> set[str]:
+    """The names that two trees do not hold in the same way."""
+    return {it for it in {*one, *other} if one.get(it) != other.get(it)}
+
+
+@dataclass(frozen=True)
+class Difference:
+    """A name that a parallel build left in another way than the serial one, and how."""
+
+    name: str
+    how: str
+
+
+def first_lines(serial: bytes, parallel: bytes) -> str:
+    """The first line that differs, where both are text of few lines."""
+    if b"\0" in serial + parallel or len(serial) + len(parallel) > CHUNK:
+        return f"other bytes ({len(parallel)} bytes, {len(serial)} after a serial build)"
+    ones, others = serial.decode("utf-8", "replace").splitlines(), parallel.decode("utf-8", "replace").splitlines()
+    for at in range(max(len(ones), len(others))):
+        one, other = (it[at] if at < len(it) else None for it in (ones, others))
+        if one != other:
+            shown = ["no such line" if it is None else f"`{it[:60]}`" for it in (other, one)]
+            return f"line {at + 1} is {shown[0]}, and {shown[1]} after a serial build".replace("is no such line", "is missing")
+    return "the ends of its lines differ"
+
+
+def difference(name: str, serial: Path, parallel: Path) -> Difference:
+    """How a name differs between two trees."""
+    one, other = serial / name, parallel / name
+    if not os.path.lexists(other):
+        return Difference(name, "is missing")
+    if not os.path.lexists(one):
+        return Difference(name, "is there, and is not after a serial build")
+    if all(it.is_file() and not it.is_symlink() for it in (one, other)):
+        if os.access(one, os.X_OK) != os.access(other, os.X_OK):
+            return Difference(name, "has another mode")
+        return Difference(name, first_lines(one.read_bytes(), other.read_bytes()))
+    kinds = [digest(it).partition(" ")[0] for it in (other, one)]
+    return Difference(name, f"is a {kinds[0]}, and a {kinds[1]} after a serial build" if kinds[0] != kinds[1] else "leads elsewhere")
+
+
+def names_its_folder(tree: Path, folder: str) -> str:
+    """The first file of a tree, or link, that names the project's folder by its whole path; nothing where none does."""
+    wanted = os.fsencode(folder)
+    for path in sorted(tree.rglob("*")):
+        if path.is_symlink():
+            if wanted in os.fsencode(os.readlink(path)):
+                return str(path.relative_to(tree))
+        elif path.is_file() and not UNCOMPARED.intersection(path.relative_to(tree).parts):
+            try:
+                if wanted in path.read_bytes():
+                    return str(path.relative_to(tree))
+            except OSError as error:
+                raise BadRecord(f"{path}: {error}") from error
+    return ""
