@@ -6,6 +6,8 @@ from typing import Dict, List, Set, Tuple
 
 TARGET = re.compile(r"^(.*?)(::?)(?: (.*))?$")
 PLACE = re.compile(r"^#  recipe to execute \(from '(.*)', line (\d+)\):")
+ORIGIN = re.compile(r"# (makefile|environment|command line|default|automatic|'override' directive)")
+VALUE = re.compile(r"^([^\s:#=]+) (?:=|:=|::=|:::=) ?([^$]*)$")
 PATTERN = re.compile(r"^([^#\t:=]*%[^:=]*)::?(?!=) *(.*)$")
 
 
@@ -31,6 +33,7 @@ class Base:
     places: Dict[str, List[Tuple[str, int]]] = field(default_factory=dict)
     implicit: Set[str] = field(default_factory=set)
     patterns: List[Tuple[List[str], List[str]]] = field(default_factory=list)
+    values: Dict[str, str] = field(default_factory=dict)  # macros whose value is plain text
     serial: bool = False
 
 
@@ -82,11 +85,20 @@ class _Files:
             base.double.setdefault(self.name, []).append(Colons(first.split(), second.split()))
 
 
+def before_files(base: Base, text: str, previous: str) -> None:
+    """A line of the parts that list macros and implicit rules; a macro stands behind the line that says where it is from."""
+    pattern, value = PATTERN.match(text), VALUE.match(text) if ORIGIN.match(previous) else None
+    if pattern:
+        base.patterns.append((pattern.group(1).split(), pattern.group(2).replace("|", " ").split()))
+    if value:
+        base.values[value.group(1)] = value.group(2)
+
+
 def read_base(lines: List[str]) -> Base:
     """What one data base says."""
     base = Base()
     files = _Files(base)
-    inside = False
+    inside, previous = False, ""
     for text in lines:
         if text.startswith("# Files"):
             inside = True
@@ -95,7 +107,6 @@ def read_base(lines: List[str]) -> Base:
         elif inside:
             files.line(text)
         else:
-            match = PATTERN.match(text)
-            if match:
-                base.patterns.append((match.group(1).split(), match.group(2).replace("|", " ").split()))
+            before_files(base, text, previous)
+        previous = text
     return base

@@ -67,7 +67,8 @@ def gather(builder: "Builder") -> Dict[str, Folder]:
 
 
 def each(builder: "Builder") -> List[Tuple[int, List[Tuple[str, str, int]]]]:
-    """Tasks with their events, acts of make with the task that has them."""
+    """Tasks with their events, acts of make with the task that has them. A decision asks only for a name (`s`): where that is
+    not there it makes no difference whether its folder is."""
     found = []
     for at, task in enumerate(builder.build.tasks):
         if task.kind == "recipe":
@@ -78,7 +79,7 @@ def each(builder: "Builder") -> List[Tuple[int, List[Tuple[str, str, int]]]]:
                 found.append((looker, [(k, p, s) for (k, p), s in acts.events.items()]))
         elif task.kind in ("decision", "look"):
             own = builder.of_node.get(task.node.label, at)
-            found.append((at, [("S", p, 1 << 60) for p in builder.looked_at(task.node, own)]))
+            found.append((at, [("s", p, 1 << 60) for p in builder.looked_at(task.node, own)]))
     return found
 
 
@@ -92,7 +93,7 @@ def note(folder: Folder, at: int, kind: str, place: int) -> None:
         folder.gone.add(at)
     elif kind == "x":
         folder.tried.add(at)
-    elif kind in "SRULW":
+    elif kind in "SsRULW":
         folder.users.add(at)
     elif kind == "N":
         folder.absent.add(at)
@@ -100,7 +101,7 @@ def note(folder: Folder, at: int, kind: str, place: int) -> None:
         folder.created.add(at)
     if kind in "MTE":
         folder.first_made[at] = min(place, folder.first_made.get(at, place))
-    if kind in "SN":
+    if kind in "SsN":
         folder.looks[at] = min(place, folder.looks.get(at, place))
 
 

@@ -3,14 +3,13 @@ owner by its place among make's words."""
 
 import bisect
 import os
-import re
 from dataclasses import dataclass, field
+from pathlib import Path
 from typing import Dict, Iterable, List, Optional, Set, Tuple
 
+from record.globs import patterns
 from record.lives import Act, Key, Life
 from record.words import Job, Round, Words, makefiles
-
-WILDCARD = re.compile(r"\$[({]wildcard ([^\n]*?)[)}](?=[\s)},]|$)", re.M)
 
 
 @dataclass
@@ -91,20 +90,13 @@ class Owners:
     @staticmethod
     def patterns_of(make: Make) -> List[str]:
         """The patterns of `$(wildcard ..)` in the makefiles that were read."""
-        found: Set[str] = set()
+        texts: List[str] = []
         for name in makefiles(make.words):
             try:
-                with open(os.path.join(make.folder, name), errors="replace") as file:
-                    text = file.read()
+                texts.append(Path(make.folder, name).read_text(errors="replace"))
             except OSError:
-                found.add("*")
-                continue
-            for words in WILDCARD.findall(text):
-                plain = re.sub(r"\$[({][^(){}]*[)}]|\$.", "\x02", words)
-                found.update("*" if "\x02" in w or "$" in w or "(" in w else p for w in plain.split() for p in w.split("/") if re.search(r"[*?\[\x02$(]", p))
-            if "wildcard" in WILDCARD.sub("", text):
-                found.add("*")
-        return sorted(found)
+                return ["*"]
+        return sorted(patterns(texts, make.words.fixed_values()))
 
     def match_jobs(self, make: Make) -> None:
         """The k-th process of a number that make started is its k-th job of that number."""

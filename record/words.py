@@ -64,6 +64,12 @@ class Words:
     read: List[List[str]] = field(default_factory=list)  # makefiles of each start
     holes: List[str] = field(default_factory=list)
 
+    def fixed_values(self) -> Dict[str, str]:
+        """The macros whose value names no other, the same in each of its data bases."""
+        bases = [one.base for one in self.rounds if one.base is not None]
+        first = bases[0].values if bases else {}
+        return {name: value for name, value in first.items() if all(b.values.get(name) == value for b in bases)}
+
 
 class _Reader:
     def __init__(self, words: Words) -> None:
