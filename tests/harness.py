@@ -71,7 +71,7 @@ def seen(told):
 
 
 def is_refusal(told):
-    """Whether a run told a fault of its input, in the form of a refusal and with its status."""
+    """Whether a run reported a fault of its input, in the form of a refusal and with its status."""
     lines = told.stdout.split(b"\n")
     whole = lines[0] == b"refused" and lines[-1] == b"" and len(lines) >= 4
     return told.status == 2 and not told.stderr and whole and lines[1][:1] == b"F" and lines[2][:3] == b"at "

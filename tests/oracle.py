@@ -45,7 +45,7 @@ def no_number(text):
 
 
 def whole_number(text):
-    """(a nought with a sign is no whole number, and neither is one beyond 64 bits)"""
+    """(a zero with a sign is no whole number, and neither is one beyond 64 bits)"""
     return int(text) if text != "-0" and int(text) <= GREATEST_TIME else float(text)
 
 

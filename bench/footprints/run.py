@@ -4,7 +4,7 @@
     bench/footprints/run.py FOLDER [LINES [PATHS]]
 
 FOLDER gets `makefile`, `listing` and `footprints`: LINES recipes (1,000), each with a line of PATHS paths (1,000), so
-that the text is at the limit of what `read_footprints` takes. Then the time is told that Python takes to read the text
+that the text is at the limit of what `read_footprints` takes. Then comes the time that Python takes to read the text
 and to unite the lines of each target in sets, which is the work of `read_footprints` without the spelling of paths.
 """
 

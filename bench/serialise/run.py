@@ -5,7 +5,7 @@
 
 PROGRAM is the built program (crates/race/out/race). The build has 9,999 sources, a recipe for each, and a goal that needs
 what they make: 19,999 nodes. In the log nine recipes run at a time: they start, look at their sources and put their targets
-in turn, again and again, each time newer than every file, and finish; the events are 1,000,000, unless told otherwise. So
+in turn, again and again, each time newer than every file, and finish; the events are 1,000,000 without --events. So
 in the log that is written nearly every event stands elsewhere, and each put has another time. Printed are the best
 wall times of N runs (three) and the greatest peak memory of a run, at an eighth, a quarter, a half and the whole of the
 events, the bytes that are written, and what Python's json module alone takes to read the log, since the speed of a

@@ -14,8 +14,10 @@ from .texts import SPAN, Line
 
 GLOSSARY = Path("docs/GLOSSARY.md")
 HEADING = "## Words that we do not use"
-# Scripts whose comments and strings people read.
-SCRIPTS = ("record/", "report/", "confirm/", "tools/")
+# The script that plants banned words.
+PLANTS = "tests/pages"
+# A string that is one word is a name, and not prose.
+NAME = re.compile(r"\W*\w+\W*")
 INTERPOLATED = re.compile(r"\{[^{}]*\}")
 # A line of the glossary that names banned words which the help still has.
 STILL_IN_HELP = re.compile(r"(?m)^The help still says (.*)$")
@@ -78,12 +80,13 @@ def abouts(at: Repository) -> Iterator[tuple[str, str]]:
 def texts_of_script(path: str, code: str) -> Iterator[tuple[str, str]]:
     """The comments and strings of a script in Python, each with its place; names in them are left out."""
     for token in tokenize.generate_tokens(io.StringIO(code).readline):
-        if token.type in (tokenize.COMMENT, tokenize.STRING):
+        if token.type == tokenize.COMMENT or token.type == tokenize.STRING and not NAME.fullmatch(token.string):
             yield f"{path}:{token.start[0]}", INTERPOLATED.sub("", token.string)
 
 
 def scripts(at: Repository) -> Iterator[tuple[str, str]]:
-    """The comments and strings of the companions and of the tools."""
+    """The comments and strings of the companions, the tools, the tests and the measurements."""
     for path in at.scripts:
-        if path.startswith(SCRIPTS):
-            yield from texts_of_script(path, (at.top / path).read_text(encoding="utf-8"))
+        code = (at.top / path).read_text(encoding="utf-8")
+        if path != PLANTS and not code.startswith("#!/usr/bin/env bash"):
+            yield from texts_of_script(path, code)
