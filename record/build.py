@@ -3,39 +3,17 @@
 import bisect
 import os
 import re
-from dataclasses import dataclass, field
 from fnmatch import fnmatchcase
 from typing import Dict, Iterable, List, Set, Tuple
 
 from record.assumptions import Assumptions
 from record.folders import add_folders
-from record.graph import Graph, Node, Task, befores, order_tasks
+from record.graph import Build, Graph, Node, Task, befores, order_tasks
 from record.names import Names, join
 from record.owners import Make, Work
 
 CHANGES = "WCD"
 LOOKS = "RSN"
-
-
-@dataclass
-class Build:
-    """The tasks of one round, in a serial order."""
-
-    make: Make
-    stage: str
-    graph: Graph
-    tasks: List[Task] = field(default_factory=list)
-    bits: List[int] = field(default_factory=list)
-    writers: Dict[str, Set[int]] = field(default_factory=dict)
-    meanings: Dict[str, str] = field(default_factory=dict)
-
-    def is_before(self, first: int, second: int) -> bool:
-        """Whether one task has ended before another starts."""
-        return bool(self.bits[second] >> first & 1)
-
-    def unordered(self, first: int, second: int) -> bool:
-        """Whether nothing orders two tasks."""
-        return first != second and not self.is_before(first, second) and not self.is_before(second, first)
 
 
 class Builder:
@@ -225,7 +203,7 @@ class Builder:
         words = re.findall(r"(?:^|\s)(?:-\w*j\s*|--jobs=?)(\d*)", self.make.words.args)
         if words:
             return words[-1] == "1"
-        is_inner = any(life.is_make for life in self.make.life.up() if life is not self.make.life)
+        is_inner = any(life.is_make or life.is_ninja for life in self.make.life.up() if life is not self.make.life)
         return is_inner and not self.make.words.below and "-j" not in self.make.words.flags
 
     def kept(self) -> Set[str]:

@@ -85,6 +85,10 @@ class Calls(Replay):
         forked = was_wrapper and not life.ran
         found = self.names.find(life.folder, words[0], True)
         argv = shelltext.with_interpreter(argv, found.path)
+        life.program = found.path
+        life.is_ninja = argv == words[1:] and bool(shelltext.NINJA.match(os.path.basename(found.path)))
+        if life.is_ninja:
+            life.starts.append((self.place, life.folder))
         life.argv, life.cut = argv, is_cut(call.args)
         life.ran.append(argv)
         life.is_wrapper = words[0].startswith(self.spool + "/bin/")

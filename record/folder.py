@@ -9,7 +9,6 @@ from typing import Any, Dict, List, Optional
 from record import VERSION
 from record.assumptions import Assumptions
 from record.build import Build
-from record.graph import Task
 from record.tasks import labels_of, lines_of, relative, shown
 
 
@@ -25,25 +24,27 @@ class Record:
     holes: List[str] = field(default_factory=list)
     assumptions: List[Dict[str, Any]] = field(default_factory=list)
     builds: List[str] = field(default_factory=list)
+    warm: List[str] = field(default_factory=list)  # files that the build makes and that were there before
+    notes: List[str] = field(default_factory=list)
+    hints: List[str] = field(default_factory=list)  # of a build that failed: who looks for what others make
+    missingdeps: int = 0  # what `ninja -t missingdeps` finds
 
-
-def place_of(build: Build, task: Task) -> Dict[str, Any]:
-    """Where the recipe of a task stands, and its first line."""
-    base = build.graph.base
-    places = base.places.get(task.node.name, [])
-    place = places[task.node.rule] if task.node.rule < len(places) else None
-    recipe = base.recipes.get(task.node.name, [])
-    return {"file": place[0] if place else "", "line": place[1] if place else 0, "recipe": shown(recipe[0]) if recipe else ""}
+    def text(self) -> str:
+        """As it is written."""
+        found = {"version": VERSION, **asdict(self)}
+        found["warm"] = {"count": len(self.warm), "example": shown(self.warm[0]) if self.warm else ""}
+        return json.dumps(found, indent=1, ensure_ascii=True) + "\n"
 
 
 def write_build(folder: Path, build: Build) -> None:
     """One round: its tasks, and what its labels and names stand for."""
     folder.mkdir(parents=True)
     labels = labels_of(build.tasks)
-    root = build.make.folder
+    root = build.folder
     about: Dict[str, Any] = {}
-    for label, task in zip(labels, build.tasks):
-        about[label] = {"target": shown(task.node.name), "kind": task.kind, **place_of(build, task)}
+    for at, (label, task) in enumerate(zip(labels, build.tasks)):
+        place = {key: shown(value) if isinstance(value, str) else value for key, value in build.about(at).items()}
+        about[label] = {"target": shown(task.node.name), "kind": task.kind, **place}
     edges = 0
     with open(folder / "tasks", "w", encoding="utf-8", errors="backslashreplace") as file:
         for label, line in lines_of(build, root, labels):
@@ -52,10 +53,10 @@ def write_build(folder: Path, build: Build) -> None:
             edges += len(json.loads(line)["after"])
     meanings = {relative(root, p): shown(m) for p, m in build.meanings.items()}
     counts = {
-        "considered": len(build.graph.round.nodes), "tasks": len(about), "edges": edges,
+        "considered": build.considered, "tasks": len(about), "edges": edges,
         "recipes": sum(1 for t in build.tasks if t.kind == "recipe"), "paths": sum(len(t.reads) + len(t.writes) for t in build.tasks),
     }
-    text = {"folder": shown(root), "words": shown(build.make.words.args), "round": build.stage, "counts": counts, "labels": about, "meanings": meanings}
+    text = {"tool": build.tool, "folder": shown(root), "words": shown(build.words), "round": build.stage, "counts": counts, "labels": about, "meanings": meanings}
     (folder / "build.json").write_text(json.dumps(text, indent=1, ensure_ascii=False) + "\n", encoding="utf-8")
 
 
@@ -68,8 +69,12 @@ def write_record(folder: Path, record: Record, builds: List[Build], assumed: Ass
         record.builds.append("%03d" % number)
         write_build(folder / "builds" / ("%03d" % number), build)
     record.assumptions = [{"kind": a.kind, "count": a.count, "example": shown(a.example), "text": a.text()} for a in assumed.all()]
-    text = {"version": VERSION, **asdict(record)}
-    (folder / "record.json").write_text(json.dumps(text, indent=1, ensure_ascii=True) + "\n", encoding="utf-8")
+    rewrite(folder, record)
+
+
+def rewrite(folder: Path, record: Record) -> None:
+    """What is known of the record as a whole."""
+    (folder / "record.json").write_text(record.text(), encoding="utf-8")
 
 
 def is_record(folder: Path) -> bool:

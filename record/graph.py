@@ -2,7 +2,7 @@
 
 import heapq
 from dataclasses import dataclass, field
-from typing import Dict, List, Optional, Set, Tuple
+from typing import Any, Dict, List, Optional, Set, Tuple
 
 from record.database import Base
 from record.owners import Make, Work
@@ -156,6 +156,50 @@ class Graph:
                 if member is not None and member is not node and not member.jobs:
                     member.asks[name] = None
                     node.asks.pop(other, None)
+
+
+@dataclass
+class Build:
+    """The tasks of one round, in a serial order."""
+
+    make: Make
+    stage: str
+    graph: Graph
+    tasks: List[Task] = field(default_factory=list)
+    bits: List[int] = field(default_factory=list)
+    writers: Dict[str, Set[int]] = field(default_factory=dict)
+    meanings: Dict[str, str] = field(default_factory=dict)
+    tool = "make"
+
+    @property
+    def folder(self) -> str:
+        """Where the process works; paths are relative to it."""
+        return self.make.folder
+
+    @property
+    def words(self) -> str:
+        """Its words."""
+        return self.make.words.args
+
+    @property
+    def considered(self) -> int:
+        """How many targets it looked at."""
+        return len(self.graph.round.nodes)
+
+    def about(self, at: int) -> Dict[str, Any]:
+        """Where the recipe of a task stands, and its first line."""
+        base, node = self.graph.base, self.tasks[at].node
+        places, recipe = base.places.get(node.name, []), base.recipes.get(node.name, [])
+        file, line = places[node.rule] if node.rule < len(places) else ("", 0)
+        return {"file": file, "line": line, "recipe": recipe[0] if recipe else ""}
+
+    def is_before(self, first: int, second: int) -> bool:
+        """Whether one task has ended before another starts."""
+        return bool(self.bits[second] >> first & 1)
+
+    def unordered(self, first: int, second: int) -> bool:
+        """Whether nothing orders two tasks."""
+        return first != second and not self.is_before(first, second) and not self.is_before(second, first)
 
 
 def order_tasks(tasks: List[Task], after: List[Set[int]], keys: List[Tuple[int, int]]) -> Tuple[List[int], int]:

@@ -43,6 +43,8 @@ class Life:
     starts: List[Tuple[int, str]] = field(default_factory=list)  # where make began (again), and its folder
     is_wrapper: bool = False
     is_make: bool = False
+    is_ninja: bool = False
+    program: str = ""  # the file that runs
     is_query: bool = False
     number: int = -1  # which life of this number among the makes with words
     adopted: bool = False

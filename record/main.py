@@ -1,4 +1,4 @@
-"""`race-record -- make [GOALS]`: one recorded build, and the verdict of `race` on it."""
+"""`race-record -- make [GOALS]` or `-- ninja`: one recorded build, and the verdict of `race` on it."""
 
 import argparse
 import os
@@ -9,27 +9,36 @@ import subprocess
 import sys
 import tempfile
 import time
+from dataclasses import dataclass
 from pathlib import Path
 from typing import Dict, List, Optional, Tuple
 
 from record.assumptions import Assumptions
-from record.build import Build, Builder
-from record.folder import Record, is_record, write_record
+from record.again import JOBS, TRIES, folders_of, hints, undo, with_jobs
+from record.build import Builder
+from record.folder import Record, is_record, rewrite, write_record
+from record.graph import Build
 from record.judge import find_race, judge
 from record.calls import Calls
 from record.lives import Life
 from record.names import Names
+from record.ninja_import import beside, import_ninjas
+from record.ninja_import import versions as ninja_versions
+from record.ninja_runs import Kept, Ninja
 from record.owners import Make, Owners
 from record.report import Judged, read_json, report
 from record.strace import read_trace, skipping
+from record.warm import warm_names
 from record.words import read_logs
 
 HERE = Path(__file__).resolve().parent
 CALLS = ("%file,fchdir,getdents64,getdents,clone,clone3,fork,vfork,fchmod,fchown,ftruncate,fsetxattr,connect,bind")
-STRACE = ["strace", "-f", "-q", "-y", "--seccomp-bpf", "-s", "65536", "-e", "signal=none", "-e", "trace=" + CALLS]
-EXAMPLE = """example:
+STRACE = ["strace", "-f", "-q", "-y", "--seccomp-bpf", "-s", "131072", "-e", "signal=none", "-e", "trace=" + CALLS]
+EXAMPLE = """examples:
   race-record -- make -C src all       one serial build, then the verdict
+  race-record -- cmake --build build   the same where ninja builds
 statuses: 0 safe, 1 races, 2 no verdict, 3 usage or a tool that is missing"""
+WARM = "WARM: what was up to date did not run; record a clean tree (--fresh, make clean), or say --warm if builds start from this one"
 
 
 class Missing(Exception):
@@ -48,13 +57,21 @@ def version_of(program: str, pattern: str, least: Tuple[int, int], package: str)
     return "%s.%s" % match.groups()
 
 
+def versions() -> Dict[str, str]:
+    """The tools that record. A machine without make can build with ninja."""
+    found = {"strace": version_of("strace", r"version (\d+)\.(\d+)", (5, 10), "strace")}
+    if shutil.which("make"):
+        found["make"] = version_of("make", r"GNU Make (\d+)\.(\d+)", (4, 2), "make")
+    return found
+
+
 def prepare_spool(spool: Path, real: str) -> None:
     """The wrapper under the names of make."""
     (spool / "bin").mkdir(parents=True)
     (spool / "real").write_text(real)
     text = "#!%s -ISB\n" % sys.executable + (HERE / "wrapper.py").read_text()
     for name in ("make", "gmake"):
-        if name == "make" or shutil.which(name):
+        if shutil.which(name):
             path = spool / "bin" / name
             path.write_text(text)
             path.chmod(0o755)
@@ -126,31 +143,45 @@ def overlap(who: List[Tuple[Life, bool]]) -> bool:
     return False
 
 
-def import_record(spool: Path, names: Names, real: str, folder: str, record: Record) -> Tuple[List[Build], Assumptions]:
+@dataclass
+class Imported:
+    """What a trace and the words of makes come to."""
+
+    builds: List[Build]
+    assumed: Assumptions
+    lives: List[Life]
+    ninjas: List[Ninja]
+
+
+def import_record(spool: Path, names: Names, kept: Kept, real: str, folder: str, record: Record) -> Imported:
     """Of a trace and make's words: the builds, the holes, and what was taken for granted."""
     assumed = Assumptions()
-    assumed.add("serial", "")
     replay = replay_trace(spool, names, real, folder, names.tops)
     owners = Owners(replay.all, read_logs(spool))
+    if owners.makes:
+        assumed.add("serial", "")
     record.holes += replay.holes + owners.holes
     record.holes += ["a make ran past the recorder: " + p for p in replay.past]
     for path in sorted(spool.glob("*.past")):
         record.holes += ["a make that prints its own words (-d, -p, --debug) ran past the recorder: " + t for t in path.read_text(errors="replace").splitlines()]
-    if not owners.makes:
-        record.holes.append("no make ran")
     for socket in replay.sockets:
         assumed.add("sockets", socket)
     for name in replay.hard_links:
         assumed.add("hard-links", name)
     at_once(owners, assumed)
     outlived(owners, assumed)
+    ninjas, of_ninja, holes = import_ninjas(replay.all, owners, names, kept, assumed)
+    record.holes += holes
+    if not owners.makes and not ninjas:
+        record.holes.append("no make and no ninja ran")
     builds = []
     for make in sorted(owners.makes, key=lambda m: m.life.born):
         for number, one in enumerate(make.words.rounds):
             acts = [t for n, t in make.acts if n == number]
             if one.jobs or acts:
                 builds.append(Builder(make, number, names, assumed).run())
-    return builds, assumed
+    builds = sorted(builds + of_ninja, key=lambda build: build.make.life.born)
+    return Imported(builds, assumed, replay.all, ninjas)
 
 
 def parse(args: List[str]) -> argparse.Namespace:
@@ -160,6 +191,7 @@ def parse(args: List[str]) -> argparse.Namespace:
     parser.add_argument("-o", "--output", default=".race", metavar="DIR", help="the folder of the record (.race)")
     parser.add_argument("--race", metavar="PROGRAM", help="the program race")
     parser.add_argument("--top", action="append", default=[], metavar="DIR", help="another folder that the build works in")
+    parser.add_argument("--warm", action="store_true", help="builds start from this tree, though some of what they make is there already")
     parser.add_argument("--keep-trace", action="store_true", help="keep the trace in the record")
     parser.add_argument("words", nargs=argparse.REMAINDER, metavar="-- COMMAND ..", help="what builds the project")
     found = parser.parse_args(args)
@@ -188,13 +220,71 @@ def judge_record(out: Path, race: str) -> Tuple[int, List[Judged]]:
     return (1 if any(j.verdict.races for j in judged) else 0), judged
 
 
+def attempt(options: argparse.Namespace, words: List[str], tools: Dict[str, str], out: Path) -> Tuple[Record, List[str]]:
+    """One recorded build, and why another is of no use; an empty list where one may help."""
+    real, folder = shutil.which("make") or "make", os.path.realpath(".")
+    names = Names()
+    for top in dict.fromkeys([folder] + [os.path.realpath(t) for t in options.top + folders_of(words)]):
+        names.walk(top)
+    kept = Kept.of(names)
+    room = Path(tempfile.mkdtemp(prefix="race-record-", dir="/tmp" if os.path.isdir("/tmp") else None))
+    spool = Path(os.path.realpath(room))
+    try:
+        prepare_spool(spool, real)
+        status, seconds = run_build(words, spool)
+        record = Record(options.words, folder, status, round(seconds, 2), dict(tools))
+        if status != 0:
+            record.holes.append("the build ended with status %d" % status)
+        found = import_record(spool, names, kept, real, folder, record)
+        finish(record, found, names, options.warm)
+        write_record(out, record, found.builds, found.assumed)
+        if options.keep_trace:
+            shutil.copytree(spool, out / "trace", ignore=shutil.ignore_patterns("bin", "real"))
+        if status != 1 or not found.ninjas:
+            return record, ["no"]
+        record.hints = hints(found.ninjas, names)
+        return record, undo(names, found.lives, kept)
+    finally:
+        shutil.rmtree(room, ignore_errors=True)
+
+
+def finish(record: Record, found: Imported, names: Names, warm: bool) -> None:
+    """What is known when all builds are: whether they were cold, and what ninja itself finds."""
+    record.warm = warm_names(found.builds, found.ninjas, names)
+    for name in record.warm:
+        if warm:
+            found.assumed.add("up-to-date", name)
+    if found.ninjas:
+        record.tools["ninja"] = ninja_versions(found.ninjas)
+        record.missingdeps, beyond = beside(found.ninjas, found.builds, names)
+        for one in beyond if not record.warm and record.status == 0 else []:
+            record.holes.append("ninja -t missingdeps finds that %s reads %s, and the record has no such race" % (one.user, one.path))
+        record.notes += ["ninja -t missingdeps, of earlier builds: %s reads %s, and waits for nobody who makes it" % (m.user, m.path) for m in beyond if record.warm]
+
+
+def record_all(options: argparse.Namespace, tools: Dict[str, str], out: Path) -> Record:
+    """The record: of the serial build, or, where ninja failed in it, of one with several commands at once."""
+    serial = with_jobs(options.words, 1)
+    record, stuck = attempt(options, serial, tools, out)
+    found = record.hints
+    for number in range(1, TRIES + 1):
+        if stuck or serial == options.words:
+            break
+        print("race-record: the serial build failed; recording again with -j%d (%d of %d)" % (JOBS, number, TRIES), file=sys.stderr, flush=True)
+        record, stuck = attempt(options, with_jobs(options.words, JOBS), tools, out)
+        record.notes.append("the serial build failed; this is build %d with -j%d" % (number, JOBS))
+    record.hints = found or record.hints
+    rewrite(out, record)
+    return record
+
+
 def run(options: argparse.Namespace) -> int:
     """Records, writes, asks, reports."""
     race = find_race(options.race)
     if race is None:
         return stop("the program race is missing (--race PROGRAM, $RACE, or on PATH)")
     try:
-        tools = {"strace": version_of("strace", r"version (\d+)\.(\d+)", (5, 10), "strace"), "make": version_of("make", r"GNU Make (\d+)\.(\d+)", (4, 2), "make")}
+        tools = versions()
     except Missing as missing:
         return stop(str(missing))
     out = Path(options.output).absolute()
@@ -202,28 +292,14 @@ def run(options: argparse.Namespace) -> int:
         return stop("%s is there and is no record" % out)
     if shutil.which(options.words[0]) is None:
         return stop("%s: no such command" % options.words[0])
-    real = shutil.which("make") or "make"
-    folder = os.path.realpath(".")
-    names = Names()
     if out.exists():
         shutil.rmtree(out)
-    for top in dict.fromkeys([folder] + [os.path.realpath(t) for t in options.top]):
-        names.walk(top)
-    room = Path(tempfile.mkdtemp(prefix="race-record-", dir="/tmp" if os.path.isdir("/tmp") else None))
-    spool = Path(os.path.realpath(room))
-    try:
-        prepare_spool(spool, real)
-        status, seconds = run_build(options.words, spool)
-        record = Record(options.words, folder, status, round(seconds, 2), tools)
-        if status != 0:
-            record.holes.append("the build ended with status %d" % status)
-        builds, assumed = import_record(spool, names, real, folder, record)
-        write_record(out, record, builds, assumed)
-        if options.keep_trace:
-            shutil.copytree(spool, out / "trace", ignore=shutil.ignore_patterns("bin", "real"))
-    finally:
-        shutil.rmtree(room, ignore_errors=True)
+    record = record_all(options, tools, out)
     ended, judged = judge_record(out, race)
+    if ended == 0 and record.warm and not options.warm:
+        ended = 2
+        record.holes.append(WARM)
+        rewrite(out, record)
     print("\n".join(report(read_json(out / "record.json"), judged)))
     return ended
 

@@ -181,6 +181,7 @@ class Manifest:
     files: List[str] = field(default_factory=list)
     makers: Dict[str, Edge] = field(default_factory=dict)  # output: statement
     top: Scope = field(default_factory=lambda: Scope(rules={"phony": {}}))
+    _users: Dict[str, List[Edge]] = field(default_factory=dict)
 
     def add_output(self, edge: Edge, path: str) -> bool:
         """Notes who makes a path; whether nobody did before."""
@@ -190,6 +191,14 @@ class Manifest:
         """The statements whose outputs a statement waits for."""
         found = (self.makers.get(path) for path in edge.waits())
         return list(dict.fromkeys(one for one in found if one is not None and one is not edge))
+
+    def users(self) -> Dict[str, List[Edge]]:
+        """For each path the statements that wait for it."""
+        if not self._users:
+            for edge in self.edges:
+                for path in edge.waits():
+                    self._users.setdefault(path, []).append(edge)
+        return self._users
 
     def goals(self, names: List[str]) -> Optional[List[Edge]]:
         """The statements that words of the command line name; without words the default; None where a word is not known."""

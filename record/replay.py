@@ -108,7 +108,7 @@ class Replay:
             return
         if path.startswith(self.spool):
             return
-        if life.is_make and life.number >= 0:
+        if life.is_make and life.number >= 0 or life.is_ninja and kind in "RU":
             life.acts.append(Act(self.place, kind, path, word))
         life.events.setdefault((kind, path), self.place)
 

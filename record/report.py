@@ -10,6 +10,7 @@ from pathlib import Path
 from typing import Any, Dict, List, Tuple
 
 from record.judge import Race, Verdict
+from record.ninja_fix import fix_text, pool_text
 
 SHOWN_RACES = 30
 OWN_NAME = re.compile(r"(^|/)@(make|seen|gone|time|mode|links|age)(/.*)?$")
@@ -75,7 +76,12 @@ def race_text(about: Dict[str, Any], race: Race, fixes: List[str], is_fixed: boo
         lines.append("  advice: give each recipe a name of its own for this file, such as %s.$@" % os.path.basename(name))
     if "first" in (about["labels"].get(race.first, {}).get("kind"), about["labels"].get(race.second, {}).get("kind")):
         return lines + ["  advice: let one recipe alone write it; make asks whether it is there before that recipe has run"]
-    lines.append("  fix: %s: %s%s" % (target(about, race.second), target(about, race.first), "          (checked: with all fixes the build is safe)" if is_fixed else ""))
+    fix = "%s: %s" % (target(about, race.second), target(about, race.first))
+    if about.get("tool") == "ninja":
+        fix = fix_text(about["labels"], race.first, race.second, name)
+        pool = pool_text(about["labels"], race.first, race.second)
+        lines += ["  " + pool] if pool else []
+    lines.append("  fix: %s%s" % (fix, "          (checked: with all fixes the build is safe)" if is_fixed else ""))
     return lines
 
 
@@ -113,12 +119,12 @@ def assumptions_text(record: Dict[str, Any], is_safe: bool) -> List[str]:
 def report(record: Dict[str, Any], judged: List[Judged]) -> List[str]:
     """The whole text."""
     colour = colours()
-    lines: List[str] = []
+    lines = warm_text(record, colour)
     races = files = 0
     for one in judged:
         if one.verdict.races:
             if len(judged) > 1:
-                lines.append("make %s  in %s" % (one.about["words"], one.about["folder"]))
+                lines.append("%s %s  in %s" % (one.about.get("tool", "make"), one.about["words"], one.about["folder"]))
             text, count, paths = races_text(one, colour)
             lines += text
             races, files = races + count, files + paths
@@ -134,7 +140,17 @@ def report(record: Dict[str, Any], judged: List[Judged]) -> List[str]:
         lines.append("%sSAFE%s  %d recipes in %d builds; %d pairs that conflict are in order." % (colour.good, colour.end, recipes, len(judged), pairs))
     elif races:
         lines.append(plural(races, "race") + " on " + plural(files, "file") + ". %d recipes, %d other pairs that conflict are in order." % (recipes, pairs - races))
+    lines += ["HINT  " + hint for hint in record.get("hints", [])] + ["note: " + note for note in record.get("notes", [])]
     return lines + assumptions_text(record, is_safe)
+
+
+def warm_text(record: Dict[str, Any], colour: Colours) -> List[str]:
+    """The first line where something that the build makes was there before."""
+    warm = record.get("warm", {"count": 0})
+    if not warm["count"]:
+        return []
+    text = "%s that this build makes was there before, such as %s: this is about builds from such a tree"
+    return [colour.bad + "WARM" + colour.end + "  " + text % (plural(warm["count"], "file"), os.path.relpath(warm["example"], record["folder"]))]
 
 
 def read_json(path: Path) -> Dict[str, Any]:

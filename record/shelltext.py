@@ -6,6 +6,7 @@ import re
 from typing import Iterable, List
 
 SHELLS = ("sh", "dash", "bash", "ksh", "zsh", "ash")
+NINJA = re.compile(r"(?:ninja|ninja-build|samu|samurai)(?:[-.\d]*)$")
 INTERPRETERS = re.compile(r"(python|perl|ruby|node|lua|tclsh|php)[\d.]*$")
 GLOB_WORD = re.compile(r"[^\s;|&<>()'\"`=]*[*?\[][^\s;|&<>()'\"`]*")
 # `ar` with `u` is not among them: it compares a file with the member's date in the archive, and a date that this build put

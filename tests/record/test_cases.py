@@ -25,7 +25,8 @@ def test_of(folder: Path) -> Callable[[unittest.TestCase], None]:
         with support.Project() as project:
             project.copy(folder / "tree")
             project.sh((folder / "setup").read_text())
-            told = project.record(words_of(folder))
+            options = (folder / "options").read_text().split() if (folder / "options").exists() else []
+            told = project.record(words_of(folder), options)
         about = (folder / "about").read_text()
         wanted = (folder / "want").read_text().strip()
         self.assertEqual(STATUSES[wanted], told.status, "%s%s%s" % (about, told.text()[-1500:], told.stderr.decode()[-800:]))

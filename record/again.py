@@ -1,0 +1,90 @@
+"""What is done where ninja fails with one command at a time: hints, and the same build again with several at once.
+
+The graph of ninja is read from its manifest, so a record of commands side by side serves as well as a serial one.
+"""
+
+import os
+import re
+from pathlib import Path
+from typing import Dict, List, Set
+
+from record.lives import Life
+from record.names import Names
+from record.ninja_manifest import Edge, Manifest
+from record.ninja_runs import Kept, Ninja
+
+TRIES = 3
+JOBS = 4
+HINTS = 5
+OWN = (".ninja_log", ".ninja_deps", ".ninja_lock")
+
+
+def with_jobs(words: List[str], jobs: int) -> List[str]:
+    """The words of a command that surely runs ninja, with a number of commands at once; of any other as they are."""
+    name = os.path.basename(words[0])
+    own = ["-j%d" % jobs]
+    if re.fullmatch(r"ninja(-build)?|samu", name) or name == "meson" and words[1:2] == ["compile"]:
+        split = words.index("--") if "--" in words else len(words)
+        return words[:split] + own + words[split:]
+    if name == "cmake" and words[1:2] == ["--build"] and len(words) > 2 and os.path.exists(os.path.join(words[2], "build.ninja")):
+        if "--" not in words:
+            return words + own
+        split = words.index("--")
+        has_own = any(re.match(r"-j|--jobs", w) for w in words[split:])
+        return words[:split] + own + words[split:] + (own if has_own else [])
+    return words
+
+
+def folders_of(words: List[str]) -> List[str]:
+    """The folders that a command names to work in."""
+    named = [words[at + 1] for at, word in enumerate(words[:-1]) if word in ("-C", "--build")]
+    named += [word[2:] for word in words if word.startswith("-C") and len(word) > 2]
+    return [name for name in named if os.path.isdir(name)]
+
+
+def hints(ninjas: List[Ninja], names: Names) -> List[str]:
+    """Who looks for what another statement makes, and does not wait for it: the files that were absent first."""
+    found: Dict[str, int] = {}
+    for ninja in ninjas:
+        for stage in ninja.stages:
+            made = {names.find(ninja.folder, path, True).path: edge for edge in stage.manifest.edges if not edge.is_phony for path in edge.makes()}
+            for job in stage.jobs:
+                if job.edge is None:
+                    continue
+                for kind, path in job.work.events:
+                    maker = made.get(path)
+                    if maker is not None and kind in "RSN" and is_loose(stage.manifest, maker, job.edge):
+                        text = "%s looks for %s, which %s makes, and does not wait for it" % (job.edge.label, os.path.relpath(path, ninja.folder), maker.label)
+                        found[text] = min(found.get(text, 2), 0 if kind == "N" else 1)
+    return sorted(found, key=lambda text: (found[text], text))[:HINTS]
+
+
+def is_loose(manifest: Manifest, first: Edge, second: Edge) -> bool:
+    """Whether nothing orders two statements."""
+    return first is not second and first.number not in manifest.below([second]) and second.number not in manifest.below([first])
+
+
+def undo(names: Names, lives: List[Life], kept: Kept) -> List[str]:
+    """Takes away what a build has made, so that the tree is as it was; the names that cannot be set right again."""
+    made: Set[str] = set()
+    lost: Set[str] = set()
+    for life in lives:
+        for kind, path in life.events:
+            path = path.rstrip("/")
+            if not any(path.startswith(top.rstrip("/") + "/") for top in names.tops):
+                continue
+            if kind in "CWMT" and path not in names.before:
+                made.add(path)
+            elif kind in "WDX" and path in names.before and os.path.basename(path) not in OWN:
+                lost.add(path)
+    if lost:
+        return sorted(lost)
+    for path in sorted(made, key=lambda name: -name.count("/")):
+        if os.path.islink(path) or os.path.isfile(path):
+            os.unlink(path)
+        elif os.path.isdir(path) and not os.listdir(path):
+            os.rmdir(path)
+    for path, text in kept.texts.items():
+        if os.path.basename(path) in OWN:
+            Path(path).write_bytes(text.encode("utf-8", "surrogateescape"))
+    return []

@@ -1,0 +1,62 @@
+"""The ninjas of a trace as builds, with their holes and what they take for granted."""
+
+import os
+from typing import List, Tuple
+
+from record.assumptions import Assumptions
+from record.graph import Build
+from record.lives import Life
+from record.names import Names
+from record.ninja_build import NinjaBuild, NinjaBuilder
+from record.ninja_log import Missing, ask_missing, version_of
+from record.ninja_manifest import Unreadable
+from record.ninja_runs import Kept, Ninja, Runs, removed_names
+from record.owners import Owners
+
+
+def import_ninjas(lives: List[Life], owners: Owners, names: Names, kept: Kept, assumed: Assumptions) -> Tuple[List[Ninja], List[Build], List[str]]:
+    """All ninjas that ran, a build for each stage in which commands ran, and the holes."""
+    try:
+        runs = Runs(lives, owners, names, kept)
+    except Unreadable as fault:
+        return [], [], ["the manifest that ninja read cannot be read again: %s" % fault]
+    holes, builds = runs.holes, []
+    for text in runs.ties:
+        assumed.add("ties", text[:60])
+    removed = removed_names(lives) if runs.ninjas else set()
+    for ninja in runs.ninjas:
+        assumed.add("ninja", "")
+        for number, stage in enumerate(ninja.stages):
+            if stage.jobs:
+                builder = NinjaBuilder(ninja, number, removed, names, assumed)
+                builds.append(builder.run())
+                holes += builder.holes
+    return runs.ninjas, builds, holes
+
+
+def versions(ninjas: List[Ninja]) -> str:
+    """The versions of all ninjas that ran."""
+    return ", ".join(dict.fromkeys(version_of(ninja.life.program) for ninja in ninjas))
+
+
+def beside(ninjas: List[Ninja], builds: List[Build], names: Names) -> "Tuple[int, List[Missing]]":
+    """What `ninja -t missingdeps` finds, how many, and what of it no race of the builds says."""
+    found, beyond = 0, []
+    asked = set()
+    for ninja in ninjas:
+        key = (ninja.life.program, ninja.folder, ninja.file)
+        told = ask_missing(*key) if key not in asked and any(stage.jobs for stage in ninja.stages) else None
+        asked.add(key)
+        for one in sorted(told or (), key=lambda m: (m.user, m.path)):
+            found += 1
+            if not any(is_race(build, one, names) for build in builds if isinstance(build, NinjaBuild) and build.folder == ninja.folder):
+                beyond.append(one)
+    return found, beyond
+
+
+def is_race(build: NinjaBuild, one: Missing, names: Names) -> bool:
+    """Whether a build has two tasks that nothing orders, one with that output, one that writes the path."""
+    path = names.find(build.folder, one.path, True).path
+    users = [at for at, edge in enumerate(build.edges) if os.path.normpath(one.user) in edge.makes()]
+    writers = [at for at, task in enumerate(build.tasks) if path in task.writes]
+    return any(build.unordered(user, writer) for user in users for writer in writers)

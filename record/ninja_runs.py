@@ -1,0 +1,267 @@
+"""Which ninjas ran in a trace, and which process worked for which build statement."""
+
+import getopt
+import os
+from collections import Counter
+from dataclasses import dataclass, field
+from pathlib import Path
+from typing import Callable, Dict, List, Optional, Set, Tuple
+
+from record.lives import Life
+from record.names import Names
+from record.ninja_log import ends, new_outputs
+from record.ninja_manifest import Edge, Manifest, Unreadable, read_dyndep, read_manifest
+from record.owners import Owners, Work
+
+SHORT = "d:f:j:k:l:nt:vw:C:h"
+LONG = ["help", "version", "verbose", "quiet"]
+LOG_TOOLS = {"restat", "recompact", "cleandead", "clean"}
+NEVER = 1 << 60
+
+
+@dataclass(eq=False)
+class Job:
+    """A command that ninja ran."""
+
+    life: Life
+    text: str
+    edge: Optional[Edge] = None
+    work: Work = field(default_factory=Work)
+
+
+@dataclass(eq=False)
+class Stage:
+    """What ninja did with one state of its manifest: it reads the manifest again where it was remade."""
+
+    opened: int
+    manifest: Manifest
+    jobs: List[Job] = field(default_factory=list)
+
+    def ran(self) -> List[Edge]:
+        """The statements whose commands ran."""
+        return [job.edge for job in self.jobs if job.edge is not None]
+
+
+@dataclass(eq=False)
+class Ninja:
+    """One ninja process."""
+
+    life: Life
+    folder: str
+    file: str
+    goals: List[str]
+    stages: List[Stage] = field(default_factory=list)
+    acts: Dict[Tuple[int, str], Work] = field(default_factory=dict)  # none: what ninja does has its place in the jobs
+    log: str = ""
+
+    @property
+    def args(self) -> str:
+        """Its words."""
+        return " ".join(self.life.argv[1:])
+
+
+@dataclass
+class Kept:
+    """Manifests and logs as they were before the build, by path."""
+
+    texts: Dict[str, str] = field(default_factory=dict)
+
+    @staticmethod
+    def of(names: Names) -> "Kept":
+        """Of all that was walked."""
+        kept = Kept()
+        for path, kind in names.before.items():
+            if kind == "f" and (path.endswith(".ninja") or os.path.basename(path) in (".ninja_log", ".ninja_deps")):
+                kept.texts[path] = text_of(path)
+        return kept
+
+
+def text_of(path: str) -> str:
+    """A file's text; bytes that are none are kept."""
+    return Path(path).read_bytes().decode("utf-8", "surrogateescape")
+
+
+def options_of(argv: List[str]) -> "Optional[Tuple[Dict[str, str], List[str]]]":
+    """The options and goals of a ninja that builds; None where it only looks, or cannot read its words."""
+    try:
+        found, goals = getopt.gnu_getopt(argv[1:], SHORT, LONG)
+    except getopt.GetoptError:
+        return None
+    options = dict(found)
+    if any(name in options for name in ("-n", "-t", "-h", "--help", "--version")):
+        return None
+    return options, goals
+
+
+class Runs:
+    """Finds the ninjas of a trace, reads their manifests, and gives each process to a statement."""
+
+    def __init__(self, lives: List[Life], owners: Owners, names: Names, kept: Kept) -> None:
+        self.lives, self.owners, self.names, self.kept = lives, owners, names, kept
+        self.holes: List[str] = []
+        self.ties: List[str] = []
+        self.ninjas: List[Ninja] = []
+        for life in lives:
+            if life.is_ninja:
+                self.add(life)
+        for log in dict.fromkeys(ninja.log for ninja in self.ninjas):
+            self.attribute(log)
+
+    # ---------------------------------------------------------------- processes
+    def add(self, life: Life) -> None:
+        """One ninja, if it builds."""
+        asked = options_of(life.argv)
+        if asked is None:
+            if "-t" not in life.argv and any(self.job_of(child) for child in life.children):
+                self.holes.append("ninja ran commands, and its words cannot be read: " + " ".join(life.argv)[:100])
+            return
+        options, goals = asked
+        begin, folder = life.starts[-1]
+        file = options.get("-f", "build.ninja")
+        for act in life.acts:
+            if act.place > begin and act.kind == "U":
+                folder = act.path
+            if act.place > begin and act.kind == "R":
+                break
+        target = self.names.find(folder, file, True).path
+        opened = [act.place for act in life.acts if act.place > begin and act.kind == "R" and act.path == target]
+        ninja = Ninja(life, folder, file, goals)
+        self.ninjas.append(ninja)
+        for start, end in zip(opened, opened[1:] + [NEVER]):
+            self.add_stage(ninja, start, end)
+        if not opened:
+            self.holes.append("a ninja read no manifest: " + " ".join(life.argv)[:100])
+        else:
+            ninja.log = self.names.find(folder, os.path.join(ninja.stages[-1].manifest.top.value("builddir"), ".ninja_log"), True).path
+
+    def add_stage(self, ninja: Ninja, start: int, end: int) -> None:
+        jobs = [job for job in map(self.job_of, ninja.life.children) if job is not None and start <= job.life.born < end]
+        try:
+            manifest = read_manifest(ninja.folder, ninja.file, self.texts_at(start))
+        except Unreadable as fault:
+            manifest = Manifest(ninja.folder)
+            if jobs:
+                self.holes.append("the manifest that ninja read cannot be read again: %s" % fault)
+        self.read_dyndeps(manifest)
+        ninja.stages.append(Stage(start, manifest, jobs))
+
+    def job_of(self, life: Life) -> Optional[Job]:
+        """The command that a child of ninja runs."""
+        if not life.ran:
+            return None
+        first = life.ran[0]
+        if len(first) != 3 or os.path.basename(first[0]) != "sh" or first[1] != "-c":
+            self.holes.append("ninja started what is no command: " + " ".join(first)[:100])
+            return None
+        return Job(life, first[2])
+
+    # ---------------------------------------------------------------- manifests
+    def texts_at(self, place: int) -> Callable[[str], str]:
+        """Gives files as they were at a place of the trace."""
+
+        def text(path: str) -> str:
+            path = self.names.find("/", path, True).path
+            places = [at for life in self.lives for kind in "WCD" for at in (life.events.get((kind, path)),) if at is not None]
+            if not any(at > place for at in places):
+                return text_of(path)
+            if path in self.kept.texts and not any(at < place for at in places):
+                return self.kept.texts[path]
+            raise Unreadable("nobody kept %s as it was when ninja read it" % path)
+
+        return text
+
+    def read_dyndeps(self, manifest: Manifest) -> None:
+        """Adds what dyndep files say, as they are now."""
+        for edge in manifest.edges:
+            name = "" if edge.is_phony else edge.path("dyndep")
+            path = os.path.join(manifest.folder, name)
+            if not name or not os.path.isfile(path):
+                continue
+            try:
+                for one in read_dyndep(text_of(path)):
+                    if manifest.makers.get(one.output) is edge:
+                        edge.implicit += one.inputs
+                        edge.implicit_outputs += [p for p in one.outputs if manifest.add_output(edge, p)]
+                        edge.restat_by_file = edge.restat_by_file or one.restat
+            except Unreadable as fault:
+                self.holes.append("%s: %s" % (path, fault))
+
+    # ---------------------------------------------------------------- who ran for whom
+    def attribute(self, log: str) -> None:
+        """Gives the jobs of all ninjas with one log to statements."""
+        ninjas = [ninja for ninja in self.ninjas if ninja.log == log and any(stage.jobs for stage in ninja.stages)]
+        if not ninjas:
+            return
+        logged = self.logged(ninjas, log)
+        for ninja in ninjas:
+            for stage in ninja.stages:
+                self.attribute_stage(stage, logged)
+        if logged is not None:
+            self.compare_log(ninjas, logged)
+
+    def logged(self, ninjas: List[Ninja], log: str) -> Optional[List[str]]:
+        """The outputs that these ninjas logged; None where other tools have changed the log, or there is none."""
+        for life in self.lives:
+            if life.is_ninja and "-t" in life.argv and LOG_TOOLS & set(life.argv):
+                return None
+        try:
+            return new_outputs(self.kept.texts.get(log, ""), text_of(log))
+        except OSError:
+            self.holes.append("ninja left no log: " + log)
+            return None
+
+    def attribute_stage(self, stage: Stage, logged: Optional[List[str]]) -> None:
+        by_text: Dict[str, List[Edge]] = {}
+        for edge in stage.manifest.edges:
+            if not edge.is_phony:
+                by_text.setdefault(edge.command, []).append(edge)
+        groups: Dict[str, List[Job]] = {}
+        for job in stage.jobs:
+            groups.setdefault(job.text, []).append(job)
+        for text, jobs in groups.items():
+            edges = by_text.get(text, [])
+            if not edges or any(job.life.cut for job in jobs):
+                self.holes.append("ninja ran a command that no build statement has: " + text[:200])
+            elif len(edges) == 1 and len(jobs) == 1:
+                jobs[0].edge = edges[0]
+            else:
+                self.break_tie(text, jobs, edges, logged)
+        for job in stage.jobs:
+            self.owners.take(job.work, job.life)
+        for text, jobs in groups.items():
+            self.check_tie(text, jobs)
+
+    def break_tie(self, text: str, jobs: List[Job], edges: List[Edge], logged: Optional[List[str]]) -> None:
+        """Statements with one command: the log names them in the order in which they ended."""
+        place = ends(logged or [])
+        found = sorted((e for e in edges if place.get(e.label, (0, 0))[1] == 1), key=lambda e: place[e.label])
+        if len(jobs) == len(edges) == 1:
+            found = edges
+        if len(found) != len(jobs):
+            self.holes.append("several build statements have one command, and the log of ninja does not say which ran: " + text[:200])
+            return
+        for job, edge in zip(sorted(jobs, key=lambda j: j.life.died), found):
+            job.edge = edge
+        self.ties.append(text)
+
+    def check_tie(self, text: str, jobs: List[Job]) -> None:
+        """Where two that one command cannot tell apart ran at once, it must not matter which was which."""
+        rows = sorted(jobs, key=lambda j: j.life.born)
+        for first, second in zip(rows, rows[1:]):
+            if second.life.born < first.life.died and set(first.work.events) != set(second.work.events):
+                self.holes.append("two build statements with one command ran at once: " + text[:200])
+                return
+
+    def compare_log(self, ninjas: List[Ninja], logged: List[str]) -> None:
+        """Each statement that ran has its lines in the log, and each line a statement that ran."""
+        ran = Counter(path for ninja in ninjas for stage in ninja.stages for edge in stage.ran() for path in edge.makes())
+        told = Counter(logged)
+        for path in sorted((told - ran).keys())[:3]:
+            self.holes.append("the log of ninja names %s, and no process of the trace made it" % path)
+        for path in sorted((ran - told).keys())[:3]:
+            self.holes.append("a command ran for %s, and the log of ninja does not name it" % path)
+
+
+def removed_names(lives: List[Life]) -> Set[str]:
+    """Names that some process removed."""
+    return {path for life in lives for kind, path in life.events if kind in "XD"}
