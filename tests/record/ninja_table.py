@@ -1,0 +1,129 @@
+"""Small manifests, and what `race-record -- ninja` must say of each; most stand beside one with the order that settles it."""
+
+from dataclasses import dataclass, field
+from typing import Dict, List
+
+RULES = "rule sh\n  command = $c\nrule late\n  command = sleep 0.3; $c\n"
+SAFE, RACE, NONE = 0, 1, 2
+
+
+@dataclass
+class Case:
+    """A project, the command that is recorded, the wanted status, and texts that the report must hold."""
+
+    name: str
+    want: int
+    manifest: str
+    says: List[str] = field(default_factory=list)
+    words: str = "ninja"
+    options: List[str] = field(default_factory=list)
+    setup: str = ""
+    files: Dict[str, str] = field(default_factory=dict)
+    races: int = -1  # lines that begin with RACE, where that is asked
+
+
+def sh(outputs: str, inputs: str, command: str, *more: str, rule: str = "sh") -> str:
+    """A build statement; `$out` and `$in` stand for the first output and the inputs."""
+    command = command.replace("$out", outputs.split(" ")[0]).replace("$in", inputs.replace("$ ", "\\ "))
+    return "build %s: %s %s\n  c = %s\n%s" % (outputs, rule, inputs, command, "".join("  %s\n" % line for line in more))
+
+
+GEN = sh("g", "", "echo 1 > g")
+USE = "cat g > a"
+LOG = "echo $out >> log; touch $out"
+DYNDEP = "printf 'ninja_dyndep_version = 1\\nbuild a%s: dyndep%s\\n' > dd"
+INNER = {"sub/build.ninja": RULES + GEN + sh("a", "", USE), "sub2/build.ninja": RULES + GEN + sh("a", "g", USE)}
+MAKEFILE = "all: g a\ng: ; echo 1 > g\na: ; cat g > a\n"
+HAS = "#if __has_include(\"g.h\")\n#include \"g.h\"\n#endif\nint a;\n"
+CC = "rule cc\n  command = cc -Ia -Ib -c $in -o $out -MD -MF $out.d\n  depfile = $out.d\n  deps = gcc\n"
+REMADE = "rule again\n  command = cp next.ninja build.ninja\n  generator = 1\nbuild build.ninja: again next.ninja\n"
+
+
+def named(name: str, outputs: str) -> str:
+    """Two statements with one name for a file that ninja itself writes or removes."""
+    return "rule r\n  command = cp $in $out; echo $out: $in > $d\n  deps = gcc\n  depfile = $d\nrule s\n  command = cp $f $out\n  rspfile = $f\n  rspfile_content = $in\n" + outputs
+
+
+CASES = [
+    Case("forgotten", RACE, GEN + sh("a", "", USE), ["RACE  g", "build.ninja:5  writes it", "fix: build a: .. || g"], races=1),
+    Case("explicit", SAFE, GEN + sh("a", "g", USE)),
+    Case("implicit", SAFE, GEN + sh("a", "| g", USE)),
+    Case("order-only", SAFE, GEN + sh("a", "|| g", USE)),
+    Case("phony", SAFE, GEN + "build p: phony g\nbuild q: phony || p\n" + sh("a", "| q", USE)),
+    Case("validation", RACE, GEN + sh("a", "|@ g", USE)),
+    Case("implicit-output", SAFE, sh("g | h", "", "echo 1 > g; echo > h") + sh("a", "h", USE)),
+    Case("two-outputs", RACE, sh("h", "", "echo 1 > g; echo > h") + sh("a", "", USE)),
+    Case("pool", RACE, "pool one\n  depth = 1\n" + sh("a", "", LOG, "pool = one") + sh("b", "", LOG, "pool = one"), ["both are in the pool one, which runs one at a time"]),
+    Case("pool-deep", RACE, "pool two\n  depth = 2\n" + sh("a", "", LOG, "pool = two") + sh("b", "", LOG, "pool = two"), ["both are in the pool two of depth 2"]),
+    Case("console", RACE, sh("a", "", LOG, "pool = console") + sh("b", "", LOG, "pool = console"), ["both are in the pool console"]),
+    Case("response-file", RACE, named("f", "build a: s x\n  f = r\nbuild b: s y\n  f = r\n"), files={"x": "", "y": ""}),
+    Case("response-file-own", SAFE, named("f", "build a: s x\n  f = r1\nbuild b: s y\n  f = r2\n"), files={"x": "", "y": ""}),
+    Case("dep-file", RACE, named("d", "build a: r x\n  d = m\nbuild b: r y\n  d = m\n"), files={"x": "", "y": ""}),
+    Case("dep-file-own", SAFE, named("d", "build a: r x\n  d = m1\nbuild b: r y\n  d = m2\n"), files={"x": "", "y": ""}),
+    Case("one-command", RACE, sh("a", "", "echo x >> log") + sh("b", "", "echo x >> log"), ["build statements with one command"]),
+    Case("one-command-ordered", SAFE, sh("b", "a", "echo x >> log") + sh("a", "", "echo x >> log")),
+    Case("folder-of-outputs", SAFE, sh("d/e/a", "", "echo > $out") + sh("d/e/b", "", "echo > $out") + sh("d/f/c", "", "echo > $out")),
+    Case("folder-of-another", RACE, sh("d/e/a", "", "echo > $out") + sh("b", "", "echo > d/e/b; touch b"), ["that the folder"]),
+    Case("folder-of-another-ordered", SAFE, sh("d/e/a", "", "echo > $out") + sh("b", "|| d/e/a", "echo > d/e/b; touch b")),
+    Case("mkdir", RACE, sh("a", "", "mkdir d 2> $out; echo > d/a") + sh("b", "", "mkdir d 2> $out; echo > d/b")),
+    Case("mkdir-p", SAFE, sh("a", "", "mkdir -p d; echo > d/a; touch a") + sh("b", "", "mkdir -p d; echo > d/b; touch b")),
+    Case("folder-removed", RACE, sh("d/a", "", "echo > $out") + sh("b", "", "rm -rf d; touch b")),
+    Case("restat", SAFE, sh("a", "", "touch a", "restat = 1") + sh("b", "a", "cat a > b")),
+    Case("restat-of-another", RACE, sh("a", "", "true", "restat = 1") + sh("b", "", "touch a b")),
+    Case("dyndep", SAFE, sh("dd", "", DYNDEP % ("", " | g")) + GEN + sh("a", "|| dd", USE, "dyndep = dd")),
+    Case("dyndep-without", RACE, sh("dd", "", DYNDEP % ("", "")) + GEN + sh("a", "|| dd", USE, "dyndep = dd")),
+    Case("dyndep-output", SAFE, sh("dd", "", DYNDEP % (" | x", "") + "; echo 'build b: dyndep | x' >> dd") + sh("a", "|| dd", "touch a x", "dyndep = dd") + sh("b", "|| dd", "cat x > b", "dyndep = dd")),
+    Case("dyndep-output-forgotten", RACE, sh("dd", "", DYNDEP % (" | x", "") + "; echo 'build b: dyndep' >> dd") + sh("a", "|| dd", "touch a x", "dyndep = dd") + sh("b", "|| dd", "cat x > b; true", "dyndep = dd")),
+    Case("subninja", RACE, "c = no\nsubninja sub/other.ninja\n" + sh("a", "", "cat 'g h' > a"), ["RACE  g h"], files={"sub/other.ninja": sh("g$ h", "", "echo > 'g h'")}),
+    Case("subninja-ordered", SAFE, "subninja sub/other.ninja\n" + sh("a", "g$ h", "cat $in > a"), files={"sub/other.ninja": sh("g$ h", "", "echo > 'g h'")}),
+    Case("listing", RACE, GEN + sh("a", "", "ls . > a")),
+    Case("listing-ordered", SAFE, GEN + sh("a", "g", "ls . > a")),
+    Case("listing-by-python", RACE, GEN + sh("a", "", "python3 list.py > a"), files={"list.py": "import os\nprint(sorted(os.listdir('.')))\n"}),
+    Case("listing-by-python-of-its-folder", RACE, GEN + sh("a", "", "python3 list.py > a"), files={"list.py": "import os\nprint(os.listdir(os.path.dirname(os.path.abspath(__file__))))\n"}),
+    Case("listing-by-python-ordered", SAFE, GEN + sh("a", "g", "python3 list.py > a"), files={"list.py": "import os\nprint(sorted(os.listdir('.')))\n"}),
+    Case("glob", RACE, sh("g.x", "", "touch $out") + sh("a", "", "cat *.x > a; touch a"), files={"h.x": ""}),
+    Case("glob-of-other-names", SAFE, sh("g.y", "", "touch $out") + sh("a", "", "cat *.x > a"), files={"h.x": ""}),
+    Case("failed-look", RACE, sh("a", "", "if test -f g; then echo 1; fi > a") + GEN),
+    Case("failed-look-ordered", SAFE, sh("a", "|| g", "if test -f g; then echo 1; fi > a") + GEN),
+    Case("header", RACE, CC + sh("b/g.h", "", "echo > $out") + "build a.o: cc a.c\n", ["RACE  b/g.h"], files={"a.c": "#include \"g.h\"\nint a;\n", "b/x": ""}),
+    Case("header-ordered", SAFE, CC + sh("b/g.h", "", "echo > $out") + "build a.o: cc a.c || b/g.h\n", files={"a.c": "#include \"g.h\"\nint a;\n"}),
+    Case("header-shadowed", RACE, CC + "build a.o: cc a.c\n" + sh("a/g.h", "", "echo > $out"), ["RACE  a/g.h"], files={"a.c": "#include \"g.h\"\nint a;\n", "b/g.h": "", "a/x": ""}),
+    Case("header-asked-for", RACE, CC + "build a.o: cc a.c\n" + sh("g.h", "", "echo > $out"), ["RACE  g.h"], files={"a.c": HAS}),
+    Case("temporary", RACE, sh("a", "", "echo a > t; mv t a") + sh("b", "", "echo b > t; mv t b"), ["advice: give each recipe a name of its own"]),
+    Case("temporary-own", SAFE, sh("a", "", "echo a > t.$out; mv t.$out a") + sh("b", "", "echo b > t.$out; mv t.$out b")),
+    Case("two-writers", RACE, sh("a", "", "touch a; echo a > x") + sh("b", "", "touch b; echo b > x")),
+    Case("long-command", RACE, GEN + sh("a", "", "cat g > a; : " + "x" * 20000)),
+    Case("absolute", SAFE, "w = $w\ninclude here.ninja\n", setup="{ printf 'build %s/g: sh\\n  c = echo 1 > g\\nbuild a: sh %s/g\\n  c = cat g > a\\n' $PWD $PWD; } > here.ninja"),
+    Case("builddir", RACE, "builddir = logs\n" + GEN + sh("a", "", USE)),
+    Case("inner-ninja", RACE, sh("x", "", "ninja -C sub && touch x"), files=INNER, races=1),
+    Case("inner-ninja-ordered", SAFE, sh("x", "", "ninja -C sub2 && touch x"), ["2 builds"], files=INNER),
+    Case("inner-ninja-and-outer", RACE, sh("x", "", "ninja -C sub2 && touch x") + sh("y", "", "cat sub2/a > y; touch y"), ["RACE  sub2/a"], files=INNER),
+    Case("make-below", RACE, sh("x", "", "$$MAKE -j2 -f Makefile && touch x"), files={"Makefile": MAKEFILE}, words="env MAKE=make ninja"),
+    Case("make-below-serial", SAFE, sh("x", "", "make -f Makefile && touch x"), files={"Makefile": MAKEFILE}),
+    Case("make-above", RACE, GEN + sh("a", "", USE), ["ninja ", "RACE  g"], files={"Makefile": "all: x y\nx: ; ninja -j1\ny: ; touch y\n"}, words="make"),
+    Case("make-above-ordered", SAFE, GEN + sh("a", "g", USE), ["2 builds"], files={"Makefile": "all: x y\nx: ; ninja\ny: ; touch y\n"}, words="make"),
+    Case("make-above-meets", RACE, GEN + sh("a", "g", USE), files={"Makefile": "all: x y\nx: ; ninja\ny: ; cat a > y; true\n"}, words="make"),
+    Case("remade-manifest", RACE, REMADE + sh("a", "", "touch a"), ["RACE  g"], files={"next.ninja": REMADE + "rule sh\n  command = $c\n" + GEN + sh("a", "", USE)}, setup="touch -d 2001-01-01 build.ninja"),
+    Case("remade-manifest-ordered", SAFE, REMADE + sh("a", "", "touch a"), files={"next.ninja": REMADE + "rule sh\n  command = $c\n" + GEN + sh("a", "g", USE)}, setup="touch -d 2001-01-01 build.ninja"),
+    Case("manifest-that-nobody-kept", NONE, "", ["nobody kept"], words="sh ./all", files={"next": RULES + sh("a", "", "cp next build.ninja; echo '#' >> build.ninja; touch a"), "all": "cp next build.ninja; exec ninja\n"}),
+    Case("warm", NONE, GEN + sh("a", "", USE), ["WARM  1 file"], setup="ninja > /dev/null; rm a"),
+    Case("warm-accepted", SAFE, GEN + sh("a", "", USE), ["WARM  1 file", "builds start from this tree"], setup="ninja > /dev/null; rm a", options=["--warm"]),
+    Case("warm-made-again", RACE, sh("g", "s", "cp s g") + sh("a", "s", USE), ["WARM", "RACE  g"], setup="touch -d 2001-01-01 s; ninja > /dev/null; touch s", files={"s": "1"}),
+    Case("warm-by-log-of-headers", RACE, CC + sh("b/g.h", "s", "cp s $out") + "build a.o: cc a.c\n", ["WARM", "RACE  b/g.h"],
+         setup="touch -d 2001-01-01 s a.c; ninja -j1 b/g.h a.o > /dev/null; touch s", files={"a.c": "#include \"g.h\"\nint a;\n", "s": ""}),
+    Case("warm-beside-missingdeps", NONE, CC + sh("b/g.h", "", "echo > $out") + "build a.o: cc a.c\n", ["WARM", "of earlier builds: a.o reads b/g.h"], setup="ninja -j1 > /dev/null; rm a.o", files={"a.c": "#include \"g.h\"\nint a;\n"}),
+    Case("through-what-is-clean", SAFE, sh("x", "s", "cat s > x") + sh("y", "|| x", "touch y") + sh("z", "s || y", "cat x > z"), ["WARM"],
+         setup="touch -d 2001-01-01 s; ninja > /dev/null; touch s", files={"s": ""}, options=["--warm"]),
+    Case("part", SAFE, GEN + sh("a", "", USE) + sh("b", "g", "cat g > b"), words="ninja b"),
+    Case("other-names", RACE, "", words="ninja -C sub -f my.ninja", files={"sub/my.ninja": RULES + GEN + sh("a", "", USE)}),
+    Case("failing", NONE, sh("a", "", "false"), ["the build ended with status 1"]),
+    Case("serial-build-fails", RACE, sh("a", "", "for i in 1 2 3 4 5 6 7 8 9; do test -s g || sleep 0.1; done; " + USE) + GEN, ["HINT  a looks for g, which g makes", "the serial build failed"]),
+    Case("dry-run", NONE, GEN, ["no make and no ninja ran"], words="ninja -n"),
+    Case("log-with-a-line-too-many", NONE, GEN, ["the log of ninja names z"], words="sh ./all", files={"all": "ninja; printf '0\\t1\\t2\\tz\\t5\\n' >> .ninja_log\n"}),
+    Case("log-with-a-line-less", NONE, GEN, ["the log of ninja does not name it"], words="sh ./all", files={"all": "ninja; sed -i '/\\tg\\t/d' .ninja_log\n"}),
+    Case("log-is-gone", NONE, GEN, ["ninja left no log"], words="sh ./all", files={"all": "ninja; rm .ninja_log\n"}),
+    Case("several-at-once", RACE, GEN + sh("a", "", "sleep 1; " + USE), words="sh ./all", files={"all": "ninja -j4\n"}),
+    Case("several-at-once-ordered", SAFE, GEN + sh("a", "g", USE) + sh("b", "", "sleep 0.3; touch b"), words="sh ./all", files={"all": "ninja -j4\n"}),
+    Case("ages", RACE, sh("x", "", "touch x") + sh("y", "", "sleep 0.1; touch y") + sh("a", "x y", "if test x -nt y; then echo 1; fi > a"), ["is newer"]),
+    Case("link-through", RACE, sh("s", "", "mkdir -p real; ln -s real s; touch $out") + sh("a", "s", "echo > s/f; touch a") + sh("b", "s", "cat real/f > b; true")),
+]
