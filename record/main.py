@@ -170,7 +170,7 @@ def import_record(spool: Path, names: Names, kept: Kept, real: str, folder: str,
         assumed.add("hard-links", name)
     at_once(owners, assumed)
     outlived(owners, assumed)
-    ninjas, of_ninja, holes = import_ninjas(replay.all, owners, names, kept, assumed)
+    ninjas, of_ninja, holes = import_ninjas(replay.all, owners, names, kept, assumed, record.status == 0)
     record.holes += holes
     if not owners.makes and not ninjas:
         record.holes.append("no make and no ninja ran")

@@ -69,6 +69,7 @@ class NinjaBuilder(Builder):
         self.check_order()
         self.note_writers()
         self.fill()
+        self.put_makers_first()
         return self.build
 
     # ---------------------------------------------------------------- tasks
@@ -79,7 +80,7 @@ class NinjaBuilder(Builder):
         kept = self.kept(jobs)
         place = {edge.number: at for at, edge in enumerate(kept)}
         after = [{place[m.number] for m in manifest.makers_of(edge) if m.number in place} for edge in kept]
-        keys = [(jobs[edge.number].life.born if edge.number in jobs else 0, edge.number) for edge in kept]
+        keys = [(jobs[edge.number].life.died if edge.number in jobs else 0, edge.number) for edge in kept]
         order, dropped = order_tasks([Task(e.label, Node(e.label, e.label, 0, 0), "group") for e in kept], after, keys)
         if dropped:
             self.holes.append("build statements of %s wait for each other in a ring" % self.ninja.file)
@@ -167,3 +168,21 @@ class NinjaBuilder(Builder):
                 inner_ages(self, at, work)
                 told_ages(self, at, work)
         self.drop_lonely()
+
+    def put_makers_first(self) -> None:
+        """Lists who makes a declared output before who reads it, where nothing orders the two: a fix then lets the reader wait."""
+        tasks, edges = self.build.tasks, self.build.edges
+        makers = {self.full(path): at for at, edge in enumerate(edges) if tasks[at].works for path in edge.makes()}
+        after = [set(task.after) for task in tasks]
+        for at, task in enumerate(tasks):
+            found = {makers[path] for path in task.reads if path in makers}
+            after[at] |= {maker for maker in found if self.build.unordered(maker, at)}
+        order, dropped = order_tasks(tasks, after, [(at, 0) for at in range(len(tasks))])
+        if dropped:
+            return
+        number = {old: new for new, old in enumerate(order)}
+        for task in tasks:
+            task.after = {number[one] for one in task.after}
+        self.build.tasks = [tasks[old] for old in order]
+        self.build.edges = [edges[old] for old in order]
+        self.build.bits = befores([task.after for task in self.build.tasks], list(range(len(order))))

@@ -14,10 +14,10 @@ from record.ninja_runs import Kept, Ninja, Runs, removed_names
 from record.owners import Owners
 
 
-def import_ninjas(lives: List[Life], owners: Owners, names: Names, kept: Kept, assumed: Assumptions) -> Tuple[List[Ninja], List[Build], List[str]]:
-    """All ninjas that ran, a build for each stage in which commands ran, and the holes."""
+def import_ninjas(lives: List[Life], owners: Owners, names: Names, kept: Kept, assumed: Assumptions, has_ended: bool) -> Tuple[List[Ninja], List[Build], List[str]]:
+    """All ninjas that ran, a build for each stage in which commands ran, and the holes; `has_ended`: the whole build did, well."""
     try:
-        runs = Runs(lives, owners, names, kept)
+        runs = Runs(lives, owners, names, kept, has_ended)
     except Unreadable as fault:
         return [], [], ["the manifest that ninja read cannot be read again: %s" % fault]
     holes, builds = runs.holes, []

@@ -96,8 +96,9 @@ def options_of(argv: List[str]) -> "Optional[Tuple[Dict[str, str], List[str]]]":
 class Runs:
     """Finds the ninjas of a trace, reads their manifests, and gives each process to a statement."""
 
-    def __init__(self, lives: List[Life], owners: Owners, names: Names, kept: Kept) -> None:
+    def __init__(self, lives: List[Life], owners: Owners, names: Names, kept: Kept, has_ended: bool) -> None:
         self.lives, self.owners, self.names, self.kept = lives, owners, names, kept
+        self.has_ended = has_ended  # well: else the log says nothing of what failed
         self.holes: List[str] = []
         self.ties: List[str] = []
         self.ninjas: List[Ninja] = []
@@ -116,15 +117,8 @@ class Runs:
                 self.holes.append("ninja ran commands, and its words cannot be read: " + " ".join(life.argv)[:100])
             return
         options, goals = asked
-        begin, folder = life.starts[-1]
         file = options.get("-f", "build.ninja")
-        for act in life.acts:
-            if act.place > begin and act.kind == "U":
-                folder = act.path
-            if act.place > begin and act.kind == "R":
-                break
-        target = self.names.find(folder, file, True).path
-        opened = [act.place for act in life.acts if act.place > begin and act.kind == "R" and act.path == target]
+        folder, opened = self.opened(life, file)
         ninja = Ninja(life, folder, file, goals)
         self.ninjas.append(ninja)
         for start, end in zip(opened, opened[1:] + [NEVER]):
@@ -133,6 +127,19 @@ class Runs:
             self.holes.append("a ninja read no manifest: " + " ".join(life.argv)[:100])
         else:
             ninja.log = self.names.find(folder, os.path.join(ninja.stages[-1].manifest.top.value("builddir"), ".ninja_log"), True).path
+
+    def opened(self, life: Life, file: str) -> Tuple[str, List[int]]:
+        """The folder that a ninja works in (`-C` moves it), and where in the trace it opened its manifest."""
+        begin, folder = life.starts[-1]
+        places: List[int] = []
+        target = self.names.find(folder, file, True).path
+        for act in life.acts:
+            if act.place > begin and act.kind == "U" and not places:
+                folder = act.path
+                target = self.names.find(folder, file, True).path
+            elif act.place > begin and act.kind == "R" and act.path == target:
+                places.append(act.place)
+        return folder, places
 
     def add_stage(self, ninja: Ninja, start: int, end: int) -> None:
         jobs = [job for job in map(self.job_of, ninja.life.children) if job is not None and start <= job.life.born < end]
@@ -196,7 +203,7 @@ class Runs:
         for ninja in ninjas:
             for stage in ninja.stages:
                 self.attribute_stage(stage, logged)
-        if logged is not None:
+        if logged is not None and self.has_ended:
             self.compare_log(ninjas, logged)
 
     def logged(self, ninjas: List[Ninja], log: str) -> Optional[List[str]]:
@@ -207,7 +214,8 @@ class Runs:
         try:
             return new_outputs(self.kept.texts.get(log, ""), text_of(log))
         except OSError:
-            self.holes.append("ninja left no log: " + log)
+            if self.has_ended:
+                self.holes.append("ninja left no log: " + log)
             return None
 
     def attribute_stage(self, stage: Stage, logged: Optional[List[str]]) -> None:
