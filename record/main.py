@@ -17,6 +17,7 @@ from record.assumptions import Assumptions
 from record.again import JOBS, TRIES, folders_of, hints, undo, with_jobs
 from record.build import Builder
 from record.folder import Record, is_record, rewrite, write_record
+from record.fresh import CannotClean, cold_copy, fresh_folder
 from record.graph import Build
 from record.judge import find_race, judge
 from record.calls import Calls
@@ -192,6 +193,7 @@ def parse(args: List[str]) -> argparse.Namespace:
     parser.add_argument("--race", metavar="PROGRAM", help="the program race")
     parser.add_argument("--top", action="append", default=[], metavar="DIR", help="another folder that the build works in")
     parser.add_argument("--warm", action="store_true", help="builds start from this tree, though some of what they make is there already")
+    parser.add_argument("--fresh", action="store_true", help="record a clean copy in the place of the folder that ninja builds in")
     parser.add_argument("--keep-trace", action="store_true", help="keep the trace in the record")
     parser.add_argument("words", nargs=argparse.REMAINDER, metavar="-- COMMAND ..", help="what builds the project")
     found = parser.parse_args(args)
@@ -220,8 +222,8 @@ def judge_record(out: Path, race: str) -> Tuple[int, List[Judged]]:
     return (1 if any(j.verdict.races for j in judged) else 0), judged
 
 
-def attempt(options: argparse.Namespace, words: List[str], tools: Dict[str, str], out: Path) -> Tuple[Record, List[str]]:
-    """One recorded build, and why another is of no use; an empty list where one may help."""
+def attempt(options: argparse.Namespace, words: List[str], tools: Dict[str, str], out: Path) -> Tuple[Record, bool]:
+    """One recorded build, and whether it failed in a way that another may not."""
     real, folder = shutil.which("make") or "make", os.path.realpath(".")
     names = Names()
     for top in dict.fromkeys([folder] + [os.path.realpath(t) for t in options.top + folders_of(words)]):
@@ -241,9 +243,12 @@ def attempt(options: argparse.Namespace, words: List[str], tools: Dict[str, str]
         if options.keep_trace:
             shutil.copytree(spool, out / "trace", ignore=shutil.ignore_patterns("bin", "real"))
         if status != 1 or not found.ninjas:
-            return record, ["no"]
+            return record, False
         record.hints = hints(found.ninjas, names)
-        return record, undo(names, found.lives, kept)
+        changed = undo(names, found.lives, kept) if words != options.words else []
+        if changed:
+            record.notes.append("the build that failed changed %s, so it is not recorded again" % changed[0])
+        return record, words != options.words and not changed
     finally:
         shutil.rmtree(room, ignore_errors=True)
 
@@ -264,17 +269,27 @@ def finish(record: Record, found: Imported, names: Names, warm: bool) -> None:
 
 def record_all(options: argparse.Namespace, tools: Dict[str, str], out: Path) -> Record:
     """The record: of the serial build, or, where ninja failed in it, of one with several commands at once."""
-    serial = with_jobs(options.words, 1)
-    record, stuck = attempt(options, serial, tools, out)
-    found = record.hints
-    for number in range(1, TRIES + 1):
-        if stuck or serial == options.words:
-            break
+    record, is_again = attempt(options, with_jobs(options.words, 1), tools, out)
+    found, number = record.hints, 0
+    while is_again and number < TRIES:
+        number += 1
         print("race-record: the serial build failed; recording again with -j%d (%d of %d)" % (JOBS, number, TRIES), file=sys.stderr, flush=True)
-        record, stuck = attempt(options, with_jobs(options.words, JOBS), tools, out)
+        record, is_again = attempt(options, with_jobs(options.words, JOBS), tools, out)
         record.notes.append("the serial build failed; this is build %d with -j%d" % (number, JOBS))
     record.hints = found or record.hints
     rewrite(out, record)
+    return record
+
+
+def record_fresh(options: argparse.Namespace, tools: Dict[str, str], out: Path) -> Record:
+    """The record of a cold copy; the copy and what it built are gone afterwards."""
+    folder = fresh_folder(options.words)
+    if folder is None:
+        raise CannotClean("--fresh cleans folders that ninja builds in; for make, clean the tree (make clean) and record it")
+    with tempfile.TemporaryDirectory(prefix="race-record-") as room:
+        with cold_copy(folder):
+            record = record_all(options, tools, Path(room) / "record")
+        shutil.copytree(Path(room) / "record", out)
     return record
 
 
@@ -294,7 +309,10 @@ def run(options: argparse.Namespace) -> int:
         return stop("%s: no such command" % options.words[0])
     if out.exists():
         shutil.rmtree(out)
-    record = record_all(options, tools, out)
+    try:
+        record = record_fresh(options, tools, out) if options.fresh else record_all(options, tools, out)
+    except CannotClean as fault:
+        return stop(str(fault))
     ended, judged = judge_record(out, race)
     if ended == 0 and record.warm and not options.warm:
         ended = 2

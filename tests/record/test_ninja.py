@@ -3,7 +3,7 @@
 import re
 import shutil
 import unittest
-from typing import Callable
+from typing import Callable, Dict, List, Tuple
 
 import support
 from ninja_table import CASES, RULES, Case
@@ -31,6 +31,41 @@ def test_of(case: Case) -> Callable[[unittest.TestCase], None]:
 @unittest.skipUnless(shutil.which("ninja"), "ninja is missing (Debian: apt-get install ninja-build)")
 class Ninja(unittest.TestCase):
     """A test for each case."""
+
+
+@unittest.skipUnless(shutil.which("ninja"), "ninja is missing (Debian: apt-get install ninja-build)")
+class Fresh(unittest.TestCase):
+    """`--fresh`: a clean copy is recorded, and the folder stays as it was."""
+
+    def state(self, project: support.Project) -> Dict[str, Tuple[int, str]]:
+        """Times and contents of all files besides the record."""
+        paths = [p for p in sorted(project.folder.rglob("*")) if ".race" not in p.parts]
+        return {str(p): (p.lstat().st_mtime_ns, p.read_text() if p.is_file() else "") for p in paths if p.name != "project"}
+
+    def both(self, words: List[str], below: str) -> None:
+        """A warm folder with a race that only a cold build shows."""
+        manifest = RULES + "build d/g: sh\n  c = echo 1 > d/g\nbuild a: sh\n  c = cat d/g > a; echo x >> left\n"
+        with support.Project({below + "build.ninja": manifest, "x": ""}) as project:
+            project.sh("cd ./%s; ninja -j1 > /dev/null; rm a" % below)
+            warm = project.record(words)
+            self.assertEqual(2, warm.status, warm.text())
+            before = self.state(project)
+            told = project.record(words, ["--fresh"])
+            self.assertEqual(before, self.state(project))
+            self.assertEqual(1, told.status, told.text() + told.stderr.decode())
+            self.assertNotIn("WARM", told.text())
+            self.assertEqual([], list(project.folder.parent.rglob("*.race-saved")))
+
+    def test_folder_below(self) -> None:
+        self.both(["ninja", "-C", "b"], "b/")
+
+    def test_own_folder(self) -> None:
+        self.both(["ninja"], "")
+
+    def test_make(self) -> None:
+        with support.Project({"Makefile": "all: ; touch all\n"}) as project:
+            told = project.record(["make"], ["--fresh"])
+        self.assertEqual((3, True), (told.status, b"make clean" in told.stderr))
 
 
 for case in CASES:
