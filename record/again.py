@@ -3,6 +3,7 @@
 The graph of ninja is read from its manifest, so a record of commands side by side serves as well as a serial one.
 """
 
+import json
 import os
 import re
 from pathlib import Path
@@ -42,26 +43,51 @@ def folders_of(words: List[str]) -> List[str]:
     return [name for name in named if os.path.isdir(name)]
 
 
+def tops_of(words: List[str], others: List[str]) -> List[str]:
+    """The folders that a build works in: where it starts, those that its words name, and the sources that they belong to."""
+    found = [os.path.realpath(name) for name in [".", *others, *folders_of(words)]]
+    found += [os.path.realpath(source) for name in list(found) for source in (source_of(name),) if source]
+    return [top for top in dict.fromkeys(found) if not any(top.startswith(other.rstrip("/") + "/") for other in found)]
+
+
+def source_of(folder: str) -> str:
+    """The sources of a folder that CMake or Meson configured; nothing where neither did."""
+    try:
+        match = re.search(r"(?m)^CMAKE_HOME_DIRECTORY:INTERNAL=(.*)$", Path(folder, "CMakeCache.txt").read_text(errors="surrogateescape"))
+        return match.group(1) if match else ""
+    except OSError:
+        pass
+    try:
+        found = json.loads(Path(folder, "meson-info", "meson-info.json").read_text())["directories"]["source"]
+        return found if isinstance(found, str) else ""
+    except (OSError, ValueError, KeyError, TypeError):
+        return ""
+
+
 def hints(ninjas: List[Ninja], names: Names) -> List[str]:
     """Who looks for what another statement makes, and does not wait for it: the files that were absent first."""
     found: Dict[str, int] = {}
     for ninja in ninjas:
         for stage in ninja.stages:
+            below: Dict[int, Set[int]] = {}
             made = {names.find(ninja.folder, path, True).path: edge for edge in stage.manifest.edges if not edge.is_phony for path in edge.makes()}
             for job in stage.jobs:
                 if job.edge is None:
                     continue
                 for kind, path in job.work.events:
                     maker = made.get(path)
-                    if maker is not None and kind in "RSN" and is_loose(stage.manifest, maker, job.edge):
+                    if maker is not None and kind in "RSN" and is_loose(stage.manifest, maker, job.edge, below):
                         text = "%s looks for %s, which %s makes, and does not wait for it" % (job.edge.label, os.path.relpath(path, ninja.folder), maker.label)
                         found[text] = min(found.get(text, 2), 0 if kind == "N" else 1)
     return sorted(found, key=lambda text: (found[text], text))[:HINTS]
 
 
-def is_loose(manifest: Manifest, first: Edge, second: Edge) -> bool:
-    """Whether nothing orders two statements."""
-    return first is not second and first.number not in manifest.below([second]) and second.number not in manifest.below([first])
+def is_loose(manifest: Manifest, first: Edge, second: Edge, below: Dict[int, Set[int]]) -> bool:
+    """Whether nothing orders two statements; `below` keeps what was worked out."""
+    for edge in (first, second):
+        if edge.number not in below:
+            below[edge.number] = manifest.below([edge])
+    return first is not second and first.number not in below[second.number] and second.number not in below[first.number]
 
 
 def undo(names: Names, lives: List[Life], kept: Kept) -> List[str]:

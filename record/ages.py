@@ -48,7 +48,11 @@ def compare(builder: "Builder", at: int, first: str, second: str, own: bool = Fa
 
 
 def inner_ages(builder: "Builder", at: int, work: Work) -> None:
-    """The makes of a recipe compare targets with their prerequisites."""
+    """The makes and ninjas of a recipe compare targets with their prerequisites."""
+    for ninja in work.ninjas:
+        for target, asked in ninja.compared():
+            first, second = (builder.names.find(ninja.folder, name, True).path for name in (target, asked))
+            compare(builder, at, first, second)
     for make in work.makes:
         for one in make.words.rounds:
             paths = {n: inner_path(builder, make, one.vpath.get(n, n)) for n in one.nodes}

@@ -19,7 +19,7 @@ TEXTS = {
     "libtool": "globs of libtool are about its own files",
     "progress": "files under CMakeFiles/Progress steer only what is shown",
     "outlives": "a process changed files when its recipe had ended",
-    "tops": "two makes ran at once outside of any make",
+    "tops": "two makes or ninjas ran at once, and no make or ninja started them",
     "interpreters": "Perl, Python and other interpreters compare ages only of files that they looked at",
 }
 

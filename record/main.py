@@ -14,7 +14,7 @@ from pathlib import Path
 from typing import Dict, List, Optional, Tuple
 
 from record.assumptions import Assumptions
-from record.again import JOBS, TRIES, folders_of, hints, undo, with_jobs
+from record.again import JOBS, TRIES, hints, tops_of, undo, with_jobs
 from record.build import Builder
 from record.folder import Record, is_record, rewrite, write_record
 from record.fresh import CannotClean, cold_copy, fresh_folder
@@ -226,7 +226,7 @@ def attempt(options: argparse.Namespace, words: List[str], tools: Dict[str, str]
     """One recorded build, and whether it failed in a way that another may not."""
     real, folder = shutil.which("make") or "make", os.path.realpath(".")
     names = Names()
-    for top in dict.fromkeys([folder] + [os.path.realpath(t) for t in options.top + folders_of(words)]):
+    for top in tops_of(words, options.top):
         names.walk(top)
     kept = Kept.of(names)
     room = Path(tempfile.mkdtemp(prefix="race-record-", dir="/tmp" if os.path.isdir("/tmp") else None))

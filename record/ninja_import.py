@@ -23,15 +23,27 @@ def import_ninjas(lives: List[Life], owners: Owners, names: Names, kept: Kept, a
     holes, builds = runs.holes, []
     for text in runs.ties:
         assumed.add("ties", text[:60])
+    for argv in side_by_side(runs.ninjas, owners):
+        assumed.add("tops", " ".join(argv)[:60])
     removed = removed_names(lives) if runs.ninjas else set()
-    for ninja in runs.ninjas:
+    if runs.ninjas:
         assumed.add("ninja", "")
+    for ninja in runs.ninjas:
         for number, stage in enumerate(ninja.stages):
             if stage.jobs:
                 builder = NinjaBuilder(ninja, number, removed, names, assumed)
                 builds.append(builder.run())
                 holes += builder.holes
     return runs.ninjas, builds, holes
+
+
+def side_by_side(ninjas: List[Ninja], owners: Owners) -> List[List[str]]:
+    """The words of ninjas and makes that ran beside a ninja, where no make or ninja started them."""
+    lives = [n.life for n in ninjas] + [m.life for m in owners.makes]
+    lives = [l for l in lives if not any(up.is_make or up.is_ninja for up in l.up() if up is not l)]
+    lives.sort(key=lambda life: life.born)
+    pairs = [(a, b) for a, b in zip(lives, lives[1:]) if b.born < a.died and (a.is_ninja or b.is_ninja)]
+    return [second.argv for _, second in pairs]
 
 
 def versions(ninjas: List[Ninja]) -> str:

@@ -200,6 +200,18 @@ class Manifest:
                     self._users.setdefault(path, []).append(edge)
         return self._users
 
+    def aged(self, edge: Edge) -> List[str]:
+        """The files whose ages ninja compares with those of a statement's outputs: through phony ones too."""
+        found: Dict[str, None] = {}
+        todo = edge.inputs + edge.implicit
+        while todo:
+            path = todo.pop()
+            if path not in found:
+                found[path] = None
+                maker = self.makers.get(path)
+                todo += maker.inputs + maker.implicit if maker is not None and maker.is_phony else []
+        return list(found)
+
     def goals(self, names: List[str]) -> Optional[List[Edge]]:
         """The statements that words of the command line name; without words the default; None where a word is not known."""
         asked = [canonical(n) for n in names] or self.defaults or self.roots()

@@ -5,7 +5,7 @@ import os
 from collections import Counter
 from dataclasses import dataclass, field
 from pathlib import Path
-from typing import Callable, Dict, List, Optional, Set, Tuple
+from typing import Callable, Dict, Iterator, List, Optional, Set, Tuple
 
 from record.lives import Life
 from record.names import Names
@@ -59,6 +59,13 @@ class Ninja:
         """Its words."""
         return " ".join(self.life.argv[1:])
 
+    def compared(self) -> Iterator[Tuple[str, str]]:
+        """Outputs, each with the inputs whose ages ninja compares with its own."""
+        for stage in self.stages:
+            for edge in stage.manifest.edges:
+                if not edge.is_phony:
+                    yield from ((target, asked) for asked in stage.manifest.aged(edge) for target in edge.makes())
+
 
 @dataclass
 class Kept:
@@ -107,6 +114,15 @@ class Runs:
                 self.add(life)
         for log in dict.fromkeys(ninja.log for ninja in self.ninjas):
             self.attribute(log)
+        self.note_inner()
+
+    def note_inner(self) -> None:
+        """Which ninjas ran below which recipe or command."""
+        by_life = {id(ninja.life): ninja for ninja in self.ninjas}
+        works = [work for make in self.owners.makes for work in make.work.values()]
+        works += [job.work for ninja in self.ninjas for stage in ninja.stages for job in stage.jobs]
+        for work in works if by_life else []:
+            work.ninjas = [by_life[id(life)] for life in work.lives if id(life) in by_life]
 
     # ---------------------------------------------------------------- processes
     def add(self, life: Life) -> None:

@@ -5,11 +5,14 @@ import bisect
 import os
 from dataclasses import dataclass, field
 from pathlib import Path
-from typing import Dict, Iterable, List, Optional, Set, Tuple
+from typing import TYPE_CHECKING, Dict, Iterable, List, Optional, Set, Tuple
 
 from record.globs import patterns
 from record.lives import Act, Key, Life
 from record.words import Job, Round, Words, makefiles
+
+if TYPE_CHECKING:
+    from record.ninja_runs import Ninja
 
 
 @dataclass
@@ -19,6 +22,7 @@ class Work:
     events: Dict[Key, int] = field(default_factory=dict)
     lives: List[Life] = field(default_factory=list)
     makes: List["Make"] = field(default_factory=list)
+    ninjas: List["Ninja"] = field(default_factory=list)
 
     def add(self, kind: str, path: str, place: int) -> None:
         """Takes one event; its first place counts."""

@@ -127,3 +127,11 @@ CASES = [
     Case("ages", RACE, sh("x", "", "touch x") + sh("y", "", "sleep 0.1; touch y") + sh("a", "x y", "if test x -nt y; then echo 1; fi > a"), ["is newer"]),
     Case("link-through", RACE, sh("s", "", "mkdir -p real; ln -s real s; touch $out") + sh("a", "s", "echo > s/f; touch a") + sh("b", "s", "cat real/f > b; true")),
 ]
+CASES += [
+    Case("ages-of-an-inner-ninja", RACE, sh("x", "", "touch x") + sh("y", "", "sleep 0.1; touch y") + sh("z", "x y", "ninja -C sub && touch z"), ["which of"],
+         files={"sub/build.ninja": RULES + "build ../y: sh ../x\n  c = touch ../y ran\n"}),
+    Case("ages-of-two-inputs", SAFE, sh("x", "", "touch x") + sh("y", "", "sleep 0.1; touch y") + sh("z", "x y", "ninja -C sub && touch z"),
+         files={"sub/build.ninja": RULES + sh("out", "../x ../y", "cat ../x ../y > out")}),
+    Case("beside-each-other", SAFE, GEN, ["two makes or ninjas ran at once"], words="sh ./all", files={"all": "ninja & ninja -C sub; wait\n", "sub/build.ninja": RULES + sh("h", "", "sleep 1; touch h")}),
+    Case("inner-ninja-that-fails", NONE, sh("x", "", "ninja -C sub || touch x"), ["ninja left no log"], files={"sub/build.ninja": RULES + sh("h", "", "false")}),
+]
