@@ -84,6 +84,8 @@ def choice(number: int, race: Race, record: Path) -> Chosen:
     """A race with what its build says of it."""
     about = read_json(record / "builds" / race.build / "build.json")
     folder = about["folder"]
+    if about.get("tool", "make") != "make":
+        raise CannotConfirm(f"race {number} is one of {about['tool']}'s commands, and only recipes of make can be held")
     sides = []
     for side, recipe in zip(SIDES, (race.first.recipe, race.second.recipe)):
         kind = about["labels"].get(recipe.label, {}).get("kind", "")
