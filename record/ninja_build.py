@@ -12,6 +12,7 @@ from record.names import Names, join
 from record.ninja_fix import owner_of
 from record.ninja_manifest import Edge
 from record.ninja_runs import NEVER, Job, Ninja, Stage
+from record.owners import Work
 
 TEXT_LIMIT = 400
 
@@ -67,6 +68,7 @@ class NinjaBuilder(Builder):
         """All steps."""
         self.make_tasks()
         self.check_order()
+        self.check_folders()
         self.note_writers()
         self.fill()
         self.put_makers_first()
@@ -135,12 +137,13 @@ class NinjaBuilder(Builder):
         work, begin, end = job.work, job.life.born, job.life.died
         for path in edge.makes():
             folder = self.full(os.path.dirname(path) or ".")
-            for above in [folder] + parents(folder):
-                if self.is_known(above) and (self.before.get(above) != "d" or above in self.removed):
-                    work.add("T", above, begin)
+            self.add_folder(work, folder, begin)
             if edge.is_restat or edge.is_generator or edge.value("deps"):
                 work.add("S", join(folder, os.path.basename(path)), end)
         response, found = edge.path("rspfile"), edge.path("depfile")
+        folder = self.full(os.path.dirname(found) or ".")
+        if found and ("M", folder) in self.ninja.life.events:  # later ninjas make it too
+            self.add_folder(work, folder, begin)
         if response:
             for kind in "CWRD":
                 work.add(kind, self.full(response), begin)
@@ -151,6 +154,21 @@ class NinjaBuilder(Builder):
         if dyndep:
             for path in [dyndep] + edge.waits() + edge.makes():
                 work.add("S", self.full(path), begin)
+
+    def add_folder(self, work: Work, folder: str, place: int) -> None:
+        """Ninja makes a folder, and those above it, if they are not there."""
+        for above in [folder] + parents(folder):
+            if self.is_known(above) and (self.before.get(above) != "d" or above in self.removed):
+                work.add("T", above, place)
+
+    def check_folders(self) -> None:
+        """Each folder that ninja made while commands ran is one of a statement."""
+        end = min((other.opened for other in self.ninja.stages if other.opened > self.stage.opened), default=NEVER)
+        begin = min(job.life.born for job in self.stage.jobs)
+        owned = {path for job in self.stage.jobs for kind, path in job.work.events if kind == "T"}
+        for (kind, path), place in self.ninja.life.events.items():
+            if kind in "MT" and begin < place < end and path not in owned and self.is_known(path):
+                self.holes.append("ninja made the folder %s, and no statement needs it" % path)
 
     # ---------------------------------------------------------------- footprints
     def events(self, task: Task) -> Iterable[Tuple[str, str]]:
