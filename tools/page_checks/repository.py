@@ -63,9 +63,9 @@ class Repository:
     @cached_property
     def scripts(self) -> list[str]:
         """The scripts: files in Python or shell, with or without a suffix."""
-        tops = ("tools/", "tests/", "bench/", "record/", "report/", "confirm/")
+        tops = ("tools/", "tests/", "bench/", "record/", "report/", "confirm/", "explain/")
         return [it for it in sorted(self.files)
-                if it in ("test", "demo") or it.endswith(".py") or it.startswith(tops) and "." not in Path(it).name]
+                if it in ("test", "demo", "install") or it.endswith(".py") or it.startswith(tops) and "." not in Path(it).name]
 
     @cached_property
     def words(self) -> set[str]:

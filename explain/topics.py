@@ -1,0 +1,99 @@
+"""The topics of the page of faults: what can be asked for, and the text of each."""
+from __future__ import annotations
+
+import re
+from collections.abc import Iterator
+from dataclasses import dataclass
+
+HEADING = re.compile(r"^(#+) (.*)$")
+NUMBERED = re.compile(r"^([FV]\d+) (\w+)$")
+RULER = re.compile(r"^\|[\s|:-]+\|$")
+SPAN = re.compile(r"`([^`]+)`")
+RACE = "two recipes may run at once and should not: what to do goes by the path"
+
+
+@dataclass(frozen=True)
+class Topic:
+    """What a name stands for: its names, of which the first is listed, one line on it, and its lines in Markdown."""
+
+    names: tuple[str, ...]
+    title: str
+    lines: tuple[str, ...]
+
+
+@dataclass(frozen=True)
+class Section:
+    """A heading of a page with the lines below it, up to the next heading."""
+
+    heading: str
+    lines: tuple[str, ...]
+
+
+def sections(page: str) -> Iterator[Section]:
+    """The sections of a page. A line that begins with a number sign inside a fence is no heading."""
+    heading, lines, is_fenced = "", [], False
+    for line in page.splitlines():
+        is_fenced ^= line.startswith("```")
+        found = None if is_fenced else HEADING.match(line)
+        if found:
+            yield Section(heading, tuple(lines))
+            heading, lines = found[2], []
+        else:
+            lines.append(line)
+    yield Section(heading, tuple(lines))
+
+
+def cells(line: str) -> list[str]:
+    return [it.strip().replace("\\|", "|") for it in re.split(r"(?<!\\)\|", line.strip().strip("|"))]
+
+
+def rows(lines: tuple[str, ...]) -> Iterator[dict[str, str]]:
+    """The rows of the tables among these lines, each cell under the head of its column; "the same" is the cell above."""
+    heads: list[str] = []
+    above: list[str] = []
+    for line in lines:
+        if not line.startswith("|"):
+            heads = []
+        elif not heads:
+            heads = above = cells(line)
+        elif not RULER.match(line):
+            above = [old if new == "the same" else new for old, new in zip(above, cells(line))]
+            yield dict(zip(heads, above))
+
+
+def first_sentence(lines: tuple[str, ...]) -> str:
+    """The first sentence of a text, on one line."""
+    text = " ".join(" ".join(lines).split("    ")[0].split())
+    return re.split(r"(?<=[.:])\s", text, maxsplit=1)[0].rstrip(":")
+
+
+def shown(row: dict[str, str]) -> tuple[str, ...]:
+    """The cells of a row behind the first, each as a paragraph under the head of its column."""
+    return tuple(line for head, cell in list(row.items())[1:] for line in (f"{head[:1].upper()}{head[1:]}: {cell}.", ""))
+
+
+def topic_of_row(row: dict[str, str]) -> Topic | None:
+    """What a row of a table explains: a number and word such as V3 Stale in its first cell, or a kind of race in backticks."""
+    told = list(row.values())
+    first = SPAN.findall(told[0]) if told else []
+    numbered = NUMBERED.match(first[0]) if first else None
+    if numbered:
+        return Topic(numbered.groups(), told[1], shown(row))
+    kind = re.match(r"`([a-z]+(?:-[a-z]+)*)`: (.*)", told[1]) if len(told) > 2 else None
+    if kind:
+        text = (f"The path {told[0]}: {kind[2]}.", "", f"The fix: {told[2]}.")
+        return Topic((kind[1],), f"a race: {kind[2]}", text)
+    return None
+
+
+def topics(page: str) -> list[Topic]:
+    """All that a page explains, in its order: faults by their headings, refusals and kinds of races by rows, and races."""
+    found: list[Topic] = []
+    for section in sections(page):
+        numbered = NUMBERED.match(section.heading)
+        if numbered:
+            found.append(Topic(numbered.groups(), first_sentence(section.lines), section.lines))
+        elif section.heading.lower() in ("race", "races"):
+            found.append(Topic(("race", "races"), RACE, section.lines))
+        found += [it for it in map(topic_of_row, rows(section.lines)) if it]
+    return found

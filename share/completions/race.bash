@@ -1,0 +1,104 @@
+# Completions of race and its companions for bash. Made by tools/completions from the help. Do not edit.
+
+_race() {
+  local word=${COMP_WORDS[COMP_CWORD]} before=${COMP_WORDS[COMP_CWORD-1]} command=${1##*/}
+  if [[ $command == race && $COMP_CWORD -gt 1 && ${COMP_WORDS[1]} == @(order|check|verify|replay|serialise) ]]; then
+    command="race ${COMP_WORDS[1]}"
+  fi
+  COMPREPLY=()
+  case $command in
+  'race')
+    case $word in -*) mapfile -t COMPREPLY < <(compgen -W "-h --help -V --version" -- "$word"); return ;; esac
+    mapfile -t COMPREPLY < <(compgen -W "order check verify replay serialise" -- "$word") ;;
+  'race order')
+    case $before in
+      --makefile) mapfile -t COMPREPLY < <(compgen -f -- "$word"); return ;;
+      --listing) mapfile -t COMPREPLY < <(compgen -f -- "$word"); return ;;
+      --root) mapfile -t COMPREPLY < <(compgen -d -- "$word"); return ;;
+      --base) mapfile -t COMPREPLY < <(compgen -f -- "$word"); return ;;
+      --includes) mapfile -t COMPREPLY < <(compgen -f -- "$word"); return ;;
+    esac
+    case $word in -*) mapfile -t COMPREPLY < <(compgen -W "--makefile --listing --root --base --posix-base --includes -h --help" -- "$word"); return ;; esac
+    mapfile -t COMPREPLY < <(compgen -f -- "$word") ;;
+  'race check')
+    case $before in
+      --makefile) mapfile -t COMPREPLY < <(compgen -f -- "$word"); return ;;
+      --listing) mapfile -t COMPREPLY < <(compgen -f -- "$word"); return ;;
+      --root) mapfile -t COMPREPLY < <(compgen -d -- "$word"); return ;;
+      --base) mapfile -t COMPREPLY < <(compgen -f -- "$word"); return ;;
+      --includes) mapfile -t COMPREPLY < <(compgen -f -- "$word"); return ;;
+      --footprints) mapfile -t COMPREPLY < <(compgen -f -- "$word"); return ;;
+    esac
+    case $word in -*) mapfile -t COMPREPLY < <(compgen -W "--makefile --listing --root --base --posix-base --includes --footprints --print-proof -h --help" -- "$word"); return ;; esac
+    mapfile -t COMPREPLY < <(compgen -f -- "$word") ;;
+  'race verify')
+    case $before in
+      --makefile) mapfile -t COMPREPLY < <(compgen -f -- "$word"); return ;;
+      --listing) mapfile -t COMPREPLY < <(compgen -f -- "$word"); return ;;
+      --root) mapfile -t COMPREPLY < <(compgen -d -- "$word"); return ;;
+      --base) mapfile -t COMPREPLY < <(compgen -f -- "$word"); return ;;
+      --includes) mapfile -t COMPREPLY < <(compgen -f -- "$word"); return ;;
+      --footprints) mapfile -t COMPREPLY < <(compgen -f -- "$word"); return ;;
+      --proof) mapfile -t COMPREPLY < <(compgen -f -- "$word"); return ;;
+    esac
+    case $word in -*) mapfile -t COMPREPLY < <(compgen -W "--makefile --listing --root --base --posix-base --includes --footprints --proof -h --help" -- "$word"); return ;; esac
+    mapfile -t COMPREPLY < <(compgen -f -- "$word") ;;
+  'race replay')
+    case $before in
+      --makefile) mapfile -t COMPREPLY < <(compgen -f -- "$word"); return ;;
+      --listing) mapfile -t COMPREPLY < <(compgen -f -- "$word"); return ;;
+      --root) mapfile -t COMPREPLY < <(compgen -d -- "$word"); return ;;
+      --base) mapfile -t COMPREPLY < <(compgen -f -- "$word"); return ;;
+      --includes) mapfile -t COMPREPLY < <(compgen -f -- "$word"); return ;;
+      --footprints) mapfile -t COMPREPLY < <(compgen -f -- "$word"); return ;;
+      --log) mapfile -t COMPREPLY < <(compgen -f -- "$word"); return ;;
+      --limit) COMPREPLY=(); return ;;
+    esac
+    case $word in -*) mapfile -t COMPREPLY < <(compgen -W "--makefile --listing --root --base --posix-base --includes --footprints --log --limit --tie -h --help" -- "$word"); return ;; esac
+    mapfile -t COMPREPLY < <(compgen -f -- "$word") ;;
+  'race serialise')
+    case $before in
+      --makefile) mapfile -t COMPREPLY < <(compgen -f -- "$word"); return ;;
+      --listing) mapfile -t COMPREPLY < <(compgen -f -- "$word"); return ;;
+      --root) mapfile -t COMPREPLY < <(compgen -d -- "$word"); return ;;
+      --base) mapfile -t COMPREPLY < <(compgen -f -- "$word"); return ;;
+      --includes) mapfile -t COMPREPLY < <(compgen -f -- "$word"); return ;;
+      --footprints) mapfile -t COMPREPLY < <(compgen -f -- "$word"); return ;;
+      --log) mapfile -t COMPREPLY < <(compgen -f -- "$word"); return ;;
+      --limit) COMPREPLY=(); return ;;
+    esac
+    case $word in -*) mapfile -t COMPREPLY < <(compgen -W "--makefile --listing --root --base --posix-base --includes --footprints --log --limit --tie -h --help" -- "$word"); return ;; esac
+    mapfile -t COMPREPLY < <(compgen -f -- "$word") ;;
+  'race-confirm')
+    case $before in
+      --runs) COMPREPLY=(); return ;;
+      --schedule) COMPREPLY=(); return ;;
+      --prepare) COMPREPLY=(); return ;;
+      --keep) mapfile -t COMPREPLY < <(compgen -d -- "$word"); return ;;
+      --race) mapfile -t COMPREPLY < <(compgen -f -- "$word"); return ;;
+    esac
+    case $word in -*) mapfile -t COMPREPLY < <(compgen -W "-h --help --runs --schedule --prepare --keep --race" -- "$word"); return ;; esac
+    mapfile -t COMPREPLY < <(compgen -d -- "$word") ;;
+  'race-explain')
+    case $word in -*) mapfile -t COMPREPLY < <(compgen -W "-h --help" -- "$word"); return ;; esac
+    mapfile -t COMPREPLY < <(compgen -W "$(race-explain 2>/dev/null | sed 's/  .*//')" -- "$word") ;;
+  'race-record')
+    case $before in
+      -o|--output) mapfile -t COMPREPLY < <(compgen -d -- "$word"); return ;;
+      --race) mapfile -t COMPREPLY < <(compgen -f -- "$word"); return ;;
+      --top) mapfile -t COMPREPLY < <(compgen -d -- "$word"); return ;;
+    esac
+    case $word in -*) mapfile -t COMPREPLY < <(compgen -W "-h --help -o --output --race --top --keep-trace" -- "$word"); return ;; esac
+    mapfile -t COMPREPLY < <(compgen -c -- "$word") ;;
+  'race-report')
+    case $before in
+      --format) mapfile -t COMPREPLY < <(compgen -W "github html json sarif text" -- "$word"); return ;;
+      -o|--output) mapfile -t COMPREPLY < <(compgen -f -- "$word"); return ;;
+      --baseline) mapfile -t COMPREPLY < <(compgen -f -- "$word"); return ;;
+      --race) mapfile -t COMPREPLY < <(compgen -f -- "$word"); return ;;
+    esac
+    case $word in -*) mapfile -t COMPREPLY < <(compgen -W "-h --help --format -o --output --baseline --race" -- "$word"); return ;; esac
+    mapfile -t COMPREPLY < <(compgen -d -- "$word") ;;
+  esac
+}
+complete -o filenames -F _race race race-confirm race-explain race-record race-report

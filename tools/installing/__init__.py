@@ -1,0 +1,1 @@
+"""What `install` does, in parts: building the program, what goes where, and putting and removing it."""
