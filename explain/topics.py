@@ -74,14 +74,14 @@ def shown(row: dict[str, str]) -> tuple[str, ...]:
 
 def topic_of_row(row: dict[str, str]) -> Topic | None:
     """What a row of a table explains: a number and word such as V3 Stale in its first cell, or a kind of race in backticks."""
-    told = list(row.values())
-    first = SPAN.findall(told[0]) if told else []
+    found = list(row.values())
+    first = SPAN.findall(found[0]) if found else []
     numbered = NUMBERED.match(first[0]) if first else None
     if numbered:
-        return Topic(numbered.groups(), told[1], shown(row))
-    kind = re.match(r"`([a-z]+(?:-[a-z]+)*)`: (.*)", told[1]) if len(told) > 2 else None
+        return Topic(numbered.groups(), found[1], shown(row))
+    kind = re.match(r"`([a-z]+(?:-[a-z]+)*)`: (.*)", found[1]) if len(found) > 2 else None
     if kind:
-        text = (f"The path {told[0]}: {kind[2]}.", "", f"The fix: {told[2]}.")
+        text = (f"The path {found[0]}: {kind[2]}.", "", f"The fix: {found[2]}.")
         return Topic((kind[1],), f"a race: {kind[2]}", text)
     return None
 
