@@ -77,6 +77,8 @@ complete -c race-record -s h -l help -d 'show this help message and exit'
 complete -c race-record -s o -l output -x -a '(__fish_complete_directories)' -d 'the folder of the record (.race)'
 complete -c race-record -l race -r -F -d 'the program race'
 complete -c race-record -l top -x -a '(__fish_complete_directories)' -d 'another folder that the build works in'
+complete -c race-record -l warm -d 'builds start from this tree, though some of what they make is there already'
+complete -c race-record -l fresh -d 'record a clean copy in the place of the folder that ninja builds in'
 complete -c race-record -l keep-trace -d 'keep the trace in the record'
 complete -c race-record -x -a '(__fish_complete_subcommand)'
 
