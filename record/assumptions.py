@@ -6,7 +6,7 @@ from typing import Dict, List
 TEXTS = {
     "serial": "make decides goals in this order, without --shuffle, and recipes do not look at MAKEFLAGS, the number of processors or a terminal",
     "ninja": "commands of ninja do not look at the number of jobs, the number of processors or a terminal",
-    "ties": "build statements with one command were told apart by ninja's log",
+    "ties": "build statements with one command were distinguished by ninja's log",
     "up-to-date": "builds start from this tree: targets that were up to date stay so",
     "at-once": "two processes of one recipe touch a file at the same time",
     "sockets": "a process talks to a server, whose files nobody saw",
