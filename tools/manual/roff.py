@@ -58,7 +58,7 @@ def tagged(rows: Iterable[tuple[str, str]]) -> Iterator[str]:
 
 def sentence(text: str) -> str:
     """A line of help as a sentence."""
-    return f"{text[:1].upper()}{text[1:]}" + ("" if not text or text.endswith((".", ")")) else ".")
+    return f"{text[:1].upper()}{text[1:]}" + ("" if not text or text.endswith(".") else ".")
 
 
 def options(entries: list[Entry]) -> Iterator[str]:
@@ -82,16 +82,19 @@ def example(part: Part) -> Iterator[str]:
 
 
 def about(text: str) -> str:
-    """What a command is, as the line NAME has it: no capital in front and no period behind."""
-    return escaped(CODE.sub(r"\1", text[:1].lower() + text[1:].rstrip(".")))
+    """What a command is, as the line NAME has it: the first sentence, up to a colon, no capital in front and no period behind."""
+    first = re.split(r"[.:] ", text, maxsplit=1)[0]
+    return escaped(CODE.sub(r"\1", first[:1].lower() + first[1:].rstrip(".")))
 
 
 def usage(help_: Help) -> Iterator[str]:
-    """The usage: the command in bold, then what else may be typed, each group of brackets on a line where it fits."""
-    rest = help_.usage.removeprefix(help_.words).strip()
-    words = re.findall(r"\[[^\]]*\](?:\.\.\.)?|--\S+ <[^>]*>|\S+", rest)
-    yield from (".nh", ".ad l", f"\\fB{escaped(help_.words)}\\fR")
-    yield from (safe(typed(it)) for it in words)
+    """The usage: the command in bold, then what else may be typed; each of several ways on a line of its own."""
+    ways = re.split(rf"(?:^| ){re.escape(help_.words)}(?= |$)", help_.usage)[1:]
+    yield from (".nh", ".ad l")
+    for at, way in enumerate(ways):
+        yield from ([".br"] if at else [])
+        yield f"\\fB{escaped(help_.words)}\\fR"
+        yield from (safe(typed(it)) + "\\&" for it in re.findall(r"\[[^\]]*\](?:\.\.\.)?|--\S+ <[^>]*>|\S+", way))
     yield from (".ad b", ".hy")
 
 
