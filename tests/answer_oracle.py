@@ -142,7 +142,8 @@ class Answer:
         self.jobs, self.clashes = jobs, list(jobs.clashes())
         if len(self.clashes) > MOST_PAIRS:
             raise Fault("TooManyPairs").at(b"jobs")
-        self.race = next((it for it in self.clashes if it.first not in jobs.before[it.second]), None)
+        self.races = [it for it in self.clashes if it.first not in jobs.before[it.second]]
+        self.race = next(iter(self.races), None)
         self.status = 1 if self.race else 0
 
     def name(self, number):
@@ -168,6 +169,16 @@ class Answer:
         yield [b"second", self.name(second), self.jobs.verb(second, path)]
         yield from ([b"time", self.name(number), time] for number, time in self.jobs.times())
         yield from ([step, self.name(number)] for step, number in self.jobs.steps(self.race))
+
+    def listed(self):
+        """The report of all races."""
+        return text_of(self.listed_lines())
+
+    def listed_lines(self):
+        yield from [[b"races", len(self.races)], *self.counts(), [b"pairs", len(self.clashes)]]
+        for first, second, path in self.races:
+            doing = [(self.name(it), self.jobs.verb(it, path)) for it in (first, second)]
+            yield [b"race", shown(spelled(path)), b":", *doing[0], *doing[1]]
 
     def proof(self):
         return text_of(self.trace_lines() if self.race else self.certificate_lines())
@@ -203,3 +214,12 @@ def check(texts, footprints, wants_proof):
     except Fault as fault:
         return 2, fault.report()
     return answer.status, answer.proof() if wants_proof else answer.report()
+
+
+def listed(texts, footprints):
+    """Status and output of `race list`."""
+    try:
+        answer = answer_of(language.read_build(*texts), footprints)
+    except Fault as fault:
+        return 2, fault.report()
+    return answer.status, answer.listed()

@@ -33,6 +33,7 @@ NAMED = """
     cases/schedules/equal-times-without-tie cases/schedules/interleaved-run-of-two-objects
     cases/proofs/certificates/two-objects cases/proofs/certificates/chain-through-a-plain-target
     cases/proofs/certificates/shared-folder cases/proofs/traces/generated-header cases/proofs/traces/shared-folder
+    cases/list/three-of-one-temporary cases/list/no-race
     cases/serialise/interleaved-run cases/serialise/race cases/serialise/no-files cases/serialise/times-with-just-room
 """.split()
 PROCESSES = len(os.sched_getaffinity(0))

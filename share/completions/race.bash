@@ -2,14 +2,14 @@
 
 _race() {
   local word=${COMP_WORDS[COMP_CWORD]} before=${COMP_WORDS[COMP_CWORD-1]} command=${1##*/}
-  if [[ $command == race && $COMP_CWORD -gt 1 && ${COMP_WORDS[1]} == @(order|check|verify|replay|serialise) ]]; then
+  if [[ $command == race && $COMP_CWORD -gt 1 && ${COMP_WORDS[1]} == @(order|check|verify|replay|serialise|list) ]]; then
     command="race ${COMP_WORDS[1]}"
   fi
   COMPREPLY=()
   case $command in
   'race')
     case $word in -*) mapfile -t COMPREPLY < <(compgen -W "-h --help -V --version" -- "$word"); return ;; esac
-    mapfile -t COMPREPLY < <(compgen -W "order check verify replay serialise" -- "$word") ;;
+    mapfile -t COMPREPLY < <(compgen -W "order check verify replay serialise list" -- "$word") ;;
   'race order')
     case $before in
       --makefile) mapfile -t COMPREPLY < <(compgen -f -- "$word"); return ;;
@@ -68,6 +68,17 @@ _race() {
       --limit) COMPREPLY=(); return ;;
     esac
     case $word in -*) mapfile -t COMPREPLY < <(compgen -W "--makefile --listing --root --base --posix-base --includes --footprints --log --limit --tie -h --help" -- "$word"); return ;; esac
+    mapfile -t COMPREPLY < <(compgen -f -- "$word") ;;
+  'race list')
+    case $before in
+      --makefile) mapfile -t COMPREPLY < <(compgen -f -- "$word"); return ;;
+      --listing) mapfile -t COMPREPLY < <(compgen -f -- "$word"); return ;;
+      --root) mapfile -t COMPREPLY < <(compgen -d -- "$word"); return ;;
+      --base) mapfile -t COMPREPLY < <(compgen -f -- "$word"); return ;;
+      --includes) mapfile -t COMPREPLY < <(compgen -f -- "$word"); return ;;
+      --footprints) mapfile -t COMPREPLY < <(compgen -f -- "$word"); return ;;
+    esac
+    case $word in -*) mapfile -t COMPREPLY < <(compgen -W "--makefile --listing --root --base --posix-base --includes --footprints -h --help" -- "$word"); return ;; esac
     mapfile -t COMPREPLY < <(compgen -f -- "$word") ;;
   'race-confirm')
     case $before in

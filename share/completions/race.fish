@@ -1,12 +1,13 @@
 # Completions of race and its companions for fish. Made by tools/completions from the help. Do not edit.
 
-set -l race_commands order check verify replay serialise
+set -l race_commands order check verify replay serialise list
 
 complete -c race -n "not __fish_seen_subcommand_from $race_commands" -f -a order -d 'Prints the serial order of a build: each file after all that it needs.'
 complete -c race -n "not __fish_seen_subcommand_from $race_commands" -f -a check -d 'Says whether the recipes of a build may run in parallel, or which two of them race.'
 complete -c race -n "not __fish_seen_subcommand_from $race_commands" -f -a verify -d 'Says whether a proof is good: that recipes may run in parallel, or that two race.'
 complete -c race -n "not __fish_seen_subcommand_from $race_commands" -f -a replay -d 'Says whether a log of a build is a run that make -j may make, and what it leaves.'
 complete -c race -n "not __fish_seen_subcommand_from $race_commands" -f -a serialise -d 'Writes the log of a parallel build as the log of the same build with one job.'
+complete -c race -n "not __fish_seen_subcommand_from $race_commands" -f -a list -d 'Lists all races of a build, one a line.'
 complete -c race -n "not __fish_seen_subcommand_from $race_commands" -s h -l help -d 'Print help'
 complete -c race -n "not __fish_seen_subcommand_from $race_commands" -s V -l version -d 'Print version'
 
@@ -61,6 +62,15 @@ complete -c race -n '__fish_seen_subcommand_from serialise' -l log -r -F -d 'The
 complete -c race -n '__fish_seen_subcommand_from serialise' -l limit -x -d 'How many recipes may run at once, from 1 to 65535; without it 1'
 complete -c race -n '__fish_seen_subcommand_from serialise' -l tie -d 'Files of equal times count as newer'
 complete -c race -n '__fish_seen_subcommand_from serialise' -s h -l help -d 'Print help'
+
+complete -c race -n '__fish_seen_subcommand_from list' -l makefile -r -F -d 'The makefile'
+complete -c race -n '__fish_seen_subcommand_from list' -l listing -r -F -d 'The paths that are there before the build, one a line'
+complete -c race -n '__fish_seen_subcommand_from list' -l root -x -a '(__fish_complete_directories)' -d 'The folder of all other paths, absolute, such as --root "$PWD"'
+complete -c race -n '__fish_seen_subcommand_from list' -l base -r -F -d 'A makefile whose rules and macros come before those of MAKEFILE'
+complete -c race -n '__fish_seen_subcommand_from list' -l posix-base -d 'The rules and macros that POSIX.1-2024 lists, in place of --base'
+complete -c race -n '__fish_seen_subcommand_from list' -l includes -r -F -d 'The paths of the texts that include lines may name, one a line'
+complete -c race -n '__fish_seen_subcommand_from list' -l footprints -r -F -d 'What the recipes read and write, one object of JSON a line'
+complete -c race -n '__fish_seen_subcommand_from list' -s h -l help -d 'Print help'
 
 complete -c race-confirm -s h -l help -d 'show this help message and exit'
 complete -c race-confirm -l runs -x -d 'try at most N schedules of a race (12)'

@@ -12,34 +12,37 @@ use Rattle.clap.specs.Simple.{App, Shape, argument_words, built_leaf, entered, i
 use Rattle.mk_program.specs.CommandLine as spec
 use Rattle.mk_program.specs.declared.requests.Request.{Request}
 
--- a parse that enters one of five subcommands enters the first, the second, the third, the fourth or the fifth
-entered_name : (a : App) (s t u v w : Shape) (stop : Option (Text × List Text)) (found : Text × List Row)
-    → a.subs ≡ s ∷ (t ∷ (u ∷ (v ∷ (w ∷ [])))) → entered a stop ≡ Some found
-    → (found.0 ≡ s.name) ⊎ (found.0 ≡ t.name) ⊎ (found.0 ≡ u.name) ⊎ (found.0 ≡ v.name) ⊎ (found.0 ≡ w.name)
-entered_name a s t u v w None found all e = absurd (none-some found e)
-entered_name a s t u v w (Some p) found all e =
+-- a parse that enters one of six subcommands enters the first, the second, the third, the fourth, the fifth or the sixth
+entered_name : (a : App) (s t u v w x : Shape) (stop : Option (Text × List Text)) (found : Text × List Row)
+    → a.subs ≡ s ∷ (t ∷ (u ∷ (v ∷ (w ∷ (x ∷ []))))) → entered a stop ≡ Some found
+    → (found.0 ≡ s.name) ⊎ (found.0 ≡ t.name) ⊎ (found.0 ≡ u.name) ⊎ (found.0 ≡ v.name) ⊎ (found.0 ≡ w.name) ⊎ (found.0 ≡ x.name)
+entered_name a s t u v w x None found all e = absurd (none-some found e)
+entered_name a s t u v w x (Some p) found all e =
     go (answers_to p.0 (label_of s)) (answers_to p.0 (label_of t)) (answers_to p.0 (label_of u)) (answers_to p.0 (label_of v)) (answers_to p.0 (label_of w))
-    (ap (λ (subs : List Shape). entered (record a { subs = subs }) (Some p)) (sym all) ∙ e)
+    (answers_to p.0 (label_of x)) (ap (λ (subs : List Shape). entered (record a { subs = subs }) (Some p)) (sym all) ∙ e)
   where
-    go : (b d f h k : Bool)
-        → option_map (λ (x : Shape). rows_at x p.1) (cond b (Some s) (cond d (Some t) (cond f (Some u) (cond h (Some v) (cond k (Some w) None))))) ≡ Some found
-        → (found.0 ≡ s.name) ⊎ (found.0 ≡ t.name) ⊎ (found.0 ≡ u.name) ⊎ (found.0 ≡ v.name) ⊎ (found.0 ≡ w.name)
-    go true d f h k e = inl (ap (λ (x : Text × List Row). x.0) (sym (same_Some _ _ e)))
-    go false true f h k e = inr (inl (ap (λ (x : Text × List Row). x.0) (sym (same_Some _ _ e))))
-    go false false true h k e = inr (inr (inl (ap (λ (x : Text × List Row). x.0) (sym (same_Some _ _ e)))))
-    go false false false true k e = inr (inr (inr (inl (ap (λ (x : Text × List Row). x.0) (sym (same_Some _ _ e))))))
-    go false false false false true e = inr (inr (inr (inr (ap (λ (x : Text × List Row). x.0) (sym (same_Some _ _ e))))))
-    go false false false false false e = absurd (none-some found e)
+    go : (b d f h k l : Bool)
+        → option_map (λ (y : Shape). rows_at y p.1)
+        (cond b (Some s) (cond d (Some t) (cond f (Some u) (cond h (Some v) (cond k (Some w) (cond l (Some x) None)))))) ≡ Some found
+        → (found.0 ≡ s.name) ⊎ (found.0 ≡ t.name) ⊎ (found.0 ≡ u.name) ⊎ (found.0 ≡ v.name) ⊎ (found.0 ≡ w.name) ⊎ (found.0 ≡ x.name)
+    go true d f h k l e = inl (ap (λ (y : Text × List Row). y.0) (sym (same_Some _ _ e)))
+    go false true f h k l e = inr (inl (ap (λ (y : Text × List Row). y.0) (sym (same_Some _ _ e))))
+    go false false true h k l e = inr (inr (inl (ap (λ (y : Text × List Row). y.0) (sym (same_Some _ _ e)))))
+    go false false false true k l e = inr (inr (inr (inl (ap (λ (y : Text × List Row). y.0) (sym (same_Some _ _ e))))))
+    go false false false false true l e = inr (inr (inr (inr (inl (ap (λ (y : Text × List Row). y.0) (sym (same_Some _ _ e)))))))
+    go false false false false false true e = inr (inr (inr (inr (inr (ap (λ (y : Text × List Row). y.0) (sym (same_Some _ _ e)))))))
+    go false false false false false false e = absurd (none-some found e)
 
 -- the subcommand that the words name is one of the program's
 pub one_named : (words : List Text) (found : Text × List Row) → subcommand_of spec.race_app words ≡ Some found
     → (found.0 ≡ codes "order") ⊎ (found.0 ≡ codes "check") ⊎ (found.0 ≡ codes "verify") ⊎ (found.0 ≡ codes "replay") ⊎ (found.0 ≡ codes "serialise")
+    ⊎ (found.0 ≡ codes "list")
 one_named words found e =
     let top = with_leaf_noted (marked_built spec.race_app.top) in
     let stop = stop_after (built spec.race_app).top.rules (names_of (built spec.race_app)) (argument_words spec.race_app words) in
     entered_name (built spec.race_app) (built_leaf (inherited top spec.order_app.top)) (built_leaf (inherited top spec.check_app.top))
     (built_leaf (inherited top spec.verify_app.top)) (built_leaf (inherited top spec.replay_app.top)) (built_leaf (inherited top spec.serialise_app.top))
-    stop found refl e
+    (built_leaf (inherited top spec.list_app.top)) stop found refl e
 
 map_map : {X Y Z : Type 0} (f : Y → Z) (g : X → Y) (o : Option X) → option_map f (option_map g o) ≡ option_map (λ (x : X). f (g x)) o
 map_map f g None = refl

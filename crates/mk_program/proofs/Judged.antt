@@ -66,3 +66,8 @@ says_safe words files text check (requests.Serialise args, asks, answer) = absur
     other : (o : Option (Text × List Row)) → AskToCheck o → Asks (requests.Serialise args) o → ⊥
     other None check asks = absurd check
     other (Some found) check asks = not_check (codes "serialise") found.0 check asks.0 refl
+says_safe words files text check (requests.List args, asks, answer) = absurd (other (asked words) check asks)
+  where
+    other : (o : Option (Text × List Row)) → AskToCheck o → Asks (requests.List args) o → ⊥
+    other None check asks = absurd check
+    other (Some found) check asks = not_check (codes "list") found.0 check asks.0 refl

@@ -4,6 +4,7 @@ mod Failing
 mod Locals
 mod OutcomeLines
 mod PlanLines
+mod RaceLists
 mod Reading
 mod SerialAnswers
 mod Told

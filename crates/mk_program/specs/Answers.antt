@@ -1,5 +1,5 @@
 -- What the program answers to a request, over what the files hold, and what it writes of that.
-use Rattle.std.specs.Prelude.{◌≡◌, ◌⊎◌, ℕ, Bool, true, false, List, Ok, Err, Option, None, Some, IsSome, map, codes, if◌then◌else◌}
+use Rattle.std.specs.Prelude.{◌≡◌, ◌⊎◌, ℕ, Bool, true, false, List, [], ◌∷◌, Ok, Err, Option, None, Some, IsSome, map, codes, if◌then◌else◌}
 use Rattle.std.specs.Borrow.{Bor}
 use Rattle.std.specs.Io.KnownBytes.{Appends}
 use Rattle.clap.specs.Words.{Row, Text}
@@ -10,14 +10,17 @@ use Rattle.mk_cert.specs.Traces.{TraceHolds}
 use Rattle.mk_jobs.specs.Jobs.{Jobs}
 use Rattle.mk_proof.specs.Shapes.{Trace}
 use Rattle.mk_race.specs.Judged.{IsAnswered, NoScheduleShows}
+use Rattle.mk_race.specs.Listed.{IsListed}
 use Rattle.mk_race.specs.Played.{IsPlayed}
 use Rattle.mk_race.specs.Serialised.{IsLawfulBuild, IsSerialised}
 use Rattle.mk_race.specs.Stages.{IsPlanned, Texts}
 use Rattle.mk_race.specs.Verified.{IsVerified, ProofShows}
+use Rattle.mk_race.specs.declared.listing.RaceList.{RaceList}
 use Rattle.mk_race.specs.declared.replaying.Played.{Played}
 use Rattle.mk_race.specs.declared.replaying.Played.TheVariants.{Allowed, NotAllowed}
 use Rattle.mk_race.specs.declared.planning.Planned.{Planned}
 use Rattle.mk_race.specs.declared.serialising.Serialised.{Serialised}
+use Rattle.mk_report.specs.RacesText.{IsRacesText}
 use Rattle.mk_report.specs.Reports.{IsReport}
 use Rattle.mk_report.specs.declared.answer.Answer.{Answer as Judged}
 use Rattle.mk_report.specs.declared.answer.Answer.TheVariants as judged
@@ -125,6 +128,25 @@ IsSerialiseAnswer texts footprints log limit tie statuses.Refused text =
     (told : Told) × IsSerialised texts footprints log limit tie (Err told) × (text ≡ refused_text told)
 IsSerialiseAnswer texts footprints log limit tie statuses.Failed text = ⊥
 
+-- how the program ends after all races were listed: with 0 where there is none
+abbrev pub races_status : List (ℕ × ℕ) → Status
+races_status [] = statuses.Done
+races_status (race ∷ races) = statuses.No
+
+-- the report of all races of a build
+abbrev pub IsToldRaces : Texts → List ℕ → Status → List ℕ → Type 0
+IsToldRaces texts footprints status text =
+    (listed : RaceList) × IsListed texts footprints (Ok listed) × (status ≡ races_status listed.found.races.items)
+    × IsRacesText listed.jobs listed.found.pairs listed.found.races.items text
+
+-- that report, or the report of the fault that refuses the texts
+abbrev pub IsListAnswer : Texts → List ℕ → Status → List ℕ → Type 0
+IsListAnswer texts footprints statuses.Done text = IsToldRaces texts footprints statuses.Done text
+IsListAnswer texts footprints statuses.No text = IsToldRaces texts footprints statuses.No text
+IsListAnswer texts footprints statuses.Refused text =
+    (told : Told) × IsListed texts footprints (Err told) × (text ≡ refused_text told)
+IsListAnswer texts footprints statuses.Failed text = ⊥
+
 -- the base makefile of a build, where this text was read for one
 abbrev pub base_of : BuildArgs → List ℕ → List ℕ
 base_of build text = if build.posix_base then posix_base else text
@@ -151,6 +173,8 @@ IsAnswerOver (requests.Replay replay) includes text status answer =
     IsReplayAnswer (texts_for replay.build includes text) (text inputs.Footprints) (text inputs.Log) replay.limit replay.tie status answer
 IsAnswerOver (requests.Serialise replay) includes text status answer =
     IsSerialiseAnswer (texts_for replay.build includes text) (text inputs.Footprints) (text inputs.Log) replay.limit replay.tie status answer
+IsAnswerOver (requests.List list) includes text status answer =
+    IsListAnswer (texts_for list.build includes text) (text inputs.Footprints) status answer
 
 -- the answer to a request, over what its files hold
 abbrev pub IsAnswer : Request → (List ℕ → Option (List ℕ)) → Status → List ℕ → Type 0
@@ -192,6 +216,7 @@ IsForSerial (requests.Check check) = ⊥
 IsForSerial (requests.Verify verify) = ⊥
 IsForSerial (requests.Replay replay) = ⊥
 IsForSerial (requests.Serialise replay) = Unit {0}
+IsForSerial (requests.List list) = ⊥
 
 -- why an answer is not told: memory is short, or a log that is to be written has a name that is no text
 abbrev pub IsUntold : Request → Failure → Type 0

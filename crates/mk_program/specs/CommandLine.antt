@@ -11,6 +11,7 @@ use Rattle.clap.specs.declared.error.kind.ErrorKind.{ErrorKind}
 use Rattle.clap.specs.declared.error.kind.ErrorKind.TheVariants.{ArgumentConflict, DisplayHelp, DisplayVersion}
 use Rattle.mk_program.specs.declared.requests.BuildArgs.{BuildArgs}
 use Rattle.mk_program.specs.declared.requests.CheckArgs.{CheckArgs}
+use Rattle.mk_program.specs.declared.requests.ListArgs.{ListArgs}
 use Rattle.mk_program.specs.declared.requests.ReplayArgs.{ReplayArgs}
 use Rattle.mk_program.specs.declared.requests.VerifyArgs.{VerifyArgs}
 use Rattle.mk_program.specs.declared.requests.Request.{Request}
@@ -75,6 +76,9 @@ replay_app = with_log (new_app (codes "replay"))
 abbrev pub serialise_app : App
 serialise_app = with_log (new_app (codes "serialise"))
 
+abbrev pub list_app : App
+list_app = with_rule (with_build (new_app (codes "list"))) (option (codes "footprints"))
+
 -- the program without its subcommands: it must be given one, or be asked for its version
 abbrev pub top_app : App
 top_app = record {
@@ -85,8 +89,8 @@ top_app = record {
 -- the program with its subcommands
 abbrev pub race_app : App
 race_app =
-    with_subcommand (with_subcommand (with_subcommand (with_subcommand (with_subcommand top_app
-    order_app.top) check_app.top) verify_app.top) replay_app.top) serialise_app.top
+    with_subcommand (with_subcommand (with_subcommand (with_subcommand (with_subcommand (with_subcommand top_app
+    order_app.top) check_app.top) verify_app.top) replay_app.top) serialise_app.top) list_app.top
 
 -- what these words ask: the subcommand that they name, with the values that were found
 abbrev pub asked : List (Bor Text) → Option (Text × List Row)
@@ -154,6 +158,11 @@ pub record HasReplay (replay : ReplayArgs) (rows : List Row) : Type 0 where
   pub limit : (limit : ℕ) → IsLimit (first_of (codes "limit") rows) limit → replay.limit ≡ limit
   pub tie : replay.tie ≡ is_true (first_of (codes "tie") rows)
 
+-- the list and its build have the values that were found
+pub record HasList (list : ListArgs) (rows : List Row) : Type 0 where
+  pub build : HasValues list.build rows
+  pub footprints : list.footprints.now ≡ value_of (codes "footprints") rows
+
 -- the request is for the subcommand of this name, with the values that were found
 abbrev pub IsFor : Request → Text → List Row → Type 0
 IsFor (requests.Order build) name rows = (name ≡ codes "order") × HasValues build rows
@@ -161,6 +170,7 @@ IsFor (requests.Check check) name rows = (name ≡ codes "check") × HasCheck ch
 IsFor (requests.Verify verify) name rows = (name ≡ codes "verify") × HasVerify verify rows
 IsFor (requests.Replay replay) name rows = (name ≡ codes "replay") × HasReplay replay rows
 IsFor (requests.Serialise replay) name rows = (name ≡ codes "serialise") × HasReplay replay rows
+IsFor (requests.List list) name rows = (name ≡ codes "list") × HasList list rows
 
 -- the request is for the subcommand that was found
 abbrev pub Asks : Request → Option (Text × List Row) → Type 0

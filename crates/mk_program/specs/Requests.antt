@@ -29,6 +29,7 @@ includes_path (requests.Check check) = option_map (λ path. path.now) check.buil
 includes_path (requests.Verify verify) = option_map (λ path. path.now) verify.build.includes
 includes_path (requests.Replay replay) = option_map (λ path. path.now) replay.build.includes
 includes_path (requests.Serialise replay) = option_map (λ path. path.now) replay.build.includes
+includes_path (requests.List list) = option_map (λ path. path.now) list.build.includes
 
 -- what is read for a log
 abbrev pub log_inputs : ReplayArgs → List InputPath
@@ -43,3 +44,4 @@ inputs_of (requests.Verify verify) =
     build_inputs verify.build ++ input_at inputs.Footprints verify.footprints ++ input_at inputs.Proof verify.proof
 inputs_of (requests.Replay replay) = log_inputs replay
 inputs_of (requests.Serialise replay) = log_inputs replay
+inputs_of (requests.List list) = build_inputs list.build ++ input_at inputs.Footprints list.footprints

@@ -14,6 +14,7 @@ use crate::checking::check_answer;
 use crate::failures::{Failure, InputFile};
 use crate::includes::{IncludeText, pairs_of, read_includes};
 use crate::inputs::{InputText, read_inputs, text_of};
+use crate::listing::list_answer;
 use crate::openers::Opener;
 use crate::outcome_lines::outcome_text;
 use crate::plan_lines::plan_text;
@@ -90,6 +91,7 @@ fn answer_over(
         Request::Verify(verify) => Ok(verify_answer(alloc, verify, includes, texts)?),
         Request::Replay(replay) => Ok(replay_answer(alloc, replay, includes, texts)?),
         Request::Serialise(replay) => serialise_answer(alloc, replay, includes, texts),
+        Request::List(list) => Ok(list_answer(alloc, list, includes, texts)?),
     }
 }
 

@@ -28,6 +28,7 @@ mod checking;
 mod failures;
 mod includes;
 mod inputs;
+mod listing;
 mod openers;
 mod order_lines;
 mod outcome_lines;

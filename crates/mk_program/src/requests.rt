@@ -46,6 +46,13 @@ pub struct ReplayArgs<'a> {
     pub tie: bool,
 }
 
+/// What all races of a build are listed from.
+#[derive(Drop)]
+pub struct ListArgs<'a> {
+    pub build: BuildArgs<'a>,
+    pub footprints: &'a str,
+}
+
 /// A subcommand, with its values.
 #[derive(Drop)]
 pub enum Request<'a> {
@@ -54,6 +61,7 @@ pub enum Request<'a> {
     Verify(VerifyArgs<'a>),
     Replay(ReplayArgs<'a>),
     Serialise(ReplayArgs<'a>),
+    List(ListArgs<'a>),
 }
 
 /// The path of the file of includes, where one is given.
@@ -65,6 +73,7 @@ pub fn includes_path<'a>(request: &Request<'a>) -> Option<&'a str>
         Request::Check(check) => check.build.includes,
         Request::Verify(verify) => verify.build.includes,
         Request::Replay(replay) | Request::Serialise(replay) => replay.build.includes,
+        Request::List(list) => list.build.includes,
     }
 }
 
@@ -94,6 +103,10 @@ fn push_inputs<'a>(inputs: &mut Vec<InputPath<'a>>, request: &Request<'a>) -> Re
             push_input(inputs, InputFile::Proof, verify.proof)
         }
         Request::Replay(replay) | Request::Serialise(replay) => push_replay(inputs, replay),
+        Request::List(list) => {
+            push_build(inputs, &list.build)?;
+            push_input(inputs, InputFile::Footprints, list.footprints)
+        }
     }
 }
 

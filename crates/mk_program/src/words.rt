@@ -6,6 +6,7 @@ ghost use Rattle.mk_program.specs.CommandLine as spec;
 
 mod check_words;
 mod help;
+mod list_words;
 mod replay_words;
 mod serialise_words;
 mod verify_words;
@@ -14,6 +15,7 @@ use crate::requests::{BuildArgs, Request};
 use check_words::{check_args, check_command};
 use clap::error::ErrorKind;
 use clap::{Arg, ArgAction, ArgMatches, Command, Error};
+use list_words::{list_args, list_command};
 use replay_words::{replay_args, replay_command};
 use serialise_words::serialise_command;
 use std::alloc::{AllocError, Global};
@@ -59,7 +61,7 @@ fn request_of<'a>(
     found: &ArgMatches<'a>,
 ) -> Result<Request<'a>, AllocError>
     requires { (name.now ≡ codes "order") ⊎ (name.now ≡ codes "check") ⊎ (name.now ≡ codes "verify")
-        ⊎ (name.now ≡ codes "replay") ⊎ (name.now ≡ codes "serialise") }
+        ⊎ (name.now ≡ codes "replay") ⊎ (name.now ≡ codes "serialise") ⊎ (name.now ≡ codes "list") }
     ensures { IfOk result (λ request.
         spec.IsFor request name.now (rows_of (found_of found.now))) }
 {
@@ -75,7 +77,10 @@ fn request_of<'a>(
     if name == "replay" {
         return Ok(Request::Replay(replay_args(alloc, found)?));
     }
-    Ok(Request::Serialise(replay_args(alloc, found)?))
+    if name == "serialise" {
+        return Ok(Request::Serialise(replay_args(alloc, found)?));
+    }
+    Ok(Request::List(list_args(alloc, found)?))
 }
 
 /// The program, with its subcommands.
@@ -87,7 +92,8 @@ fn race_command<'a>(alloc: Global) -> Result<Command<'a>, AllocError>
     let command = with_made(command, check_command(alloc))?;
     let command = with_made(command, verify_command(alloc))?;
     let command = with_made(command, replay_command(alloc))?;
-    with_made(command, serialise_command(alloc))
+    let command = with_made(command, serialise_command(alloc))?;
+    with_made(command, list_command(alloc))
 }
 
 /// The command with one subcommand more, where that could be made.

@@ -7,18 +7,18 @@ Reads a makefile as POSIX `make` does, and says what a build of it does, with a 
 
 pub const DETAILS: &str = "\
 `race check` says whether the recipes of a build may run in parallel, or which two of them race.
-`race order` prints the serial order of a build. `race verify` says whether a proof is good for a
-build: where it accepts a certificate, every run of the recipes leaves the same files.
-`race replay` says whether a log of a build is a run that `make -j` may make. `race serialise`
-writes the log of a parallel build as that of the same build with one job. `race order` and
-`race replay` end with 0 also on a build whose recipes race.
+`race list` lists all races of a build. `race order` prints the serial order of a build.
+`race verify` says whether a proof is good for a build: where it accepts a certificate, every run
+of the recipes leaves the same files. `race replay` says whether a log of a build is a run that
+`make -j` may make. `race serialise` writes the log of a parallel build as that of the same build
+with one job. `race order` and `race replay` end with 0 also on a build whose recipes race.
 
 Statuses:
-  0  check: the build is safe; order: the order is printed; verify: the proof is accepted; replay:
-     the log is a run, complete or not; serialise: the new log is printed; the help or the version
-     is printed
-  1  check: two recipes race; verify: the proof is not accepted; replay: the log is no run;
-     serialise: it is none or not complete, recipes race, or its times are too large
+  0  check: the build is safe; list: there is no race; order: the order is printed; verify: the
+     proof is accepted; replay: the log is a run, complete or not; serialise: the new log is
+     printed; the help or the version is printed
+  1  check: two recipes race; list: there are races; verify: the proof is not accepted; replay: the
+     log is no run; serialise: it is none or not complete, recipes race, or its times are too large
   2  the inputs are refused: the report says where and why
   3  a file cannot be read or written, memory is short, or the words are wrong: a line on the
      standard error says which";
@@ -142,6 +142,39 @@ Statuses:
      names
   3  a file cannot be read or written, memory is short, or the words are wrong: nothing is said of
      the build
+";
+
+pub const LIST_ABOUT: &str = "Lists all races of a build, one a line.";
+
+pub const LIST_DETAILS: &str = "\
+MAKEFILE, BASE, FILE, LISTING, DIR and the operands are those of `race order`, and FOOTPRINTS is
+that of `race check`, which shows how the first of the races comes about.
+
+What comes out is the number of races, those of nodes, of recipes that may run, of those that
+cannot, of .WAIT and of the pairs that share a file which one of them writes, and for each race a
+line `race PATH : NAME DOES NAME DOES`: a path that both touch, the two, and what each does with
+it, `reads` or `writes`. Inputs that are refused give `refused`, the fault, its place and names.
+
+Example, an object that uses a header, which another recipe generates, and does not say so:
+  $ printf 'all: gen.h a.o\\ngen.h:\\n\\tsh gen.sh\\na.o: a.c\\n\\tcc -c a.c\\n' > makefile
+  $ echo a.c > listing
+  $ echo '{\"target\":\"gen.h\",\"reads\":[],\"writes\":[\"gen.h\"]}' > footprints
+  $ echo '{\"target\":\"a.o\",\"reads\":[\"a.c\",\"gen.h\"],\"writes\":[\"a.o\"]}' >> footprints
+  $ race list --makefile makefile --listing listing --root \"$PWD\" --footprints footprints
+  races 1
+  nodes 4
+  recipes 2
+  idle 0
+  waits 0
+  pairs 1
+  race gen.h : gen.h writes a.o reads
+
+Statuses:
+  0  no two recipes race
+  1  some do
+  2  the makefile, the base, an included text, the listing, the root, an operand or the footprints
+     is refused, or more than 1,000,000 pairs of recipes meet on a path
+  3  a file cannot be read or written, memory is short, or the words are wrong
 ";
 
 pub const PRINT_PROOF: &str = "Print the certificate or the trace in place of the report";

@@ -18,10 +18,13 @@ returns-clause-app c =
     let replay = c.in_ok-command-4.ensures.app in
     let fourth = replay.2 ∙ ap₂ with_subcommand third
     (ap (λ (app : App). app.top) (was_made c.replay_command.result _ replay.0 c.replay_command.ensures.app replay.1)) in
-    IfOk-weaker c.with_made-5.result _ _ (λ new h. h.2 ∙ ap₂ with_subcommand fourth
-    (ap (λ (app : App). app.top) (was_made c.serialise_command.result _ h.0 c.serialise_command.ensures.app h.1))) c.with_made-5.ensures.app
+    let serialise = c.in_ok-command-5.ensures.app in
+    let fifth = serialise.2 ∙ ap₂ with_subcommand fourth
+    (ap (λ (app : App). app.top) (was_made c.serialise_command.result _ serialise.0 c.serialise_command.ensures.app serialise.1)) in
+    IfOk-weaker c.with_made-6.result _ _ (λ new h. h.2 ∙ ap₂ with_subcommand fifth
+    (ap (λ (app : App). app.top) (was_made c.list_command.result _ h.0 c.list_command.ensures.app h.1))) c.with_made-6.ensures.app
 
 pub returns-clause-local : goal.returns-clause-local
 returns-clause-local c =
-    IfOk-weaker c.with_made-5.result _ _ (λ new h. h ∙ c.in_ok-command-4.ensures.local ∙ c.in_ok-command-3.ensures.local ∙ c.in_ok-command-2.ensures.local
-    ∙ c.in_ok-command.ensures.local ∙ c.top_command.ensures.local) c.with_made-5.ensures.local
+    IfOk-weaker c.with_made-6.result _ _ (λ new h. h ∙ c.in_ok-command-5.ensures.local ∙ c.in_ok-command-4.ensures.local ∙ c.in_ok-command-3.ensures.local ∙ c.in_ok-command-2.ensures.local
+    ∙ c.in_ok-command.ensures.local ∙ c.top_command.ensures.local) c.with_made-6.ensures.local

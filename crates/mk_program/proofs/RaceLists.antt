@@ -1,0 +1,57 @@
+-- Lemmas on the answers to requests for all races.
+use Rattle.std.proofs.Common.{◌≡◌, ◌≢◌, ◌∙◌, ◌⊎◌, ◌==◌, inl, inr, ℕ, true, false, List, [], ◌∷◌, Ok, Err, length, ap, refl, subst, sym}
+use Rattle.std.proofs.lemmas.Bool.{eqb-true, false≢true}
+use Rattle.std.proofs.lemmas.List.{nil_from_length}
+use Rattle.mk_name.specs.Gives.{HaltsAmong}
+use Rattle.mk_name.specs.Shown.{refused_text}
+use Rattle.mk_name.specs.Told.{Told}
+use Rattle.mk_name.specs.declared.fault.Halt.{Halt}
+use Rattle.mk_name.specs.declared.fault.Halt.TheVariants.{Fault}
+use Rattle.mk_race.specs.Listed.{IsListed}
+use Rattle.mk_race.specs.Stages.{Texts}
+use Rattle.mk_race.specs.declared.listing.RaceList.{RaceList}
+use Rattle.mk_report.specs.RacesText.{IsRacesText}
+use Rattle.mk_program.specs.Answers.{IsListAnswer, races_status}
+use Rattle.mk_program.specs.declared.statuses.Status.{Status}
+use Rattle.mk_program.specs.declared.statuses.Status.TheVariants.{Done, No, Failed, Refused}
+
+-- the answer over what was read is the one over the texts
+pub list_read : (old new : Texts) (footprints footprints' : List ℕ) (status : Status) (text : List ℕ)
+    → old ≡ new → footprints ≡ footprints' → IsListAnswer old footprints status text → IsListAnswer new footprints' status text
+list_read old new footprints footprints' status text t f h =
+    subst (λ (x : List ℕ). IsListAnswer new x status text) f (subst (λ (x : Texts). IsListAnswer x footprints status text) t h)
+
+-- the report of races ends as done or as no
+races_end : (races : List (ℕ × ℕ)) → (races_status races ≡ Done) ⊎ (races_status races ≡ No)
+races_end [] = inl refl
+races_end (race ∷ races) = inr refl
+
+pub races_not_failed : (races : List (ℕ × ℕ)) (status : Status) → status ≡ races_status races → status ≢ Failed
+races_not_failed races status ends failed = elim (races_end races) [
+  | inl done ↦ let e : ◌≡◌ {A = Status} Done Failed = sym done ∙ sym ends ∙ failed in cc
+  | inr some ↦ let e : ◌≡◌ {A = Status} No Failed = sym some ∙ sym ends ∙ failed in cc
+]
+
+-- the report of the fault of a build is its answer
+pub unlisted_is : (texts : Texts) (footprints : List ℕ) (halt : Halt) (fault : Told) (status : Status) (text : List ℕ)
+    → HaltsAmong halt (IsListed texts footprints) → halt ≡ Fault fault → status ≡ Refused → text ≡ refused_text fault
+    → IsListAnswer texts footprints status text
+unlisted_is texts footprints halt fault status text given is ends told =
+    rw ends (fault, subst (λ (h : Halt). HaltsAmong h (IsListed texts footprints)) is given, told)
+
+-- the report of its races is its answer
+pub listed_is : (texts : Texts) (footprints : List ℕ) (listed : RaceList) (status : Status) (text : List ℕ)
+    → IsListed texts footprints (Ok listed) → status ≡ races_status listed.found.races.items
+    → IsRacesText listed.jobs listed.found.pairs listed.found.races.items text → IsListAnswer texts footprints status text
+listed_is texts footprints listed status text is ends told = elim (races_end listed.found.races.items) [
+  | inl done ↦ subst (λ (s : Status). IsListAnswer texts footprints s text) (sym (ends ∙ done)) (listed, is, sym done, told)
+  | inr some ↦ subst (λ (s : Status). IsListAnswer texts footprints s text) (sym (ends ∙ some)) (listed, is, sym some, told)
+]
+
+-- without a race it ends as done, and else as no
+pub races_done : (races : List (ℕ × ℕ)) → (length races == 0) ≡ true → Done ≡ races_status races
+races_done races none = ap races_status (sym (nil_from_length races (eqb-true (length races) 0 none)))
+
+pub races_no : (races : List (ℕ × ℕ)) → (length races == 0) ≡ false → No ≡ races_status races
+races_no [] some = absurd (false≢true (sym some))
+races_no (race ∷ races) some = refl
