@@ -69,7 +69,8 @@ def first_sentence(lines: tuple[str, ...]) -> str:
 
 def shown(row: dict[str, str]) -> tuple[str, ...]:
     """The cells of a row behind the first, each as a paragraph under the head of its column."""
-    return tuple(line for head, cell in list(row.items())[1:] for line in (f"{head[:1].upper()}{head[1:]}: {cell}.", ""))
+    cells_behind = list(row.items())[1:]
+    return tuple(line for head, cell in cells_behind if cell for line in (f"{head[:1].upper()}{head[1:]}: {cell}.", ""))
 
 
 def topic_of_row(row: dict[str, str]) -> Topic | None:
@@ -86,6 +87,15 @@ def topic_of_row(row: dict[str, str]) -> Topic | None:
     return None
 
 
+def united(found: list[Topic]) -> Iterator[Topic]:
+    """The topics of one name as one: what its own section says, which is the last of them, and then what rows of tables add."""
+    same: dict[tuple[str, ...], list[Topic]] = {}
+    for topic in found:
+        same.setdefault(topic.names, []).append(topic)
+    for names, parts in same.items():
+        yield Topic(names, parts[-1].title, tuple(line for it in reversed(parts) for line in (*it.lines, ""))[:-1])
+
+
 def topics(page: str) -> list[Topic]:
     """All that a page explains, in its order: faults by their headings, refusals and kinds of races by rows, and races."""
     found: list[Topic] = []
@@ -96,4 +106,4 @@ def topics(page: str) -> list[Topic]:
         elif section.heading.lower() in ("race", "races"):
             found.append(Topic(("race", "races"), RACE, section.lines))
         found += [it for it in map(topic_of_row, rows(section.lines)) if it]
-    return found
+    return [*united(found)]
