@@ -2,6 +2,7 @@
 
 from __future__ import annotations
 
+import contextlib
 import os
 import selectors
 import signal
@@ -54,6 +55,38 @@ class Built:
         return self.status is not None
 
 
+class Tokens:
+    """The token for a second job. Make gets it while a recipe is held, and has one job else, so that no other recipes meet. It comes
+    back by another pipe, so that make cannot take it again by itself."""
+
+    def __init__(self, folder: Path) -> None:
+        self.out, self.back = (os.open(folder / it, os.O_RDWR | os.O_NONBLOCK) for it in ("out", "back"))
+        self.is_out = False
+        self.take(self.out)
+        self.take(self.back)
+
+    def take(self, pipe: int) -> None:
+        """Takes the token out of a pipe, if it is there."""
+        try:
+            while os.read(pipe, 16):
+                self.is_out = False
+        except BlockingIOError:
+            pass
+
+    def turn(self, is_wanted: bool) -> None:
+        """Lets make have the token, or takes it as soon as it is not in use."""
+        self.take(self.back)
+        if is_wanted and not self.is_out:
+            os.write(self.out, b"+")
+            self.is_out = True
+        elif not is_wanted and self.is_out:
+            self.take(self.out)
+
+    def close(self) -> None:
+        os.close(self.out)
+        os.close(self.back)
+
+
 @dataclass
 class Holding:
     """A build that runs; it answers the processes of the two recipes."""
@@ -61,6 +94,7 @@ class Holding:
     race: Chosen | None
     schedule: Schedule | None
     lines: dict[str, int]
+    tokens: Tokens
     points: Points = field(default_factory=Points)
     lives: dict[str, Life] = field(default_factory=lambda: {it: Life() for it in SIDES})
     held: list[tuple[socket.socket, str]] = field(default_factory=list)
@@ -110,6 +144,7 @@ class Holding:
             if self.has_ended(other) or not is_held and self.has_come:
                 self.is_reached |= is_held
                 self.let_go(at)
+        self.tokens.turn(bool(self.held))
 
     def give_up(self) -> None:
         """Nothing else of the build runs: what is held goes on, and nothing is held any more. That is what was meant where the
@@ -198,13 +233,14 @@ def end(process: subprocess.Popen[bytes]) -> None:
     process.wait()
 
 
-def build(room: Room, words: Sequence[str], jobs: int, limit: float, race: Chosen | None = None,
+def build(room: Room, words: Sequence[str], limit: float, race: Chosen | None = None,
           schedule: Schedule | None = None, lines: dict[str, int] | None = None) -> Built:
     """One build of a fresh copy; with a race its recipes say where they are, and with a schedule one is held."""
     room.renew()
-    holding, log, began = Holding(race, schedule, lines or {}), room.top / "output", time.monotonic()
-    with listen(room) as listener, open(log, "wb") as output:
-        process = subprocess.Popen(words, env=room.environment(jobs, race), stdin=subprocess.DEVNULL, stdout=output, stderr=output,
+    tokens, log, began = Tokens(room.tokens), room.top / "output", time.monotonic()
+    holding, env = Holding(race, schedule, lines or {}, tokens), room.environment(race, schedule is not None)
+    with contextlib.closing(tokens), listen(room) as listener, open(log, "wb") as output:
+        process = subprocess.Popen(words, env=env, stdin=subprocess.DEVNULL, stdout=output, stderr=output,
                                    preexec_fn=room.enter(), start_new_session=True)
         try:
             is_complete = serve(holding, process, listener, limit)

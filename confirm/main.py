@@ -5,6 +5,7 @@ from __future__ import annotations
 import argparse
 import contextlib
 import os
+import signal
 import subprocess
 import sys
 from collections.abc import Iterator, Sequence
@@ -20,8 +21,8 @@ from report.main import find_race, judge
 from report.model import BadRecord, Report, read_json
 from report.plain import counted
 
-DESCRIPTION = """Makes a race of a record happen: builds copies of the project with its two recipes held so that they meet, and compares
-what they leave with what a serial build leaves. It writes nothing to the project."""
+DESCRIPTION = """Makes a race of a record happen in a copy of the project, and says what differs. It builds the copy serially, and then with
+the two recipes held so that they meet. It writes nothing to the project."""
 EXAMPLE = """
 example:
   race-record -- make          record a build into .race
@@ -42,8 +43,8 @@ def parse(words: Sequence[str] | None) -> argparse.Namespace:
                         "in race-report, or by its file and targets (all races)")
     parser.add_argument("--runs", type=positive, default=12, metavar="N", help="try at most N schedules of a race (12)")
     parser.add_argument("--schedule", type=positive, default=0, metavar="N", help="try the schedule N alone")
-    parser.add_argument("--prepare", metavar="COMMAND", help="make the copy ready by this, such as 'make clean'; else what the record says "
-                        "that the build wrote is taken away in it")
+    parser.add_argument("--prepare", metavar="COMMAND", help="make the copy ready by this, such as 'make clean'; without it, what the "
+                        "record says that the build wrote is removed from the copy")
     parser.add_argument("--keep", type=Path, metavar="FOLDER", help="keep what the serial and the last parallel build left")
     parser.add_argument("--race", metavar="PROGRAM", help="the program race (else $RACE, the checkout's, or the one on PATH)")
     args = parser.parse_intermixed_args(words)
@@ -88,7 +89,7 @@ def prepared(args: argparse.Namespace, folder: str) -> Iterator[Room]:
 def prepare(room: Room, command: str) -> None:
     """Runs the user's command in the copy."""
     room.renew()
-    done = subprocess.run(["sh", "-c", command], env=room.environment(1), preexec_fn=room.enter(), stdin=subprocess.DEVNULL,
+    done = subprocess.run(["sh", "-c", command], env=room.environment(), preexec_fn=room.enter(), stdin=subprocess.DEVNULL,
                           capture_output=True, text=True, errors="replace", check=False)
     if done.returncode:
         raise CannotConfirm(f"`{command}` ended with {done.returncode} in the copy: {' '.join(done.stderr.split())[:200]}")
@@ -163,12 +164,17 @@ def run(args: argparse.Namespace) -> int:
     return status_of(findings)
 
 
+def interrupted(*_: object) -> None:
+    raise KeyboardInterrupt
+
+
 def main(words: Sequence[str] | None = None) -> int:
     """Reads, builds, compares; the status."""
     try:
         args = parse(words)
     except SystemExit as end:
         return 3 if end.code else 0
+    signal.signal(signal.SIGTERM, interrupted)
     try:
         return run(args)
     except CannotConfirm as error:

@@ -24,13 +24,29 @@ NEW_MOUNTS, NEW_USER = 0x20000, 0x10000000
 BIND, ALL_BELOW, PRIVATE = 0x1000, 0x4000, 0x40000
 # What a make above hands down: it is none of this build's.
 OF_MAKE = ("MAKELEVEL", "MAKEFLAGS", "MFLAGS", "MAKE_TERMOUT", "MAKE_TERMERR", "MAKEFILES", "OLDPWD")
+# What stands for make in the build. Of an outermost make it takes -j away. Without tokens it has one job; with them it takes
+# a token for each job but the first, as a make inside a make does, and brings it back by another pipe.
 SHIM = """#!/bin/sh
-# The make that the build calls: the real one, with as many jobs as are asked for.
 if [ "${MAKELEVEL:-0}" != 0 ]; then exec REAL "$@"; fi
-for word; do
-  if [ "$word" = -- ]; then exec REAL "-j$RACE_JOBS" "$@"; fi
+rest=$# number=
+while [ $rest -gt 0 ]; do
+  word=$1 rest=$((rest - 1)) was=$number number=
+  shift
+  case $word in
+    -j|--jobs) number=yes ;;
+    -j[0-9]*|--jobs=*) ;;
+    [0-9]*) [ "$was" ] || set -- "$@" "$word" ;;
+    *) set -- "$@" "$word" ;;
+  esac
 done
-exec REAL "$@" "-j$RACE_JOBS"
+if [ "$RACE_TOKENS" ]; then
+  exec 8<>"$RACE_TOKENS/out" 9<>"$RACE_TOKENS/back"
+  MAKEFLAGS="-j --jobserver-auth=8,9"
+else
+  MAKEFLAGS=-j1
+fi
+export MAKEFLAGS
+exec REAL "$@"
 """
 
 
@@ -83,6 +99,10 @@ class Room:
     def socket(self) -> Path:
         return self.top / "socket"
 
+    @property
+    def tokens(self) -> Path:
+        return self.top / "tokens"
+
     def place(self, path: str) -> str:
         """A path of the project as a build sees it."""
         if self.is_in_place:
@@ -98,10 +118,11 @@ class Room:
         """What a process does before it begins to build."""
         return lambda: enter(self.tree, self.folder) if self.is_in_place else os.chdir(self.tree)
 
-    def environment(self, jobs: int, race: Chosen | None = None) -> dict[str, str]:
+    def environment(self, race: Chosen | None = None, is_parallel: bool = False) -> dict[str, str]:
         """The environment of a build; with a race, make marks the two recipes."""
         env = {name: it for name, it in os.environ.items() if name not in OF_MAKE}
-        env |= {"PATH": f"{self.top / 'bin'}:{env.get('PATH', os.defpath)}", "PWD": self.place(self.folder), "RACE_JOBS": str(jobs)}
+        env["RACE_TOKENS"] = str(self.tokens) if is_parallel else ""
+        env |= {"PATH": f"{self.top / 'bin'}:{env.get('PATH', os.defpath)}", "PWD": self.place(self.folder)}
         if race:
             (self.top / "marks.mk").write_text(self.marks(race), encoding="utf-8", errors="surrogateescape")
             env["MAKEFILES"] = str(self.top / "marks.mk")
@@ -148,6 +169,9 @@ def furnish(top: Path) -> None:
     real, compiler = tools()
     words = [compiler, "-O1", "-fPIC", "-shared", "-o", str(top / "hold.so"), str(HOLD), "-ldl"]
     run_tool(words, f"{compiler} cannot build the library that holds recipes")
+    (top / "tokens").mkdir()
+    os.mkfifo(top / "tokens" / "out")
+    os.mkfifo(top / "tokens" / "back")
     (top / "bin").mkdir()
     for name in ("make", "gmake"):
         if name == "make" or shutil.which(name):

@@ -13,8 +13,6 @@ from confirm.room import Room
 from confirm.schedules import Schedule, serial_order, tries
 from confirm.tree import Difference, copy, difference, differing, held_by, remove
 
-# So many recipes run at once: the two of the race, so that all others keep the order of the serial build as far as can be.
-JOBS = 2
 # Serial builds begin so far apart that a time of day in a file shows.
 APART = 1.1
 # The first serial build may take so long; the others may take ten times as long as it did, and a minute.
@@ -67,15 +65,15 @@ class Trial:
     serial: Left | None = None
     unstable: set[str] = field(default_factory=set)
 
-    def left(self, jobs: int, race: Chosen | None = None, schedule: Schedule | None = None, lines: dict[str, int] | None = None) -> Left:
+    def left(self, race: Chosen | None = None, schedule: Schedule | None = None, lines: dict[str, int] | None = None) -> Left:
         """One build, and what it left."""
-        built = build(self.room, self.words, jobs, self.limit or LONGEST, race, schedule, lines)
+        built = build(self.room, self.words, self.limit or LONGEST, race, schedule, lines)
         return Left(built, held_by(self.room.tree))
 
     def begin(self) -> None:
         """The serial build: what the others are compared with."""
         self.say("serial build")
-        self.serial = self.left(1)
+        self.serial = self.left()
         if self.serial.status != 0:
             raise failed("the serial build of the copy", self.serial.built)
         remove(self.room.top / "serial")
@@ -87,7 +85,7 @@ class Trial:
         assert self.serial
         time.sleep(max(0.0, APART - self.serial.built.seconds))
         self.say("second serial build")
-        again = self.left(1, race)
+        again = self.left(race)
         if again.status != 0:
             raise failed("a second serial build of the copy", again.built)
         self.unstable |= differing(self.serial.files, again.files)
@@ -108,7 +106,7 @@ class Trial:
 
     def held(self, race: Chosen, schedule: Schedule, lines: dict[str, int]) -> tuple[Left, set[str]]:
         self.say(schedule.text(race))
-        left = self.left(JOBS, race, schedule, lines)
+        left = self.left(race, schedule, lines)
         return left, self.differs(left)
 
     def confirm(self, race: Chosen, runs: int, only: int = 0) -> Finding:
@@ -153,8 +151,9 @@ class Trial:
         return (left, found & once_more) if found & once_more else None
 
     def confirmed(self, finding: Finding, number: int, schedule: Schedule, left: Left, found: set[str]) -> None:
-        finding.schedule, finding.number, finding.status = schedule, number, left.status
-        finding.errors = errors_of(left.built) if "." in found else []
+        finding.schedule, finding.number = schedule, number
+        if "." in found:
+            finding.status, finding.errors = left.status, errors_of(left.built)
         names = sorted(found - {"."})
         finding.differences = [difference(it, self.room.top / "serial", self.room.tree) for it in names]
 

@@ -19,7 +19,6 @@ FORMS = {"text": text, "json": as_json, "sarif": as_sarif, "github": github, "ht
 USAGE = """race-report [DIR] [options]
        race-report --makefile FILE --listing FILE --footprints FILE [--root FOLDER] [GOAL or NAME=VALUE ..] [options]"""
 DESCRIPTION = "Shows a record of race-record, or what race says of a makefile, in a form for people or for CI."
-ABOUT = "Shows a record of a build in a form for people or for CI."
 EXAMPLE = """
 example:
   race-record -- make                          record a build into .race

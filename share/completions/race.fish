@@ -75,7 +75,7 @@ complete -c race -n '__fish_seen_subcommand_from list' -s h -l help -d 'Print he
 complete -c race-confirm -s h -l help -d 'show this help message and exit'
 complete -c race-confirm -l runs -x -d 'try at most N schedules of a race (12)'
 complete -c race-confirm -l schedule -x -d 'try the schedule N alone'
-complete -c race-confirm -l prepare -x -d 'make the copy ready by this, such as \'make clean\'; else what the record says that the build wrote is taken away in it'
+complete -c race-confirm -l prepare -x -d 'make the copy ready by this, such as \'make clean\'; without it, what the record says that the build wrote is removed from the copy'
 complete -c race-confirm -l keep -x -a '(__fish_complete_directories)' -d 'keep what the serial and the last parallel build left'
 complete -c race-confirm -l race -r -F -d 'the program race (else $RACE, the checkout\'s, or the one on PATH)'
 complete -c race-confirm -x -a '(__fish_complete_directories)'
