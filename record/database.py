@@ -7,7 +7,8 @@ from typing import Dict, List, Set, Tuple
 TARGET = re.compile(r"^(.*?)(::?)(?: (.*))?$")
 PLACE = re.compile(r"^#  recipe to execute \(from '(.*)', line (\d+)\):")
 ORIGIN = re.compile(r"# (makefile|environment|command line|default|automatic|'override' directive)")
-VALUE = re.compile(r"^([^\s:#=]+) (?:=|:=|::=|:::=) ?([^$]*)$")
+VALUE = re.compile(r"^([^\s:#=]+) (?:=|:=|::=|:::=) ?(.*)$")
+LINES = re.compile(r"^define ([^\s:#=]+)")
 PATTERN = re.compile(r"^([^#\t:=]*%[^:=]*)::?(?!=) *(.*)$")
 
 
@@ -33,7 +34,7 @@ class Base:
     places: Dict[str, List[Tuple[str, int]]] = field(default_factory=dict)
     implicit: Set[str] = field(default_factory=set)
     patterns: List[Tuple[List[str], List[str]]] = field(default_factory=list)
-    values: Dict[str, str] = field(default_factory=dict)  # macros whose value is plain text
+    values: Dict[str, str] = field(default_factory=dict)  # the text of macros; `$(lines)*` for one of several lines
     serial: bool = False
 
 
@@ -87,11 +88,14 @@ class _Files:
 
 def before_files(base: Base, text: str, previous: str) -> None:
     """A line of the parts that list macros and implicit rules; a macro stands behind the line that says where it is from."""
-    pattern, value = PATTERN.match(text), VALUE.match(text) if ORIGIN.match(previous) else None
+    pattern, is_macro = PATTERN.match(text), ORIGIN.match(previous)
+    value, lines = (VALUE.match(text), LINES.match(text)) if is_macro else (None, None)
     if pattern:
         base.patterns.append((pattern.group(1).split(), pattern.group(2).replace("|", " ").split()))
     if value:
         base.values[value.group(1)] = value.group(2)
+    if lines:
+        base.values[lines.group(1)] = "$(lines)*"
 
 
 def read_base(lines: List[str]) -> Base:

@@ -4,30 +4,79 @@ import re
 from typing import Dict, Iterator, List, Optional, Set
 
 CALL = re.compile(r"\$([({])wildcard[ \t]+")
-REFERENCE = re.compile(r"\$(?:\(([\w.-]+)\)|\{([\w.-]+)\}|(\w))")
+REFERENCE = re.compile(r"\$(?:\(([\w.-]+)(?::[^$(){}*?\[]*)?\)|\{([\w.-]+)(?::[^$(){}*?\[]*)?\}|(\w))")
+MAGIC = re.compile(r"[*?\[]")
 BRACKETS = {"(": ")", "{": "}"}
-UNKNOWN = "\x02"
+NAMED = "\x01"  # names without a pattern
+UNKNOWN = "\x02"  # anything
+# Functions whose text has no pattern where their arguments have none.
+QUIET = re.compile(r"\$[({](?:dir|notdir|basename|suffix|addprefix|addsuffix|join|patsubst|subst|strip|sort|filter|filter-out|firstword"
+                   r"|lastword|word|wordlist|abspath|realpath|if|or|and|findstring)[ \t]")
+
+
+class Macros:
+    """What makefiles and the data base of make say of macros."""
+
+    def __init__(self, text: str, values: Dict[str, str]) -> None:
+        self.text, self.values = text, values
+        self.is_open = "eval" in text
+        self.plain: Dict[str, bool] = {}
+
+    def fixed(self, name: str) -> Optional[str]:
+        """The one value that a macro has all along: no two assignments, no loop of its name, and no other macro in it."""
+        value = self.values.get(name)
+        if self.is_open or value is None or "$" in value or len(self.assigned(name)) > 1 or self.is_bound(name):
+            return None
+        return value
+
+    def assigned(self, name: str) -> List[str]:
+        """The texts that makefiles assign to a macro, also for one target."""
+        return re.findall(r"(?<![\w$({.%%/-])%s[ \t]*(?:[+?!]|::?:?)?=((?:[^\n]*\\\n)*[^\n]*)" % re.escape(name), self.text)
+
+    def is_bound(self, name: str) -> bool:
+        """Whether lines or a loop give a macro its value."""
+        return bool(re.search(r"\b(?:define|undefine|foreach|let)\s[^\n]*\b%s\b" % re.escape(name), self.text))
+
+    def has_no_pattern(self, name: str) -> bool:
+        """Whether no value that a macro may have holds a pattern."""
+        if self.is_open or name.isdigit() or self.is_bound(name):
+            return False
+        fixed = self.fixed(name)
+        if fixed is not None:
+            return not MAGIC.search(fixed)
+        if name not in self.plain:
+            self.plain[name] = True  # a macro that names itself
+            self.plain[name] = all(self.is_plain(text) for text in [*self.assigned(name), self.values.get(name, "")])
+        return self.plain[name]
+
+    def is_plain(self, text: str) -> bool:
+        """Whether what a text comes to holds no pattern. What `wildcard` gives are names of files."""
+        for call in set(arguments(text)):
+            if call is None:
+                return False
+            text = re.sub(r"\$[({]wildcard[ \t]+%s[)}]" % re.escape(call), NAMED, text)
+        names = [found.group(1) or found.group(2) or found.group(3) for found in REFERENCE.finditer(text)]
+        rest = QUIET.sub("", REFERENCE.sub(NAMED, text))
+        return not MAGIC.search(rest) and "$" not in rest.replace("$$", "") and all(self.has_no_pattern(name) for name in names)
 
 
 def patterns(texts: List[str], values: Dict[str, str]) -> Set[str]:
     """The patterns of one part of a path that makefiles look for; `*` where they cannot be known.
 
-    `values` has macros with the value that make had at its end. One counts only where no text can have given it another.
+    `values` has macros with the text that make had for them at its end.
     """
+    macros = Macros("\n".join(texts), values)
     found: Set[str] = set()
-    whole = "\n".join(texts)
-    known = {name: value for name, value in values.items() if is_fixed(name, whole)} if "eval" not in whole else {}
-    calls = 0
-    for words in arguments(whole):
-        calls += 1
-        found.update(parts(words, known))
-    if whole.count("wildcard") > calls:
+    calls = list(arguments(macros.text))
+    for words in calls:
+        found.update(parts(words, macros))
+    if macros.text.count("wildcard") > len(calls):
         found.add("*")
     return found
 
 
 def arguments(text: str) -> Iterator[Optional[str]]:
-    """What stands in each call, or nothing where it has no end."""
+    """What stands in each call of `wildcard`, or nothing where it has no end."""
     for call in CALL.finditer(text):
         depth, at = 1, call.end()
         while depth and at < len(text):
@@ -36,22 +85,20 @@ def arguments(text: str) -> Iterator[Optional[str]]:
         yield text[call.end(): at - 1] if depth == 0 else None
 
 
-def is_fixed(name: str, text: str) -> bool:
-    """Whether a macro has one value all along: no two assignments, and no loop or function of its name."""
-    spelled = re.escape(name)
-    assigned = re.findall(r"(?<![\w$({.%%/-])%s[ \t]*(?:[+?!]|::?:?)?=|\b(?:define|undefine|foreach|let)\s+%s\b" % (spelled, spelled), text)
-    return len(assigned) <= 1 and not re.search(r"\b(?:define|undefine|foreach|let)\s[^\n]*\b%s\b" % spelled, text)
-
-
-def parts(words: Optional[str], known: Dict[str, str]) -> Set[str]:
+def parts(words: Optional[str], macros: Macros) -> Set[str]:
     """The parts of some words that hold a pattern."""
     if words is None:
         return {"*"}
-    plain = REFERENCE.sub(lambda found: known.get(found.group(1) or found.group(2) or found.group(3), UNKNOWN), words)
+
+    def value(found: "re.Match[str]") -> str:
+        name = found.group(1) or found.group(2) or found.group(3)
+        fixed = macros.fixed(name) if ":" not in found.group(0) else None
+        return fixed if fixed is not None else NAMED if macros.has_no_pattern(name) else UNKNOWN
+
     found: Set[str] = set()
-    for word in plain.split():
+    for word in REFERENCE.sub(value, words).split():
         if any(mark in word for mark in (UNKNOWN, "$", "(", "{")):
             found.add("*")
         else:
-            found.update(part for part in word.split("/") if re.search(r"[*?\[]", part))
+            found.update(part for part in word.split("/") if MAGIC.search(part))
     return found

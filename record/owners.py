@@ -94,13 +94,13 @@ class Owners:
     @staticmethod
     def patterns_of(make: Make) -> List[str]:
         """The patterns of `$(wildcard ..)` in the makefiles that were read."""
-        texts: List[str] = []
+        texts = [make.words.args, make.words.flags]
         for name in makefiles(make.words):
             try:
                 texts.append(Path(make.folder, name).read_text(errors="replace"))
             except OSError:
                 return ["*"]
-        return sorted(patterns(texts, make.words.fixed_values()))
+        return sorted(patterns(texts, make.words.values()))
 
     def match_jobs(self, make: Make) -> None:
         """The k-th process of a number that make started is its k-th job of that number."""

@@ -64,11 +64,13 @@ class Words:
     read: List[List[str]] = field(default_factory=list)  # makefiles of each start
     holes: List[str] = field(default_factory=list)
 
-    def fixed_values(self) -> Dict[str, str]:
-        """The macros whose value names no other, the same in each of its data bases."""
-        bases = [one.base for one in self.rounds if one.base is not None]
-        first = bases[0].values if bases else {}
-        return {name: value for name, value in first.items() if all(b.values.get(name) == value for b in bases)}
+    def values(self) -> Dict[str, str]:
+        """The macros of its data bases; one that differs between them may be anything."""
+        found: Dict[str, str] = {}
+        for base in (one.base for one in self.rounds if one.base is not None):
+            for name, value in base.values.items():
+                found[name] = value if found.get(name, value) == value else "$(other)*"
+        return found
 
 
 class _Reader:

@@ -22,14 +22,21 @@ class Globs(unittest.TestCase):
         self.assertEqual(set(), patterns(["P := a.d b.d\ninclude $(wildcard $(P))\n"], {"P": "a.d b.d"}))
         self.assertEqual({"q*"}, patterns(["S := $(wildcard $(D)/x)\n"], {"D": "q*"}))
 
-    def test_macros_that_may_have_another_value(self) -> None:
-        for text in ("D := src\nD := lib\nS := $(wildcard $(D)/x)\n", "D := src\nD += lib\nS := $(wildcard $(D)/x)\n",
-                     "S := $(foreach D,a* b*,$(wildcard $(D)/x))\n", "define D\na*\nendef\nS := $(wildcard $(D)/x)\n",
-                     "$(eval D := a*)\nS := $(wildcard $(D)/x)\n", "all: D = a*\nD = src\nS = $(wildcard $(D)/x)\n"):
-            self.assertEqual({"*"}, patterns([text], {"D": "src"}), text)
+    def test_macros_without_a_pattern(self) -> None:
+        for text in ("D := src\nD := lib\n", "D := src\nD += lib/$(E)\nE = $(notdir $(CURDIR))\n", "all: D = a\nD = src\n", "D ?= ./\n",
+                     "D := $(dir $(wildcard lib/x.c))\n", "D := $(E:.c=.o)\nE := $(sort x y)\n"):
+            self.assertEqual({"*.c"}, patterns([text + "S := $(wildcard $(D)/*.c)\n"], {"D": "src"}), text)
+        self.assertEqual({"*.c"}, patterns(["V := $(shell cat v)\nD = d.$(V)\nD += e\nS := $(wildcard $(D)/*.c)\n"], {"V": "1.2", "D": "d.$(V) e"}))
+        self.assertEqual({"*.c"}, patterns(["S := $(wildcard *.c)\ninclude $(wildcard $(S:.c=.d))\n"], {"S": "a.c b.c"}))
+
+    def test_macros_that_may_hold_a_pattern(self) -> None:
+        for text in ("D := src\nD := lib*\n", "D := src\nD += $(shell ls)\n", "D := src\nD += $(E)\nE = [ab]\n", "D = $(call f,x)\nD += y\n",
+                     "$(foreach D,a* b*,$(wildcard $(D)/x))\n", "define D\na*\nendef\n", "$(eval D := a*)\n", "all: D = a*\nD = src\n"):
+            self.assertIn("*", patterns([text + "S := $(wildcard $(D)/x)\n"], {"D": "src"}), text)
+        self.assertEqual({"*"}, patterns(["S := $(wildcard $(D)/x)\nD := x\nD += y\n"], {"D": "$(lines)*"}))
 
     def test_what_cannot_be_known(self) -> None:
-        for text in ("S := $(wildcard $(D)/x)\n", "S := $(wildcard $(D:.c=.o))\n", "S := $(wildcard $(1))\n", "S := $(wildcard $(shell ls))\n",
+        for text in ("S := $(wildcard $(D*)/x)\n", "S := $(wildcard $(1))\n", "S := $(wildcard $(shell ls))\n",
                      "F := wildcard\nS := $($(F) x)\n", "S := $(wildcard x\n"):
             self.assertEqual({"*"}, patterns([text], {}), text)
 
@@ -37,7 +44,7 @@ class Globs(unittest.TestCase):
         base = read_base(["# Variables", "", "# makefile (from 'Makefile', line 1)", "D := src lib", "# makefile (from 'Makefile', line 2)",
                           "E = $(D)/x", "# environment", "A.B-c = x=y",
                           "# makefile (from 'Makefile', line 3)", "define F", "G := z", "endef", "# Implicit Rules", "# Files", "x: y"])
-        self.assertEqual({"D": "src lib", "A.B-c": "x=y"}, base.values)
+        self.assertEqual({"D": "src lib", "E": "$(D)/x", "A.B-c": "x=y", "F": "$(lines)*"}, base.values)
 
 
 if __name__ == "__main__":
