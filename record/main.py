@@ -187,7 +187,7 @@ def import_record(spool: Path, names: Names, kept: Kept, real: str, folder: str,
 
 def parse(args: List[str]) -> argparse.Namespace:
     """The words of the command line."""
-    parser = argparse.ArgumentParser(prog="race-record", description="Builds once, serially, and says whether make -j is safe.",
+    parser = argparse.ArgumentParser(prog="race-record", description="Builds once, and says whether make -j, or ninja, is safe.",
                                      epilog=EXAMPLE, formatter_class=argparse.RawDescriptionHelpFormatter)
     parser.add_argument("-o", "--output", default=".race", metavar="DIR", help="the folder of the record (.race)")
     parser.add_argument("--race", metavar="PROGRAM", help="the program race")

@@ -34,6 +34,24 @@ class Ninja(unittest.TestCase):
 
 
 @unittest.skipUnless(shutil.which("ninja"), "ninja is missing (Debian: apt-get install ninja-build)")
+class Parallel(unittest.TestCase):
+    """A record of commands side by side says what a serial one says."""
+
+    def test_same_tasks(self) -> None:
+        rows = "".join("build o%d: sh h%d\n  c = cat h%d > o%d; echo x >> log%d\nbuild h%d: sh\n  c = echo > h%d\n" % (n, n, n, n, n % 3, n, n) for n in range(9))
+        with support.Project({"build.ninja": RULES + rows}) as project:
+            first = project.record(["ninja"])
+            serial = support.tasks_of(project.folder)
+            project.sh("rm -rf o? h? log? .ninja* .race")
+            second = project.record(["sh", "-c", "ninja -j4"])
+            parallel = support.tasks_of(project.folder)
+        self.assertEqual((1, 1), (first.status, second.status), first.text() + second.text())
+        self.assertEqual(serial.keys(), parallel.keys())
+        for label, task in serial.items():
+            self.assertEqual({k: sorted(v) for k, v in task.items()}, {k: sorted(v) for k, v in parallel[label].items()})
+
+
+@unittest.skipUnless(shutil.which("ninja"), "ninja is missing (Debian: apt-get install ninja-build)")
 class Fresh(unittest.TestCase):
     """`--fresh`: a clean copy is recorded, and the folder stays as it was."""
 
