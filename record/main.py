@@ -242,7 +242,7 @@ def attempt(options: argparse.Namespace, words: List[str], tools: Dict[str, str]
         write_record(out, record, found.builds, found.assumed)
         if options.keep_trace:
             shutil.copytree(spool, out / "trace", ignore=shutil.ignore_patterns("bin", "real"))
-        if status != 1 or not found.ninjas:
+        if status != 1 or not any(stage.jobs for ninja in found.ninjas for stage in ninja.stages):
             return record, False
         record.hints = hints(found.ninjas, names)
         changed = undo(names, found.lives, kept) if words != options.words else []
