@@ -51,9 +51,14 @@ def inputs(args: argparse.Namespace) -> Inputs:
     return Inputs(args.makefile, root, tuple(graph), args.footprints, tuple(args.words))
 
 
-def asked(program: Path, words: Sequence[str]) -> subprocess.CompletedProcess[str]:
+def run(program: Path, words: Sequence[str]) -> subprocess.CompletedProcess[str]:
     how = {"capture_output": True, "text": True, "errors": "replace", "stdin": subprocess.DEVNULL}
-    done = subprocess.run([str(program), *words], check=False, **how)
+    return subprocess.run([str(program), *words], check=False, **how)
+
+
+def asked(program: Path, words: Sequence[str]) -> subprocess.CompletedProcess[str]:
+    """What `race` answers; a file that cannot be read, an invalid command line or a lack of memory is an error."""
+    done = run(program, words)
     if done.returncode not in (0, 1, 2):
         raise BadRecord(f"race {words[0]}: {done.stderr.strip() or f'status {done.returncode}'}")
     return done
@@ -114,10 +119,11 @@ def judge_makefile(given: Inputs, program: Path) -> Report:
 
 
 def fix(report: Report, given: Inputs, program: Path) -> None:
-    """The lines that fix the makefile, as `race fix` checked them; else the line of each race, unchecked."""
+    """The lines that fix the makefile, as `race fix` checked them; else, also where `race` lacks that command, the line of each
+    race, unchecked."""
     if not report.races:
         return
-    fixed = asked(program, given.words("fix"))
+    fixed = run(program, given.words("fix"))
     report.is_fixed = fixed.returncode == 0
     lines = [it.partition(" #")[0].rstrip() for it in fixed.stdout.splitlines() if ": " in it and it[:1] != "#"]
     report.fixes = [*dict.fromkeys(lines if report.is_fixed else (it.fix for it in report.races))]

@@ -18,7 +18,7 @@ def summary(report: Report) -> str:
     """The verdict in one sentence."""
     recipes = f"{counted(report.recipes, 'recipe')} in {counted(report.builds, 'build')}"
     if report.verdict == "none":
-        return f"No verdict: the record has {counted(len(report.holes), 'hole')}."
+        return "race refuses this makefile." if report.is_direct else f"The record has {counted(len(report.holes), 'hole')}."
     if report.verdict == "safe":
         return f"make -j leaves what make leaves. {recipes}; {counted(report.pairs, 'pair')} that conflict are in order."
     files = len({it.path for it in report.races})
@@ -50,7 +50,7 @@ def text(report: Report) -> str:
     if report.races:
         checked = "with these lines the build is safe (checked)" if report.is_checked else "not checked"
         lines += [f"All fixes, {checked}:", *(f"    {it}" for it in report.fixes), ""]
-    lines += ["The record has holes:", *(f"  - {it}" for it in report.holes), ""] if report.holes else []
+    lines += ["Why there is no verdict:", *(f"  - {it}" for it in report.holes), ""] if report.holes else []
     lines += ["Fixed since the baseline:", *(f"  - {it}" for it in report.gone), ""] if report.gone else []
     if report.assumptions:
         lines.append("safe, if:" if report.verdict == "safe" else "Assumed:")
