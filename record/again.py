@@ -27,7 +27,7 @@ def with_jobs(words: List[str], jobs: int) -> List[str]:
     if re.fullmatch(r"ninja(-build)?|samu", name) or name == "meson" and words[1:2] == ["compile"]:
         split = words.index("--") if "--" in words else len(words)
         return words[:split] + own + words[split:]
-    if name == "cmake" and words[1:2] == ["--build"] and len(words) > 2 and os.path.exists(os.path.join(words[2], "build.ninja")):
+    if name == "cmake" and words[1:2] == ["--build"] and len(words) > 2 and cached(words[2], "CMAKE_GENERATOR").startswith("Ninja"):
         if "--" not in words:
             return words + own
         split = words.index("--")
@@ -50,13 +50,21 @@ def tops_of(words: List[str], others: List[str]) -> List[str]:
     return [top for top in dict.fromkeys(found) if not any(top.startswith(other.rstrip("/") + "/") for other in found)]
 
 
+def cached(folder: str, name: str) -> str:
+    """What CMake's cache in a folder says; nothing where there is none."""
+    try:
+        text = Path(folder, "CMakeCache.txt").read_text(errors="surrogateescape")
+    except OSError:
+        return ""
+    match = re.search(r"(?m)^%s:INTERNAL=(.*)$" % name, text)
+    return match.group(1) if match else ""
+
+
 def source_of(folder: str) -> str:
     """The sources of a folder that CMake or Meson configured; nothing where neither did."""
-    try:
-        match = re.search(r"(?m)^CMAKE_HOME_DIRECTORY:INTERNAL=(.*)$", Path(folder, "CMakeCache.txt").read_text(errors="surrogateescape"))
-        return match.group(1) if match else ""
-    except OSError:
-        pass
+    source = cached(folder, "CMAKE_HOME_DIRECTORY")
+    if source:
+        return source
     try:
         found = json.loads(Path(folder, "meson-info", "meson-info.json").read_text())["directories"]["source"]
         return found if isinstance(found, str) else ""

@@ -35,7 +35,8 @@ class Words(unittest.TestCase):
             self.assertEqual(wanted.split(), with_jobs(words.split(), 1), words)
 
     def test_cmake_where_ninja_builds(self) -> None:
-        with support.Project({"b/build.ninja": "", "m/Makefile": ""}) as project:
+        cache = "# x\nCMAKE_GENERATOR:INTERNAL=%s\n"
+        with support.Project({"b/CMakeCache.txt": cache % "Ninja", "m/CMakeCache.txt": cache % "Unix Makefiles", "m/build.ninja": ""}) as project:
             ninja, make = str(project.folder / "b"), str(project.folder / "m")
             self.assertEqual(["cmake", "--build", ninja, "-j1"], with_jobs(["cmake", "--build", ninja], 1))
             self.assertEqual(["cmake", "--build", ninja, "-j1", "--", "-v"], with_jobs(["cmake", "--build", ninja, "--", "-v"], 1))
