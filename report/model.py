@@ -10,6 +10,7 @@ from collections.abc import Iterator
 from dataclasses import dataclass, field
 from pathlib import Path
 
+from record.ninja_fix import fix_text
 from report.kinds import Kind, kind_of
 
 # What the recorder adds to a path that stands for something else than the file: its age, its folder, that it is gone.
@@ -62,6 +63,7 @@ class Race:
     first: Side
     second: Side
     kind: Kind
+    in_project: str = ""  # the fix in the words of what wrote the build: CMake, Meson, or build.ninja itself
 
     @property
     def shown(self) -> str:
@@ -188,7 +190,9 @@ class Build:
         other = lambda labels: tuple(it for it in self.targets(labels) if it not in targets)
         sides = [Side(self.recipe(it), does, other(self.after.get(it, [])), other(self.users.get(it, []))) for it, does in (first, second)]
         kind = kind_of(path, targets, (first[1], second[1]))
-        return Race(self.number, path, self.about.get("meanings", {}).get(path, ""), *sides, kind)
+        early, late = (second[0], first[0]) if first[1] == "reads" else (first[0], second[0])
+        in_project = fix_text(self.about["labels"], early, late, path) if self.about.get("tool") == "ninja" else ""
+        return Race(self.number, path, self.about.get("meanings", {}).get(path, ""), *sides, kind, in_project)
 
 
 def read_build(folder: Path, number: str, project: str) -> Build:

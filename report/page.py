@@ -76,7 +76,7 @@ def card(race: Race, number: int, report: Report, is_drawn: bool) -> str:
     known = ' <span class="tag">known</span>' if race.fingerprint in report.known else ""
     return (f'<div class="card" id="race-{number}"><h4>Race {number}</h4>{sides(race)}'
             f'<p class="kind">{code(race.kind.advice)}{known}</p>'
-            f'<p class="kind">{order}</p><pre>{escape(race.fix)}</pre>{figures(race) if is_drawn else ""}</div>')
+            f'<p class="kind">{order}</p><pre>{escape(chr(10).join(filter(None, (race.fix, race.in_project))))}</pre>{figures(race) if is_drawn else ""}</div>')
 
 
 def confirming(report: Report) -> str:

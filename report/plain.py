@@ -40,6 +40,8 @@ def race_lines(race: Race, number: int, report: Report) -> Iterator[str]:
     yield from side_rows(race)
     yield f"  {race.kind.advice}"
     yield f"  fix: {race.fix}"
+    if race.in_project:
+        yield f"  in the project: {race.in_project}"
     yield ""
 
 

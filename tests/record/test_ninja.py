@@ -34,6 +34,20 @@ class Ninja(unittest.TestCase):
 
 
 @unittest.skipUnless(shutil.which("ninja"), "ninja is missing (Debian: apt-get install ninja-build)")
+class Companions(unittest.TestCase):
+    """What reads a record of ninja."""
+
+    def test_report_and_confirmation(self) -> None:
+        manifest = RULES + "build g: sh\n  c = echo 1 > g\nbuild a: sh\n  c = cat g > a\n"
+        with support.Project({"build.ninja": manifest}) as project:
+            project.record(["ninja"])
+            report = project.plain([str(support.TOP / "report" / "race-report"), "--race", support.race_program()])
+            confirmed = project.plain([str(support.TOP / "confirm" / "race-confirm"), "--race", support.race_program()])
+        self.assertIn("in the project: build a: .. || g", report.stdout.decode(), report.stderr.decode())
+        self.assertIn("only recipes of make can be held", (confirmed.stdout + confirmed.stderr).decode())
+
+
+@unittest.skipUnless(shutil.which("ninja"), "ninja is missing (Debian: apt-get install ninja-build)")
 class Parallel(unittest.TestCase):
     """A record of commands side by side says what a serial one says."""
 
