@@ -35,6 +35,9 @@ status: 0 not confirmed: no difference was seen, which is no yes; 1 confirmed: a
 """
 
 
+KEPT = ("serial", "parallel")
+
+
 def parse(words: Sequence[str] | None) -> argparse.Namespace:
     """The command line; a first word that is no record is the name of a race."""
     parser = argparse.ArgumentParser(prog="race-confirm", usage="race-confirm [DIR] [RACE ..] [options]", description=DESCRIPTION,
@@ -100,9 +103,7 @@ def prepare(room: Room, command: str) -> None:
 def keep(room: Room, to: Path) -> None:
     """Leaves what the serial and the last parallel build left."""
     to.mkdir(parents=True, exist_ok=True)
-    for name, tree in (("serial", room.top / "serial"), ("parallel", room.tree)):
-        if (to / name).exists():
-            raise BadRecord(f"{to / name} is there already")
+    for name, tree in zip(KEPT, (room.top / "serial", room.tree)):
         if tree.exists():
             copy(tree, to / name)
 
@@ -138,6 +139,8 @@ def status_of(findings: Sequence[Finding]) -> int:
 
 def run(args: argparse.Namespace) -> int:
     tools()
+    if args.keep and (there := [args.keep / it for it in KEPT if (args.keep / it).exists()]):
+        raise BadRecord(f"{there[0]} is there already")
     program = find_race(args.race)
     if not program:
         raise Missing("the program race is missing: --race PROGRAM, $RACE, or on PATH")
