@@ -1,14 +1,12 @@
 """Ages that are compared: where two tasks that nothing orders write two names, and somebody asks which is newer."""
 
-import os
-from typing import TYPE_CHECKING, Dict, Iterable, List, Set, Tuple
+from itertools import combinations
+from typing import TYPE_CHECKING, Dict, Set
 
 from record.owners import Make, Work
 
 if TYPE_CHECKING:
     from record.build import Builder
-
-PAIR_LIMIT = 400
 
 
 def add_ages(builder: "Builder") -> None:
@@ -18,9 +16,9 @@ def add_ages(builder: "Builder") -> None:
         node = builder.graph.nodes[label]
         if build.tasks[at].kind == "group":
             continue
-        if not node.phony:
-            for one in builder.plain(node):
-                compare(builder, at, node.path, builder.graph.nodes[one].path, own=True)
+        names = builder.looked_at(node, at)
+        for path in names[1:]:
+            compare(builder, at, names[0], path, node.name)
         for work in build.tasks[at].works:
             inner_ages(builder, at, work)
             told_ages(builder, at, work)
@@ -31,20 +29,25 @@ def writers_of(builder: "Builder", path: str) -> Set[int]:
     return builder.build.writers.get(path, set()) | builder.timers.get(path, set())
 
 
-def compare(builder: "Builder", at: int, first: str, second: str, own: bool = False) -> None:
-    """A task compares the ages of two names."""
+def compare(builder: "Builder", at: int, first: str, second: str, own: str = "") -> None:
+    """A task compares the ages of two names; what the rules of its own target write to the first make does not see."""
     build = builder.build
     one, two = writers_of(builder, first), writers_of(builder, second)
+    one = {a for a in one if not own or build.tasks[a].node.name != own}
     if not one or not two or first == second:
         return
     for a in one:
         for b in two:
             if at not in (a, b) and build.unordered(a, b):
-                low, high = sorted((a, b))
-                name = "%s/@age/%d/%d" % (first, low, high)
-                build.tasks[a].writes.add(name)
-                build.tasks[b].writes.add(name)
-                build.meanings[name] = "which of %s and %s is newer" % (first, second)
+                settle(builder, first, second, *sorted((a, b)))
+
+
+def settle(builder: "Builder", first: str, second: str, low: int, high: int) -> None:
+    """Two tasks settle which of two names is newer."""
+    name = "%s/@age/%d/%d" % (first, low, high)
+    builder.build.tasks[low].writes.add(name)
+    builder.build.tasks[high].writes.add(name)
+    builder.build.meanings[name] = "which of %s and %s is newer" % (first, second)
 
 
 def inner_ages(builder: "Builder", at: int, work: Work) -> None:
@@ -68,12 +71,12 @@ def inner_path(builder: "Builder", make: Make, name: str) -> str:
 
 
 def told_ages(builder: "Builder", at: int, work: Work) -> None:
-    """Programs that compare ages: each two names that they looked at."""
-    writers = builder.build.writers
-    seen = sorted({p for k, p in work.events if k == "A" and (p in writers or p in builder.timers)})
-    if len(seen) > PAIR_LIMIT:
-        builder.assumed.add("interpreters", builder.build.tasks[at].label)
-        seen = seen[:PAIR_LIMIT]
-    for number, first in enumerate(seen):
-        for second in seen[number + 1:]:
-            compare(builder, at, first, second)
+    """Programs that compare ages: those of all names that they looked at, by who writes them."""
+    writers, build = builder.build.writers, builder.build
+    wrote: Dict[int, str] = {}
+    for path in sorted({p for k, p in work.events if k == "A" and (p in writers or p in builder.timers)}):
+        for writer in writers_of(builder, path):
+            wrote.setdefault(writer, path)
+    for low, high in combinations(sorted(wrote), 2):
+        if at not in (low, high) and build.unordered(low, high):
+            settle(builder, wrote[low], wrote[high], low, high)

@@ -14,13 +14,11 @@ TEXTS = {
     "ring": "make dropped a prerequisite that closes a ring",
     "search": "the search for implicit rules goes by a listing from before the first recipe (GNU make before 4.4)",
     "outside": "names outside of the project changed; what was there before is taken from the disk after the build",
-    "queries": "makes that only look (-n, -q) are taken to depend on all that they looked at",
-    "flags": "recipes name MAKEFLAGS, which holds the recorder's words",
-    "libtool": "globs of libtool are about its own files",
-    "progress": "files under CMakeFiles/Progress steer only what is shown",
+    "flags": "a makefile or a recipe names MAKEFLAGS or PATH, which hold the recorder's words, and does the same without them",
+    "makers": "scripts that make folders for themselves (install-sh, mkinstalldirs, libtool, cmake) ask no more than that it is there; libtool compares no ages",
     "outlives": "a process changed files when its recipe had ended",
     "tops": "two makes or ninjas ran at once, and no make or ninja started them",
-    "interpreters": "Perl, Python and other interpreters compare ages only of files that they looked at",
+    "interpreters": "Perl, Python and other interpreters compare ages only of files that they looked at by name",
 }
 
 

@@ -28,6 +28,7 @@ class Builder:
         self.look_of: Dict[str, int] = {}
         self.first_of: Dict[str, int] = {}
         self.made: Set[str] = set()
+        self.tried: Set[str] = set()  # folders that a recipe could not remove, as they held something
         self.began = -1
         self.timed: Dict[str, Set[int]] = {}  # name: who depends on its time
         self.timers: Dict[str, Set[int]] = {}  # folder: who changes its time
@@ -75,7 +76,7 @@ class Builder:
             return ()
         if not self.build.writers:
             return work.events
-        return [(k, p) for k, p in work.events if k not in "RSNPAU" or self.is_written(p)]
+        return [(k, p) for k, p in work.events if k not in "RSNPAUK" or self.is_written(p)]
 
     def note_writers(self) -> None:
         """Which recipe writes, creates or removes which name, and who makes which folder."""
@@ -89,6 +90,8 @@ class Builder:
                         found.setdefault(path, set()).add(who)
                     elif kind in "MTX":
                         self.made.add(path)
+                    elif kind == "x":
+                        self.tried.add(path)
         self.build.writers = found
 
     def is_written(self, path: str, but: int = -1) -> bool:
@@ -127,12 +130,17 @@ class Builder:
         lines = [line.strip().lstrip("@+-").strip() for line in self.graph.base.recipes.get(node.name, [])]
         return any(line not in ("", ":", "true") for line in lines)
 
+    def is_foreign(self, node: Node, own: int) -> bool:
+        """Whether another target's recipe writes a name. Make looks at the age of a double-colon target once for all its rules."""
+        who = self.build.writers.get(node.path, set()) - {own}
+        return node.path in self.made or any(self.build.tasks[at].node.name != node.name for at in who)
+
     def looked_at(self, node: Node, own: int) -> List[str]:
         """The paths that decide whether a target is remade: none where it is phony; where it is absent, and nobody else
         writes it, it is remade whatever the ages of its prerequisites are."""
         if node.phony:
             return []
-        is_cold = self.before.get(node.path) is None and self.is_known(node.path) and not self.is_written(node.path, own)
+        is_cold = self.before.get(node.path) is None and self.is_known(node.path) and not self.is_foreign(node, own)
         return [node.path] + ([] if is_cold else [self.graph.nodes[p].path for p in self.plain(node)])
 
     def plain(self, node: Node) -> List[str]:
@@ -290,7 +298,7 @@ class Builder:
         for kind, path in events:
             if kind in CHANGES and not path.endswith("/"):
                 task.writes.add(path)
-            elif kind in "RSNP" and path in writers:
+            elif kind in "RSNPK" and path in writers:
                 task.reads.add(path)
             elif kind == "L":
                 folder, pattern = path.split("\0")

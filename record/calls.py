@@ -143,6 +143,8 @@ class Calls(Replay):
             folder = found.inode is not None and found.inode.kind == "d"
             self.look(life, path, True, follow, "S" if folder else "R", base)
             return
+        if "O_EXCL" in flags:
+            self.fresh.add(found.path)
         if "O_WRONLY" not in flags and call.name != "creat":
             self.put(life, "R", found.path)
         self.write(life, found, False)
@@ -164,8 +166,13 @@ class Calls(Replay):
     def on_mkdir(self, life: Life, call: Call, ok: bool) -> None:
         base, path = self.base_and_path(life, call)
         found = self.found(life, path.rstrip("/") or "/", False, base)
-        quiet = shelltext.is_quiet_mkdir(life.argv) or any(shelltext.is_maker(up.argv) for up in life.up() if not up.is_make)
+        quiet = shelltext.is_quiet_mkdir(life.argv)
+        script = next((up.argv for up in life.up() if not up.is_make and shelltext.makes(up.argv, found.path)), [])
+        if script and not quiet:
+            self.makers.append(" ".join(script)[:60])
+            quiet = True
         if ok:
+            self.fresh.add(found.path)
             if found.folder is not None and found.inode is None:
                 child = Inode("d")
                 child.walked = True
@@ -256,6 +263,7 @@ class Calls(Replay):
             self.put(life, "S" if call.error == "EEXIST" else "N", new.path)
             return
         inode = old.inode or Inode("f")
+        self.fresh.add(new.path)
         self.put(life, "C", new.path)
         self.put(life, "W", new.path)
         for other in self.names.aliases(inode):
@@ -274,6 +282,7 @@ class Calls(Replay):
         if not ok:
             self.put(life, "S" if call.error == "EEXIST" else "N", found.path)
             return
+        self.fresh.add(found.path)
         self.put(life, "C", found.path)
         self.put(life, "W", found.path)
         if found.folder is not None:

@@ -42,14 +42,12 @@ class _Files:
     """The part of the data base that lists targets."""
 
     def __init__(self, base: Base) -> None:
-        self.base, self.name, self.skip = base, "", False
+        self.base, self.name = base, ""
 
     def line(self, text: str) -> None:
         base = self.base
         if text == "":
-            self.name, self.skip = "", False
-        elif text == "# Not a target:":
-            self.skip = True
+            self.name = ""
         elif text.startswith("\t"):
             if self.name and text.strip():
                 base.recipes.setdefault(self.name, []).append(text[1:])

@@ -26,6 +26,7 @@ class Folder:
     looks: Dict[int, int] = field(default_factory=dict)  # task: its first look at the folder by its own name
     absent: Set[int] = field(default_factory=set)
     users: Set[int] = field(default_factory=set)
+    scripts: Set[int] = field(default_factory=set)  # tasks with a script that makes it where it is not there
     first_made: Dict[int, int] = field(default_factory=dict)
     created: Set[int] = field(default_factory=set)
 
@@ -46,7 +47,7 @@ def parents(path: str) -> List[str]:
 
 def gather(builder: "Builder") -> Dict[str, Folder]:
     """All folders that recipes make or remove, with who uses them."""
-    table = {p: Folder() for p in builder.made}
+    table = {p: Folder() for p in builder.made | builder.tried}
     renamed = {p for p in builder.build.writers if p in builder.made}
     for at, events in each(builder):
         touched: Set[str] = set()
@@ -97,6 +98,8 @@ def note(folder: Folder, at: int, kind: str, place: int) -> None:
         folder.users.add(at)
     elif kind == "N":
         folder.absent.add(at)
+    elif kind == "K":
+        folder.scripts.add(at)
     if kind in "MT":
         folder.created.add(at)
     if kind in "MTE":
@@ -117,8 +120,8 @@ def add_folders(builder: "Builder") -> None:
 def add_folder(builder: "Builder", path: str, folder: Folder) -> None:
     tasks = builder.build.tasks
     if folder.created:
-        for at in folder.users | folder.absent:
-            if at not in folder.strict | folder.quiet and excused(tasks[at].works, path):
+        for at in folder.users | folder.absent | folder.scripts:
+            if at not in folder.strict | folder.quiet and (at in folder.scripts or excused(tasks[at].works, path)):
                 folder.quiet.add(at)
                 folder.first_made[at] = -1
     for at in list(folder.strict):
@@ -139,7 +142,7 @@ def add_folder(builder: "Builder", path: str, folder: Folder) -> None:
         look = folder.looks.get(at)
         if look is not None and look < folder.first_made[at] and not excused(tasks[at].works, path):
             seen(builder, path, at, makers - {at})
-    everyone = makers | folder.users | folder.absent | set(folder.looks) | folder.tried
+    everyone = makers | folder.users | folder.absent | folder.scripts | set(folder.looks) | folder.tried
     for at in folder.gone:
         mark(builder, path + "/@gone", "that the folder %s is there" % path, everyone - {at}, {at})
     for at in folder.gone | folder.tried:

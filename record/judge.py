@@ -1,4 +1,4 @@
-"""Asks `race` about a text of tasks."""
+"""Asks `race` about a text of tasks, and reads what it says: the one reader, of `race-record` and of `race-report`."""
 
 import os
 import re
@@ -25,20 +25,19 @@ class Race:
 
 @dataclass
 class Verdict:
-    """What `race` said of one build."""
+    """What `race list` and `race fix` said of one build; `refused` is empty where they judged it."""
 
     status: int
     races: List[Race] = field(default_factory=list)
     pairs: int = 0
     fix: List[str] = field(default_factory=list)
-    is_fixed: bool = False
+    is_fixed: bool = True  # with the lines of `fix`, if there are any
     refused: str = ""
 
 
 def unshown(text: str) -> str:
-    """A name of a report as it is."""
-    raw = SHOWN.sub(lambda m: chr(int(m.group(1), 16)) if m.group(1) else "\\", text)
-    return raw
+    """A name of a report as it is: reports write some bytes as `\\x` and two digits."""
+    return SHOWN.sub(lambda m: chr(int(m.group(1), 16)) if m.group(1) else "\\", text)
 
 
 def find_race(option: Optional[str]) -> Optional[str]:
@@ -60,20 +59,20 @@ def ask(race: str, command: str, tasks: Path, root: str) -> "subprocess.Complete
 
 def judge(race: str, tasks: Path, root: str) -> Verdict:
     """All races of a build, and the lines that fix it."""
-    told = ask(race, "list", tasks, root)
-    verdict = Verdict(told.returncode)
-    for text in told.stdout.splitlines():
+    listed = ask(race, "list", tasks, root)
+    verdict = Verdict(listed.returncode)
+    for text in listed.stdout.splitlines():
         match = RACE_LINE.match(text)
         if match:
             path, first, does, second, also = match.groups()
             verdict.races.append(Race(unshown(path), unshown(first), does, unshown(second), also))
         elif text.startswith("pairs "):
             verdict.pairs = int(text[6:])
-    if told.returncode not in (0, 1) or (told.returncode == 1) != bool(verdict.races):
+    if listed.returncode not in (0, 1) or (listed.returncode == 1) != bool(verdict.races):
         verdict.status = 2
-        verdict.refused = " ".join((told.stdout + told.stderr).split("\n")[:4]).strip() or "race ended with %d" % told.returncode
-    elif told.returncode == 1:
-        mended = ask(race, "fix", tasks, root)
-        verdict.is_fixed = mended.returncode == 0
-        verdict.fix = [t for t in mended.stdout.splitlines() if t and not t.startswith("#")]
+        verdict.refused = " ".join((listed.stdout + listed.stderr).split()) or "race list ended with %d" % listed.returncode
+    elif listed.returncode == 1:
+        fixed = ask(race, "fix", tasks, root)
+        verdict.is_fixed = fixed.returncode == 0
+        verdict.fix = [t.partition(" #")[0].rstrip() for t in fixed.stdout.splitlines() if ": " in t and not t.startswith("#")]
     return verdict

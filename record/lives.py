@@ -7,7 +7,7 @@ the trace is kept. Kinds:
     W write   C name created        D name removed         M mkdir   T mkdir that tells nobody   E mkdir, there already
     X rmdir   x rmdir that failed   L listed               m mode of a folder    t time of a folder
     H number of links changed       h number of links looked at           Q listed by make
-    A looked at by a process that compares ages
+    A looked at by a process that compares ages         K folder looked at by a script that makes it for itself
 """
 
 from dataclasses import dataclass, field

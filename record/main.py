@@ -16,11 +16,13 @@ from typing import Dict, List, Optional, Tuple
 from record.assumptions import Assumptions
 from record.again import JOBS, TRIES, hints, tops_of, undo, with_jobs
 from record.build import Builder
+from record.calls import Calls
 from record.folder import Record, is_record, rewrite, write_record
+from record.footprints import write_footprints
 from record.fresh import CannotClean, cold_copy, fresh_folder
+from record.granted import add_granted, idle_targets
 from record.graph import Build
 from record.judge import find_race, judge
-from record.calls import Calls
 from record.lives import Life
 from record.names import Names
 from record.ninja_import import beside, import_ninjas
@@ -102,48 +104,6 @@ def replay_trace(spool: Path, names: Names, real: str, folder: str, tops: List[s
     return replay
 
 
-def at_once(owners: Owners, assumed: Assumptions) -> None:
-    """Two processes of one recipe that touch a file at the same time."""
-    for make in owners.makes:
-        for job in (j for r in make.words.rounds for j in r.jobs):
-            work = make.work.get(id(job))
-            if work is None or len(work.lives) > 2000:
-                continue
-            table: Dict[str, List[Tuple[Life, bool]]] = {}
-            for life in work.lives:
-                for kind, path in life.events:
-                    if kind in "RWD":
-                        table.setdefault(path, []).append((life, kind in "WD"))
-            for path, who in table.items():
-                if any(w for _, w in who) and len({id(l) for l, _ in who}) > 1 and len(who) < 40 and overlap(who):
-                    assumed.add("at-once", "%s in %s" % (path, job.target))
-
-
-def outlived(owners: Owners, assumed: Assumptions) -> None:
-    """Processes that act on files when their recipe has ended, and makes that run beside each other without a make above."""
-    for make in owners.makes:
-        for life in make.life.children:
-            if id(life) in owners.jobs:
-                for one in owners.below(life):
-                    if one.died > life.died and any(k in "WCDMTX" and place > life.died for (k, _), place in one.events.items()):
-                        assumed.add("outlives", " ".join(one.argv)[:60])
-    tops = [m.life for m in owners.makes if not any(l.is_make for l in m.life.up() if l is not m.life)]
-    tops.sort(key=lambda l: l.born)
-    for first, second in zip(tops, tops[1:]):
-        if second.born < first.died:
-            assumed.add("tops", " ".join(second.argv)[:60])
-
-
-def overlap(who: List[Tuple[Life, bool]]) -> bool:
-    """Whether a writer lives while another, that is no parent or child of it, lives."""
-    for first, writes in who:
-        for second, _ in who:
-            if writes and first is not second and first.born < second.died and second.born < first.died:
-                if first not in second.up() and second not in first.up():
-                    return True
-    return False
-
-
 @dataclass
 class Imported:
     """What a trace and the words of makes come to."""
@@ -152,6 +112,7 @@ class Imported:
     assumed: Assumptions
     lives: List[Life]
     ninjas: List[Ninja]
+    idle: List[str]  # targets of makes that had nothing to do
 
 
 def import_record(spool: Path, names: Names, kept: Kept, real: str, folder: str, record: Record) -> Imported:
@@ -169,12 +130,15 @@ def import_record(spool: Path, names: Names, kept: Kept, real: str, folder: str,
         assumed.add("sockets", socket)
     for name in replay.hard_links:
         assumed.add("hard-links", name)
-    at_once(owners, assumed)
-    outlived(owners, assumed)
     ninjas, of_ninja, holes = import_ninjas(replay.all, owners, names, kept, assumed, record.status == 0)
     record.holes += holes
     if not owners.makes and not ninjas:
         record.holes.append("no make and no ninja ran")
+    for name in replay.outside:
+        assumed.add("outside", name)
+    for argv in replay.makers:
+        assumed.add("makers", argv)
+    add_granted(owners, assumed, str(spool))
     builds = []
     for make in sorted(owners.makes, key=lambda m: m.life.born):
         for number, one in enumerate(make.words.rounds):
@@ -182,7 +146,7 @@ def import_record(spool: Path, names: Names, kept: Kept, real: str, folder: str,
             if one.jobs or acts:
                 builds.append(Builder(make, number, names, assumed).run())
     builds = sorted(builds + of_ninja, key=lambda build: build.make.life.born)
-    return Imported(builds, assumed, replay.all, ninjas)
+    return Imported(builds, assumed, replay.all, ninjas, idle_targets(owners, names))
 
 
 def parse(args: List[str]) -> argparse.Namespace:
@@ -195,6 +159,7 @@ def parse(args: List[str]) -> argparse.Namespace:
     parser.add_argument("--warm", action="store_true", help="builds start from this tree, though some of what they make is there already")
     parser.add_argument("--fresh", action="store_true", help="record a clean copy in the place of the folder that ninja builds in")
     parser.add_argument("--keep-trace", action="store_true", help="keep the trace in the record")
+    parser.add_argument("--footprints", action="store_true", help="keep a listing and footprints of each build, for race check --makefile")
     parser.add_argument("words", nargs=argparse.REMAINDER, metavar="-- COMMAND ..", help="what builds the project")
     found = parser.parse_args(args)
     if found.words[:1] == ["--"]:
@@ -240,6 +205,9 @@ def attempt(options: argparse.Namespace, words: List[str], tools: Dict[str, str]
         found = import_record(spool, names, kept, real, folder, record)
         finish(record, found, names, options.warm)
         write_record(out, record, found.builds, found.assumed)
+        for number, build in zip(record.builds, found.builds if options.footprints else ()):
+            if isinstance(build, Build):
+                write_footprints(out / "builds" / number, build, names, str(out))
         if options.keep_trace:
             shutil.copytree(spool, out / "trace", ignore=shutil.ignore_patterns("bin", "real"))
         if status != 1 or not any(stage.jobs for ninja in found.ninjas for stage in ninja.stages):
@@ -255,7 +223,7 @@ def attempt(options: argparse.Namespace, words: List[str], tools: Dict[str, str]
 
 def finish(record: Record, found: Imported, names: Names, warm: bool) -> None:
     """What is known when all builds are: whether they were cold, and what ninja itself finds."""
-    record.warm = warm_names(found.builds, found.ninjas, names)
+    record.warm = sorted({*warm_names(found.builds, found.ninjas, names), *found.idle})
     for name in record.warm:
         if warm:
             found.assumed.add("up-to-date", name)

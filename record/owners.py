@@ -3,6 +3,7 @@ owner by its place among make's words."""
 
 import bisect
 import os
+import re
 from dataclasses import dataclass, field
 from pathlib import Path
 from typing import TYPE_CHECKING, Dict, Iterable, List, Optional, Set, Tuple
@@ -194,8 +195,10 @@ class Owners:
                 work = Work()
                 self.take(work, life)
                 pieces.append((life.born, [(k, p, s) for (k, p), s in work.events.items()]))
+        looks = self.first_looks(make, names, end)
         for place, events in pieces:
-            for number, target in self.owners_at(make, rounds, table, births, place):
+            owners = self.owners_at(make, rounds, table, births, place)
+            for number, target in {o for o in owners if looks.get(o[1], -1) < place} or owners:
                 work = make.acts.setdefault((number, target), Work())
                 for kind, path, when in events:
                     if kind == "Q":
@@ -203,6 +206,17 @@ class Owners:
                             work.add("L", path + "\0" + pattern, when)
                     else:
                         work.add(kind, path, when)
+
+    @staticmethod
+    def first_looks(make: Make, names: Set[str], end: int) -> Dict[str, int]:
+        """When make first looked at each target: its recipe is expanded behind that. None where its words say how old files are."""
+        found: Dict[str, int] = {}
+        if re.search(r"(^| )(-[a-zA-Z]*[oW]|--(old|new|what|assume))", make.words.args + " " + make.words.flags):
+            return found
+        for act in make.life.acts:
+            if act.word in names and act.place < end:
+                found.setdefault(act.word, act.place)
+        return found
 
     @staticmethod
     def owners_at(make: Make, rounds: List[Tuple[int, Round]], table: List[Tuple[int, int, int]], births: List[int], place: int) -> Set[Tuple[int, str]]:

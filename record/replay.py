@@ -1,7 +1,7 @@
 """Plays the events of a trace, in its order, in the name space, and keeps what each life of a process did."""
 
 import re
-from typing import Dict, List
+from typing import Dict, List, Set
 
 from record import shelltext
 from record.lives import Act, Life
@@ -27,7 +27,9 @@ class Replay:
         self.past: List[str] = []
         self.sockets: List[str] = []
         self.hard_links: List[str] = []
-        self.outside: List[str] = []
+        self.outside: Dict[str, None] = {}  # names that changed, and of which the disk alone says what they were before
+        self.fresh: Set[str] = set()  # names that were surely absent when they were made
+        self.makers: List[str] = []
         self.aged: Dict[str, bool] = {}
 
     # ---------------------------------------------------------------- processes
@@ -104,13 +106,19 @@ class Replay:
 
     # ---------------------------------------------------------------- events
     def put(self, life: Life, kind: str, path: str, word: str = "") -> None:
-        if DEVICES.match(path) and not any(path == t or path.startswith(t + "/") for t in self.tops):
+        if DEVICES.match(path) and not self.is_inside(path):
             return
         if path.startswith(self.spool):
             return
+        if kind in "WCDMTX" and path.rstrip("/") not in self.fresh and not self.is_inside(path):
+            self.outside[path.rstrip("/")] = None
         if life.is_make and life.number >= 0 or life.is_ninja and kind in "RU":
             life.acts.append(Act(self.place, kind, path, word))
         life.events.setdefault((kind, path), self.place)
+
+    def is_inside(self, path: str) -> bool:
+        """Whether a path is in one of the folders that the build works in."""
+        return any(path == top or path.startswith(top.rstrip("/") + "/") for top in self.tops)
 
     def found(self, life: Life, path: str, follow: bool, base: str = "") -> Found:
         found = self.names.find(base or life.folder, path, follow)
@@ -122,7 +130,10 @@ class Replay:
         found = self.found(life, path, follow, base)
         if ok and found.inode is None and found.folder is not None and self.names.is_walked(found.folder):
             self.names.put(found.folder, found.name, Inode("f"))
-        self.put(life, kind if ok else "N", found.path, word)
+        if kind == "S" and not life.is_make and shelltext.makes(life.argv, found.path):
+            self.put(life, "K", found.path)
+        else:
+            self.put(life, kind if ok else "N", found.path, word)
         if not ok and found.missing and found.missing != found.path:
             self.put(life, "P", found.missing)
         return found

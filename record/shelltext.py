@@ -7,6 +7,7 @@ from typing import Iterable, List
 
 SHELLS = ("sh", "dash", "bash", "ksh", "zsh", "ash")
 NINJA = re.compile(r"(?:ninja|ninja-build|samu|samurai)(?:[-.\d]*)$")
+MAKERS = ("install-sh", "mkinstalldirs", "libtool")
 INTERPRETERS = re.compile(r"(python|perl|ruby|node|lua|tclsh|php)[\d.]*$")
 GLOB_WORD = re.compile(r"[^\s;|&<>()'\"`=]*[*?\[][^\s;|&<>()'\"`]*")
 # `ar` with `u` is not among them: it compares a file with the member's date in the archive, and a date that this build put
@@ -70,10 +71,25 @@ def is_quiet_mkdir(argv: List[str]) -> bool:
     return name in ("install", "ginstall") and not loud and any(w == "--directory" or re.match(r"-[a-zA-Z]*[dD]", w) for w in words)
 
 
-def is_maker(argv: List[str]) -> bool:
-    """Scripts that make folders for themselves, as builds carry them."""
-    text = " ".join(argv[:6])
-    return any(w in text for w in ("install-sh -d", "mkinstalldirs", "install-sh -c -d")) or "-E make_directory" in text or "libtool" in text
+def makes(argv: List[str], folder: str) -> bool:
+    """Whether a script that builds carry makes this folder for itself, and asks no more than that it is there."""
+    words = argv[1:]
+    at = next((n for n, w in enumerate(words) if os.path.basename(w) in MAKERS), -1)
+    if base_name(argv) == "cmake" and words[:2] == ["-E", "make_directory"]:
+        at = 1
+    if at < 0 or base_name(argv) not in SHELLS + ("cmake",):
+        return False
+    if os.path.basename(words[at]) == "libtool":
+        return os.path.basename(folder) in (".libs", "_libs")
+    if os.path.basename(words[at]) == "install-sh" and "-d" not in words:
+        return False
+    return any(is_on_the_way(folder, word) for word in words[at + 1:] if not word.startswith("-"))
+
+
+def is_on_the_way(folder: str, word: str) -> bool:
+    """Whether a folder is the one that a word names, or one above it."""
+    parts = [p for p in os.path.normpath(word).split("/") if p not in ("", ".", "..")]
+    return any(folder.endswith("/" + "/".join(parts[:count])) for count in range(1, len(parts) + 1))
 
 
 def is_excused(argv: List[str], folder: str) -> bool:

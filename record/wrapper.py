@@ -78,6 +78,31 @@ def without_words(flags):
     return " ".join(parts)
 
 
+def without_letter(words):
+    """Words without the last letter p that the recorder has put there."""
+    for at in reversed(range(len(words))):
+        if re.fullmatch(r"-?[a-zA-Z]*p[a-zA-Z]*", words[at]):
+            left = words[at].replace("p", "", 1)
+            return words[:at] + ([left] if left not in ("", "-") else []) + words[at + 1:]
+    return words
+
+
+def plain_args(args):
+    """The words of the command line without the recorder's: a recipe may hand MAKEFLAGS or MFLAGS on as words."""
+    found = []
+    for word in args:
+        name, _, flags = word.partition("=")
+        if word == WORDS[0]:
+            found = without_letter(found)
+        elif name in ("MAKEFLAGS", "MFLAGS"):
+            dash = "-" if flags.startswith("-") else ""
+            left = without_words(flags[len(dash):])
+            found.append("%s=%s%s" % (name, dash if left else "", left))
+        else:
+            found.append(word)
+    return found
+
+
 def asks_jobs(args, flags):
     """Whether a number of jobs is among make's words."""
     return any(re.match(r"-[a-zA-Z]*j|--jobs", w) for w in args) or bool(re.search(r"(^| )-j|--jobserver", flags))
@@ -285,8 +310,9 @@ def main():
     spool, name, args = os.path.dirname(os.path.dirname(me)), os.path.basename(me), sys.argv[1:]
     with open(spool + "/real") as file:
         real = file.read()
-    if WORDS[0] in args:  # make has remade a makefile and begins again
+    if WORDS[0] in args and "MAKE_RESTARTS" in os.environ:  # make has remade a makefile and begins again
         os.execv(real, [name] + args)
+    args = plain_args(args)
     flags = without_words(os.environ.get("MAKEFLAGS", ""))
     below = WORDS[0] in os.environ.get("MAKEFLAGS", "")
     if "MAKEFLAGS" in os.environ:

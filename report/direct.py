@@ -10,7 +10,7 @@ from collections.abc import Iterator, Sequence
 from dataclasses import dataclass
 from pathlib import Path
 
-from report.asking import RACE, unshown
+from record.judge import RACE_LINE, unshown
 from report.model import Assumption, BadRecord, Build, Report
 
 ORDER = re.compile(r"^\d+ (plain|recipe|inferred) (\S+)(?: :((?: \S+)*))?$")
@@ -106,7 +106,7 @@ def judge_makefile(given: Inputs, program: Path) -> Report:
     build = graph_of(order.stdout, given)
     for line in listed.stdout.splitlines():
         word, _, rest = line.partition(" ")
-        if found := RACE.match(line):
+        if found := RACE_LINE.match(line):
             path, first, does, second, also = map(unshown, found.groups())
             report.races.append(build.race(path, (first, does), (second, also)))
         elif word in ("pairs", "recipes"):

@@ -75,6 +75,14 @@ class Output(unittest.TestCase):
     def test_letters_that_makefiles_look_for(self) -> None:
         self.both("f = $(firstword -$(MAKEFLAGS))\nall: ; @echo $(foreach x,n q k s t i,$(findstring $x,$f))\n")
 
+    def test_flags_that_a_recipe_hands_on(self) -> None:
+        words = ("$(MFLAGS)", "-$(MAKEFLAGS)", 'MAKEFLAGS="$(MAKEFLAGS)"', 'MFLAGS="$(MFLAGS)"', "-k $(MFLAGS) one")
+        text = "all:\n" + "".join("\t$(MAKE) -s -f in.mk %s\n" % w for w in words).replace("$(MAKE)", "@$(MAKE)")
+        self.assertEqual(0, self.both(text, in_mk="all: one\none: ; @echo $@ >> log; echo $@\n"))
+
+    def test_makefile_that_is_remade_in_an_inner_make(self) -> None:
+        self.assertEqual(0, self.both("all: ; @$(MAKE) -s -f in.mk $(MFLAGS)\n", in_mk="include x.d\nall: ; @echo '$(MAKE_RESTARTS)'\nx.d: ; touch x.d\n".replace("all:", "all: x.d", 1)))
+
     def test_own_words_of_a_make_that_was_asked_for_them(self) -> None:
         status = self.both("all: ; @$(MAKE) --debug=b -f in.mk > log; grep -c . log; rm log\n", in_mk="all: a b\na: ; echo a > a\nb: ; cat a > b\n")
         self.assertEqual(2, status)

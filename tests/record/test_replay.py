@@ -14,13 +14,13 @@ SPOOL = "/no/such/spool"
 MAKE = "/usr/bin/make"
 
 
-def played(*lines: str) -> Calls:
+def played(*lines: str, top: str = TOP) -> Calls:
     """A replay of some lines in an empty project."""
     names = Names()
-    folder = names.folder(TOP)
+    folder = names.folder(top)
     folder.walked = True
-    names.tops.append(TOP)
-    replay = Calls(names, SPOOL, MAKE, TOP, [TOP])
+    names.tops.append(top)
+    replay = Calls(names, SPOOL, MAKE, top, [top])
     for event in read_trace(line + "\n" for line in lines):
         replay.play(event)
     return replay
@@ -60,6 +60,22 @@ class Lives(unittest.TestCase):
         self.assertNotIn(("W", "b"), events_of(first))
         self.assertIn(("W", "b"), events_of(second))
 
+    def test_number_that_comes_again_before_the_call_returns(self) -> None:
+        replay = played("1 vfork() = 2", "2 +++ exited with 0 +++", "1 vfork( <unfinished ...>",
+                        f'2 openat(AT_FDCWD<{TOP}>, "b", O_WRONLY|O_CREAT, 0666) = 3<{TOP}/b>', "1 <... vfork resumed>) = 2")
+        first, second = lives_of(replay, 2)
+        self.assertNotIn(("W", "b"), events_of(first))
+        self.assertIn(("W", "b"), events_of(second))
+
+    def test_folder_of_a_child_that_two_may_have_started(self) -> None:
+        replay = played("1 vfork() = 3", '3 chdir("sub") = 0', "1 vfork( <unfinished ...>", "3 vfork( <unfinished ...>",
+                        '4 unlink("a") = -1 ENOENT (No such file or directory)', "1 <... vfork resumed>) = 4", "3 <... vfork resumed>) = 5")
+        self.assertEqual({("N", "a")}, events_of(lives_of(replay, 4)[0]))
+
+    def test_what_the_wrapper_does_is_nobodys(self) -> None:
+        replay = played(f'1 execve("{SPOOL}/bin/make", ["make"], 0x1 /* 1 var */) = 0', f'1 openat(AT_FDCWD<{TOP}>, "a", O_WRONLY|O_CREAT, 0666) = 3<{TOP}/a>')
+        self.assertEqual(set(), events_of(lives_of(replay, 1)[0]))
+
     def test_birth_and_death_are_in_one_order(self) -> None:
         replay = played("1 vfork() = 2", "1 vfork() = 3", "2 +++ exited with 0 +++", '3 chdir("x") = 0', "3 +++ exited with 0 +++")
         two, three = lives_of(replay, 2)[0], lives_of(replay, 3)[0]
@@ -83,6 +99,25 @@ class Footprints(unittest.TestCase):
     def test_open(self) -> None:
         self.assertIn(("N", "a"), self.events(f'openat(AT_FDCWD<{TOP}>, "a", O_RDONLY) = -1 ENOENT (No such file or directory)'))
         self.assertEqual({("C", "a"), ("W", "a")}, self.events(f'openat(AT_FDCWD<{TOP}>, "a", O_WRONLY|O_CREAT|O_TRUNC, 0666) = 3<{TOP}/a>'))
+
+    def test_devices_are_left_out(self) -> None:
+        (life,) = played(*("1 openat(AT_FDCWD</>, \"%s\", O_WRONLY) = 3" % name for name in ("/dev/null", "/dev/pts/1", "/proc/self/comm"))).all
+        self.assertEqual({}, life.events)
+
+    def test_other_names_below_dev_are_kept(self) -> None:
+        (life,) = played('1 openat(AT_FDCWD</>, "/dev/shm/a", O_WRONLY|O_CREAT, 0666) = 3</dev/shm/a>').all
+        self.assertIn(("W", "/dev/shm/a"), life.events)
+
+    def test_no_path_below_a_top_is_left_out(self) -> None:
+        (life,) = played('1 openat(AT_FDCWD</sys/top>, "a", O_WRONLY|O_CREAT, 0666) = 3</sys/top/a>', top="/sys/top").all
+        self.assertIn(("W", "/sys/top/a"), life.events)
+
+    def test_folder_that_gets_a_third_name(self) -> None:
+        found = self.events('mkdir("d", 0777) = 0', f'openat(AT_FDCWD<{TOP}>, "d/x", O_WRONLY|O_CREAT, 0666) = 3<{TOP}/d/x>', 'rename("d", "e") = 0', 'rename("e", "f") = 0')
+        self.assertLessEqual({("D", "e/x"), ("C", "f/x")}, found)
+
+    def test_names_that_are_exchanged_are_a_hole(self) -> None:
+        self.assertEqual(1, len(played('1 renameat2(AT_FDCWD, "a", AT_FDCWD, "b", RENAME_EXCHANGE) = 0').holes))
 
     def test_rename_of_a_folder_moves_all_below(self) -> None:
         found = self.events('mkdir("d", 0777) = 0', f'openat(AT_FDCWD<{TOP}>, "d/x", O_WRONLY|O_CREAT, 0666) = 3<{TOP}/d/x>', 'rename("d", "e") = 0')

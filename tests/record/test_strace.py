@@ -1,10 +1,12 @@
 """The reader of strace's lines."""
 
+import tempfile
 import unittest
+from pathlib import Path
 from typing import List
 
 import support  # noqa: F401
-from record.strace import Begun, Call, Ended, Event, Unread, folders, is_cut, read_trace, texts, unescape
+from record.strace import Begun, Call, Ended, Event, Unread, folders, is_cut, read_trace, skipping, texts, unescape
 
 
 def events(*lines: str) -> List[Event]:
@@ -47,6 +49,30 @@ class Lines(unittest.TestCase):
     def test_other_text_is_a_hole(self) -> None:
         for text in ("strace: Process 9 attached", "7 <... stat resumed>) = 0", "7 gibberish"):
             self.assertEqual([Unread], [type(e) for e in events(text)], text)
+
+
+class Skips(unittest.TestCase):
+    """Looks at the system's folders, which need not be read."""
+
+    LOOK = '7 openat(AT_FDCWD</w>, "/usr/lib/x.so", O_RDONLY|O_CLOEXEC) = 3</usr/lib/x.so>'
+
+    def kept(self, lines: List[str], tops: List[str]) -> int:
+        """How many calls of a trace are read."""
+        with tempfile.TemporaryDirectory() as room:
+            path = Path(room) / "trace"
+            path.write_text("".join(line + "\n" for line in lines))
+            with open(path) as file:
+                return len(list(read_trace(file, skipping(path, tops))))
+
+    def test_look_at_a_library(self) -> None:
+        self.assertEqual(1, self.kept([self.LOOK, '7 openat(AT_FDCWD</w>, "a", O_RDONLY) = 3</w/a>'], ["/w"]))
+
+    def test_look_where_somebody_changes_a_name(self) -> None:
+        for change in ('8 openat(AT_FDCWD</w>, "/usr/lib/x.so", O_WRONLY|O_CREAT, 0666) = 3</usr/lib/x.so>', '8 unlink("/etc/x") = 0', '8 rename("a", "/usr/x") = 0'):
+            self.assertEqual(2, self.kept([self.LOOK, change], ["/w"]), change)
+
+    def test_look_below_a_top(self) -> None:
+        self.assertEqual(1, self.kept([self.LOOK], ["/usr/lib"]))
 
 
 class Arguments(unittest.TestCase):

@@ -98,6 +98,12 @@ class Asked(unittest.TestCase):
         for flags, wanted in (("p --debug=v,j,m", ""), ("kps --debug=v,j,m", "ks"), ("pw --debug=v,j,m -- A=p", "w -- A=p"), ("ks", "ks"), ("", "")):
             self.assertEqual(wanted, wrapper.without_words(flags), flags)
 
+    def test_words_that_a_recipe_hands_on(self) -> None:
+        for args, wanted in ((["-p", "--debug=v,j,m", "all"], ["all"]), (["-kp", "--debug=v,j,m"], ["-k"]), (["p", "--debug=v,j,m"], []),
+                             (["prog", "-kpw", "--debug=v,j,m"], ["prog", "-kw"]), (["-C", "up"], ["-C", "up"]), (["-p"], ["-p"]),
+                             (["MAKEFLAGS=kp --debug=v,j,m"], ["MAKEFLAGS=k"]), (["MFLAGS=-p --debug=v,j,m"], ["MFLAGS="]), (["A=p"], ["A=p"])):
+            self.assertEqual(wanted, wrapper.plain_args(args), args)
+
     def test_number_of_jobs(self) -> None:
         self.assertTrue(wrapper.asks_jobs(["-kj4"], ""))
         self.assertTrue(wrapper.asks_jobs([], "k -j4 --jobserver-auth=3,4"))

@@ -1,0 +1,52 @@
+"""A record as what `race check --makefile` reads: the listing of the tree before the build, and a footprint for each recipe."""
+
+import json
+import os
+from pathlib import Path
+from typing import Dict, Iterator, List, Set
+
+from record.build import CHANGES, Build
+from record.graph import Task
+from record.names import Names
+from record.tasks import relative, shown
+
+
+def is_below(path: str, folder: str) -> bool:
+    """Whether a path is a folder or below it."""
+    return path == folder or path.startswith(folder.rstrip("/") + "/")
+
+
+def listing(build: Build, names: Names, out: str) -> List[str]:
+    """The files, folders and links from before the build, and what make found elsewhere; the record is none of them."""
+    root = build.make.folder
+    found = {path for path in names.before if path != root and not is_below(path, out)}
+    for node in build.graph.nodes.values():
+        is_foreign = not any(is_below(node.path, top) for top in names.tops)
+        if is_foreign and not node.jobs and not node.phony and os.path.lexists(node.path):
+            found.add(node.path)
+    return sorted(relative(root, path) for path in found)
+
+
+def touched(task: Task, kinds: str, tops: List[str]) -> Set[str]:
+    """The names below the tops that a recipe has these events on."""
+    return {path for work in task.works for kind, path in work.events if kind in kinds and not path.endswith("/") and any(is_below(path, top) for top in tops)}
+
+
+def footprints(build: Build, names: Names) -> Iterator[Dict[str, object]]:
+    """A line for each recipe that ran. Names of folders that it makes stand for something else, as in the tasks."""
+    root = build.make.folder
+    for task in build.tasks:
+        if task.kind == "recipe":
+            writes = task.writes | touched(task, CHANGES, names.tops)
+            reads = task.reads | touched(task, "RSNPK", names.tops)
+            folders = {path for path in reads if names.before.get(path) == "d"} - writes
+            yield {"target": shown(task.node.name), "reads": sorted(relative(root, p) for p in reads - folders - {root}),
+                   "writes": sorted(relative(root, p) for p in writes)}
+
+
+def write_footprints(folder: Path, build: Build, names: Names, out: str) -> None:
+    """Both texts of one build."""
+    (folder / "listing").write_text("".join(line + "\n" for line in listing(build, names, out)), encoding="utf-8", errors="surrogateescape")
+    with open(folder / "footprints", "w", encoding="utf-8", errors="backslashreplace") as file:
+        for line in footprints(build, names):
+            file.write(json.dumps(line, ensure_ascii=False, separators=(",", ":")) + "\n")

@@ -1,0 +1,112 @@
+"""What a whole build takes for granted, found when the words of its makes and the lives of its processes are known."""
+
+import os
+import re
+from typing import Dict, List, Tuple
+
+from record import shelltext
+from record.assumptions import Assumptions
+from record.lives import Life
+from record.names import Names
+from record.owners import Make, Owners, Work
+from record.words import makefiles
+
+FLAGS = re.compile(r"\bM(?:AKE)?FLAGS\b")
+ENVIRONMENT = re.compile(r"(^|[;&|(\n`]\s*)(printenv\b|env\s*($|[|>;&])|export\s+-p|set\s*($|[|>;&]))|\$\{?PATH\b|\b(which|command\s+-[vV]|type)\s+g?make\b")
+
+
+def add_granted(owners: Owners, assumed: Assumptions, spool: str) -> None:
+    """All that is counted over makes and their jobs."""
+    for make in owners.makes:
+        works = [w for w in (make.work.get(id(j)) for r in make.words.rounds for j in r.jobs) if w is not None]
+        for work in works:
+            interpreters(work, assumed)
+        named_flags(make, works, assumed, spool)
+    at_once(owners, assumed)
+    outlived(owners, assumed)
+
+
+def idle_targets(owners: Owners, names: Names) -> List[str]:
+    """Targets with a recipe that were there before, of rounds in which no recipe ran."""
+    found: List[str] = []
+    for make in owners.makes:
+        for one in make.words.rounds:
+            recipes = one.base.recipes if one.base is not None and one.stage == "goals" and not one.jobs else {}
+            found += [names.find(make.folder, one.vpath.get(n, n), True).path for n in one.nodes if recipes.get(n) and n not in one.must]
+    return [path for path in found if names.before.get(path) in ("f", "l")]
+
+
+def interpreters(work: Work, assumed: Assumptions) -> None:
+    """Programs of unknown words that ran in a recipe."""
+    for life in work.lives:
+        for argv in life.ran:
+            if shelltext.is_interpreter(argv):
+                assumed.add("interpreters", " ".join(argv)[:60])
+
+
+def named_flags(make: Make, works: List[Work], assumed: Assumptions, spool: str) -> None:
+    """Makefiles and recipes that name what holds the recorder's words: MAKEFLAGS, and PATH."""
+    for name in sorted(makefiles(make.words)):
+        try:
+            with open(os.path.join(make.folder, name), errors="replace") as file:
+                found = FLAGS.search(file.read())
+        except OSError:
+            continue
+        if found:
+            assumed.add("flags", "%s in %s" % (found.group(), name))
+    for argv in (a for work in works for life in work.lives if not life.is_make for a in life.ran):
+        if sees_words(argv, spool):
+            assumed.add("flags", " ".join(argv)[:60])
+
+
+def sees_words(argv: List[str], spool: str) -> bool:
+    """Whether a program's words hold those of the recorder, or ask for the environment that does."""
+    if argv[:1] and argv[0].startswith(spool):
+        return False
+    if shelltext.base_name(argv) == "printenv" or shelltext.base_name(argv) == "env" and len(argv) == 1:
+        return True
+    text = shelltext.shell_text(argv)
+    own = spool in " ".join(argv[1:]) or "--debug=v,j,m" in " ".join(argv[1:])
+    return own or bool(text and (FLAGS.search(text) or ENVIRONMENT.search(text)))
+
+
+def at_once(owners: Owners, assumed: Assumptions) -> None:
+    """Two processes of one recipe that touch a file at the same time."""
+    for make in owners.makes:
+        for job in (j for r in make.words.rounds for j in r.jobs):
+            work = make.work.get(id(job))
+            if work is None or len(work.lives) > 2000:
+                continue
+            table: Dict[str, List[Tuple[Life, bool]]] = {}
+            for life in work.lives:
+                for kind, path in life.events:
+                    if kind in "RWD":
+                        table.setdefault(path, []).append((life, kind in "WD"))
+            for path, who in table.items():
+                if any(w for _, w in who) and len({id(l) for l, _ in who}) > 1 and len(who) < 40 and overlap(who):
+                    assumed.add("at-once", "%s in %s" % (path, job.target))
+
+
+def outlived(owners: Owners, assumed: Assumptions) -> None:
+    """Processes that act on files when their recipe has ended, and makes that run beside each other without a make above."""
+    for make in owners.makes:
+        for life in make.life.children:
+            if id(life) in owners.jobs:
+                for one in owners.below(life):
+                    if one.died > life.died and any(k in "WCDMTX" and place > life.died for (k, _), place in one.events.items()):
+                        assumed.add("outlives", " ".join(one.argv)[:60])
+    tops = [m.life for m in owners.makes if not any(l.is_make for l in m.life.up() if l is not m.life)]
+    tops.sort(key=lambda l: l.born)
+    for first, second in zip(tops, tops[1:]):
+        if second.born < first.died:
+            assumed.add("tops", " ".join(second.argv)[:60])
+
+
+def overlap(who: List[Tuple[Life, bool]]) -> bool:
+    """Whether a writer lives while another, that is no parent or child of it, lives."""
+    for first, writes in who:
+        for second, _ in who:
+            if writes and first is not second and first.born < second.died and second.born < first.died:
+                if first not in second.up() and second not in first.up():
+                    return True
+    return False

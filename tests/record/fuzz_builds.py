@@ -1,0 +1,202 @@
+"""Builds of a project for the fuzzer: serial, recorded and judged, and parallel with delays; what each leaves."""
+
+import hashlib
+import os
+import random
+import re
+import shutil
+import signal
+import stat
+import subprocess
+from dataclasses import dataclass, field
+from pathlib import Path
+from typing import Dict, List, Optional
+
+from fuzz_projects import Project
+
+HERE = Path(__file__).resolve().parent
+RECORDER = HERE.parent.parent / "record" / "race-record"
+SECONDS = 120
+VERDICTS = {0: "safe", 1: "race", 2: "no verdict"}
+# What stands for $N TARGET: some targets are slow, most of the time; the number of the process says when.
+NAP = """#!/bin/sh
+case "$1" in %s) test $(($$ %% 3)) = 0 || exec sleep 0.0%d;; *) test $(($$ %% 7)) = 0 && exec sleep 0.01;; esac
+exit 0
+"""
+Tree = Dict[str, str]
+
+
+@dataclass
+class Outcome:
+    """What one build left: its status, and the files."""
+
+    status: int
+    tree: Tree
+    output: str = ""
+
+
+@dataclass
+class Result:
+    """What came of one project."""
+
+    seed: int
+    kind: str  # unstable, no verdict, changed, safe, wrong yes, race seen, race not seen
+    verdict: str = ""
+    builds: int = 0
+    differed: int = 0
+    about: str = ""
+    assumed: List[str] = field(default_factory=list)
+
+
+def tree_of(folder: Path) -> Tree:
+    """Names with kind, mode and contents; the record and times are left out."""
+    found: Tree = {}
+    for path, folders, files in os.walk(folder):
+        folders[:] = [f for f in folders if f != ".race"]
+        for name in folders + files:
+            full = os.path.join(path, name)
+            status = os.lstat(full)
+            if stat.S_ISLNK(status.st_mode):
+                text = "l " + os.readlink(full)
+            elif stat.S_ISDIR(status.st_mode):
+                text = "d %o" % (status.st_mode & 0o777)
+            else:
+                text = "f %o %s" % (status.st_mode & 0o777, content(full))
+            found[os.path.relpath(full, folder)] = text
+    return found
+
+
+def content(path: str) -> str:
+    """The bytes of a file, or a sum where they are many."""
+    with open(path, "rb") as file:
+        data = file.read()
+    return repr(data)[2:-1] if len(data) < 200 else hashlib.sha256(data).hexdigest()
+
+
+class Builder:
+    """Builds one project over and over, in a folder of its own."""
+
+    def __init__(self, project: Project, room: Path, recorder: Path = RECORDER) -> None:
+        self.project, self.room, self.recorder = project, room, recorder
+        self.folder = room / "project"
+        self.random = random.Random(project.seed + 1)
+        self.builds = 0
+
+    def fresh(self) -> None:
+        """The tree before the build."""
+        shutil.rmtree(self.folder, ignore_errors=True)
+        for name, text in self.project.all_files().items():
+            path = self.folder / name
+            path.parent.mkdir(parents=True, exist_ok=True)
+            path.write_text(text)
+        for name, age in self.project.ages.items():
+            os.utime(self.folder / name, (age, age))
+
+    def run(self, words: List[str], nap: str = "") -> Outcome:
+        """One build of a fresh tree."""
+        self.fresh()
+        env = {k: v for k, v in os.environ.items() if not k.startswith("MAKE") and k != "MFLAGS"}
+        if nap:
+            env["N"] = nap
+        with subprocess.Popen(words, cwd=self.folder, env=env, stdin=subprocess.DEVNULL, stdout=subprocess.PIPE, stderr=subprocess.STDOUT, start_new_session=True) as ran:
+            try:
+                output = ran.communicate(timeout=SECONDS)[0]
+            except subprocess.TimeoutExpired:
+                os.killpg(ran.pid, signal.SIGKILL)
+                output = ran.communicate()[0]
+        return Outcome(ran.returncode, tree_of(self.folder), output.decode("utf-8", "replace"))
+
+    def nap(self) -> str:
+        """A program that delays, at random."""
+        path = self.room / ("nap%d" % self.builds)
+        slow = self.random.sample(range(8), self.random.randint(1, 4))
+        path.write_text(NAP % ("|".join("*[st]%d*" % n for n in slow), self.random.randint(2, 5)))
+        path.chmod(0o755)
+        return str(path)
+
+    def parallel(self, shuffle: bool) -> Outcome:
+        """One parallel build under delays."""
+        self.builds += 1
+        words = ["make", "-j%d" % self.random.choice((2, 3, 4, 8))]
+        if shuffle:
+            words.append("--shuffle=%d" % self.random.randint(1, 1 << 20))
+        return self.run(words, self.nap())
+
+    def recorded(self) -> Outcome:
+        """The recorded build, judged."""
+        return self.run([str(self.recorder), "--warm", "--", "make"])
+
+
+def differences(first: Outcome, second: Outcome, unstable: List[str]) -> str:
+    """What two builds differ in, or nothing."""
+    if bool(first.status) != bool(second.status):
+        return "status %d for %d" % (second.status, first.status)
+    names = sorted(n for n in set(first.tree) | set(second.tree) if n not in unstable and first.tree.get(n) != second.tree.get(n))
+    return "; ".join("%s: %s for %s" % (n, second.tree.get(n), first.tree.get(n)) for n in names[:3])
+
+
+def assumptions(output: str) -> List[str]:
+    """The lines under a yes."""
+    text = output.rpartition("safe, if:\n")[2] if "safe, if:\n" in output else ""
+    return [re.sub(r"\s+", " ", one) for one in re.findall(r"  - ((?:.*\n?(?!  - ))*)", text)]
+
+
+def judge(project: Project, room: Path, runs: int, recorder: Path = RECORDER, shuffles: bool = False) -> Result:
+    """Builds a project in all ways; what came of it."""
+    builder = Builder(project, room, recorder)
+    serial = [builder.run(["make", "-j1"]), builder.run(["make"])]
+    if serial[0].status:
+        return Result(project.seed, "serial fails", about=serial[0].output[-300:])
+    if differences(serial[0], serial[1], []):
+        return Result(project.seed, "unstable", about=differences(serial[0], serial[1], []))
+    recorded = builder.recorded()
+    if recorded.status == -signal.SIGKILL:
+        return Result(project.seed, "too slow", about=recorded.output[-300:])
+    if recorded.status not in VERDICTS:
+        return Result(project.seed, "crash", about=recorded.output[-1500:])
+    result = Result(project.seed, "", VERDICTS[recorded.status], assumed=assumptions(recorded.output))
+    changed = differences(serial[0], Outcome(0, recorded.tree), [])
+    if changed:
+        result.kind, result.about = "changed", changed
+    elif result.verdict == "no verdict":
+        result.kind, result.about = "no verdict", recorded.output[-600:]
+    else:
+        shake(builder, serial[0], result, runs, shuffles)
+    return result
+
+
+def shake(builder: Builder, serial: Outcome, result: Result, runs: int, shuffles: bool) -> None:
+    """Parallel builds, until one differs."""
+    for _ in range(runs):
+        about = differences(serial, builder.parallel(shuffles and result.verdict == "race"), [])
+        if about:
+            result.differed, result.about = result.differed + 1, about
+            break
+    result.builds = builder.builds
+    is_safe = result.verdict == "safe"
+    result.kind = ("wrong yes" if is_safe else "race seen") if result.differed else ("safe" if is_safe else "race not seen")
+
+
+def shrink(project: Project, room: Path, runs: int, recorder: Path = RECORDER) -> Project:
+    """A smaller project with a wrong yes still: blocks and lines are left out, one at a time."""
+    smaller: Optional[Project] = project
+    while smaller is not None:
+        project, smaller = smaller, None
+        for one in parts(project):
+            if judge(one, room, runs, recorder).kind == "wrong yes":
+                smaller = one
+                break
+    return project
+
+
+def parts(project: Project) -> List[Project]:
+    """The project without one block, and without one line of a block."""
+    blocks, found = project.blocks, []
+    for at in range(len(blocks)):
+        found.append(Project(project.seed, blocks[:at] + blocks[at + 1:], project.files, project.ages))
+    for at, block in enumerate(blocks):
+        lines = block.text.splitlines(True)
+        for line in range(len(lines)):
+            text = "".join(lines[:line] + lines[line + 1:])
+            found.append(Project(project.seed, blocks[:at] + [type(block)(block.goals, text, block.files)] + blocks[at + 1:], project.files, project.ages))
+    return found

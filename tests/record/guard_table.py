@@ -1,0 +1,164 @@
+"""The guards of the recorder: for each a text that turns it off, and the test that then fails.
+
+`gives` is what the failure must hold: `1 != 0` is a yes in place of a race, `0 != 1` a race in place of a yes, `2 != 0`
+a yes on a record with a hole.
+"""
+
+from dataclasses import dataclass
+from typing import List
+
+YES = "1 != 0"
+FALSE_RACE = "0 != 1"
+LOST_HOLE = "2 != 0"
+UNSAID = "not found in"
+
+
+@dataclass(frozen=True)
+class Guard:
+    """One guard: its name, the module and the text that stands there once, what turns it off, and who sees it."""
+
+    name: str
+    module: str
+    old: str
+    new: str
+    test: str
+    gives: str = ""
+
+
+def case(name: str) -> str:
+    """The test of a folder of cases/."""
+    return "test_cases.Cases.test_" + name.replace("-", "_")
+
+
+def small(name: str) -> str:
+    """The test of a makefile of test_small.py."""
+    return "test_small.Makefiles.test_" + name
+
+
+TRACE: List[Guard] = [
+    Guard("devices are no files", "replay.py", "if DEVICES.match(path) and not self.is_inside(path):", "if False:", small("devices_are_no_files"), FALSE_RACE),
+    Guard("devices: no path below a top is left out", "replay.py", "if DEVICES.match(path) and not self.is_inside(path):", "if DEVICES.match(path):", "test_replay.Footprints.test_no_path_below_a_top_is_left_out"),
+    Guard("system: what somebody changes is read", "strace.py", "if changes.search(whole):", "if False:", "test_strace.Skips.test_look_where_somebody_changes_a_name"),
+    Guard("system: a top there is read", "strace.py", 'if not any((t + "/").startswith("/%s/" % p) for t in tops)', "", "test_strace.Skips.test_look_below_a_top"),
+    Guard("lines: unreadable call", "strace.py", 'if not text.endswith("= ?"):\n                yield Unread(line.strip())', "", "test_strace.Lines.test_other_text_is_a_hole"),
+    Guard("lines: no process number", "strace.py", "            if line.strip():\n                yield Unread(line.strip())", "            pass", "test_strace.Lines.test_other_text_is_a_hole"),
+    Guard("lines: end without a beginning", "strace.py", 'if " = ?" not in text:\n                    yield Unread(line.strip())', "pass", "test_strace.Lines.test_other_text_is_a_hole"),
+    Guard("lines: a hole", "replay.py", 'self.holes.append("a line of the trace cannot be read: "', 'str("a line of the trace cannot be read: "', "test_replay.Footprints.test_line_that_cannot_be_read_is_a_hole"),
+    Guard("numbers: a dead process is another", "replay.py", "if life is None or life.died <= self.place:", "if life is None:", "test_replay.Lives.test_number_that_comes_again_before_the_call_returns"),
+    Guard("numbers: jobs of one number in order", "words.py", "if not known or known[-1] is not owner:", "if not known:", "test_owners.Holes.test_number_of_two_jobs"),
+    Guard("children: begun before the call ends", "strace.py", "if text.startswith(MAKES_PROCESS):\n                yield Begun(pid)", "", "test_strace.Lines.test_creation_begins_before_it_ends"),
+    Guard("children: wait while the parent is unclear", "replay.py", "return len({(p.folder, p.is_wrapper) for p in parents}) > 1", "return False", "test_replay.Lives.test_folder_of_a_child_that_two_may_have_started"),
+    Guard("past: make by an absolute path", "calls.py", 'self.past.append(" ".join(life.argv)[:200])', "pass", case("absolute-make"), LOST_HOLE),
+    Guard("past: make with words of its own", "main.py", 'for t in path.read_text(errors="replace").splitlines()]', "for t in ()]", "test_output.Output.test_own_words_of_a_make_that_was_asked_for_them", LOST_HOLE),
+    Guard("numbers: more processes than jobs", "owners.py", "            if len(lives) != len(jobs):\n", "            if False:\n", "test_owners.Holes.test_number_that_comes_again_once_too_often"),
+    Guard("wrapper: the recipe that runs", "wrapper.py", "        if not self.job:\n            return self.is_early(packet)\n", "        if True:\n            return self.is_early(packet)\n", "test_wrapper.Splits.test_recipe_that_prints_words_of_make"),
+    Guard("wrapper: words before the line about a recipe", "wrapper.py", "            return bool(WORD_LINE.match(packet))\n        return False", "            return False\n        return False", "test_wrapper.Splits.test_recipe_that_speaks_before_the_line_about_it"),
+    Guard("wrapper: what looks like the data base before that line", "wrapper.py", "elif self.next is not None and self.blank and packet.startswith(BASE):", "elif False:", "test_wrapper.Splits.test_recipe_whose_first_words_look_like_the_data_base"),
+    Guard("wrapper: job lines of that recipe alone", "wrapper.py", "about.group(2) not in (None, self.job):", "False:", "test_wrapper.Splits.test_recipe_that_prints_words_of_make"),
+    Guard("wrapper: words of a wrapper above", "wrapper.py", '    if "--debug=v,j,m" not in flags:\n', "    if True:\n", "test_wrapper.Asked.test_words_of_a_wrapper_above_are_taken_out"),
+    Guard("wrapper: words that a recipe hands on", "wrapper.py", "    args = plain_args(args)\n", "", "test_output.Output.test_flags_that_a_recipe_hands_on"),
+    Guard("wrapper: make that begins again", "wrapper.py", 'if WORDS[0] in args and "MAKE_RESTARTS" in os.environ:', "if False:", case("remade-makefile")),
+    Guard("wrapper: the data base of a make that goes on", "words.py", "    if len(bases) != len(words.read):\n", "    if False:\n", "test_words.Holes.test_data_base_that_a_recipe_prints_whole"),
+    Guard("wrapper: a data base that is not whole", "words.py", "    if hole:\n", "    if False:\n", "test_words.Holes.test_data_base_that_is_cut"),
+    Guard("wrapper's own calls are nobody's", "calls.py", 'if life.is_wrapper and name != "execve":', "if False:", "test_replay.Lives.test_what_the_wrapper_does_is_nobodys"),
+]
+NAMES: List[Guard] = [
+    Guard("links on the way are read", "replay.py", 'self.put(life, "R", link)', "pass", small("link_on_the_way"), YES),
+    Guard("folders that are absent on the way", "replay.py", 'self.put(life, "P", found.missing)', "pass", small("absent_folder_on_the_way"), YES),
+    Guard("hard links: a write is of all names", "replay.py", "if found.inode is not None and len(found.inode.names) > 1:", "if False:", case("hard-link"), YES),
+    Guard("hard links from before the build", "names.py", "if found.st_nlink > 1:", "if False:", case("hard-link-before"), YES),
+    Guard("hard links are counted", "calls.py", '        for other in self.names.aliases(inode):\n            self.put(life, "H", other)\n        if new.folder', "        if new.folder", small("links_of_a_file_counted"), YES),
+    Guard("rename: all below goes with it", "calls.py", 'if inode.kind == "d":\n            for name, _ in', 'if False:\n            for name, _ in', "test_replay.Footprints.test_rename_of_a_folder_moves_all_below"),
+    Guard("rename: two names in one step", "calls.py", 'self.holes.append("two names were exchanged', 'str("two names were exchanged', "test_replay.Footprints.test_names_that_are_exchanged_are_a_hole"),
+    Guard("rename: the new name holds the file", "calls.py", "        self.names.put(new.folder, new.name, inode)\n\n    on_renameat", "\n    on_renameat", "test_replay.Footprints.test_folder_that_gets_a_third_name"),
+    Guard("links are followed when they are met", "names.py", "hops < LINK_LIMIT:", "False:", case("link-replaced"), YES),
+    Guard("failed looks are reads", "build.py", 'elif kind in "RSNPK" and path in writers:', 'elif kind in "RSPK" and path in writers:', small("absent_file"), YES),
+    Guard("removals are writes", "build.py", 'CHANGES = "WCD"', 'CHANGES = "WC"', small("removed_file"), YES),
+    Guard("listings see what is created", "build.py", "task.reads.add(join(folder, name))", "pass", small("pattern_of_eval"), YES),
+    Guard("patterns of computed text are *", "shelltext.py", 'cut or "$" in text or', "cut or", small("pattern_in_a_variable"), YES),
+    Guard("patterns of eval are *", "shelltext.py", r' or re.search(r"\beval\b", text)', "", small("pattern_of_eval"), YES),
+    Guard("patterns keep other names out", "build.py", " and fnmatchcase(name, pattern):", ":", case("glob-other-names"), FALSE_RACE),
+    Guard("scripts are of their interpreter", "calls.py", "argv = shelltext.with_interpreter(argv, found.path)", "pass", small("script_that_compares_ages"), YES),
+]
+FOLDERS: List[Guard] = [
+    Guard("folders: strict makers meet", "folders.py", "    for at in folder.strict & makers:\n", "    for at in ():\n", small("folder_made_by_two_who_fail"), YES),
+    Guard("folders: makers that tell nobody do not", "calls.py", "quiet = shelltext.is_quiet_mkdir(life.argv)\n", "quiet = False\n", case("folder-mkdir-p"), FALSE_RACE),
+    Guard("folders: mkdir -v tells", "shelltext.py", "return not loud and any(w == \"--parents\"", "return any(w == \"--parents\"", case("folder-mkdir-v"), YES),
+    Guard("folders: mkdir || true", "folders.py", "        if excused(tasks[at].works, path):\n            folder.strict.discard(at)", "        if False:\n            folder.strict.discard(at)", small("folder_made_or_true"), FALSE_RACE),
+    Guard("folders: test -d || mkdir", "folders.py", "(at in folder.scripts or excused(tasks[at].works, path))", "at in folder.scripts", small("folder_tested_or_made"), FALSE_RACE),
+    Guard("folders: a user needs a maker", "folders.py", "            seen(builder, path, at, makers)\n    for at in makers:", "            pass\n    for at in makers:", case("folder-forgotten"), YES),
+    Guard("folders: who looked before it made", "folders.py", "if look is not None and look < folder.first_made[at]", "if False", small("folder_looked_at_first"), YES),
+    Guard("folders: removed", "folders.py", "    for at in folder.gone:\n", "    for at in ():\n", small("folder_removed"), YES),
+    Guard("folders: not removed, as it holds something", "folders.py", "    for at in folder.gone | folder.tried:\n", "    for at in folder.gone:\n", small("folder_that_cannot_be_removed"), YES),
+    Guard("folders: listed when made", "folders.py", "    add_listed(builder)\n    add_times", "    add_times", case("glob-made-folder"), YES),
+    Guard("folders: times", "folders.py", "    add_times(builder)\n    add_modes", "    add_modes", case("folder-time"), YES),
+    Guard("folders: modes", "folders.py", "    add_modes(builder)\n\n\ndef add_folder(", "\n\ndef add_folder(", case("folder-mode"), YES),
+    Guard("folders: how many are in it", "folders.py", 'if kind == "h" and path in counted:', "if False:", small("folder_links_counted"), YES),
+    Guard("folders: there before the build", "folders.py", "    if existed and not folder.gone:\n", "    if False:\n", small("folder_there_already"), FALSE_RACE),
+]
+GRAPH: List[Guard] = [
+    Guard("decisions: names that no rule makes", "build.py", "if own < 0 and any(self.is_written(p) for p in needed):", "if False:", case("no-rule"), YES),
+    Guard("decisions: cold targets depend on no age", "build.py", "is_cold = self.before.get(node.path) is None and", "is_cold = False and", small("folder_as_prerequisite_cold"), FALSE_RACE),
+    Guard("decisions: order-only has no age", "build.py", "p not in only and self.graph", "self.graph", small("folder_behind_a_bar"), FALSE_RACE),
+    Guard("looks of leaves", "build.py", "elif own >= 0 and self.is_leaf(node):", "elif False:", small("look_of_a_leaf"), FALSE_RACE),
+    Guard("looks of leaves: not where a recipe runs below", "build.py", "return node.label not in self._busy", "return True", small("look_behind_a_recipe"), YES),
+    Guard("first looks", "build.py", "        self.make_first_looks()\n", "", small("first_look_at_a_target"), YES),
+    Guard("first looks: by what they change", "build.py", "if others and (self.has_effect(node) or", "if others and (True or", small("first_look_that_changes_nothing"), FALSE_RACE),
+    Guard("chain of looks", "build.py", "        for (_, first), (_, second) in zip(looks, looks[1:]):\n            after[second].add(first)\n", "", small("two_own_acts_first"), FALSE_RACE),
+    Guard("chain of looks: before recipes that come later", "build.py", "                if earlier:\n", "                if False:\n", small("two_own_acts_first"), FALSE_RACE),
+    Guard("serial: .NOTPARALLEL", "build.py", "if self.graph.base.serial:", "if False:", case("not-parallel"), FALSE_RACE),
+    Guard("serial: -j1 of an inner make", "build.py", 'return words[-1] == "1"', "return False", small("inner_make_of_one_job"), FALSE_RACE),
+    Guard("serial: not -j2", "build.py", 'return words[-1] == "1"', "return True", small("inner_make_of_two_jobs"), YES),
+    Guard("serial: an inner make without flags", "build.py", "return is_inner and not", "return False and not", small("inner_make_without_flags"), FALSE_RACE),
+    Guard("serial: not every inner make", "build.py", "return is_inner and not self.make.words.below and", "return is_inner and", small("inner_make"), YES),
+    Guard("double colons: users wait for the first rule", "graph.py", "if node is None or len(rules) < 2:", "if True:", case("double-colon-user"), YES),
+    Guard("double colons: one rule after the other", "graph.py", "                    part.asks[parts[at - 1].label] = None\n", "                    pass\n", case("double-colon-row"), FALSE_RACE),
+    Guard("double colons: the age that make saw first", "ages.py", "if not own or build.tasks[a].node.name != own}", "if True}", small("double_colon_ages"), FALSE_RACE),
+    Guard("double colons: what a later rule asks for", "graph.py", "            self.hold_back(parts)\n", "", small("double_colon_holds_back"), FALSE_RACE),
+    Guard("grouped targets wait for the one that runs", "graph.py", "                    member.asks[name] = None\n", "                    pass\n", case("two-outputs-grouped"), FALSE_RACE),
+    Guard("searches: a folder not listed before", "build.py", "                    self.build.tasks[at].reads.add(path)\n", "                    pass\n", small("search_sees_a_name_that_goes"), YES),
+    Guard("searches: a folder listed before", "build.py", "if listed < self.first_birth():", "if False:", small("search_in_an_early_listing"), FALSE_RACE),
+    Guard("searches: said", "build.py", 'self.assumed.add("search", path)', "pass", small("search_in_an_early_listing"), UNSAID),
+    Guard("vpath: where a target is", "build.py", "spelled = self.graph.round.vpath.get(name, name)", "spelled = name", small("vpath_prerequisite"), YES),
+    Guard("second rounds: one build each", "words.py", '        elif text.startswith("Updating makefiles"):\n            self.begin("makefiles")\n', "", small("race_among_makefiles"), YES),
+]
+AGES: List[Guard] = [
+    Guard("ages: of inner makes", "ages.py", "            inner_ages(builder, at, work)\n", "", small("ages_in_an_inner_make"), YES),
+    Guard("ages: by the words of a program", "ages.py", "            told_ages(builder, at, work)\n", "", case("ages-test"), YES),
+    Guard("ages: queries", "calls.py", "if life.is_query or shelltext", "if shelltext", case("ages-query"), YES),
+    Guard("ages: of folders, by what is in them", "ages.py", " | builder.timers.get(path, set())", "", small("age_of_a_folder"), YES),
+]
+OWNERS: List[Guard] = [
+    Guard("acts of make belong to somebody", "owners.py", "            owners = self.owners_at(make, rounds, table, births, place)\n", "            owners = set()\n", case("file-function"), YES),
+    Guard("acts: to what had to be made since the last job", "owners.py", "            owners.update((number, t) for t, count", "            set().update((number, t) for t, count", case("shell-function-stranger"), YES),
+    Guard("acts: not to what make looks at later", "owners.py", "{o for o in owners if looks.get(o[1], -1) < place} or owners", "owners", small("act_before_the_next_target"), FALSE_RACE),
+    Guard("acts: what make lists", "owners.py", '                        for pattern in make.globs:\n                            work.add("L"', '                        for pattern in ():\n                            work.add("L"', case("make-wildcard"), YES),
+    Guard("wildcards: computed patterns are *", "globs.py", '"(", "{")):\n            found.add("*")', '"(", "{")):\n            found.add(word)', small("wildcard_that_is_computed"), YES),
+    Guard("folder of make -C", "owners.py", '            if act.kind == "U":\n                folder = act.path\n', "", small("decision_below_another_folder"), YES),
+    Guard("outer recipe has what its makes do", "owners.py", "        todo = [life]\n        while todo:\n            one = todo.pop()\n            yield one\n            todo.extend(one.children)", "        yield life", case("subdirs-parallel"), YES),
+    Guard("holes: a make that failed", "owners.py", 'self.holes.append("a make failed: make %s"', 'str("a make failed: make %s"', case("inner-failure-ignored"), LOST_HOLE),
+    Guard("holes: a build that failed", "main.py", '            record.holes.append("the build ended with status %d" % status)', "            pass", small("status_of_the_command"), LOST_HOLE),
+    Guard("holes: a make that did not end", "owners.py", 'self.holes.append("a make did not end: make " + words.args)', "pass", "test_owners.Holes.test_make_that_did_not_end"),
+    Guard("holes: jobs out of order", "owners.py", "elif births != sorted(births):", "elif False:", "test_owners.Holes.test_jobs_out_of_order"),
+    Guard("holes: a make without words", "owners.py", '                    self.holes.append("a make has no words: " + " ".join(life.argv)[:100])', "                    pass", "test_owners.Holes.test_make_without_words"),
+    Guard("holes: words without a make", "owners.py", '            self.holes.append("a make has no process in the trace: %d %s" % (pid, found.args))', "            pass", "test_owners.Holes.test_words_without_a_make"),
+    Guard("holes: no make at all", "main.py", 'record.holes.append("no make and no ninja ran")', "pass", case("nothing-to-do"), LOST_HOLE),
+    Guard("holes: no yes", "main.py", 'if record["holes"] or any(', "if any(", case("build-fails"), LOST_HOLE),
+    Guard("said: two processes at once", "granted.py", "    at_once(owners, assumed)\n", "", case("at-once"), UNSAID),
+    Guard("said: processes that outlive their recipe", "granted.py", 'assumed.add("outlives"', '(lambda *_: None)("outlives"', small("outlives"), UNSAID),
+    Guard("said: two makes at once", "granted.py", 'assumed.add("tops"', '(lambda *_: None)("tops"', small("two_builds_at_once"), UNSAID),
+    Guard("said: targets that are up to date", "main.py", 'found.assumed.add("up-to-date", name)', "pass", small("up_to_date"), UNSAID),
+    Guard("said: targets of a make that has nothing to do", "main.py", ", *found.idle})", "})", small("all_up_to_date"), UNSAID),
+    Guard("said: names outside of the project", "replay.py", "            self.outside[path.rstrip(\"/\")] = None\n", "            pass\n", small("outside"), UNSAID),
+    Guard("said: scripts that make folders", "calls.py", 'self.makers.append(" ".join(script)[:60])', "pass", small("makers"), UNSAID),
+    Guard("scripts that make folders tell nobody", "replay.py", 'if kind == "S" and not life.is_make and', "if False and", small("makers"), FALSE_RACE),
+    Guard("scripts that make folders: no other folder", "shelltext.py", "    return any(is_on_the_way(folder, word)", "    return True or any(is_on_the_way(folder, word)", small("makers_of_another_folder"), YES),
+    Guard("said: interpreters", "granted.py", 'assumed.add("interpreters", " ".join(argv)[:60])', "pass", small("interpreters"), UNSAID),
+    Guard("said: MAKEFLAGS of a recipe", "granted.py", "if sees_words(argv, spool):", "if False:", small("path_of_a_recipe"), UNSAID),
+    Guard("said: MAKEFLAGS of a makefile", "granted.py", "        if found:\n", "        if False:\n", small("flags_of_a_makefile"), UNSAID),
+    Guard("said: hard links", "main.py", '        assumed.add("hard-links", name)', "        pass", small("hard_links"), UNSAID),
+    Guard("said: sockets", "main.py", '        assumed.add("sockets", socket)', "        pass", small("sockets"), UNSAID),
+    Guard("race itself: refused", "main.py", "or any(j.verdict.status not in (0, 1) for j in judged):", "or False:", "test_judge.Answers.test_refused", LOST_HOLE),
+    Guard("race itself: a status against its words", "judge.py", "or (listed.returncode == 1) != bool(verdict.races):", "or False:", "test_judge.Answers.test_race_with_the_status_of_a_yes", "2 != 1"),
+]
+GUARDS = TRACE + NAMES + FOLDERS + GRAPH + AGES + OWNERS

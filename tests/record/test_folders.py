@@ -1,0 +1,136 @@
+"""Folders and ages: what tasks do to names that stand for something else, of events that are made here."""
+
+import unittest
+from typing import Dict, List, Mapping, Sequence, Tuple
+
+import support  # noqa: F401
+from record.assumptions import Assumptions
+from record.build import Build, Builder
+from record.lives import Life
+from record.names import Inode, Names
+from record.owners import Owners
+from record.words import read_words
+
+TOP = "/w"
+Events = Sequence[Tuple[str, str]]
+
+
+def words_of(rules: Mapping[str, Sequence[str]]) -> List[str]:
+    """What a make says that runs a recipe for each of these targets, in their order."""
+    lines = ["ARGS", "FLAGS", "BELOW 0", "Reading makefiles...", "Updating goal targets....", "Considering target file 'all'."]
+    for number, (target, asks) in enumerate(rules.items()):
+        lines += [" Considering target file '%s'." % target, *("  Pruning file '%s'." % a for a in asks), " Must remake target '%s'." % target]
+        lines += ["Putting child 0x%d (%s) PID %d on the chain." % (number, target, 10 + number)]
+    base = ["# Make data base, printed on Monday", "# Files", ""]
+    for target, asks in rules.items():
+        base += ["%s: %s" % (target, " ".join(asks)), "#  recipe to execute (from 'Makefile', line 1):", "\techo", ""]
+    return lines + base + ["# files hash-table stats:", "# Finished Make data base on Monday", "EXIT 0"]
+
+
+def build_of(rules: Mapping[str, Sequence[str]], done: Mapping[str, Events], there: Mapping[str, str] = {}, argv: Sequence[str] = ("cc",)) -> Build:
+    """The tasks of a round in which each target's recipe did these events; `there`: names with their kinds before the build."""
+    make = Life(7, born=1, folder=TOP, argv=["make"], is_make=True, number=0, starts=[(1, TOP)])
+    for number, target in enumerate(rules):
+        life = Life(10 + number, make, 10 * number + 10, 10 * number + 19, TOP, list(argv), [list(argv)])
+        life.events = {(kind, TOP + path if path[:1] == "\0" else "%s/%s" % (TOP, path)): 10 * number + 11 + place for place, (kind, path) in enumerate(done.get(target, ()))}
+        make.children.append(life)
+    names = Names()
+    folder = names.folder(TOP)
+    folder.walked = True
+    names.tops.append(TOP)
+    names.before = {TOP: "d", **{"%s/%s" % (TOP, n): kind for n, kind in there.items()}}
+    for name, kind in there.items():
+        names.put(folder, name, Inode(kind))
+    owners = Owners([make, *make.children], [read_words(7, 0, words_of(rules))])
+    assert not owners.holes, owners.holes
+    return Builder(owners.makes[0], 0, names, Assumptions()).run()
+
+
+def meetings(build: Build) -> Dict[str, Tuple[str, str]]:
+    """The paths on which two tasks meet that nothing orders, numbers left out, with the tasks."""
+    found: Dict[str, Tuple[str, str]] = {}
+    for second, task in enumerate(build.tasks):
+        for first in range(second):
+            other = build.tasks[first]
+            for path in sorted(task.writes & (other.reads | other.writes) | task.reads & other.writes):
+                if build.unordered(first, second):
+                    name = path[len(TOP) + 1:] + "/"
+                    found["/".join(p for p in name.split("/") if p and not p.isdigit())] = (other.label, task.label)
+    return found
+
+
+AB: Dict[str, List[str]] = {"a": [], "b": []}
+
+
+class Folders(unittest.TestCase):
+    """Who makes, uses, removes and lists a folder."""
+
+    def meet(self, one: Events, two: Events, there: Mapping[str, str] = {}, argv: Sequence[str] = ("cc",)) -> List[str]:
+        return sorted(meetings(build_of(AB, {"a": one, "b": two}, there, argv)))
+
+    def test_two_strict_makers(self) -> None:
+        self.assertEqual(["d/@make"], self.meet([("M", "d")], [("E", "d")]))
+
+    def test_two_makers_that_tell_nobody(self) -> None:
+        self.assertEqual([], self.meet([("T", "d")], [("T", "d")]))
+
+    def test_user_without_a_maker_before_it(self) -> None:
+        self.assertEqual(["d/@seen"], self.meet([("T", "d")], [("W", "d/x")]))
+
+    def test_user_behind_its_maker(self) -> None:
+        self.assertEqual({}, meetings(build_of({"a": [], "b": ["a"]}, {"a": [("M", "d")], "b": [("W", "d/x")]})))
+
+    def test_folder_that_was_there(self) -> None:
+        self.assertEqual([], self.meet([("E", "d")], [("E", "d")], {"d": "d"}))
+
+    def test_maker_that_looks_first(self) -> None:
+        self.assertEqual(["d/@seen"], self.meet([("N", "d"), ("T", "d")], [("T", "d")]))
+
+    def test_removed_folder_and_its_user(self) -> None:
+        self.assertEqual(["d/@gone"], self.meet([("X", "d")], [("S", "d")], {"d": "d"}))
+
+    def test_removal_that_failed_and_a_name_in_the_folder(self) -> None:
+        self.assertEqual(["d/x"], self.meet([("C", "d/x"), ("W", "d/x")], [("x", "d")], {"d": "d"}))
+
+    def test_listing_and_a_folder_that_is_made(self) -> None:
+        self.assertEqual(["d/@seen"], self.meet([("M", "d"), ("C", "d/")], [("L", "\0*")]))
+        self.assertEqual([], self.meet([("M", "d"), ("C", "d/")], [("L", "\0*.c")]))
+
+    def test_mode_and_a_look(self) -> None:
+        self.assertEqual(["d/@mode"], self.meet([("m", "d")], [("S", "d")], {"d": "d"}))
+
+    def test_number_of_links(self) -> None:
+        self.assertEqual(["d/@links"], self.meet([("M", "d/n"), ("C", "d/n/")], [("h", "d")], {"d": "d"}))
+        self.assertEqual(["x/@links"], self.meet([("H", "x")], [("h", "x")], {"x": "f"}))
+
+    def test_scripts_that_make_it(self) -> None:
+        self.assertEqual([], self.meet([("T", "d"), ("W", "d/x")], [("K", "d"), ("W", "d/y")]))
+
+
+class Ages(unittest.TestCase):
+    """Ages that somebody compares."""
+
+    def test_two_names_that_a_third_compares(self) -> None:
+        rules = {"a": [], "b": [], "c": ["a", "b"]}
+        done: Dict[str, Events] = {"a": [("C", "x"), ("W", "x")], "b": [("C", "y"), ("W", "y")], "c": [("A", "x"), ("A", "y")]}
+        self.assertEqual({"x/@age": ("a", "b")}, meetings(build_of(rules, done)))
+        self.assertEqual({}, meetings(build_of({"a": [], "b": ["a"], "c": ["a", "b"]}, done)))
+        self.assertEqual({}, meetings(build_of(rules, {**done, "c": [("A", "x")]})))
+
+    def test_many_names_by_few_writers(self) -> None:
+        names = ["n%d" % n for n in range(900)]
+        rules = {"a": [], "b": [], "c": ["a", "b"]}
+        build = build_of(rules, {"a": [("W", n) for n in names[:450]], "b": [("W", n) for n in names[450:]], "c": [("A", n) for n in names]})
+        self.assertEqual([("a", "b")], list(meetings(build).values()))
+
+    def test_age_of_a_folder_by_what_is_in_it(self) -> None:
+        rules = {"a": [], "b": [], "c": ["a", "b"]}
+        done: Dict[str, Events] = {"a": [("C", "d/x")], "b": [("W", "y")], "c": [("A", "d"), ("A", "y")]}
+        self.assertEqual({"d/@age": ("a", "b")}, meetings(build_of(rules, done, {"d": "d", "y": "f"})))
+
+    def test_time_of_a_folder(self) -> None:
+        self.assertEqual({"d/@time": ("a", "b")}, meetings(build_of(AB, {"a": [("C", "d/x")], "b": [("A", "d")]}, {"d": "d"})))
+
+
+if __name__ == "__main__":
+    unittest.main()

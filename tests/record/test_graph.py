@@ -1,0 +1,87 @@
+"""The order of one round: nodes, tasks of double colons and groups, a serial order."""
+
+import unittest
+from typing import Dict, List, Set
+
+import support  # noqa: F401
+from record.graph import Graph, befores, order_tasks, Task, Node
+from record.lives import Life
+from record.owners import Make
+from record.words import read_words
+
+
+def graph_of(considered: str, base: str, jobs: List[str]) -> Graph:
+    """A round: names with blanks in front say who asks for whom, `*` a target that was considered already."""
+    lines = ["Reading makefiles...", "Updating goal targets...."]
+    for row in considered.split("\n"):
+        name = row.strip()
+        blanks = " " * (len(row) - len(row.lstrip()))
+        lines.append(blanks + ("Pruning file '%s'." % name[1:] if name.startswith("*") else "Considering target file '%s'." % name))
+    lines += ["Putting child 0x%d (%s) PID %d on the chain." % (n, job, n + 10) for n, job in enumerate(jobs)]
+    text = ["# Make data base, printed on Monday", "# Files", "", *base.split("\n"), "# files hash-table stats:", "# Finished Make data base on Monday"]
+    words = read_words(7, 0, lines + text + ["EXIT 0"])
+    return Graph(Make(words, Life(7), "/w"), 0)
+
+
+def asks(graph: Graph) -> Dict[str, List[str]]:
+    """What each node waits for."""
+    return {label: sorted(node.asks) for label, node in graph.nodes.items()}
+
+
+class Nodes(unittest.TestCase):
+    """Considered targets, and who asks for them."""
+
+    def test_depth_says_who_asks(self) -> None:
+        graph = graph_of("all\n a\n  x\n b\n  *x", "all: a b\n", ["a", "b"])
+        self.assertEqual({"all": ["a", "b"], "a": ["x"], "x": [], "b": ["x"]}, asks(graph))
+        self.assertEqual((["all"], 1, 0), (graph.goals, len(graph.nodes["a"].jobs), len(graph.nodes["x"].jobs)))
+
+    def test_job_of_a_target_that_was_not_considered(self) -> None:
+        graph = graph_of("all", "all:\n", ["other"])
+        self.assertEqual(["all", "other"], graph.goals)
+
+    def test_rules_of_a_double_colon_target(self) -> None:
+        graph = graph_of("u\n d\n  p\n d\n  q", "u: d\n\nd:: p\n\nd:: q\n", ["d", "d"])
+        self.assertEqual(["d"], sorted(graph.nodes["u"].asks))
+        self.assertEqual(["p"], sorted(graph.nodes["d"].asks))
+        self.assertEqual(["d", "q"], sorted(graph.nodes["d@rule2"].asks))
+        self.assertIn("d", graph.nodes["q"].asks)
+        self.assertEqual([1, 1], [len(graph.nodes[n].jobs) for n in ("d", "d@rule2")])
+
+    def test_double_colons_of_which_not_every_rule_ran(self) -> None:
+        graph = graph_of("d\n p\nd\n q", "d:: p\n\nd:: q\n", ["d"])
+        self.assertEqual([1, 0], [len(graph.nodes[n].jobs) for n in ("d", "d@rule2")])
+        self.assertEqual(1, len(graph.notes))
+
+    def test_members_of_a_group_wait_for_the_one_that_runs(self) -> None:
+        graph = graph_of("all\n a\n  s\n b\n  *s", "all: a b\n\na: s\n#  Also makes: b\n\nb: s\n#  Also makes: a\n", ["a"])
+        self.assertEqual((["s"], ["a", "s"]), (sorted(graph.nodes["a"].asks), sorted(graph.nodes["b"].asks)))
+
+    def test_late_targets(self) -> None:
+        graph = graph_of("all\n d\n  p\n d\n  q\n m", "all: d m\n\nd:: p\n\nd:: q\n\nm:\n#  File is an intermediate prerequisite.\n", ["d", "d"])
+        self.assertEqual({"d@rule2", "q", "m"}, graph.late() - {"+"})
+
+
+class Order(unittest.TestCase):
+    """A serial order, and what ended before what."""
+
+    @staticmethod
+    def order(after: List[Set[int]], keys: List[int]) -> "tuple[List[int], int]":
+        tasks = [Task(str(n), Node(str(n), str(n), 0, 0), "recipe") for n in range(len(after))]
+        return order_tasks(tasks, after, [(key, 0) for key in keys])
+
+    def test_least_key_first(self) -> None:
+        self.assertEqual(([2, 0, 1], 0), self.order([set(), {0}, set()], [5, 1, 2]))
+
+    def test_ring_is_opened(self) -> None:
+        after: List[Set[int]] = [{1}, {0}, {1}]
+        order, dropped = self.order(after, [0, 1, 2])
+        self.assertEqual(([0, 1, 2], 1), (order, dropped))
+        self.assertEqual(set(), after[0])
+
+    def test_what_has_ended(self) -> None:
+        self.assertEqual([0, 1, 3, 0], befores([set(), {0}, {1}, set()], [0, 1, 2, 3]))
+
+
+if __name__ == "__main__":
+    unittest.main()

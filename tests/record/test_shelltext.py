@@ -1,0 +1,100 @@
+"""What the words of a process say."""
+
+import os
+import unittest
+from typing import List
+
+import support
+from record import shelltext
+
+
+def sh(text: str) -> List[str]:
+    """A shell that runs a text."""
+    return ["/bin/sh", "-c", text]
+
+
+class Words(unittest.TestCase):
+    """Shells and scripts."""
+
+    def test_text_of_a_shell(self) -> None:
+        self.assertEqual("echo a", shelltext.shell_text(sh("echo a")))
+        self.assertEqual("echo a", shelltext.shell_text(["bash", "-e", "-ec", "echo a", "name"]))
+        self.assertEqual(["", "", ""], [shelltext.shell_text(w) for w in (["sh", "script"], ["cc", "-c", "a.c"], [])])
+
+    def test_scripts(self) -> None:
+        self.assertEqual([True, False, False], [shelltext.is_script(w) for w in (["sh", "script"], sh("x"), ["cc", "script"])])
+
+    def test_interpreters(self) -> None:
+        names = ("python3", "/usr/bin/perl5.36", "node", "pythonic", "cc")
+        self.assertEqual([True, True, True, False, False], [shelltext.is_interpreter([n]) for n in names])
+
+    def test_first_line_of_a_script(self) -> None:
+        with support.Project({"one": "#!/bin/sh -e\n", "two": "#!/usr/bin/env -S python3\n", "three": "text\n"}) as project:
+            paths = [os.path.join(project.folder, name) for name in ("one", "two", "three", "none")]
+            self.assertEqual(["/bin/sh", paths[0], "x"], shelltext.with_interpreter(["./one", "x"], paths[0]))
+            self.assertEqual(["python3", paths[1]], shelltext.with_interpreter(["./two"], paths[1]))
+            self.assertEqual([["./three"], ["./none"]], [shelltext.with_interpreter(["./" + os.path.basename(p)], p) for p in paths[2:]])
+
+
+class Patterns(unittest.TestCase):
+    """What a listing of a folder can be about."""
+
+    def of(self, text: str, cut: bool = False) -> List[str]:
+        return list(shelltext.patterns(sh(text), cut))
+
+    def test_plain_patterns(self) -> None:
+        self.assertEqual(["*.c"], self.of("cat src/*.c"))
+        self.assertEqual(["*", "f?"], self.of("cat src/*/f?"))
+
+    def test_everything(self) -> None:
+        for text in ("echo $p*", "echo `ls`*", "eval 'echo x*'", "ls"):
+            self.assertEqual(["*"], self.of(text), text)
+        self.assertEqual(["*"], self.of("echo *.c", cut=True))
+        self.assertEqual(["*"], list(shelltext.patterns(["ls", "-l"], False)))
+
+
+class Folders(unittest.TestCase):
+    """Folders that recipes make for themselves."""
+
+    def test_makers_that_tell_nobody(self) -> None:
+        for words, wanted in (("mkdir -p d", True), ("mkdir --parents d", True), ("mkdir -m 755 -p d", True), ("mkdir d", False), ("mkdir -pv d", False),
+                              ("mkdir -p --verbose d", False), ("install -d d", True), ("install -v -d d", False), ("install a d", False)):
+            self.assertEqual(wanted, shelltext.is_quiet_mkdir(words.split()), words)
+
+    def test_forms_that_are_excused(self) -> None:
+        for text, wanted in (("mkdir d || true", True), ("mkdir d 2>/dev/null || :", True), ("mkdir d || test -d d", True), ("test -d d || mkdir -p d", True),
+                             ("[ -d d ] || mkdir -p d; echo x", True), ("mkdir d", False), ("mkdir d || echo second", False), ("mkdir e || true", False),
+                             ("test -d d && echo there; mkdir d || true; ls d", False), ("test -d d || mkdir d", False)):
+            self.assertEqual(wanted, shelltext.is_excused(sh(text), "/w/d"), text)
+
+    def test_scripts_that_make_folders(self) -> None:
+        for words, folder, wanted in ((["sh", "../install-sh", "-d", "a/b"], "/w/a/b", True), (["sh", "install-sh", "-c", "-d", "a/b"], "/w/a", True),
+                                      (["sh", "install-sh", "-d", "a"], "/w/c", False), (["sh", "install-sh", "a", "b"], "/w/b", False),
+                                      (["sh", "./mkinstalldirs", "x"], "/w/x", True), (["sh", "./libtool", "cc"], "/w/.libs", True),
+                                      (["sh", "./libtool", "cc"], "/w/sub", False), (["cc", "libtool", ".libs"], "/w/.libs", False),
+                                      (["cmake", "-E", "make_directory", "x"], "/w/x", True), (["cmake", "-E", "touch", "x"], "/w/x", False)):
+            self.assertEqual(wanted, shelltext.makes(words, folder), words)
+
+    def test_folder_of_the_process(self) -> None:
+        self.assertEqual([True, True, False], [shelltext.names_here(w) for w in (["find", "."], ["ls", "./", "x"], ["ls", "d"])])
+
+
+class Looks(unittest.TestCase):
+    """Programs that see more than contents."""
+
+    def test_numbers_of_names(self) -> None:
+        for words, wanted in (("stat -c %h x", True), ("stat x", True), ("stat -c %s x", False), ("ls -l", True), ("ls", False), ("tar cf x d", True),
+                              ("find . -links 2", True), ("find . -name x", False), ("cat x", False)):
+            self.assertEqual(wanted, shelltext.looks_at_links(words.split()), words)
+
+    def test_scripts_are_searched(self) -> None:
+        with support.Project({"old": "test a -nt b\n", "plain": "cat a\n"}) as project:
+            found = [shelltext.compares_ages(["sh", name], str(project.folder)) for name in ("old", "plain", "none")]
+        self.assertEqual([True, False, True], found)
+
+    def test_texts_that_run_other_texts(self) -> None:
+        self.assertEqual([True, True, False], [shelltext.compares_ages(sh(t), "/") for t in (". ./x", "eval x", "cat x.y")])
+
+
+if __name__ == "__main__":
+    unittest.main()

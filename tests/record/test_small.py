@@ -1,0 +1,125 @@
+"""Small makefiles, a few lines each, and what `race-record` must say of them."""
+
+import sys
+import unittest
+from dataclasses import dataclass, field
+from typing import Callable, Dict, List, Mapping
+
+import support
+
+STATUSES = {"safe": 0, "race": 1, "no verdict": 2}
+INSTALL = "test -d $2 || mkdir $2 || true\n"
+OLD = "touch -d 2001-01-01 "
+
+
+@dataclass(frozen=True)
+class Small:
+    """A makefile, the verdict on it, the other files, lines of the shell that come before, and texts of the output."""
+
+    wanted: str
+    makefile: str
+    files: Mapping[str, str] = field(default_factory=dict)
+    setup: str = ""
+    says: str = ""
+    below: str = ""
+
+
+SMALL: Dict[str, Small] = {
+    # devices, and folders that look like theirs
+    "devices_are_no_files": Small("safe", "all: a b\na b: ; echo $@ > /dev/null; cat /dev/null > $@\n"),
+    "project_below_dev": Small("race", "all: a b\na: ; echo a > a\nb: ; cp a b\n", below="/dev/shm"),
+    # what make itself looks at in its first pass
+    "look_of_a_leaf": Small("safe", "all: t gen\nt: p ; touch t\ngen: ; echo x > p; touch gen\n", {"p": "p", "t": "t"}, OLD + "t"),
+    "look_behind_its_writer": Small("race", "all: gen t\nt: p ; touch t\ngen: ; echo x > p; touch gen\n", {"p": "p", "t": "t"}, OLD + "t"),
+    # makes that run one recipe at a time whatever -j is
+    "inner_make_of_one_job": Small("safe", "all: ; $(MAKE) -j1 -f in.mk\n", {"in.mk": "all: a b\na: ; echo a > a\nb: ; cp a b\n"}),
+    "inner_make_of_two_jobs": Small("race", "all: ; $(MAKE) -j2 -f in.mk\n", {"in.mk": "all: a b\na: ; echo a > a\nb: ; cp a b\n"}),
+    "inner_make_without_flags": Small("safe", "all: ; env -u MAKEFLAGS make -f in.mk\n", {"in.mk": "all: a b\na: ; echo a > a\nb: ; cp a b\n"}),
+    # double colons
+    "double_colon_holds_back": Small("safe", "all: dc\ndc:: ; echo 1 > x\ndc:: p ; echo 2 > y\np: ; cp x p\n"),
+    "double_colon_ages": Small("safe", "all: p dc\np: ; touch p\ndc:: ; echo 1 >> dc\ndc:: p ; echo 2 >> dc\n", {"dc": "dc"}, OLD + "dc"),
+    # the search for implicit rules
+    "search_sees_a_name_that_goes": Small("race", "all: gen sub/z.t\n%.t: %.a ; cp $< $@\n%.t: %.b ; cp $< $@\ngen: ; rm sub/z.a; touch gen\n", {"sub/z.a": "a", "sub/z.b": "b"}),
+    "search_in_an_early_listing": Small("safe", "all: gen z.t\n%.t: %.a ; cp $< $@\n%.t: %.b ; cp $< $@\ngen: ; echo a > z.a; touch gen\n", {"z.b": "b"}, says="search for implicit rules"),
+    # folders
+    "folder_there_already": Small("safe", "all: a b\na: ; mkdir -p d; echo a > d/a\nb: ; echo b > d/b\n", setup="mkdir d"),
+    "folder_removed": Small("race", "all: b a\na: ; rmdir d\nb: ; test -d d && echo yes > b || echo no > b\n", setup="mkdir d"),
+    "folder_behind_a_bar": Small("safe", "all: gen u\ngen: ; echo x > d/n; touch gen\nu: s | d ; cat s > u\nd: ; mkdir d\n", {"s": "s", "u": "u"}, "mkdir d; " + OLD + "u"),
+    "folder_made_by_two_who_fail": Small("race", "all: a b\na b: ; mkdir d || echo second > $@\n"),
+    "folder_made_or_true": Small("safe", "all: a b\na b: ; mkdir d 2>/dev/null || true; echo $@ > d/$@\n"),
+    "folder_looked_at_first": Small("race", "all: a b\na b: ; test -d d && echo there > $@; mkdir -p d\n"),
+    "folder_tested_or_made": Small("safe", "all: a b\na b: ; test -d d || mkdir -p d; echo $@ > d/$@\n"),
+    "folder_that_cannot_be_removed": Small("race", "all: a b\na: ; echo x > d/f\nb: ; rmdir d || true\n", setup="mkdir d"),
+    "folder_links_counted": Small("race", "all: a b\na: ; mkdir d/n\nb: ; stat -c %h d > b\n", setup="mkdir d"),
+    # names
+    "links_of_a_file_counted": Small("race", "all: a b\na: ; ln x y\nb: ; stat -c %h x > b\n", {"x": "x"}),
+    "link_on_the_way": Small("race", "all: a b\na: ; ln -sfn e l\nb: ; cat l/x > b\n", {"d/x": "d", "e/x": "e"}, "ln -s d l"),
+    "absent_folder_on_the_way": Small("race", "all: b a\na: ; ln -s d l\nb: ; cat l/x > b || true\n", {"d/x": "d"}),
+    "absent_file": Small("race", "all: b a\na: ; echo a > a\nb: ; cat a > b || true\n"),
+    "removed_file": Small("race", "all: a b\na: ; rm x\nb: ; cat x > b || true\n", {"x": "x"}),
+    "pattern_in_a_variable": Small("race", "all: a b\na: ; echo a > d/n1\nb: ; p=d/n; echo $$p* > b\n", {"d/n2": "k"}),
+    "pattern_of_eval": Small("race", "all: a b\na: ; echo a > d/n\nb: ; eval \"echo d/\"\\* > b\n", {"d/k": "k"}),
+    "script_that_compares_ages": Small("race", "all: c\na: ; touch x\nb: ; touch y\nc: a b ; ./newer > c\n", {
+        "newer": "#!" + sys.executable + "\nimport os\nprint(os.stat('x').st_mtime > os.stat('y').st_mtime)\n"}, "chmod +x newer"),
+    "folder_as_prerequisite_cold": Small("safe", "all: d/a d/b\nd/a d/b: d ; echo $@ > $@\nd: ; mkdir d\n"),
+    # looks
+    "look_behind_a_recipe": Small("race", "all: t u\nt: p ; touch t\np: ; echo p > p\nu: ; cat p > u || true\n", {"t": "t"}, OLD + "t"),
+    "first_look_at_a_target": Small("race", "all: q g t\nq: ; touch q\ng: q ; echo g > t\nt: q | g ; echo t > t\n"),
+    "first_look_that_changes_nothing": Small("safe", "all: q g t\nq: ; touch q\ng: q ; echo g > t\nt: q | g\n"),
+    "two_own_acts_first": Small("safe", ".PHONY: e f\nall: e f u v\ne: ; $(file >x,w)\nf: ; $(file >y,w)\nu: ; echo u > u\nv: ; cat x y > v\n"),
+    "inner_make": Small("race", "all: ; $(MAKE) -f in.mk\n", {"in.mk": "all: a b\na: ; echo a > a\nb: ; cp a b\n"}),
+    "decision_below_another_folder": Small("race", "all: ; $(MAKE) -C sub\n", {"sub/Makefile": "all: one two\none: ; touch one; echo two > two\n"}),
+    "vpath_prerequisite": Small("race", "vpath %.v v\nall: gen t\ngen: ; echo x > v/a.v; touch gen\nt: a.v ; touch t\n", {"v/a.v": "a", "t": "t"}),
+    "race_among_makefiles": Small("race", "include a.d b.d\nall: ;\nb.d: ; touch b.d c.d\na.d: ; cat c.d > a.d\n"),
+    # ages
+    "ages_in_an_inner_make": Small("race", "all: in\na: ; touch x\nb: ; touch y\nin: a b ; $(MAKE) -f in.mk\n", {"in.mk": "y: x ; echo made >> log\n"}),
+    "age_of_a_folder": Small("race", "all: c\na: ; touch d/n\nb: ; touch y\nc: a b ; test d -nt y && echo newer > c || echo older > c\n", setup="mkdir d"),
+    # acts of make between two jobs
+    "act_before_the_next_target": Small("safe", ".PHONY: e\nall: g e u\ng: ; touch g\ne: g ; $(file >x,w)\nu: ; touch u\n"),
+    "act_of_the_next_target": Small("race", ".PHONY: e\nall: g e r u\ng: ; touch g\ne: g ; $(if $(wildcard g),)\nr: ; cat x > r || true\nu: g ; $(file >x,w)touch u\n"),
+    "wildcard_that_is_computed": Small("race", "q = y\np = *.$q\nall: a b\na: ; echo a > d/n.y\nb: ; echo $(wildcard d/$p) > b\n", {"d/k": "k"}),
+    # what is taken for granted
+    "outlives": Small("safe", "all: ; (sleep 0.2; echo x > x) > /dev/null 2>&1 &\n\techo y > y\n\tsleep 0.5\n", says="when its recipe had ended"),
+    "up_to_date": Small("safe", "all: b\na: s ; cp s a\nb: a ; cp a b\n", {"s": "s", "a": "s"}, OLD + "s", says="targets that were up to date stay so (1, such"),
+    "all_up_to_date": Small("safe", "a: s ; cp s a\n", {"s": "s", "a": "s"}, OLD + "s", says="targets that were up to date"),
+    "outside": Small("safe", "all: ; echo x > $(CURDIR)/../outside; mktemp -u > /dev/null\n", says="outside of the project changed"),
+    "makers": Small("safe", "all: a b\na b: ; sh install-sh -d d; touch d/$@\n", {"install-sh": INSTALL}, says="scripts that make folders"),
+    "makers_of_another_folder": Small("race", "all: a b\na: ; mkdir -p e; touch a\nb: ; sh install-sh -d d; touch d/b\n", {"install-sh": INSTALL + "test -d e && touch d/e\n"}),
+    "libtool_makes_its_folder": Small("safe", "all: a b\na b: ; ./libtool --mode=compile; touch .libs/$@\n", {"libtool": "#!/bin/sh\ntest -d .libs || mkdir .libs\n"}, "chmod +x libtool"),
+    "interpreters": Small("safe", "all: ; python3 -c 'print(1)' > all\n", says="Perl, Python and other interpreters"),
+    "flags_of_a_recipe": Small("safe", "all: ; @echo \"$$MAKEFLAGS\" > all\n", says="names MAKEFLAGS or PATH"),
+    "flags_of_a_makefile": Small("safe", "q = $(findstring q,$(MAKEFLAGS))\nall: ; @echo $q > all\n", says="MAKEFLAGS in Makefile"),
+    "flags_in_words": Small("safe", "F = $(FLAGS)\nall: ; @echo '$(value $(subst X,,MAKEXFLAGS))' > all\n", says="names MAKEFLAGS or PATH"),
+    "path_of_a_recipe": Small("safe", "all: ; @echo $$PATH > all\n", says="names MAKEFLAGS or PATH"),
+    "which_make": Small("safe", "all: ; @command -v make > all\n", says="names MAKEFLAGS or PATH"),
+    "whole_environment": Small("safe", "all: ; @env > all\n", says="names MAKEFLAGS or PATH"),
+    "hard_links": Small("safe", "all: ; ln x y\n", {"x": "x"}, says="files got a second name"),
+    "sockets": Small("safe", "all: ; python3 -c \"import socket; socket.socket(socket.AF_UNIX).bind('s')\"\n", says="a process talks to a server"),
+    "status_of_the_command": Small("no verdict", "all: ; touch all\n", says="the build ended with status 3"),
+    "two_builds_at_once": Small("safe", "all: a\na: ; sleep 0.2; touch a\n", {"other.mk": "all: b\nb: ; sleep 0.2; touch b\n"}, says="two makes ran at once"),
+}
+COMMANDS: Dict[str, List[str]] = {
+    "two_builds_at_once": ["sh", "-c", "make & make -f other.mk; wait"],
+    "status_of_the_command": ["sh", "-c", "make; exit 3"],
+}
+
+
+def test_of(name: str, small: Small) -> Callable[[unittest.TestCase], None]:
+    """The test of one makefile."""
+
+    def test(self: unittest.TestCase) -> None:
+        with support.Project({"Makefile": small.makefile, **small.files}, small.below or None) as project:
+            project.sh(small.setup)
+            told = project.record(COMMANDS.get(name, ["make"]), ["--warm"])
+        self.assertEqual(STATUSES[small.wanted], told.status, told.text()[-1500:] + told.stderr.decode()[-800:])
+        self.assertIn(small.says, told.text())
+
+    return test
+
+
+class Makefiles(unittest.TestCase):
+    """A test for each makefile."""
+
+
+for key, one in SMALL.items():
+    setattr(Makefiles, "test_" + key, test_of(key, one))
