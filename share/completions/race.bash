@@ -99,7 +99,7 @@ _race() {
       --race) mapfile -t COMPREPLY < <(compgen -f -- "$word"); return ;;
       --top) mapfile -t COMPREPLY < <(compgen -d -- "$word"); return ;;
     esac
-    case $word in -*) mapfile -t COMPREPLY < <(compgen -W "-h --help -o --output --race --top --warm --fresh --keep-trace" -- "$word"); return ;; esac
+    case $word in -*) mapfile -t COMPREPLY < <(compgen -W "-h --help -o --output --race --top --warm --fresh --keep-trace --footprints" -- "$word"); return ;; esac
     mapfile -t COMPREPLY < <(compgen -c -- "$word") ;;
   'race-report')
     case $before in

@@ -90,6 +90,7 @@ complete -c race-record -l top -x -a '(__fish_complete_directories)' -d 'another
 complete -c race-record -l warm -d 'builds start from this tree, though some of what they make is there already'
 complete -c race-record -l fresh -d 'record a clean copy in the place of the folder that ninja builds in'
 complete -c race-record -l keep-trace -d 'keep the trace in the record'
+complete -c race-record -l footprints -d 'keep a listing and footprints of each build, for race check --makefile'
 complete -c race-record -x -a '(__fish_complete_subcommand)'
 
 complete -c race-report -s h -l help -d 'show this help message and exit'

@@ -96,7 +96,7 @@ SMALL: Dict[str, Small] = {
     "hard_links": Small("safe", "all: ; ln x y\n", {"x": "x"}, says="files got a second name"),
     "sockets": Small("safe", "all: ; python3 -c \"import socket; socket.socket(socket.AF_UNIX).bind('s')\"\n", says="a process talks to a server"),
     "status_of_the_command": Small("no verdict", "all: ; touch all\n", says="the build ended with status 3"),
-    "two_builds_at_once": Small("safe", "all: a\na: ; sleep 0.2; touch a\n", {"other.mk": "all: b\nb: ; sleep 0.2; touch b\n"}, says="two makes ran at once"),
+    "two_builds_at_once": Small("safe", "all: a\na: ; sleep 0.2; touch a\n", {"other.mk": "all: b\nb: ; sleep 0.2; touch b\n"}, says="two makes or ninjas ran at once"),
 }
 COMMANDS: Dict[str, List[str]] = {
     "two_builds_at_once": ["sh", "-c", "make & make -f other.mk; wait"],
