@@ -5,7 +5,7 @@ from dataclasses import dataclass
 from pathlib import Path
 
 # CHANGELOG.md is history: it names what is gone.
-PAGES = ("README.md", "CONTRIBUTING.md", "docs/*.md", "cases/*.md", "examples/*.md", "bench/**/*.md")
+PAGES = ("README.md", "CONTRIBUTING.md", "docs/*.md", "cases/*.md", "examples/**/*.md", "tests/**/*.md", "bench/**/*.md")
 CODE = {".rt": re.compile(r"^\s*//[/!]?(.*)"), ".antt": re.compile(r"^\s*--+(.*)")}
 SPAN = re.compile(r"`([^`\n]+)`")
 

@@ -73,7 +73,7 @@ def read(top: Path) -> Banned:
 def abouts(at: Repository) -> Iterator[tuple[str, str]]:
     """What the cases say that they show, each with its place."""
     for path in sorted(at.files):
-        if path.startswith(("cases/", "examples/")) and Path(path).name == "about":
+        if path.startswith(("cases/", "examples/", "tests/")) and Path(path).name == "about":
             yield f"{path}:1", (at.top / path).read_text(encoding="utf-8")
 
 
