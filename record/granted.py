@@ -8,6 +8,7 @@ from record import shelltext
 from record.assumptions import Assumptions
 from record.lives import Life
 from record.names import Names
+from record.ninja_runs import Ninja
 from record.owners import Make, Owners, Work
 from record.words import makefiles
 
@@ -70,21 +71,33 @@ def sees_words(argv: List[str], spool: str) -> bool:
     return own or bool(text and (FLAGS.search(text) or ENVIRONMENT.search(text)))
 
 
+def add_granted_by_ninja(ninjas: List[Ninja], owners: Owners, assumed: Assumptions) -> None:
+    """The same over the commands of ninjas."""
+    for job in (j for ninja in ninjas for stage in ninja.stages for j in stage.jobs):
+        interpreters(job.work, assumed)
+        at_once_in(job.work, job.edge.label if job.edge is not None else job.text[:60], assumed)
+        outlived_of(job.life, owners, assumed)
+
+
 def at_once(owners: Owners, assumed: Assumptions) -> None:
     """Two processes of one recipe that touch a file at the same time."""
     for make in owners.makes:
         for job in (j for r in make.words.rounds for j in r.jobs):
             work = make.work.get(id(job))
-            if work is None or len(work.lives) > 2000:
-                continue
-            table: Dict[str, List[Tuple[Life, bool]]] = {}
-            for life in work.lives:
-                for kind, path in life.events:
-                    if kind in "RWD":
-                        table.setdefault(path, []).append((life, kind in "WD"))
-            for path, who in table.items():
-                if any(w for _, w in who) and len({id(l) for l, _ in who}) > 1 and len(who) < 40 and overlap(who):
-                    assumed.add("at-once", "%s in %s" % (path, job.target))
+            if work is not None:
+                at_once_in(work, job.target, assumed)
+
+
+def at_once_in(work: Work, target: str, assumed: Assumptions) -> None:
+    """Files that two processes of one work touch at the same time."""
+    table: Dict[str, List[Tuple[Life, bool]]] = {}
+    for life in work.lives if len(work.lives) <= 2000 else ():
+        for kind, path in life.events:
+            if kind in "RWD":
+                table.setdefault(path, []).append((life, kind in "WD"))
+    for path, who in table.items():
+        if any(w for _, w in who) and len({id(l) for l, _ in who}) > 1 and len(who) < 40 and overlap(who):
+            assumed.add("at-once", "%s in %s" % (path, target))
 
 
 def outlived(owners: Owners, assumed: Assumptions) -> None:
@@ -92,14 +105,19 @@ def outlived(owners: Owners, assumed: Assumptions) -> None:
     for make in owners.makes:
         for life in make.life.children:
             if id(life) in owners.jobs:
-                for one in owners.below(life):
-                    if one.died > life.died and any(k in "WCDMTX" and place > life.died for (k, _), place in one.events.items()):
-                        assumed.add("outlives", " ".join(one.argv)[:60])
+                outlived_of(life, owners, assumed)
     tops = [m.life for m in owners.makes if not any(l.is_make for l in m.life.up() if l is not m.life)]
     tops.sort(key=lambda l: l.born)
     for first, second in zip(tops, tops[1:]):
         if second.born < first.died:
             assumed.add("tops", " ".join(second.argv)[:60])
+
+
+def outlived_of(life: Life, owners: Owners, assumed: Assumptions) -> None:
+    """What a recipe left running, and what then changed files."""
+    for one in owners.below(life):
+        if one.died > life.died and any(k in "WCDMTX" and place > life.died for (k, _), place in one.events.items()):
+            assumed.add("outlives", " ".join(one.argv)[:60])
 
 
 def overlap(who: List[Tuple[Life, bool]]) -> bool:

@@ -206,7 +206,7 @@ def attempt(options: argparse.Namespace, words: List[str], tools: Dict[str, str]
         finish(record, found, names, options.warm)
         write_record(out, record, found.builds, found.assumed)
         for number, build in zip(record.builds, found.builds if options.footprints else ()):
-            if isinstance(build, Build):
+            if build.tool == "make":
                 write_footprints(out / "builds" / number, build, names, str(out))
         if options.keep_trace:
             shutil.copytree(spool, out / "trace", ignore=shutil.ignore_patterns("bin", "real"))

@@ -4,6 +4,7 @@ import os
 from typing import List, Tuple
 
 from record.assumptions import Assumptions
+from record.granted import add_granted_by_ninja
 from record.graph import Build
 from record.lives import Life
 from record.names import Names
@@ -25,6 +26,7 @@ def import_ninjas(lives: List[Life], owners: Owners, names: Names, kept: Kept, a
         assumed.add("ties", text[:60])
     for argv in side_by_side(runs.ninjas, owners):
         assumed.add("tops", " ".join(argv)[:60])
+    add_granted_by_ninja(runs.ninjas, owners, assumed)
     removed = removed_names(lives) if runs.ninjas else set()
     if runs.ninjas:
         assumed.add("ninja", "")

@@ -7,8 +7,8 @@
     bench/record/run.py --part 0.1                  each project that is made a tenth as large
 
 Projects that are made here: c-files (200 C files, 40 headers, one of them generated, four libraries, a program), recipes
-(1,500 recipes that share 55 prerequisites), inner (40 makes inside one make, 5 recipes each). Projects of this machine:
-the examples of Debian's liblzma-dev and libxmlsec1-dev, where they are there. Seconds are those of the clock, and of the
+(1,500 recipes that share 55 prerequisites), inner (40 makes inside one make, 5 recipes each), ninja (the files of c-files,
+built by ninja, where that is there). Projects of this machine: the examples of Debian's liblzma-dev and libxmlsec1-dev, where they are there. Seconds are those of the clock, and of the
 processors in parentheses; the best of N runs (three). Nothing here is a test.
 """
 
@@ -55,8 +55,8 @@ class Times:
             name, self.recipes, *self.plain, self.traced, read, self.judged, *self.recorded, self.trace)
 
 
-def c_files(folder: Path, part: float) -> None:
-    """A C project as people write them."""
+def sources(folder: Path, part: float) -> int:
+    """The files of a C project; how many there are besides the main one."""
     count = max(8, int(200 * part))
     (folder / "src").mkdir(parents=True)
     for n in range(40):
@@ -66,12 +66,30 @@ def c_files(folder: Path, part: float) -> None:
         body = "".join("int f%d_%d(int x) { struct s%d s = {{x}}; return s.a[0] * %d + printf(\"%%d\", x); }\n" % (n, k, n * 7 % 40, k) for k in range(20))
         (folder / "src" / ("f%d.c" % n)).write_text('%s#include "table.h"\n%s' % (heads, body))
     (folder / "src" / "main.c").write_text('#include "table.h"\nint main(void) { return TABLE; }\n')
+    return count
+
+
+def c_files(folder: Path, part: float) -> None:
+    """A C project as people write them."""
+    sources(folder, part)
     (folder / "Makefile").write_text(
         "SRC := $(wildcard src/f*.c)\nOBJ := $(SRC:src/%.c=o/%.o)\nLIBS := o/lib0.a o/lib1.a o/lib2.a o/lib3.a\nCFLAGS = -O1 -Isrc -Io -MMD\n"
         "all: o/main\no/main: src/main.c $(LIBS) o/table.h\n\t$(CC) $(CFLAGS) -o $@ src/main.c $(LIBS)\n"
         "o/table.h: | o\n\techo '#define TABLE 0' > $@\no: ; mkdir -p $@\n$(OBJ): o/%.o: src/%.c | o/table.h\n\t$(CC) $(CFLAGS) -c -o $@ $<\n"
         + "".join("o/lib%d.a: $(filter %s,$(OBJ))\n\t$(AR) rcs $@ $^\n" % (n, " ".join("%%%d.o" % d for d in range(10) if d % 4 == n)) for n in range(4))
         + "-include $(OBJ:.o=.d)\n")
+
+
+def ninja(folder: Path, part: float) -> None:
+    """The same project for ninja."""
+    count = sources(folder, part)
+    rules = {"cc": "cc -O1 -Isrc -Io -MD -MF $out.d -c $in -o $out\n  deps = gcc\n  depfile = $out.d", "ar": "ar rcs $out $in",
+             "ld": "cc -o $out $in", "gen": "echo '#define TABLE 0' > $out"}
+    lines = ["rule %s\n  command = %s" % rule for rule in rules.items()] + ["build o/table.h: gen"]
+    lines += ["build o/%s.o: cc src/%s.c || o/table.h" % (name, name) for name in ["main"] + ["f%d" % n for n in range(count)]]
+    lines += ["build o/lib%d.a: ar %s" % (k, " ".join("o/f%d.o" % n for n in range(count) if n % 4 == k)) for k in range(4)]
+    lines += ["build o/main: ld o/main.o %s" % " ".join("o/lib%d.a" % k for k in range(4))]
+    (folder / "build.ninja").write_text("\n".join(lines) + "\n")
 
 
 def recipes(folder: Path, part: float) -> None:
@@ -107,6 +125,8 @@ def example(path: str) -> Callable[[Path, float], None]:
 
 
 PROJECTS: Dict[str, Callable[[Path, float], None]] = {"c-files": c_files, "recipes": recipes, "inner": inner, **{k: example(v) for k, v in EXAMPLES.items() if os.path.isdir(v)}}
+if shutil.which("ninja"):
+    PROJECTS["ninja"] = ninja
 
 
 def timed(words: List[str], folder: Path, ends: Tuple[int, ...]) -> Tuple[float, float]:
@@ -121,7 +141,7 @@ def timed(words: List[str], folder: Path, ends: Tuple[int, ...]) -> Tuple[float,
 
 def once(name: str, part: float, race: str) -> Times:
     """All steps, each in a fresh copy."""
-    words = ["make", "-j1", *GOALS.get(name, [])]
+    words = ["ninja", "-j1"] if name == "ninja" else ["make", "-j1", *GOALS.get(name, [])]
     with tempfile.TemporaryDirectory(prefix="race-bench-") as room:
         first, second = Path(room) / "a" / "project", Path(room) / "b" / "project"
         for folder in (first, second):

@@ -135,3 +135,7 @@ CASES += [
     Case("beside-each-other", SAFE, GEN, ["two makes or ninjas ran at once"], words="sh ./all", files={"all": "ninja & ninja -C sub; wait\n", "sub/build.ninja": RULES + sh("h", "", "sleep 1; touch h")}),
     Case("inner-ninja-that-fails", NONE, sh("x", "", "ninja -C sub || touch x"), ["ninja left no log"], files={"sub/build.ninja": RULES + sh("h", "", "false")}),
 ]
+CASES += [
+    Case("two-processes-of-one-command", SAFE, sh("a", "", "(sleep 0.3; echo 1 >> log) & (sleep 0.3; echo 2 >> log; sleep 0.2) & wait; touch a"), ["two processes of one recipe touch a file"]),
+    Case("process-that-outlives-its-command", SAFE, sh("a", "", "(sleep 0.5; echo > late) > /dev/null 2>&1 & touch a") + sh("b", "a", "sleep 1; touch b"), ["when its recipe had ended"]),
+]
