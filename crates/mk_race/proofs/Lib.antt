@@ -3,6 +3,7 @@ mod Alike
 mod GoalsLemmas
 mod InOrder
 mod Listed
+mod OfTasks
 mod OneBuild
 mod ProofTexts
 mod Staging

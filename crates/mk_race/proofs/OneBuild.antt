@@ -1,5 +1,5 @@
 -- The texts of a build mean one build, or one first fault.
-use Rattle.std.proofs.Common.{◌≡◌, ℕ, List, Ok, Err, Result, sym, ap, ◌∙◌, subst}
+use Rattle.std.proofs.Common.{ℕ, List, Ok, Err, Result, sym, ◌∙◌, subst}
 use Rattle.mk_name.specs.Names.{Name}
 use Rattle.mk_name.specs.Told.{Told}
 use Rattle.mk_name.specs.declared.fault.Source.TheVariants as sources

@@ -6,4 +6,5 @@ pub mod Played
 pub mod Serialised
 pub mod Settings
 pub mod Stages
+pub mod Tasked
 pub mod Verified

@@ -31,7 +31,7 @@ pub fn list_races(alloc: Global, input: &Input<'_>) -> Result<RaceList, Halt>
 }
 
 /// All races of jobs. Where more than 1,000,000 pairs of nodes clash the fault is `TooManyPairs` in the jobs, at place 0.
-fn races_of(alloc: Global, jobs: &Jobs) -> Result<Races, Halt>
+pub(crate) fn races_of(alloc: Global, jobs: &Jobs) -> Result<Races, Halt>
     ensures { Answers result (AreFound jobs.now) }
 {
     let mut rows = Rows::new(alloc, jobs)?;

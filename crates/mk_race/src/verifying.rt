@@ -31,7 +31,7 @@ pub fn verify_proof(alloc: Global, input: &Input<'_>, proof: &[u8]) -> Result<bo
 }
 
 /// Whether these jobs accept the proof of a text.
-fn verify_on(alloc: Global, jobs: &Jobs, text: &[u8]) -> Result<bool, Halt>
+pub(crate) fn verify_on(alloc: Global, jobs: &Jobs, text: &[u8]) -> Result<bool, Halt>
     ensures { Answers result (IsVerifiedOn jobs.now text.now) }
 {
     let proof = read_proof(alloc, text)?;

@@ -1,0 +1,70 @@
+-- The answers of a text of tasks, and what they say of its runs where the tasks are safe.
+use Rattle.std.specs.Prelude.{ℕ, ◌≡◌, ◌<◌, Bool, true, List, Result, Ok, Err}
+use Rattle.mk_name.specs.Told.{Told}
+use Rattle.mk_jobs.specs.Jobs.{Jobs, node_count}
+use Rattle.mk_proof.specs.ProofText.{IsRead}
+use Rattle.mk_proof.specs.declared.proof.Proof.{Proof}
+use Rattle.mk_report.specs.declared.answer.Answer.{Answer}
+use Rattle.mk_report.specs.declared.answer.Answer.TheVariants.{Refused}
+use Rattle.mk_sched.specs.Events.{Event, is_started, phase}
+use Rattle.mk_sched.specs.Laws.{SameOutcome}
+use Rattle.mk_sched.specs.Runs.{IsComplete, IsRun, RecipesAgree}
+use Rattle.mk_sched.specs.Stores.{Store}
+use Rattle.mk_text.specs.Spelling.{root_of}
+use Rattle.mk_task.specs.JobsOf.{jobs_in}
+use Rattle.mk_task.specs.Started.{HasNoOwnNames}
+use Rattle.mk_race.specs.Judged.{IsDecided}
+use Rattle.mk_race.specs.Listed.{IsListedOf}
+use Rattle.mk_race.specs.Stages.{Then}
+use Rattle.mk_race.specs.Verified.{IsVerifiedOn, Shows}
+use Rattle.mk_race.specs.declared.listing.RaceList.{RaceList}
+
+-- the jobs that a text of tasks means below the root of a path
+abbrev pub below : List ℕ → Result (List ℕ) Told → Result Jobs Told
+below text (Ok root) = jobs_in root text
+below text (Err fault) = Err fault
+
+-- what a path of the root and a text of tasks mean: jobs, or the fault of the root, or that of the first line that has one
+abbrev pub tasked : List ℕ → List ℕ → Result Jobs Told
+tasked root text = below text (root_of root)
+
+-- tasks are refused with their fault; without one their jobs are decided
+abbrev pub IsAnswerTo : Result Jobs Told → Answer → Type 0
+IsAnswerTo (Ok jobs) answer = IsDecided jobs answer
+IsAnswerTo (Err told) answer = answer ≡ Refused told
+
+-- any two complete runs of the jobs whose recipes agree, from one store that has no task's own name, have the same outcome
+abbrev pub RunsAlike : Jobs → Type 0
+RunsAlike jobs =
+    (opening : Store) (tie : Bool) (limit other : ℕ) (a b : List Event) → HasNoOwnNames opening
+    → IsRun jobs tie limit opening a → IsRun jobs tie other opening b → IsComplete jobs a → IsComplete jobs b
+    → RecipesAgree a b → SameOutcome jobs opening a b
+
+-- each task has started in every complete run
+abbrev pub EachStarts : Jobs → Type 0
+EachStarts jobs =
+    (opening : Store) (tie : Bool) (limit : ℕ) (past : List Event) (n : ℕ)
+    → IsRun jobs tie limit opening past → IsComplete jobs past → n < node_count jobs → is_started (phase past n) ≡ true
+
+-- no schedule of tasks shows in their files: the text means jobs, whose tasks all start, and whose runs are alike
+pub record NoScheduleShows (root text : List ℕ) : Type 0 where
+  pub jobs : Jobs
+  pub given : tasked root text ≡ Ok jobs
+  pub start : EachStarts jobs
+  pub alike : RunsAlike jobs
+
+-- the jobs of tasks, and then a proof on them
+abbrev pub IsVerifiedOf : List ℕ → List ℕ → List ℕ → Result Bool Told → Type 0
+IsVerifiedOf root text proof = Then (tasked root text) (λ jobs. IsVerifiedOn jobs proof)
+
+-- the text of tasks means jobs, that of a proof means a proof, and what this shows is so of these jobs
+pub record ProofShows (root text proof_text : List ℕ) : Type 0 where
+  pub jobs : Jobs
+  pub proof : Proof
+  pub given : tasked root text ≡ Ok jobs
+  pub read : IsRead proof_text (Ok proof)
+  pub shown : Shows jobs proof
+
+-- the jobs of tasks, and then all their races
+abbrev pub IsListedBelow : List ℕ → List ℕ → Result RaceList Told → Type 0
+IsListedBelow root text = Then (tasked root text) (λ jobs. IsListedOf jobs)

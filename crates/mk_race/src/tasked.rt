@@ -1,0 +1,64 @@
+//! From a text of tasks to their jobs, the answer whether they may run side by side, all their races, and the answer to a proof.
+ghost use Rattle.std.specs.Prelude.{IfOk, IsTrue};
+ghost use Rattle.mk_name.specs.Gives.{Answers, Gives};
+ghost use Rattle.mk_race.specs.Judged.{HoldsOfRace, HoldsOfSafe, IsSafe};
+ghost use Rattle.mk_race.specs.Tasked as spec;
+ghost use Rattle.mk_race.specs.Tasked.{tasked};
+
+use crate::judging::{decided, refused};
+use crate::listing::{RaceList, races_of};
+use crate::verifying::verify_on;
+use mk_jobs::jobs::Jobs;
+use mk_name::fault::Halt;
+use mk_report::answer::Answer;
+use mk_task::reading::read_tasks;
+use mk_text::root::Root;
+use std::alloc::{AllocError, Global};
+
+/// The jobs of a text of tasks below a root. The first fault is that of the root, and then that of the first line that has
+/// one (see [`read_tasks`]). The only other error is out of memory.
+pub fn prepare_tasks(alloc: Global, root: &[u8], tasks: &[u8]) -> Result<Jobs, Halt>
+    ensures { Gives result (tasked root.now tasks.now) }
+{
+    let root = Root::read(alloc, root)?;
+    read_tasks(alloc, tasks, &root)
+}
+
+/// The answer of a text of tasks below a root, as [`judge`](crate::judge) gives that of a build: the tasks are safe, with a
+/// certificate; or the trace of the least race; or the first fault. The only error is out of memory.
+pub fn judge_tasks(alloc: Global, root: &[u8], tasks: &[u8]) -> Result<Answer, AllocError>
+    ensures answer { IfOk result (spec.IsAnswerTo (tasked root.now tasks.now)) }
+    // The headline: where the answer is that the tasks are safe, each of them starts, and no schedule of them shows in the files.
+    ensures headline { IfOk result (λ answer. IsSafe answer → spec.NoScheduleShows root.now tasks.now) }
+    // The jobs that are handed out with it are then determinate.
+    ensures determinate { IfOk result HoldsOfSafe }
+    // Where it is a race, a run from any store that fits can follow the trace, and then both tasks run.
+    ensures holds { IfOk result HoldsOfRace }
+{
+    match prepare_tasks(alloc, root, tasks) {
+        Ok(jobs) => decided(alloc, jobs),
+        Err(halt) => refused(halt),
+    }
+}
+
+/// All races of a text of tasks below a root, each once, with their jobs. The first fault is that of the jobs, and then
+/// `TooManyPairs` as [`list_races`](crate::list_races) reports it. The only other error is out of memory.
+pub fn list_tasks(alloc: Global, root: &[u8], tasks: &[u8]) -> Result<RaceList, Halt>
+    ensures { Answers result (spec.IsListedBelow root.now tasks.now) }
+{
+    let jobs = prepare_tasks(alloc, root, tasks)?;
+    let found = races_of(alloc, &jobs)?;
+    Ok(RaceList { jobs, found })
+}
+
+/// Whether a proof is accepted for a text of tasks below a root, as [`verify_proof`](crate::verify_proof) says it for a build.
+/// The first fault is that of the jobs, and then that of the proof. The only other error is out of memory.
+pub fn verify_tasks(alloc: Global, root: &[u8], tasks: &[u8], proof: &[u8]) -> Result<bool, Halt>
+    ensures answer { Answers result (spec.IsVerifiedOf root.now tasks.now proof.now) }
+    // The headline: where a certificate is accepted, no schedule of the tasks shows in the files.
+    ensures shows { IfOk result (λ accepted. IsTrue accepted
+        → spec.ProofShows root.now tasks.now proof.now) }
+{
+    let jobs = prepare_tasks(alloc, root, tasks)?;
+    verify_on(alloc, &jobs, proof)
+}

@@ -1,0 +1,5 @@
+mod Adding
+mod Apart
+mod ReadTasks
+mod Shaped
+pub mod Starting

@@ -1,0 +1,5 @@
+pub mod Good
+pub mod JobsOf
+pub mod Lines
+pub mod Started
+pub mod Tasks
