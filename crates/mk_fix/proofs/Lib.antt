@@ -4,3 +4,4 @@ pub mod Direct
 pub mod Fixing
 pub mod Musting
 pub mod Racing
+pub mod Remade

@@ -58,7 +58,7 @@ DirectIsFix = (jobs : Jobs) (edges : List (ℕ × ℕ)) → IsValid jobs → Are
 abbrev pub MustIsBefore : Type 0
 MustIsBefore = (jobs : Jobs) (pairs : List (ℕ × ℕ)) (a b : ℕ) → ArePairs jobs pairs → Must jobs a b ↔ Before (with_edges jobs pairs) a b
 
--- a clean tree has no live node, except phony ones
+-- a clean tree lists no live node, except phony ones
 abbrev pub IsClean : Jobs → Type 0
 IsClean jobs = (n : ℕ) → is_live jobs n ≡ true → is_listed jobs n ≡ true → is_phony jobs n ≡ true
 

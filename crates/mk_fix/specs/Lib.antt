@@ -1,4 +1,5 @@
 pub mod Added
+pub mod Again
 pub mod AllRaces
 pub mod Fixes
 pub mod Laws

@@ -2,9 +2,10 @@
 //!
 //! `races` lists all races. `fix` finds the fix: the races that, as edges, make jobs race-free, and of which each is needed.
 //! `laws` has what holds of every fix: it is the only one, the weakest, and makes jobs determinate. `specs/Fixes.antt` says
-//! what a fix is.
+//! what a fix is. `again` compares jobs with jobs that were made again, with edges added.
 #![tactic(auto)]
 
+pub mod again;
 pub mod fix;
 pub mod laws;
 pub mod races;

@@ -19,14 +19,14 @@ pub struct Races {
 }
 
 /// All races of these jobs, each once, by first and then second number, and how many pairs of nodes clash. `before` must speak
-/// of the same jobs. Where more than `PAIR_LIMIT` pairs clash the fault is `TooManyPairs` in the jobs, at place 0 (profile).
+/// of the same jobs, and does so afterwards, also behind an error. Where more than `PAIR_LIMIT` pairs clash the fault is `TooManyPairs` in the jobs, at place 0 (profile).
 pub fn all_races<B: Before>(alloc: Global, jobs: &Jobs, before: &mut B) -> Result<Races, Halt>
     requires same { B.jobs before.old ≡ jobs.now }
     ensures races { IfOk result (λ found. AreRaces jobs.now found.races.items) }
     ensures pairs { IfOk result (λ found. HasPairs jobs.now found.pairs) }
     ensures many { IfErr result (λ halt.
         HaltsAmong {Y = ℕ} halt (λ answer. (answer ≡ Err too_many) × HasManyPairs jobs.now)) }
-    ensures keeps { IfOk result (λ found. B.jobs before.new ≡ B.jobs before.old) }
+    ensures keeps { B.jobs before.new ≡ B.jobs before.old }
 {
     let _count = jobs.count();
     let pairs = clashing_pairs(alloc, jobs)?;
@@ -48,7 +48,7 @@ fn races_among<B: Before>(
     requires shape { IsWellFormed _jobs.now }
     requires pairs { ArePairs _jobs.now pairs.now }
     ensures races { IfOk result (λ races. AreRaces _jobs.now races.items) }
-    ensures keeps { IfOk result (λ races. B.jobs before.new ≡ B.jobs before.old) }
+    ensures keeps { B.jobs before.new ≡ B.jobs before.old }
 {
     let mut races = Vec::new(alloc);
     for i in 0..pairs.len() {

@@ -1,3 +1,4 @@
+pub mod FixLines
 pub mod OrderLines
 pub mod PastTheEnd
 pub mod RaceLines

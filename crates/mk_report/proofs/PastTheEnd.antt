@@ -4,14 +4,25 @@ use Rattle.std.specs.List.{list_any}
 use Rattle.std.proofs.lemmas.Option.{slice_get_past}
 use Rattle.mk_path.specs.declared.path.Path.{Path}
 use Rattle.mk_path.specs.Paths.{is_over}
-use Rattle.mk_jobs.specs.Jobs.{Jobs, name_of, node_count, writes_of}
+use Rattle.mk_jobs.specs.Jobs.{Jobs, is_phony, maker_of, name_of, node_count, writes_of}
 use Rattle.mk_jobs.specs.Shape.{IsWellFormed}
+use Rattle.mk_jobs.specs.declared.maker.Maker.TheVariants.{Nothing}
 use Rattle.mk_report.specs.ReportText.{writes_whole}
 
 -- what is no node has no name
 pub no_name : (jobs : Jobs) (n : ℕ) → node_count jobs ≤ n → name_of jobs n ≡ []
 unfolding node_count name_of
 no_name jobs n past = rw (slice_get_past jobs.plan.nodes n past, name_of) refl
+
+-- it is not phony
+pub not_phony : (jobs : Jobs) (n : ℕ) → node_count jobs ≤ n → is_phony jobs n ≡ false
+unfolding node_count is_phony
+not_phony jobs n past = rw (slice_get_past jobs.plan.nodes n past, is_phony) refl
+
+-- nothing makes it
+pub no_maker : (jobs : Jobs) (n : ℕ) → node_count jobs ≤ n → maker_of jobs n ≡ Nothing
+unfolding node_count maker_of
+no_maker jobs n past = rw (slice_get_past jobs.plan.nodes n past, maker_of) refl
 
 -- it writes nothing
 no_path : (jobs : Jobs) (n : ℕ) → length jobs.writes ≤ n → writes_of jobs n ≡ []

@@ -1,3 +1,4 @@
+pub mod FixText
 pub mod RacesText
 pub mod ReportText
 pub mod Reports

@@ -1,13 +1,16 @@
 //! The reports of answers.
 //!
 //! `answer` has the type `Answer`, and `report`, which makes the whole text. `safe` writes the report of jobs that are safe,
-//! `race` that of a race, and `races` that of all races; `counts`, `names` and `verb` write what they share.
-//! `specs/ReportText.antt` and `specs/RacesText.antt` define each line, and `specs/Reports.antt` the report of an answer.
+//! `race` that of a race, and `races` that of all races; `counts`, `names` and `verb` write what they share. `fixes` writes the
+//! makefile lines that fix a build, and `not_fixed` what is said where there are none. `specs/ReportText.antt`,
+//! `specs/RacesText.antt` and `specs/FixText.antt` define each line, and `specs/Reports.antt` the report of an answer.
 #![tactic(auto)]
 
 pub mod answer;
 pub mod counts;
+pub mod fixes;
 mod names;
+pub mod not_fixed;
 pub mod race;
 pub mod races;
 pub mod safe;

@@ -40,7 +40,7 @@ fn is_over(root: &Root, upper: &Path, lower: &Path) -> bool
 }
 
 /// Whether a path that a node writes covers the whole of this one. What is no node writes nothing.
-fn writes_whole(jobs: &Jobs, number: u32, path: &Path) -> bool
+pub(crate) fn writes_whole(jobs: &Jobs, number: u32, path: &Path) -> bool
     ensures { result ≡ writes_whole jobs.now number path.now }
 {
     if number >= jobs.count() {
