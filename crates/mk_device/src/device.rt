@@ -89,7 +89,7 @@ pub fn read_all<I: Intake>(alloc: Global, device: &mut I) -> Result<Vec<u8>, Rea
     ensures broken { IsErrOf result ReadStop.Broken ↔ (I.has_failed device.new ≡ true) }
 {
     let mut all = Vec::new(alloc);
-    let mut buffer = [0u8; 8192];
+    let mut buffer = [0u8; 65536];
     'reads: loop {
         let n = device.read(&mut buffer)?;
         if n == 0 {
