@@ -90,6 +90,11 @@ def plural(count: int, word: str) -> str:
     return "%d %s%s" % (count, word, "" if count == 1 else "s")
 
 
+def in_order(count: int, word: str) -> str:
+    """`1 pair that conflicts is in order.`, `2 pairs that conflict are in order.`"""
+    return plural(count, word) + (" that conflicts is in order." if count == 1 else " that conflict are in order.")
+
+
 def races_text(judged: Judged, colour: Colours) -> Tuple[List[str], int, int]:
     """All races of one round, by path and writer; the lines, the races shown, the files."""
     groups: Dict[Tuple[str, str], List[Race]] = {}
@@ -137,9 +142,11 @@ def report(record: Dict[str, Any], judged: List[Judged]) -> List[str]:
     pairs = sum(j.verdict.pairs for j in judged)
     is_safe = not races and not record["holes"] and not any(j.verdict.refused for j in judged)
     if is_safe:
-        lines.append("%sSAFE%s  %d recipes in %d builds; %d pairs that conflict are in order." % (colour.good, colour.end, recipes, len(judged), pairs))
+        done = "  %s in %s; %s" % (plural(recipes, "recipe"), plural(len(judged), "build"), in_order(pairs, "pair"))
+        lines.append(colour.good + "SAFE" + colour.end + done)
     elif races:
-        lines.append(plural(races, "race") + " on " + plural(files, "file") + ". %d recipes, %d other pairs that conflict are in order." % (recipes, pairs - races))
+        found = plural(races, "race") + " on " + plural(files, "file")
+        lines.append("%s. %s, %s" % (found, plural(recipes, "recipe"), in_order(pairs - races, "other pair")))
     lines += ["HINT  " + hint for hint in record.get("hints", [])] + ["note: " + note for note in record.get("notes", [])]
     return lines + assumptions_text(record, is_safe)
 
