@@ -1,3 +1,4 @@
+pub mod Fixed
 pub mod Judged
 pub mod Laws
 pub mod Listed

@@ -8,6 +8,7 @@
 //! - [`judge`] decides those jobs, and gives the [`Answer`](mk_report::answer::Answer) of the build; [`judge_parts`] does it
 //!   for a listing and footprints that were read ahead.
 //! - [`list_races`] lists all races of those jobs ([`RaceList`]).
+//! - [`fix_build`] finds the lines that fix a build, reads it again with them, and judges it ([`Fixing`]).
 //! - [`verify_proof`] reads footprints and a proof, and says whether the jobs accept it.
 //! - [`replay_log`] reads a log too, and says whether its events are a run of the jobs, and what they leave ([`Played`]).
 //! - [`serialise_log`] reads a log too, and puts its events in serial order where they are a complete run of race-free jobs
@@ -20,11 +21,12 @@
 //!
 //! What comes out is defined in `specs/`: `Stages.antt` has the order of the stages and the answers of the first two,
 //! `Settings.antt` what operands say, `Judged.antt` the answer of a build, `Parts.antt` the same of a listing and footprints
-//! that were read ahead, `Listed.antt` all races of a build, `Verified.antt` the answer to a proof, `Played.antt` that to a
-//! log, `Serialised.antt` what comes of a log in serial order, and `Tasked.antt` the answers of a text of tasks. The module
-//! `laws` says what the jobs of a build have to do with its listing (`Laws.antt`).
+//! that were read ahead, `Listed.antt` all races of a build, `Fixed.antt` the fix of a build, `Verified.antt` the answer to a
+//! proof, `Played.antt` that to a log, `Serialised.antt` what comes of a log in serial order, and `Tasked.antt` the answers of
+//! a text of tasks. The module `laws` says what the jobs of a build have to do with its listing (`Laws.antt`).
 #![tactic(auto)]
 
+pub mod fixing;
 pub mod input;
 pub mod judging;
 pub mod laws;
@@ -38,6 +40,7 @@ pub mod settings;
 pub mod tasked;
 pub mod verifying;
 
+pub use crate::fixing::{Fixing, fix_build};
 pub use crate::input::Input;
 pub use crate::judging::judge;
 pub use crate::listing::{RaceList, list_races};
