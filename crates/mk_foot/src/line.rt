@@ -74,7 +74,7 @@ fn paths_in(alloc: Global, values: &[Value], root: &Root) -> Result<Option<Vec<P
 }
 
 /// The paths of the list under a key of an object; nothing where there is no such key, no list under it, or an item that is
-/// no text that spells a path. A path whose last byte is `/` is a tree. The only error is want of memory.
+/// no text that spells a path. A final `/` makes a tree of it. The only error is out of memory.
 pub fn paths_under(
     alloc: Global,
     object: &Value,
