@@ -20,7 +20,7 @@ Statuses:
   1  check: two recipes race; list: there are races; verify: the proof is not accepted; replay: the
      log is no run; serialise: it is none or not complete, recipes race, or its times are too large
   2  the inputs are refused: the report says where and why
-  3  a file cannot be read or written, memory is short, or the words are wrong: a line on the
+  3  a file cannot be read or written, memory runs out, or the command line is invalid: a line on
      standard error says which";
 
 pub const MAKEFILE: &str = "The makefile";
@@ -68,7 +68,7 @@ Example:
 Statuses:
   0  the order is printed, whether or not the recipes race
   2  the makefile, the base, an included text, the listing, the root or an operand is refused
-  3  a file cannot be read or written, memory is short, or the words are wrong
+  3  a file cannot be read or written, memory runs out, or the command line is invalid
 ";
 
 pub const CHECK_ABOUT: &str =
@@ -136,12 +136,11 @@ Example, a header that is generated, and used by a recipe that does not say so:
 
 Statuses:
   0  the build is safe: `make -j` may be used on it, where the premises hold
-  1  two recipes race: mend the makefile, and check again
+  1  two recipes race: fix the makefile, and check again
   2  the makefile, the base, an included text, the listing, the root, an operand or the footprints
-     is refused, or more than 1,000,000 pairs of recipes meet on a path: mend what the report
-     names
-  3  a file cannot be read or written, memory is short, or the words are wrong: nothing is said of
-     the build
+     is refused, or more than 1,000,000 pairs of recipes conflict: fix what the report names
+  3  a file cannot be read or written, memory runs out, or the command line is invalid: nothing is
+     known about the build
 ";
 
 pub const LIST_ABOUT: &str = "Lists all races of a build, one a line.";
@@ -173,8 +172,8 @@ Statuses:
   0  no two recipes race
   1  some do
   2  the makefile, the base, an included text, the listing, the root, an operand or the footprints
-     is refused, or more than 1,000,000 pairs of recipes meet on a path
-  3  a file cannot be read or written, memory is short, or the words are wrong
+     is refused, or more than 1,000,000 pairs of recipes conflict
+  3  a file cannot be read or written, memory runs out, or the command line is invalid
 ";
 
 pub const PRINT_PROOF: &str = "Print the certificate or the trace in place of the report";
@@ -222,7 +221,7 @@ Statuses:
   1  it is not
   2  the makefile, the base, an included text, the listing, the root, an operand, the footprints
      or the proof is refused
-  3  a file cannot be read or written, memory is short, or the words are wrong
+  3  a file cannot be read or written, memory runs out, or the command line is invalid
 ";
 
 pub const PROOF: &str = "A certificate or a trace, by the numbers of `race order`";
@@ -271,7 +270,7 @@ Statuses:
   1  it is not
   2  the makefile, the base, an included text, the listing, the root, an operand, the footprints
      or the log is refused
-  3  a file cannot be read or written, memory is short, or the words are wrong
+  3  a file cannot be read or written, memory runs out, or the command line is invalid
 ";
 
 pub const SERIALISE_ABOUT: &str =
@@ -320,8 +319,8 @@ Statuses:
   0  the new log is printed
   1  the log is no run, or not complete, or its recipes race, or its times are too large
   2  the makefile, the base, an included text, the listing, the root, an operand, the footprints
-     or the log is refused, or more than 1,000,000 pairs of recipes meet on a path
-  3  a file cannot be read or written, memory is short, or the words are wrong
+     or the log is refused, or more than 1,000,000 pairs of recipes conflict
+  3  a file cannot be read or written, memory runs out, or the command line is invalid
 ";
 
 pub const FOOTPRINTS: &str = "What the recipes read and write, one object of JSON a line";
