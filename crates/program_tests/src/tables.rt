@@ -446,7 +446,7 @@ static OTHERS: [Case; 3] = [
         footprints: b"",
         log: b"",
         status: Status::Done,
-        out: b"race 0.1.0\n",
+        out: b"race 1.0.0\n",
         err: b"",
     },
 ];

@@ -1,6 +1,6 @@
 //! What the help says.
 
-pub const VERSION: &str = "0.1.0";
+pub const VERSION: &str = "1.0.0";
 
 pub const ABOUT: &str = "\
 Reads a makefile as POSIX `make` does, and says what a build of it does, with a view to `make -j`.";
