@@ -77,6 +77,30 @@ def lay_trees(folder):
     write(folder, [*rules, ("all", names)], [*lines, ("all", [], ["all"])])
 
 
+def lay_readers(folder, headers=1, readers=19_998):
+    """Recipes that each read a folder of headers, none behind the recipes that write these."""
+    made, names = [f"h/{i}" for i in range(headers)], [f"r{i}" for i in range(readers)]
+    lines = own(made) + [(name, ["h/"], [name]) for name in names]
+    write(folder, below_all(made + names), [*lines, ("all", [], [])])
+
+
+def lay_temporaries(folder):
+    """19,999 recipes, of which 50 each write one temporary, none behind another."""
+    names = [f"r{i}" for i in range(19_999)]
+    lines = [(name, [], [name, f"t{i // 50}"]) for i, name in enumerate(names)]
+    write(folder, below_all(names), [*lines, ("all", [], [])])
+
+
+def lay_headers(folder):
+    """440 headers, and as many recipes that read all of them."""
+    lay_readers(folder, 440, 440)
+
+
+def lay_many_headers(folder):
+    """1,000 headers, and as many recipes that read all of them."""
+    lay_readers(folder, 1_000, 1_000)
+
+
 def lay_hostile(folder):
     """A certificate of a million chains that nothing asks for."""
     names = [f"{i:x}" for i in range(19_999)]

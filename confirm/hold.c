@@ -8,6 +8,8 @@
                        so that its end is seen when the last of them ends
      RACE_HOLD_SOCKET  where to write
      RACE_HOLD_PATH    the file of the race; with a slash at its end all that stands below it
+     RACE_HOLD_GATE    where ninja builds: the sums of both commands and the folder, with blanks between. Each command of a
+                       ninja asks before it begins, so that they run one at a time; it is a side if it has one of the sums
 
    It declares what it stands in for by itself: the headers of the system differ in which of these names are macros. */
 
@@ -20,15 +22,17 @@
 #include <sys/types.h>
 #include <sys/un.h>
 
-enum { HERE = -100, ACCESS = 3, MAKES_FILE = 0100 | 020200000, DUPLICATE = 0, HIGH = 150, LONGEST = 8192, LINE = 256 };
+enum { HERE = -100, ACCESS = 3, MAKES_FILE = 0100 | 020200000, DUPLICATE = 0, HIGH = 150, LONGEST = 8192, LINE = 256, COMMAND = 1 << 18 };
 
 extern char *program_invocation_short_name;
 extern char *getcwd(char *, size_t);
 extern ssize_t readlink(const char *, char *, size_t);
 extern ssize_t read(int, void *, size_t);
+extern int open(const char *, int, ...);
 extern int close(int);
 extern int fcntl(int, int, ...);
 extern int getpid(void);
+extern int getppid(void);
 
 static void *next(const char *name) {
   return dlsym((void *)-1L, name);
@@ -54,39 +58,48 @@ static void put(char *line, const char *word) {
   memcpy(line + length + more, " ", 2);
 }
 
+/* A number in digits, in a buffer of 16 bytes. */
+static char *in_digits(char *buffer, unsigned rest) {
+  char *digit = buffer + 15;
+  *digit = 0;
+  do *--digit = '0' + rest % 10;
+  while (rest /= 10);
+  return digit;
+}
+
 /* Writes one line: what it is, the side, the process, its program, and what it does. */
 static void tell(int channel, const char *what, const char *when, const char *does) {
-  char line[LINE] = "", number[16], *digit = number + sizeof number;
-  *--digit = 0;
-  for (int rest = getpid(); rest > 0; rest /= 10) *--digit = '0' + rest % 10;
-  const char *words[] = {what, getenv("RACE_HOLD_SIDE"), digit, when, does, program_invocation_short_name};
+  char line[LINE] = "", number[16];
+  const char *words[] = {what, getenv("RACE_HOLD_SIDE"), in_digits(number, getpid()), when, does, program_invocation_short_name};
   for (size_t at = 0; at < sizeof words / sizeof *words; at++) put(line, words[at] && *words[at] ? words[at] : "-");
   line[strlen(line) - 1] = '\n';
   send(channel, line, strlen(line), MSG_NOSIGNAL);
 }
 
-static void point(const char *when, const char *does) {
-  int before = errno, channel;
+/* Says something, and waits for the answer. */
+static void ask(const char *what, const char *when, const char *does) {
+  int channel = connected();
   char answer;
-  if (getenv("RACE_HOLD_SIDE") && (channel = connected()) >= 0) {
-    tell(channel, "point", when, does);
-    while (read(channel, &answer, 1) < 0 && errno == EINTR) {}
-    close(channel);
-  }
+  if (channel < 0) return;
+  tell(channel, what, when, does);
+  while (read(channel, &answer, 1) < 0 && errno == EINTR) {}
+  close(channel);
+}
+
+static void point(const char *when, const char *does) {
+  int before = errno;
+  if (getenv("RACE_HOLD_SIDE")) ask("point", when, does);
   errno = before;
 }
 
 /* The path from the top, without dots: what stands in the text, not where links lead. */
 static int whole(int folder, const char *path, char *out) {
-  char full[LONGEST] = "", link[64] = "/proc/self/fd/", *digit = link + sizeof link;
+  char full[LONGEST] = "", link[64] = "/proc/self/fd/", number[16];
   size_t length = 0, given = strlen(path);
   if (*path != '/' && folder == HERE) {
     if (!getcwd(full, LONGEST)) return 0;
   } else if (*path != '/') {
-    *--digit = 0;
-    for (int rest = folder; rest > 0 || !*digit; rest /= 10) *--digit = '0' + rest % 10;
-    memmove(link + strlen("/proc/self/fd/"), digit, strlen(digit) + 1);
-    ssize_t got = readlink(link, full, LONGEST - 1);
+    ssize_t got = readlink(strcat(link, in_digits(number, folder)), full, LONGEST - 1);
     full[got < 0 ? 0 : got] = 0;
   }
   if (strlen(full) + given + 2 >= LONGEST) return 0;
@@ -107,7 +120,7 @@ static int whole(int folder, const char *path, char *out) {
 
 /* Whether a path is that of the race. */
 static int is_it(int folder, const char *path) {
-  const char *wanted = getenv("RACE_HOLD_PATH");
+  const char *wanted = getenv("RACE_HOLD_SIDE") ? getenv("RACE_HOLD_PATH") : NULL;
   char full[LONGEST];
   int before = errno, found = 0;
   if (wanted && *wanted && path && *path && whole(folder, path, full)) {
@@ -119,9 +132,61 @@ static int is_it(int folder, const char *path) {
   return found;
 }
 
+/* A file below /proc, as far as there is room. */
+static size_t read_all(const char *path, char *out, size_t room) {
+  size_t length = 0;
+  ssize_t got;
+  int file = open(path, 02000000);
+  while (file >= 0 && length < room && (got = read(file, out + length, room - length)) > 0) length += got;
+  if (file >= 0) close(file);
+  return length;
+}
+
+/* The name of the program of a process. */
+static void name_of(unsigned process, char *out, size_t room) {
+  char path[64] = "/proc/", number[16];
+  size_t length = read_all(strcat(strcat(path, in_digits(number, process)), "/comm"), out, room - 1);
+  out[length ? length - 1 : 0] = 0;
+}
+
+/* The sum of what a ninja hands to the shell, in 16 digits; nothing where this process is no command of a ninja. */
+static int command_sum(char *out) {
+  static char words[COMMAND];
+  char parent[32];
+  name_of(getppid(), parent, sizeof parent);
+  if (strncmp(parent, "ninja", 5) && strncmp(parent, "samu", 4)) return 0;
+  size_t length = read_all("/proc/self/cmdline", words, sizeof words);
+  char *flag = memchr(words, 0, length), *text = flag ? flag + 4 : words, *end = words + length - 1;
+  if (!flag || length < 5 || memcmp(flag + 1, "-c", 3) || text > end || text + strlen(text) != end) return 0;
+  unsigned long long sum = 14695981039346656037ULL;
+  while (*text) sum = (sum ^ (unsigned char)*text++) * 1099511628211ULL;
+  for (int at = 16; at--; sum >>= 4) out[at] = "0123456789abcdef"[sum & 15];
+  return out[16] = 0, 1;
+}
+
+/* The side that a sum in this folder is, where it is one. */
+static const char *side_of(const char *sum) {
+  const char *gate = getenv("RACE_HOLD_GATE");
+  char here[LONGEST];
+  if (strlen(gate) < 34 || !getcwd(here, sizeof here) || strcmp(gate + 34, here)) return NULL;
+  return !strncmp(gate, sum, 16) ? "first" : !strncmp(gate + 17, sum, 16) ? "second" : NULL;
+}
+
+/* A command of a ninja waits until it may begin, and learns whether it is one of the two. */
+static void pass_gate(void) {
+  char sum[17], ninja[16];
+  if (!getenv("RACE_HOLD_GATE") || !command_sum(sum)) return;
+  ask("gate", in_digits(ninja, getppid()), sum);
+  const char *side = getenv("RACE_HOLD_SIDE") ? NULL : side_of(sum);
+  if (!side) return;
+  setenv("RACE_HOLD_SIDE", side, 1);
+  setenv("RACE_HOLD_LIFE", "new", 1);
+}
+
 __attribute__((constructor)) static void begun(void) {
-  char *life = getenv("RACE_HOLD_LIFE");
   int before = errno, channel, high;
+  pass_gate();
+  char *life = getenv("RACE_HOLD_LIFE");
   if (life && !strcmp(life, "new") && (channel = connected()) >= 0) {
     tell(channel, "life", "-", "-");
     if ((high = fcntl(channel, DUPLICATE, HIGH)) < 0) high = fcntl(channel, DUPLICATE, 10);

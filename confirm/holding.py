@@ -13,6 +13,7 @@ from collections.abc import Sequence
 from dataclasses import dataclass, field
 from pathlib import Path
 
+from confirm.gate import Command, Gate, go_on
 from confirm.races import SIDES, Chosen
 from confirm.room import Room
 from confirm.schedules import Points, Schedule
@@ -49,6 +50,7 @@ class Built:
     seconds: float
     is_reached: bool
     output: str = ""
+    order: list[str] = field(default_factory=list)  # the sums of ninja's commands as they began
 
     @property
     def is_complete(self) -> bool:
@@ -95,6 +97,7 @@ class Holding:
     schedule: Schedule | None
     lines: dict[str, int]
     tokens: Tokens
+    gate: Gate
     points: Points = field(default_factory=Points)
     lives: dict[str, Life] = field(default_factory=lambda: {it: Life() for it in SIDES})
     held: list[tuple[socket.socket, str]] = field(default_factory=list)
@@ -105,7 +108,9 @@ class Holding:
     def take(self, channel: socket.socket, choose: selectors.BaseSelector) -> None:
         """One connection: the beginning of a line of a recipe, or a point."""
         words = channel.recv(256).decode("utf-8", "replace").split()
-        if len(words) < 6 or words[1] not in SIDES:
+        if len(words) == 6 and words[0] == "gate":
+            self.gate.come(channel, int(words[2]), int(words[3]), words[4])
+        elif len(words) < 6 or words[1] not in SIDES:
             channel.close()
         elif words[0] == "life":
             self.lives[words[1]].alive += 1
@@ -126,11 +131,7 @@ class Holding:
 
     def let_go(self, at: int) -> None:
         channel, _ = self.held.pop(at)
-        try:
-            channel.sendall(b"g")
-        except OSError:
-            pass
-        channel.close()
+        go_on(channel)
 
     def has_ended(self, side: str) -> bool:
         return self.lives[side].has_ended(self.lines.get(side, 0))
@@ -145,6 +146,7 @@ class Holding:
                 self.is_reached |= is_held
                 self.let_go(at)
         self.tokens.turn(bool(self.held))
+        self.gate.turn({self.race.of(side).sum for _, side in self.held} if self.race else set())
 
     def give_up(self) -> None:
         """Nothing else of the build runs: what is held goes on, and nothing is held any more. That is what was meant where the
@@ -193,6 +195,7 @@ def serve(holding: Holding, process: subprocess.Popen[bytes], listener: socket.s
     began, looks, look_at = time.monotonic(), 0, 0.0
     with selectors.DefaultSelector() as choose:
         choose.register(listener, selectors.EVENT_READ)
+        holding.gate.watch = lambda descriptor, command: choose.register(descriptor, selectors.EVENT_READ, command)
         while process.poll() is None:
             for key, _ in choose.select(TICK):
                 looks = 0
@@ -202,7 +205,8 @@ def serve(holding: Holding, process: subprocess.Popen[bytes], listener: socket.s
             if now - began > limit:
                 return False
             if holding.held and now > look_at:
-                looks, look_at = looks + 1 if is_idle(process.pid, len(holding.held)) else 0, now + IDLE_TICK
+                waiting = len(holding.held) + len(holding.gate.waiting)
+                looks, look_at = looks + 1 if is_idle(process.pid, waiting) else 0, now + IDLE_TICK
                 if looks >= IDLE_LOOKS:
                     holding.give_up()
     return True
@@ -217,6 +221,10 @@ def answer(holding: Holding, key: selectors.SelectorKey, choose: selectors.BaseS
             holding.take(channel, choose)
         except OSError:
             channel.close()
+    elif isinstance(key.data, Command):
+        choose.unregister(key.fileobj)
+        os.close(key.fd)
+        holding.gate.ended(key.data)
     elif isinstance(key.fileobj, socket.socket):
         choose.unregister(key.fileobj)
         key.fileobj.close()
@@ -234,11 +242,13 @@ def end(process: subprocess.Popen[bytes]) -> None:
 
 
 def build(room: Room, words: Sequence[str], limit: float, race: Chosen | None = None,
-          schedule: Schedule | None = None, lines: dict[str, int] | None = None) -> Built:
-    """One build of a fresh copy; with a race its recipes say where they are, and with a schedule one is held."""
+          schedule: Schedule | None = None, serial: Built | None = None) -> Built:
+    """One build of a fresh copy; with a race its recipes say where they are, and with a schedule one is held. `serial` is a build
+    that went before."""
     room.renew()
     tokens, log, began = Tokens(room.tokens), room.top / "output", time.monotonic()
-    holding, env = Holding(race, schedule, lines or {}, tokens), room.environment(race, schedule is not None)
+    gate = Gate(serial.order if serial else ())
+    holding, env = Holding(race, schedule, serial.lines if serial else {}, tokens, gate), room.environment(race, schedule is not None)
     with contextlib.closing(tokens), listen(room) as listener, open(log, "wb") as output:
         process = subprocess.Popen(words, env=env, stdin=subprocess.DEVNULL, stdout=output, stderr=output,
                                    preexec_fn=room.enter(), start_new_session=True)
@@ -248,4 +258,5 @@ def build(room: Room, words: Sequence[str], limit: float, race: Chosen | None = 
             end(process)
     done = {side: it.done + it.alive for side, it in holding.lives.items()}
     status = process.returncode if is_complete else None
-    return Built(status, holding.points, done, time.monotonic() - began, holding.is_reached, log.read_text(errors="replace"))
+    seconds, said = time.monotonic() - began, log.read_text(errors="replace")
+    return Built(status, holding.points, done, seconds, holding.is_reached, said, holding.gate.begun)

@@ -11,7 +11,7 @@ import sys
 from collections.abc import Iterator, Sequence
 from pathlib import Path
 
-from confirm.races import CannotConfirm, Chosen, chosen, written_outside
+from confirm.races import CannotConfirm, Chosen, chosen, tools_of, written_outside
 from confirm.room import Room, furnish, new_room, settle, tools
 from confirm.text import body, heading, summary
 from confirm.tree import copy, remove, take_back
@@ -70,11 +70,11 @@ def say(text: str) -> None:
 
 
 @contextlib.contextmanager
-def prepared(args: argparse.Namespace, folder: str) -> Iterator[Room]:
+def prepared(args: argparse.Namespace, folder: str, used: set[str], compiler: str) -> Iterator[Room]:
     """A room with a copy of the project as it was before the build; it is gone at the end."""
-    room = Room(new_room(folder), folder)
+    room = Room(new_room(folder), folder, "ninja" in used)
     try:
-        furnish(room.top)
+        furnish(room.top, compiler)
         copy(Path(folder), room.fresh)
         inner = os.path.relpath(os.path.realpath(args.record), folder)
         if inner != "." and not inner.startswith(".."):
@@ -138,7 +138,8 @@ def status_of(findings: Sequence[Finding]) -> int:
 
 
 def run(args: argparse.Namespace) -> int:
-    tools()
+    used = tools_of(args.record)
+    compiler = tools("make" in used)
     if args.keep and (there := [args.keep / it for it in KEPT if (args.keep / it).exists()]):
         raise BadRecord(f"{there[0]} is there already")
     program = find_race(args.race)
@@ -160,7 +161,7 @@ def run(args: argparse.Namespace) -> int:
     if outside := next(written_outside(args.record, folder), None):
         raise CannotConfirm(f"the build writes {outside}, which is not below the project's folder {folder}, so a build of a copy "
                             "would write it, too")
-    with prepared(args, folder) as room:
+    with prepared(args, folder, used, compiler) as room:
         findings = try_all(args, report, races, room)
     if len(findings) > 1:
         show(iter([summary(findings)]))

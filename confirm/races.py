@@ -4,6 +4,7 @@ from __future__ import annotations
 
 import json
 import os
+from collections import Counter
 from collections.abc import Iterator, Sequence
 from dataclasses import dataclass
 from pathlib import Path
@@ -21,12 +22,14 @@ class CannotConfirm(Exception):
 
 @dataclass(frozen=True)
 class Held:
-    """One side of a race: whose recipe it is, the target, and the folder in which its make works."""
+    """One side of a race: whose recipe it is, the target, the folder in which its make or ninja works, and of a command of
+    ninja what it is known by."""
 
     side: str
     target: str
     folder: str
     is_recipe: bool
+    sum: str = ""
 
     def in_makefile(self) -> str:
         """The target as a line of a makefile names it."""
@@ -43,6 +46,7 @@ class Chosen:
     race: Race
     path: str
     sides: tuple[Held, Held]
+    tool: str = "make"
 
     def other(self, side: str) -> Held:
         return self.sides[1 - SIDES.index(side)]
@@ -83,13 +87,18 @@ def written_outside(record: Path, folder: str) -> Iterator[str]:
 def choice(number: int, race: Race, record: Path) -> Chosen:
     """A race with what its build says of it."""
     about = read_json(record / "builds" / race.build / "build.json")
-    folder = about["folder"]
-    if about.get("tool", "make") != "make":
-        raise CannotConfirm(f"race {number} is one of {about['tool']}'s commands, and only recipes of make can be held")
-    sides = []
+    folder, sides = about["folder"], []
+    sums = Counter(it.get("sum", "") for it in about["labels"].values())
     for side, recipe in zip(SIDES, (race.first.recipe, race.second.recipe)):
-        kind = about["labels"].get(recipe.label, {}).get("kind", "")
-        sides.append(Held(side, recipe.target, folder, kind == "recipe"))
+        label = about["labels"].get(recipe.label, {})
+        sum_ = label.get("sum", "")
+        sides.append(Held(side, recipe.target, folder, label.get("kind", "") == "recipe", sum_ if sums[sum_] == 1 else ""))
     path = OWN_NAME.sub("", race.path) or "."
     whole = os.path.normpath(os.path.join(folder, path))
-    return Chosen(number, race, whole + "/" * path.endswith("/"), (sides[0], sides[1]))
+    return Chosen(number, race, whole + "/" * path.endswith("/"), (sides[0], sides[1]), about.get("tool", "make"))
+
+
+def tools_of(record: Path) -> set[str]:
+    """The tools that ran in a record: make, ninja."""
+    numbers = read_json(record / "record.json").get("builds", [])
+    return {read_json(record / "builds" / it / "build.json").get("tool", "make") for it in numbers}

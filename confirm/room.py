@@ -17,6 +17,7 @@ from pathlib import Path
 
 from confirm.races import CannotConfirm, Chosen
 from confirm.tree import copy, names_its_folder, remove
+from record.again import with_jobs
 from record.main import Missing, version_of
 
 HOLD = Path(__file__).resolve().parent / "hold.c"
@@ -49,6 +50,22 @@ export MAKEFLAGS
 exec REAL "$@"
 """
 
+# What stands for ninja: the number of jobs is the last that it reads.
+NINJA_SHIM = """#!/bin/sh
+for word; do case $word in -t*) exec REAL "$@" ;; esac; done
+rest=$# jobs=-j$RACE_JOBS
+while [ $rest -gt 0 ]; do
+  word=$1 rest=$((rest - 1))
+  shift
+  if [ "$word" = -- ]; then set -- "$@" $jobs; jobs=; fi
+  set -- "$@" "$word"
+done
+exec REAL "$@" $jobs
+"""
+NINJAS = ("ninja", "ninja-build", "samu")
+# So many commands of a ninja ask to begin at once where two of them are to meet.
+JOBS = 100
+
 
 def must(answer: int, what: str) -> None:
     if answer != 0:
@@ -79,10 +96,11 @@ def can_enter(tree: Path, folder: str) -> bool:
 
 @dataclass
 class Room:
-    """The temporary folder, the project's folder, and whether builds see the copy in its place."""
+    """The temporary folder, the project's folder, whether ninja builds there, and whether builds see the copy in its place."""
 
     top: Path
     folder: str
+    has_ninja: bool = False
     is_in_place: bool = False
 
     @property
@@ -118,25 +136,37 @@ class Room:
         """What a process does before it begins to build."""
         return lambda: enter(self.tree, self.folder) if self.is_in_place else os.chdir(self.tree)
 
+    def words(self, words: Sequence[str], is_parallel: bool) -> Sequence[str]:
+        """The words of a build; those that surely run ninja with a number of jobs."""
+        return with_jobs([*words], JOBS if is_parallel else 1, self.folder) if self.has_ninja else words
+
     def environment(self, race: Chosen | None = None, is_parallel: bool = False) -> dict[str, str]:
-        """The environment of a build; with a race, make marks the two recipes."""
+        """The environment of a build; with a race, make or the library marks the two recipes."""
+        is_ninja = bool(race and race.tool == "ninja")
         env = {name: it for name, it in os.environ.items() if name not in OF_MAKE}
-        env["RACE_TOKENS"] = str(self.tokens) if is_parallel else ""
+        env["RACE_TOKENS"] = str(self.tokens) if is_parallel and not is_ninja else ""
         env |= {"PATH": f"{self.top / 'bin'}:{env.get('PATH', os.defpath)}", "PWD": self.place(self.folder)}
-        if race:
+        if self.has_ninja:
+            jobs = str(JOBS if is_parallel and is_ninja else 1)
+            env |= {**self.holding(), "RACE_HOLD_GATE": "-", "RACE_JOBS": jobs, "CMAKE_BUILD_PARALLEL_LEVEL": jobs}
+        if race and is_ninja:
+            sums = " ".join(it.sum for it in race.sides)
+            env |= {"RACE_HOLD_GATE": f"{sums} {self.place(race.sides[0].folder)}", "RACE_HOLD_PATH": self.place(race.path)}
+        elif race:
             (self.top / "marks.mk").write_text(self.marks(race), encoding="utf-8", errors="surrogateescape")
             env["MAKEFILES"] = str(self.top / "marks.mk")
         return env
 
+    def holding(self) -> dict[str, str]:
+        """What a process needs to be held."""
+        above = os.environ.get("LD_PRELOAD")
+        return {"LD_PRELOAD": f"{self.top / 'hold.so'}{':' + above if above else ''}", "RACE_HOLD_SOCKET": str(self.socket)}
+
     def marks(self, race: Chosen) -> str:
         """A makefile that make reads first: it hands the library to the two recipes, and to no other."""
         mine, lines = self.top / "marks.mk", []
-        above = os.environ.get("LD_PRELOAD")
         for held in filter(lambda it: it.is_recipe, race.sides):
-            words = {
-                "LD_PRELOAD": f"{self.top / 'hold.so'}{':' + above if above else ''}", "RACE_HOLD_SIDE": held.side, "RACE_HOLD_LIFE": "new",
-                "RACE_HOLD_SOCKET": str(self.socket), "RACE_HOLD_PATH": self.place(race.path),
-            }
+            words = {**self.holding(), "RACE_HOLD_SIDE": held.side, "RACE_HOLD_LIFE": "new", "RACE_HOLD_PATH": self.place(race.path)}
             lines += [f'ifeq "$(CURDIR)" "{in_value(self.place(held.folder))}"']
             lines += [f"{held.in_makefile()}: private export {name} := {in_value(it)}" for name, it in words.items()] + ["endif"]
         return "\n".join([*lines, "MAKEFILE_LIST :=", f"{mine}: ;", ""])
@@ -149,13 +179,14 @@ def in_value(text: str) -> str:
     return text.replace("$", "$$").replace("#", "\\#")
 
 
-def tools() -> tuple[str, str]:
-    """The make and the C compiler; `Missing` says which of them is not there."""
-    version_of("make", r"GNU Make (\d+)\.(\d+)", (4, 2), "make")
+def tools(has_make: bool) -> str:
+    """The C compiler; `Missing` says what is not there."""
+    if has_make:
+        version_of("make", r"GNU Make (\d+)\.(\d+)", (4, 2), "make")
     compiler = shutil.which(os.environ.get("CC", "")) or shutil.which("cc")
     if not compiler:
         raise Missing("cc is missing (Debian: apt-get install gcc)")
-    return shutil.which("make") or "make", compiler
+    return compiler
 
 
 def run_tool(words: Sequence[str], what: str) -> None:
@@ -164,18 +195,18 @@ def run_tool(words: Sequence[str], what: str) -> None:
         raise Missing(f"{what}: {done.stderr.strip() or done.returncode}")
 
 
-def furnish(top: Path) -> None:
-    """The library that holds, and the make that builds call."""
-    real, compiler = tools()
+def furnish(top: Path, compiler: str) -> None:
+    """The library that holds, and the make and ninja that builds call."""
     words = [compiler, "-O1", "-fPIC", "-shared", "-o", str(top / "hold.so"), str(HOLD), "-ldl"]
     run_tool(words, f"{compiler} cannot build the library that holds recipes")
     (top / "tokens").mkdir()
     os.mkfifo(top / "tokens" / "out")
     os.mkfifo(top / "tokens" / "back")
     (top / "bin").mkdir()
-    for name in ("make", "gmake"):
-        if name == "make" or shutil.which(name):
-            (top / "bin" / name).write_text(SHIM.replace("REAL", f"'{real}'"))
+    make = shutil.which("make")
+    for name, text, real in (("make", SHIM, make), ("gmake", SHIM, make), *((it, NINJA_SHIM, shutil.which(it)) for it in NINJAS)):
+        if shutil.which(name) and real:
+            (top / "bin" / name).write_text(text.replace("REAL", f"'{real}'"))
             (top / "bin" / name).chmod(0o755)
 
 

@@ -86,6 +86,14 @@ def inner(points: Sequence[Point]) -> list[Point]:
     return sorted(between, key=lambda it: ("before", "start", "after").index(it.when))
 
 
+def middles(points: Points, race: Chosen, side: str) -> list[Point]:
+    """Where to hold a side in its middle. While make alone is on the other side it may start any recipe, so also where processes
+    of the held one begin."""
+    own = points.of(side) if race.of(side).is_recipe else []
+    found = inner(own)
+    return found if race.other(side).is_recipe else [*found, *(it for it in own[1:] if not it.is_use and it not in found)]
+
+
 def serial_order(points: Points, race: Chosen) -> Schedule | None:
     """The schedule that keeps the order of the serial build: it has to leave what that leaves."""
     late = "second" if not points.all or points.all[0].side == "first" else "first"
@@ -103,7 +111,7 @@ def tries(points: Points, race: Chosen) -> Iterator[Schedule]:
     early = points.all[0].side
     if reverse := start_of(points, race, early):
         yield reverse
-    rows = [inner(points.of(side)) if race.of(side).is_recipe else [] for side in (early, *(it for it in SIDES if it != early))]
+    rows = [middles(points, race, side) for side in (early, *(it for it in SIDES if it != early))]
     for at in range(max(map(len, rows))):
         for row in rows:
             if at < len(row):

@@ -43,7 +43,7 @@ def body(finding: Finding, record: Path, unstable: set[str]) -> Iterator[str]:
         yield f"  Seen in 2 of 2 such builds{order}."
         again = shlex.join([str(record), str(finding.race.number), "--schedule", str(finding.number), "--keep", "/tmp/kept"])
         yield f"  see it again: race-confirm {again}"
-        yield f"  fix: {finding.race.race.fix}"
+        yield f"  fix: {finding.race.race.change}"
     else:
         yield f"NOT CONFIRMED in {counted(finding.builds, 'try', 'tries')}: each left what the serial build leaves."
         if finding.reached < finding.builds:

@@ -11,9 +11,12 @@ from dataclasses import dataclass
 from pathlib import Path
 
 from confirm.races import CannotConfirm, written
+from record.again import OWN
+from record.ninja_manifest import Unreadable, read_manifest
+from record.ninja_runs import options_of, text_of
 from report.model import BadRecord, read_json
 
-# Folders of version control: builds may refresh what is in them.
+# Folders of version control: builds may refresh what is in them. Files of ninja: they hold times.
 UNCOMPARED = {".git", ".hg", ".svn"}
 CHUNK = 1 << 20
 
@@ -36,7 +39,21 @@ def remove(path: Path) -> None:
         shutil.rmtree(path, onerror=again)
 
 
-def made(record: Path) -> Iterator[str]:
+def of_ninja(tree: Path, folder: str, about: dict) -> Iterator[str]:
+    """What ninja makes in a tree, and what it keeps of earlier builds: a log of headers would order what a cold build does not."""
+    options = options_of(["ninja", *about["words"].split()])
+    name = (options[0] if options else {}).get("-f", "build.ninja")
+    try:
+        manifest = read_manifest(str(tree / os.path.relpath(about["folder"], folder)), name, text_of)
+    except Unreadable as fault:
+        raise CannotConfirm(f"the manifest cannot be read: {fault}") from None
+    for edge in manifest.edges:
+        if not edge.is_phony and not edge.is_generator:
+            yield from filter(None, (*edge.makes(), edge.path("depfile"), edge.path("rspfile")))
+    yield from (os.path.join(manifest.top.value("builddir"), it) for it in (".ninja_log", ".ninja_deps"))
+
+
+def made(record: Path, tree: Path, folder: str) -> Iterator[str]:
     """What the recorded build made, as whole paths: what tasks write, and targets whose recipes ran."""
     yield from (os.path.normpath(os.path.join(folder, it)) for folder, it in written(record))
     for number in read_json(record / "record.json").get("builds", []):
@@ -44,12 +61,14 @@ def made(record: Path) -> Iterator[str]:
         for label in about["labels"].values():
             if label.get("kind") == "recipe":
                 yield os.path.normpath(os.path.join(about["folder"], label["target"]))
+        if about.get("tool") == "ninja":
+            yield from (os.path.normpath(os.path.join(about["folder"], it)) for it in of_ninja(tree, folder, about))
 
 
 def take_back(tree: Path, folder: str, record: Path) -> None:
     """Takes away what the recorded build wrote, so that its recipes run again; of folders those that are empty then."""
     folders = []
-    for path in made(record):
+    for path in [*made(record, tree, folder)]:
         below = os.path.relpath(path, folder)
         if below == "." or below.startswith(".."):
             continue
@@ -86,7 +105,7 @@ def held_by(tree: Path) -> dict[str, str]:
     found = {}
     for folder, folders, files in os.walk(tree):
         folders[:] = [it for it in folders if it not in UNCOMPARED]
-        for name in (*folders, *files):
+        for name in (*folders, *(it for it in files if it not in OWN)):
             path = Path(folder, name)
             found[str(path.relative_to(tree))] = digest(path)
     return found

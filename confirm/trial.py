@@ -65,9 +65,10 @@ class Trial:
     serial: Left | None = None
     unstable: set[str] = field(default_factory=set)
 
-    def left(self, race: Chosen | None = None, schedule: Schedule | None = None, lines: dict[str, int] | None = None) -> Left:
+    def left(self, race: Chosen | None = None, schedule: Schedule | None = None, serial: Built | None = None) -> Left:
         """One build, and what it left."""
-        built = build(self.room, self.words, self.limit or LONGEST, race, schedule, lines)
+        words = self.room.words(self.words, schedule is not None)
+        built = build(self.room, words, self.limit or LONGEST, race, schedule, serial)
         return Left(built, held_by(self.room.tree))
 
     def begin(self) -> None:
@@ -85,7 +86,7 @@ class Trial:
         assert self.serial
         time.sleep(max(0.0, APART - self.serial.built.seconds))
         self.say("second serial build")
-        again = self.left(race)
+        again = self.left(race, None, self.serial.built)
         if again.status != 0:
             raise failed("a second serial build of the copy", again.built)
         self.unstable |= differing(self.serial.files, again.files)
@@ -104,9 +105,9 @@ class Trial:
             return set()
         return differing(self.serial.files, left.files) - self.unstable | ({"."} if left.status != self.serial.status else set())
 
-    def held(self, race: Chosen, schedule: Schedule, lines: dict[str, int]) -> tuple[Left, set[str]]:
+    def held(self, race: Chosen, schedule: Schedule, serial: Built) -> tuple[Left, set[str]]:
         self.say(schedule.text(race))
-        left = self.left(race, schedule, lines)
+        left = self.left(race, schedule, serial)
         return left, self.differs(left)
 
     def confirm(self, race: Chosen, runs: int, only: int = 0) -> Finding:
@@ -115,6 +116,8 @@ class Trial:
         try:
             if race.sides[0].target == race.sides[1].target and race.sides[0].folder == race.sides[1].folder:
                 raise CannotConfirm("both recipes have the same target, so neither can be held alone")
+            if race.tool == "ninja" and (same := [it.target for it in race.sides if not it.sum]):
+                raise CannotConfirm(f"another build statement has the command of {same[0]}, so it cannot be held alone")
             serial = self.marked(race)
             self.search(finding, serial, runs, only)
         except CannotConfirm as error:
@@ -130,14 +133,14 @@ class Trial:
             if finding.builds >= runs:
                 finding.is_cut = True
                 return
-            left, found = self.held(race, schedule, serial.lines)
+            left, found = self.held(race, schedule, serial)
             finding.builds += 1
             finding.reached += left.built.is_reached
             finding.stuck += left.status is None
             if not found:
                 continue
             if usual is None:
-                usual = self.held(race, order, serial.lines)[1] if order else set()
+                usual = self.held(race, order, serial)[1] if order else set()
             if found - usual and (again := self.again(race, schedule, serial, found - usual)):
                 self.confirmed(finding, number, schedule, *again)
                 return
@@ -147,7 +150,7 @@ class Trial:
 
     def again(self, race: Chosen, schedule: Schedule, serial: Built, found: set[str]) -> tuple[Left, set[str]] | None:
         """The same schedule once more: what differs both times."""
-        left, once_more = self.held(race, schedule, serial.lines)
+        left, once_more = self.held(race, schedule, serial)
         return (left, found & once_more) if found & once_more else None
 
     def confirmed(self, finding: Finding, number: int, schedule: Schedule, left: Left, found: set[str]) -> None:

@@ -20,14 +20,14 @@ HINTS = 5
 OWN = (".ninja_log", ".ninja_deps", ".ninja_lock")
 
 
-def with_jobs(words: List[str], jobs: int) -> List[str]:
+def with_jobs(words: List[str], jobs: int, folder: str = "") -> List[str]:
     """The words of a command that surely runs ninja, with a number of commands at once; of any other as they are."""
     name = os.path.basename(words[0])
     own = ["-j%d" % jobs]
     if re.fullmatch(r"ninja(-build)?|samu", name) or name == "meson" and words[1:2] == ["compile"]:
         split = words.index("--") if "--" in words else len(words)
         return words[:split] + own + words[split:]
-    if name == "cmake" and words[1:2] == ["--build"] and len(words) > 2 and cached(words[2], "CMAKE_GENERATOR").startswith("Ninja"):
+    if name == "cmake" and words[1:2] == ["--build"] and len(words) > 2 and cached(os.path.join(folder, words[2]), "CMAKE_GENERATOR").startswith("Ninja"):
         if "--" not in words:
             return words + own
         split = words.index("--")

@@ -4,7 +4,7 @@ from dataclasses import dataclass
 from typing import Dict, List
 
 TEXTS = {
-    "serial": "make decides goals in this order, without --shuffle, and recipes do not look at MAKEFLAGS, the number of processors or a terminal",
+    "serial": "make decides goals in this order, without --shuffle, and recipes do not look at MAKEFLAGS, the number of processors, a terminal, standard input, or files that were opened for them before make began",
     "ninja": "commands of ninja do not look at the number of jobs, the number of processors or a terminal",
     "ties": "build statements with one command were distinguished by ninja's log",
     "up-to-date": "builds start from this tree: targets that were up to date stay so",

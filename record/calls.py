@@ -7,16 +7,18 @@ from typing import Callable, Optional, Tuple
 from record import shelltext
 from record.lives import Life
 from record.names import Found, Inode
-from record.replay import Replay
+from record.replay import DEVICES, Replay
 from record.strace import Call, folders, is_cut, texts
 
 WRITING = re.compile(r"O_WRONLY|O_RDWR|O_TRUNC|O_CREAT")
 LOOKS = {"stat", "lstat", "access", "getxattr", "lgetxattr", "listxattr", "llistxattr", "statfs", "newfstatat",
-         "faccessat", "faccessat2", "statx", "fstatat64", "readlink", "readlinkat", "statfs64", "stat64", "lstat64"}
+         "faccessat", "faccessat2", "name_to_handle_at", "statx", "fstatat64", "readlink", "readlinkat", "statfs64", "stat64", "lstat64"}
 NOFOLLOW = {"lstat", "lstat64", "lgetxattr", "llistxattr", "readlink", "readlinkat", "unlink", "rmdir", "lchown"}
 CHANGES = {"chmod", "chown", "lchown", "utime", "utimes", "truncate", "setxattr", "lsetxattr", "removexattr", "fchmodat",
-           "fchmodat2", "fchownat", "utimensat", "futimesat", "fchmod", "fchown", "ftruncate", "fsetxattr"}
+           "fchmodat2", "fchownat", "utimensat", "futimesat", "fchmod", "fchown", "ftruncate", "fsetxattr", "fremovexattr"}
 TIMES = {"utime", "utimes", "utimensat", "futimesat"}
+# After these, what a process opens is not what the trace names, or is not in the trace at all.
+HIDING = {"chroot", "pivot_root", "mount", "move_mount", "umount", "umount2", "setns", "open_by_handle_at", "io_uring_setup"}
 TEXT_END = re.compile(r'^.*"(?:[^"\\]|\\.)*"', re.S)
 
 
@@ -30,7 +32,7 @@ class Calls(Replay):
             if life.pid in self.begun:
                 self.begun.remove(life.pid)
             if ok and call.result > 0:
-                self.child(life, call.result)
+                self.child(life, call.result, "CLONE_FS" in call.args)
             return
         if life.is_wrapper and name != "execve":
             return
@@ -41,6 +43,8 @@ class Calls(Replay):
             self.on_look(life, call, ok)
         elif name in CHANGES:
             self.on_change(life, call, ok)
+        elif name in HIDING and ok:
+            self.holes.append("files that are opened after %s are not seen: %s" % (name, " ".join(life.argv)[:100]))
         elif name in ("connect", "bind"):
             if ok and ("AF_UNIX" in call.args or name == "connect" and "AF_INET" in call.args):
                 self.sockets.append(" ".join(life.argv)[:100])
@@ -118,16 +122,18 @@ class Calls(Replay):
     def on_chdir(self, life: Life, call: Call, ok: bool) -> None:
         found = self.look(life, texts(call.args)[0], ok, True)
         if ok:
-            life.folder = found.path
+            life.enter(found.path)
             self.put(life, "U", found.path)
 
     def on_fchdir(self, life: Life, call: Call, ok: bool) -> None:
         where = folders(call.args)
         if ok and where:
-            life.folder = where[0]
+            life.enter(where[0])
 
     def on_open(self, life: Life, call: Call, ok: bool) -> None:
         base, path = self.base_and_path(life, call)
+        if ok and DEVICES.match(path) and call.opened.startswith("/") and not DEVICES.match(call.opened):
+            base, path = "", call.opened
         flags = TEXT_END.sub("", call.args)
         changes = call.name == "creat" or bool(WRITING.search(flags))
         if "O_TMPFILE" in flags or not path:
@@ -139,6 +145,8 @@ class Calls(Replay):
                 self.put(life, "N", found.missing)
             return
         found = self.found(life, path, follow, base)
+        if call.opened.startswith("/") and call.opened != found.path and not DEVICES.match(call.opened):
+            self.holes.append("a name leads to another file than the record says: %s is %s, and not %s" % (path, call.opened, found.path))
         if not changes:
             folder = found.inode is not None and found.inode.kind == "d"
             self.look(life, path, True, follow, "S" if folder else "R", base)
@@ -295,7 +303,7 @@ class Calls(Replay):
         if not path:
             where = folders(call.args)
             path = where[0] if where else ""
-        if not path or not path.startswith("/") and call.name in ("fchmod", "fchown", "ftruncate", "fsetxattr"):
+        if not path or not path.startswith("/") and call.name in ("fchmod", "fchown", "ftruncate", "fsetxattr", "fremovexattr"):
             return
         if not ok:
             self.look(life, path, False, True, base=base)

@@ -49,6 +49,17 @@ class Life:
     number: int = -1  # which life of this number among the makes with words
     adopted: bool = False
     children: List["Life"] = field(default_factory=list)
+    threads: List["Life"] = field(default_factory=list)  # those that change their folder together, with this one
+
+    def join_threads(self, other: "Life") -> None:
+        """Another life is a thread of this one."""
+        self.threads = other.threads = self.threads or [self]
+        self.threads.append(other)
+
+    def enter(self, folder: str) -> None:
+        """Changes the folder, that of all threads with it."""
+        for life in self.threads or (self,):
+            life.folder = folder
 
     def up(self) -> Iterable["Life"]:
         """This life, its parent, and so on."""

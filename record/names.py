@@ -157,6 +157,9 @@ class Names:
                 node = node.parent or self.root
                 continue
             child = self.child_of(node, part)
+            if child is not None and child.kind == "d" and todo:
+                node = child
+                continue
             here = join(node.path(), part)
             if child is not None and child.kind == "l" and (todo or follow) and hops < LINK_LIMIT:
                 hops += 1
@@ -167,10 +170,8 @@ class Names:
                 continue
             if not todo:
                 return Found(here, child, node, part, links, "" if child else here)
-            if child is None or child.kind != "d":
-                rest = "/".join(reversed(todo))
-                return Found(os.path.normpath(join(here, rest)), None, None, "", links, here)
-            node = child
+            rest = "/".join(reversed(todo))
+            return Found(os.path.normpath(join(here, rest)), None, None, "", links, here)
         return Found(node.path(), node, node.parent, node.name, links)
 
     def aliases(self, inode: Optional[Inode]) -> List[str]:

@@ -15,6 +15,15 @@ from record.ninja_runs import NEVER, Job, Ninja, Stage
 from record.owners import Work
 
 TEXT_LIMIT = 400
+FIRST, PRIME, BITS = 14695981039346656037, 1099511628211, (1 << 64) - 1
+
+
+def command_sum(text: str) -> str:
+    """What `race-confirm` knows a command by: the sum FNV-1a of its bytes, in 16 digits."""
+    found = FIRST
+    for byte in text.encode("utf-8", "surrogateescape"):
+        found = (found ^ byte) * PRIME & BITS
+    return "%016x" % found
 
 
 class NinjaBuild(Build):
@@ -43,8 +52,9 @@ class NinjaBuild(Build):
         edge = self.edges[at]
         pool = edge.value("pool")
         depth = "1" if pool == "console" else self.from_manifest.manifest.pools.get(pool, "")
-        return {"file": edge.file, "line": edge.line, "recipe": edge.command[:TEXT_LIMIT], "rule": edge.rule, "pool": pool,
-                "depth": depth, "owner": owner_of(edge, self.from_manifest.manifest)}
+        has_run = self.tasks[at].kind == "recipe"
+        return {"file": edge.file, "line": edge.line, "recipe": edge.command[:TEXT_LIMIT], "rule": edge.rule, "pool": pool, "depth": depth,
+                "sum": command_sum(edge.command) if has_run else "", "owner": owner_of(edge, self.from_manifest.manifest)}
 
 
 class NinjaBuilder(Builder):

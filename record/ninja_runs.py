@@ -129,7 +129,7 @@ class Runs:
         """One ninja, if it builds."""
         asked = options_of(life.argv)
         if asked is None:
-            if "-t" not in life.argv and any(self.job_of(child) for child in life.children):
+            if "-t" not in life.argv and any(self.job_of(child) for child in life.children if child.born > life.starts[-1][0]):
                 self.holes.append("ninja ran commands, and its words cannot be read: " + " ".join(life.argv)[:100])
             return
         options, goals = asked
@@ -158,7 +158,8 @@ class Runs:
         return folder, places
 
     def add_stage(self, ninja: Ninja, start: int, end: int) -> None:
-        jobs = [job for job in map(self.job_of, ninja.life.children) if job is not None and start <= job.life.born < end]
+        own = [life for life in ninja.life.children if start <= life.born < end]
+        jobs = [job for job in map(self.job_of, own) if job is not None]
         try:
             manifest = read_manifest(ninja.folder, ninja.file, self.texts_at(start))
         except Unreadable as fault:
@@ -279,10 +280,10 @@ class Runs:
     def compare_log(self, ninjas: List[Ninja], logged: List[str]) -> None:
         """Each statement that ran has its lines in the log, and each line a statement that ran."""
         ran = Counter(path for ninja in ninjas for stage in ninja.stages for edge in stage.ran() for path in edge.makes())
-        told = Counter(logged)
-        for path in sorted((told - ran).keys())[:3]:
+        counted = Counter(logged)
+        for path in sorted((counted - ran).keys())[:3]:
             self.holes.append("the log of ninja names %s, and no process of the trace made it" % path)
-        for path in sorted((ran - told).keys())[:3]:
+        for path in sorted((ran - counted).keys())[:3]:
             self.holes.append("a command ran for %s, and the log of ninja does not name it" % path)
 
 

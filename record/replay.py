@@ -10,6 +10,16 @@ from record.strace import Begun, Call, Ended, Event, Unread
 
 DEVICES = re.compile(r"/dev/(null|zero|full|u?random|tty\w*|ptmx|console|std(in|out|err)|fd(/.*)?|pts(/.*)?)$|/proc(/|$)|/sys(/|$)")
 
+OWN = re.compile(r"/proc/(self|thread-self|\d+)/(cwd|root)(/.*|$)", re.S)
+
+
+def own_path(life: Life, path: str) -> str:
+    """A path by way of the folder or the root that /proc shows of the process itself, without that way."""
+    match = OWN.match(path) if path.startswith("/proc/") else None
+    if match is None or match.group(1).isdigit() and int(match.group(1)) != life.pid:
+        return path
+    return (life.folder if match.group(2) == "cwd" else "") + match.group(3) or "/"
+
 
 class Replay:
     """Plays the events of a trace in the name space and keeps what each life did."""
@@ -90,8 +100,8 @@ class Replay:
         else:
             self.call(self.life(event.pid), event)
 
-    def child(self, parent: Life, pid: int) -> None:
-        """A process has started another."""
+    def child(self, parent: Life, pid: int, is_thread: bool) -> None:
+        """A process has started another, or a thread, which is in one folder with it at all times."""
         child = self.lives.get(pid)
         if child is None or child.adopted:
             child = Life(pid, born=self.place)
@@ -101,6 +111,8 @@ class Replay:
             self.inherit(child, parent)
         child.parent, child.adopted = parent, True
         parent.children.append(child)
+        if is_thread:
+            parent.join_threads(child)
         for event in self.waiting.pop(pid, []):
             self.take(event)
 
@@ -121,7 +133,7 @@ class Replay:
         return any(path == top or path.startswith(top.rstrip("/") + "/") for top in self.tops)
 
     def found(self, life: Life, path: str, follow: bool, base: str = "") -> Found:
-        found = self.names.find(base or life.folder, path, follow)
+        found = self.names.find(base or life.folder, own_path(life, path), follow)
         for link in found.links:
             self.put(life, "R", link)
         return found

@@ -73,11 +73,13 @@ def is_quiet_mkdir(argv: List[str]) -> bool:
 
 def makes(argv: List[str], folder: str) -> bool:
     """Whether a script that builds carry makes this folder for itself, and asks no more than that it is there."""
-    words = argv[1:]
+    name, words = base_name(argv), argv[1:]
+    if name not in SHELLS and name != "cmake":
+        return False
     at = next((n for n, w in enumerate(words) if os.path.basename(w) in MAKERS), -1)
-    if base_name(argv) == "cmake" and words[:2] == ["-E", "make_directory"]:
+    if name == "cmake" and words[:2] == ["-E", "make_directory"]:
         at = 1
-    if at < 0 or base_name(argv) not in SHELLS + ("cmake",):
+    if at < 0:
         return False
     if os.path.basename(words[at]) == "libtool":
         return os.path.basename(folder) in (".libs", "_libs")

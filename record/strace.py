@@ -8,7 +8,7 @@ from pathlib import Path
 from typing import Dict, Iterable, Iterator, List, Optional, Union
 
 LINE = re.compile(r"(\d+) +(.*)", re.S)
-CALL = re.compile(r"(\w+)\((.*)\)\s+= (-?\d+|\?)(?:<(?:[^<>\\]|\\.)*>)?(?: (E\w+))?(?: \(.*\))?$", re.S)
+CALL = re.compile(r"(\w+)\((.*)\)\s+= (-?\d+|\?)(?:<((?:[^<>\\]|\\.)*)>)?(?: (E\w+))?(?: \(.*\))?$", re.S)
 ESCAPE = re.compile(r"\\([0-7]{1,3}|x[0-9a-f]{2}|.)", re.S)
 TEXT = re.compile(r'"((?:[^"\\]|\\.)*)"(\.\.\.)?')
 FOLDER = re.compile(r"(?:AT_FDCWD|\d+)<((?:[^<>\\]|\\.)*)>")
@@ -16,20 +16,24 @@ SYSTEM = ["usr", "lib", "lib32", "lib64", "etc", "bin", "sbin"]
 AT = r"(?:AT_FDCWD<[^>]*>, )?"
 LOOKING = r'\d+ +(?:openat|open|access|faccessat2?|newfstatat|stat|lstat|statx|readlink|readlinkat|statfs)\(' + AT + r'"FOLDERS[^"]*"[^"]*(?:"[^"]*"[^"]*)? = (?:\d|-1 E(?:NO|INVAL))|\d+ +newfstatat\(\d+<[^>]*>, "", [^"]* = 0$'
 CHANGING = (
-    r'\b(?:open|openat)\(' + AT + r'"FOLDERS[^"]*", [^\n]*(?:O_WRONLY|O_RDWR|O_CREAT|O_TRUNC)'
-    r'|\b(?:creat|rename\w*|unlink\w*|rmdir|mkdir\w*|mknod\w*|link\w*|symlink\w*|truncate|f?ch(?:mod|own)\w*|utime\w*|futimesat)\([^\n]*"FOLDERS')
+    r'\d+ +(?:open|openat2?)\(' + AT + r'"FOLDERS[^"]*", [^\n]*(?:O_WRONLY|O_RDWR|O_CREAT|O_TRUNC)'
+    r'|\d+ +(?:creat|rename\w*|unlink\w*|rmdir|mkdir\w*|mknod\w*|link\w*|symlink\w*|truncate|[fl]?ch(?:mod|own)\w*|utime\w*|futimesat)\([^\n]*"FOLDERS')
+# What each line that changes something has: a look for these words is quick, and few lines have one.
+CHANGING_WORDS = (b"O_WRONLY", b"O_RDWR", b"O_CREAT", b"O_TRUNC", b" creat(", b" rename", b" unlink", b" rmdir(", b" mkdir", b" mknod", b" link", b" symlink",
+                  b" truncate(", b" chmod", b" fchmod", b" chown", b" fchown", b" lchown", b" utime", b" futimesat(")
 PLAIN = {"n": "\n", "t": "\t", "r": "\r", "v": "\v", "f": "\f"}
 
 
 @dataclass(frozen=True)
 class Call:
-    """One finished system call: `error` is empty where it succeeded."""
+    """One finished system call: `error` is empty where it succeeded, `opened` is what stands behind a descriptor that it gave."""
 
     pid: int
     name: str
     args: str
     result: int
     error: str
+    opened: str = ""
 
 
 @dataclass(frozen=True)
@@ -90,6 +94,18 @@ def folders(args: str) -> List[str]:
 MAKES_PROCESS = ("clone", "clone3", "fork", "vfork")
 
 
+def has_change(trace: mmap.mmap, changes: "re.Pattern[bytes]") -> bool:
+    """Whether a line of the trace matches `changes`."""
+    for word in CHANGING_WORDS:
+        at = trace.find(word)
+        while at >= 0:
+            end = trace.find(b"\n", at)
+            if changes.match(trace[trace.rfind(b"\n", 0, at) + 1:end if end >= 0 else len(trace)]):
+                return True
+            at = trace.find(word, end) if end >= 0 else -1
+    return False
+
+
 def skipping(trace: Path, tops: List[str]) -> "Optional[re.Pattern[str]]":
     """What need not be read: looks at the system's folders, where nobody changes a name of them and no top is there."""
     safe = [p for p in SYSTEM if not any((t + "/").startswith("/%s/" % p) for t in tops)]
@@ -101,7 +117,7 @@ def skipping(trace: Path, tops: List[str]) -> "Optional[re.Pattern[str]]":
         if os.fstat(file.fileno()).st_size == 0:
             return None
         with mmap.mmap(file.fileno(), 0, access=mmap.ACCESS_READ) as whole:
-            if changes.search(whole):
+            if has_change(whole, changes):
                 return None
     return re.compile(LOOKING.replace("FOLDERS", folders_of_system))
 
@@ -141,6 +157,6 @@ def read_trace(lines: Iterable[str], skip: "Optional[re.Pattern[str]]" = None) -
             if not text.endswith("= ?"):
                 yield Unread(line.strip())
             continue
-        name, args, result, error = call.groups()
+        name, args, result, opened, error = call.groups()
         if result != "?":
-            yield Call(pid, name, args, int(result), error or "")
+            yield Call(pid, name, args, int(result), error or "", unescape(opened or ""))

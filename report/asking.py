@@ -14,16 +14,20 @@ def judge(folder: Path, program: Path) -> Report:
     project = record.get("folder", "")
     report = Report(project, record.get("words", []), "safe", is_fixed=True, holes=[*record.get("holes", [])])
     report.assumptions = [Assumption(it["text"], it["count"], it["example"]) for it in record.get("assumptions", [])]
+    report.is_of_ninja = bool(record.get("builds"))
     for number in record.get("builds", []):
         build = read_build(folder / "builds" / number, number, project)
         verdict = ask(str(program), folder / "builds" / number / "tasks", build.folder)
-        report.races += [build.race(it.path, (it.first, it.first_does), (it.second, it.second_does)) for it in verdict.races]
-        report.fixes += verdict.fix
+        races = [build.race(it.path, (it.first, it.first_does), (it.second, it.second_does)) for it in verdict.races]
+        changes = {it.fix: it.change for it in races}
+        report.races += races
+        report.fixes += [changes.get(it, it) for it in verdict.fix]
         report.is_fixed &= verdict.is_fixed
         report.holes += [f"build {number}: {verdict.refused}"] * bool(verdict.refused)
         report.builds += 1
+        report.is_of_ninja &= build.about.get("tool") == "ninja"
         report.pairs += verdict.pairs
         report.recipes += build.about.get("counts", {}).get("recipes", 0)
-    report.fixes = [*dict.fromkeys(report.fixes or [it.fix for it in report.races])]
+    report.fixes = [*dict.fromkeys(report.fixes or [it.change for it in report.races])]
     report.verdict = "none" if report.holes or not report.builds else "race" if report.races else "safe"
     return report

@@ -23,7 +23,7 @@ def race_object(race: Race, report: Report) -> dict:
     return {
         "fingerprint": race.fingerprint, "known": race.fingerprint in report.known, "kind": race.kind.name,
         "build": race.build, "path": race.path, "meaning": race.meaning,
-        "first": side(race.first), "second": side(race.second), "fix": race.fix, "advice": race.kind.fix,
+        "first": side(race.first), "second": side(race.second), "fix": race.fix, "in_project": race.in_project, "advice": race.kind.fix,
     }
 
 
@@ -73,7 +73,7 @@ def result(race: Race, report: Report) -> dict:
     if not race.fix.startswith(f"{late.recipe.target}: "):
         late, early = early, late
     message = (f"{late.recipe.target} {late.does} {race.path}, {early.recipe.target} {early.does} it, and nothing orders the two. "
-               f"Fix: {race.fix}")
+               f"Fix: {race.change}")
     return {
         "ruleId": race.kind.name, "ruleIndex": [it.name for it in KINDS].index(race.kind.name), "level": "error",
         "message": {"text": message},

@@ -87,6 +87,11 @@ class Race:
         return f"{late.recipe.target}: {early.recipe.target}"
 
     @property
+    def change(self) -> str:
+        """What to write: the words of what wrote the build, where ninja ran it, else a line of a makefile."""
+        return self.in_project or self.fix
+
+    @property
     def fingerprint(self) -> str:
         """What stays the same where lines move: the kind, the path and the two targets."""
         parts = (self.kind.name, self.path, *sorted((self.first.recipe.target, self.second.recipe.target)))
@@ -120,6 +125,7 @@ class Report:
     known: set[str] = field(default_factory=set)
     gone: list[str] = field(default_factory=list)
     is_direct: bool = False  # of a makefile, without a record
+    is_of_ninja: bool = False  # no make ran in it
 
     @property
     def is_checked(self) -> bool:

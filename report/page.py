@@ -76,7 +76,7 @@ def card(race: Race, number: int, report: Report, is_drawn: bool) -> str:
     known = ' <span class="tag">known</span>' if race.fingerprint in report.known else ""
     return (f'<div class="card" id="race-{number}"><h4>Race {number}</h4>{sides(race)}'
             f'<p class="kind">{code(race.kind.advice)}{known}</p>'
-            f'<p class="kind">{order}</p><pre>{escape(chr(10).join(filter(None, (race.fix, race.in_project))))}</pre>{figures(race) if is_drawn else ""}</div>')
+            f'<p class="kind">{order}</p><pre>{escape(race.change)}</pre>{figures(race) if is_drawn else ""}</div>')
 
 
 def confirming(report: Report) -> str:
@@ -139,7 +139,8 @@ def fixes(report: Report) -> str:
         return ""
     safe = "With these lines the build is safe: <code>race fix</code> checked it."
     checked = safe if report.is_checked else "These lines were not checked."
-    return (f"<h2>All fixes</h2><p>{checked} Add them to the makefile.</p>"
+    where = "CMakeLists.txt, meson.build or build.ninja, whichever you write" if report.is_of_ninja else "the makefile"
+    return (f"<h2>All fixes</h2><p>{checked} Add them to {where}.</p>"
             '<pre class="all" tabindex="0" role="region" aria-label="All lines that fix the build">'
             f"{escape(chr(10).join(report.fixes))}</pre>")
 

@@ -20,7 +20,8 @@ def summary(report: Report) -> str:
     if report.verdict == "none":
         return "race refuses this makefile." if report.is_direct else f"The record has {counted(len(report.holes), 'hole')}."
     if report.verdict == "safe":
-        return f"make -j leaves what make leaves. {recipes}; {counted(report.pairs, 'pair')} that conflict are in order."
+        same = "ninja leaves what ninja -j1 leaves" if report.is_of_ninja else "make -j leaves what make leaves"
+        return f"{same}. {recipes}; {counted(report.pairs, 'pair')} that conflict are in order."
     files = len({it.path for it in report.races})
     return f"{counted(len(report.races), 'race')} on {counted(files, 'file')}. {recipes}."
 
@@ -39,9 +40,7 @@ def race_lines(race: Race, number: int, report: Report) -> Iterator[str]:
     yield f"RACE {number}  {race.shown}{f'  ({race.meaning})' if race.meaning else ''}{known}"
     yield from side_rows(race)
     yield f"  {race.kind.advice}"
-    yield f"  fix: {race.fix}"
-    if race.in_project:
-        yield f"  in the project: {race.in_project}"
+    yield f"  fix: {race.change}"
     yield ""
 
 
@@ -82,7 +81,7 @@ def github(report: Report) -> str:
         late = race.second.recipe if race.fix.startswith(f"{race.second.recipe.target}: ") else race.first.recipe
         early = race.first.recipe if late is race.second.recipe else race.second.recipe
         message = (f"{late.target} and {early.target} both use {race.shown}, one of them writes it, and nothing orders the two. "
-                   f"{early.target}: {early.place or 'no place known'}.\nFix: {race.fix}")
+                   f"{early.target}: {early.place or 'no place known'}.\nFix: {race.change}")
         level = "warning" if race.fingerprint in report.known else "error"
         lines.append(annotation(level, f"race on {race.shown}", message, late.file, late.line))
     lines += [annotation("error", "race: no verdict", it) for it in report.holes]

@@ -34,7 +34,11 @@ NAMED = """
     cases/proofs/certificates/two-objects cases/proofs/certificates/chain-through-a-plain-target
     cases/proofs/certificates/shared-folder cases/proofs/traces/generated-header cases/proofs/traces/shared-folder
     cases/list/three-of-one-temporary cases/list/no-race
+    cases/fix/three-of-one-temporary cases/fix/nothing-to-fix cases/fix/made-by-default
+    cases/fix/inferred-target-found-by-another-rule cases/fix/name-that-is-no-word cases/fix/forgotten-header-proof
     cases/serialise/interleaved-run cases/serialise/race cases/serialise/no-files cases/serialise/times-with-just-room
+    cases/tasks/check/safe cases/tasks/check/race cases/tasks/check/print-certificate cases/tasks/list/races
+    cases/tasks/verify/certificate cases/tasks/faults/label-twice
 """.split()
 PROCESSES = len(os.sched_getaffinity(0))
 # A run that takes more seconds of a processor is ended.

@@ -2,14 +2,14 @@
 
 _race() {
   local word=${COMP_WORDS[COMP_CWORD]} before=${COMP_WORDS[COMP_CWORD-1]} command=${1##*/}
-  if [[ $command == race && $COMP_CWORD -gt 1 && ${COMP_WORDS[1]} == @(order|check|verify|replay|serialise|list) ]]; then
+  if [[ $command == race && $COMP_CWORD -gt 1 && ${COMP_WORDS[1]} == @(order|check|verify|replay|serialise|list|fix) ]]; then
     command="race ${COMP_WORDS[1]}"
   fi
   COMPREPLY=()
   case $command in
   'race')
     case $word in -*) mapfile -t COMPREPLY < <(compgen -W "-h --help -V --version" -- "$word"); return ;; esac
-    mapfile -t COMPREPLY < <(compgen -W "order check verify replay serialise list" -- "$word") ;;
+    mapfile -t COMPREPLY < <(compgen -W "order check verify replay serialise list fix" -- "$word") ;;
   'race order')
     case $before in
       --makefile) mapfile -t COMPREPLY < <(compgen -f -- "$word"); return ;;
@@ -28,8 +28,9 @@ _race() {
       --base) mapfile -t COMPREPLY < <(compgen -f -- "$word"); return ;;
       --includes) mapfile -t COMPREPLY < <(compgen -f -- "$word"); return ;;
       --footprints) mapfile -t COMPREPLY < <(compgen -f -- "$word"); return ;;
+      --tasks) mapfile -t COMPREPLY < <(compgen -f -- "$word"); return ;;
     esac
-    case $word in -*) mapfile -t COMPREPLY < <(compgen -W "--makefile --listing --root --base --posix-base --includes --footprints --print-proof -h --help" -- "$word"); return ;; esac
+    case $word in -*) mapfile -t COMPREPLY < <(compgen -W "--makefile --listing --root --base --posix-base --includes --footprints --tasks --print-proof -h --help" -- "$word"); return ;; esac
     mapfile -t COMPREPLY < <(compgen -f -- "$word") ;;
   'race verify')
     case $before in
@@ -39,9 +40,10 @@ _race() {
       --base) mapfile -t COMPREPLY < <(compgen -f -- "$word"); return ;;
       --includes) mapfile -t COMPREPLY < <(compgen -f -- "$word"); return ;;
       --footprints) mapfile -t COMPREPLY < <(compgen -f -- "$word"); return ;;
+      --tasks) mapfile -t COMPREPLY < <(compgen -f -- "$word"); return ;;
       --proof) mapfile -t COMPREPLY < <(compgen -f -- "$word"); return ;;
     esac
-    case $word in -*) mapfile -t COMPREPLY < <(compgen -W "--makefile --listing --root --base --posix-base --includes --footprints --proof -h --help" -- "$word"); return ;; esac
+    case $word in -*) mapfile -t COMPREPLY < <(compgen -W "--makefile --listing --root --base --posix-base --includes --footprints --tasks --proof -h --help" -- "$word"); return ;; esac
     mapfile -t COMPREPLY < <(compgen -f -- "$word") ;;
   'race replay')
     case $before in
@@ -77,8 +79,20 @@ _race() {
       --base) mapfile -t COMPREPLY < <(compgen -f -- "$word"); return ;;
       --includes) mapfile -t COMPREPLY < <(compgen -f -- "$word"); return ;;
       --footprints) mapfile -t COMPREPLY < <(compgen -f -- "$word"); return ;;
+      --tasks) mapfile -t COMPREPLY < <(compgen -f -- "$word"); return ;;
     esac
-    case $word in -*) mapfile -t COMPREPLY < <(compgen -W "--makefile --listing --root --base --posix-base --includes --footprints -h --help" -- "$word"); return ;; esac
+    case $word in -*) mapfile -t COMPREPLY < <(compgen -W "--makefile --listing --root --base --posix-base --includes --footprints --tasks -h --help" -- "$word"); return ;; esac
+    mapfile -t COMPREPLY < <(compgen -f -- "$word") ;;
+  'race fix')
+    case $before in
+      --makefile) mapfile -t COMPREPLY < <(compgen -f -- "$word"); return ;;
+      --listing) mapfile -t COMPREPLY < <(compgen -f -- "$word"); return ;;
+      --root) mapfile -t COMPREPLY < <(compgen -d -- "$word"); return ;;
+      --base) mapfile -t COMPREPLY < <(compgen -f -- "$word"); return ;;
+      --includes) mapfile -t COMPREPLY < <(compgen -f -- "$word"); return ;;
+      --footprints) mapfile -t COMPREPLY < <(compgen -f -- "$word"); return ;;
+    esac
+    case $word in -*) mapfile -t COMPREPLY < <(compgen -W "--makefile --listing --root --base --posix-base --includes --footprints --print-proof -h --help" -- "$word"); return ;; esac
     mapfile -t COMPREPLY < <(compgen -f -- "$word") ;;
   'race-confirm')
     case $before in

@@ -8,7 +8,7 @@ import shutil
 import signal
 import stat
 import subprocess
-from dataclasses import dataclass, field
+from dataclasses import dataclass, field, replace
 from pathlib import Path
 from typing import Dict, List, Optional
 
@@ -23,6 +23,7 @@ NAP = """#!/bin/sh
 case "$1" in %s) test $(($$ %% 3)) = 0 || exec sleep 0.0%d;; *) test $(($$ %% 7)) = 0 && exec sleep 0.01;; esac
 exit 0
 """
+OWN = (".ninja_log", ".ninja_deps", ".ninja_lock")
 Tree = Dict[str, str]
 
 
@@ -49,11 +50,11 @@ class Result:
 
 
 def tree_of(folder: Path) -> Tree:
-    """Names with kind, mode and contents; the record and times are left out."""
+    """Names with kind, mode and contents; the record, times, and what ninja keeps are left out."""
     found: Tree = {}
     for path, folders, files in os.walk(folder):
         folders[:] = [f for f in folders if f != ".race"]
-        for name in folders + files:
+        for name in folders + [f for f in files if f not in OWN]:
             full = os.path.join(path, name)
             status = os.lstat(full)
             if stat.S_ISLNK(status.st_mode):
@@ -97,7 +98,7 @@ class Builder:
         self.fresh()
         env = {k: v for k, v in os.environ.items() if not k.startswith("MAKE") and k != "MFLAGS"}
         if nap:
-            env["N"] = nap
+            env.update(N=nap, J="-j%d" % self.random.choice((2, 4)))  # J: for a ninja inside of a command
         with subprocess.Popen(words, cwd=self.folder, env=env, stdin=subprocess.DEVNULL, stdout=subprocess.PIPE, stderr=subprocess.STDOUT, start_new_session=True) as ran:
             try:
                 output = ran.communicate(timeout=SECONDS)[0]
@@ -117,14 +118,12 @@ class Builder:
     def parallel(self, shuffle: bool) -> Outcome:
         """One parallel build under delays."""
         self.builds += 1
-        words = ["make", "-j%d" % self.random.choice((2, 3, 4, 8))]
-        if shuffle:
-            words.append("--shuffle=%d" % self.random.randint(1, 1 << 20))
+        words = self.project.parallel(self.random.choice((2, 3, 4, 8)), self.random.randint(1, 1 << 20) if shuffle else 0)
         return self.run(words, self.nap())
 
     def recorded(self) -> Outcome:
         """The recorded build, judged."""
-        return self.run([str(self.recorder), "--warm", "--", "make"])
+        return self.run([str(self.recorder), "--warm", "--", *self.project.words()])
 
 
 def differences(first: Outcome, second: Outcome, unstable: List[str]) -> str:
@@ -144,7 +143,7 @@ def assumptions(output: str) -> List[str]:
 def judge(project: Project, room: Path, runs: int, recorder: Path = RECORDER, shuffles: bool = False) -> Result:
     """Builds a project in all ways; what came of it."""
     builder = Builder(project, room, recorder)
-    serial = [builder.run(["make", "-j1"]), builder.run(["make"])]
+    serial = [builder.run(project.serial()), builder.run(project.serial())]
     if serial[0].status:
         return Result(project.seed, "serial fails", about=serial[0].output[-300:])
     if differences(serial[0], serial[1], []):
@@ -193,10 +192,10 @@ def parts(project: Project) -> List[Project]:
     """The project without one block, and without one line of a block."""
     blocks, found = project.blocks, []
     for at in range(len(blocks)):
-        found.append(Project(project.seed, blocks[:at] + blocks[at + 1:], project.files, project.ages))
+        found.append(replace(project, blocks=blocks[:at] + blocks[at + 1:]))
     for at, block in enumerate(blocks):
         lines = block.text.splitlines(True)
         for line in range(len(lines)):
             text = "".join(lines[:line] + lines[line + 1:])
-            found.append(Project(project.seed, blocks[:at] + [type(block)(block.goals, text, block.files)] + blocks[at + 1:], project.files, project.ages))
+            found.append(replace(project, blocks=blocks[:at] + [replace(block, text=text)] + blocks[at + 1:]))
     return found

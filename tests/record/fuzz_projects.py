@@ -8,7 +8,7 @@ import json
 import random
 from dataclasses import asdict, dataclass, field
 from pathlib import Path
-from typing import Callable, Dict, List, Optional
+from typing import Callable, Dict, List, Mapping, Optional, Type
 
 FORGOTTEN = 0.25
 EXTRA = 0.4
@@ -48,6 +48,19 @@ class Project:
     blocks: List[Block] = field(default_factory=list)
     files: Dict[str, str] = field(default_factory=dict)
     ages: Dict[str, int] = field(default_factory=dict)
+    tool: str = "make"
+
+    def words(self) -> List[str]:
+        """The command that is recorded."""
+        return ["make"]
+
+    def serial(self) -> List[str]:
+        """A serial build."""
+        return ["make", "-j1"]
+
+    def parallel(self, jobs: int, shuffle: int) -> List[str]:
+        """A parallel build; `shuffle`, where it is not 0, says in which order make takes what it is asked for."""
+        return ["make", "-j%d" % jobs] + (["--shuffle=%d" % shuffle] if shuffle else [])
 
     def makefile(self) -> str:
         """The text of the makefile."""
@@ -67,10 +80,11 @@ class Project:
         path.write_text(json.dumps(asdict(self), indent=1) + "\n")
 
 
-def load(path: Path) -> Project:
-    """A project that was kept."""
+def load(path: Path, kinds: Mapping[str, Type[Project]]) -> Project:
+    """A project that was kept; `kinds` says what makes one for each tool."""
     text = json.loads(path.read_text())
-    return Project(text["seed"], [Block(**one) for one in text["blocks"]], text["files"], text["ages"])
+    text["blocks"] = [Block(**one) for one in text["blocks"]]
+    return kinds[text["tool"]](**text)
 
 
 class Draw:

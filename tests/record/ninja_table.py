@@ -20,6 +20,7 @@ class Case:
     setup: str = ""
     files: Dict[str, str] = field(default_factory=dict)
     races: int = -1  # lines that begin with RACE, where that is asked
+    missing: int = -1  # what `ninja -t missingdeps` finds, where that is asked
 
 
 def sh(outputs: str, inputs: str, command: str, *more: str, rule: str = "sh") -> str:
@@ -85,9 +86,9 @@ CASES = [
     Case("glob-of-other-names", SAFE, sh("g.y", "", "touch $out") + sh("a", "", "cat *.x > a"), files={"h.x": ""}),
     Case("failed-look", RACE, sh("a", "", "if test -f g; then echo 1; fi > a") + GEN),
     Case("failed-look-ordered", SAFE, sh("a", "|| g", "if test -f g; then echo 1; fi > a") + GEN),
-    Case("header", RACE, CC + sh("b/g.h", "", "echo > $out") + "build a.o: cc a.c\n", ["RACE  b/g.h"], files={"a.c": "#include \"g.h\"\nint a;\n", "b/x": ""}),
-    Case("header-ordered", SAFE, CC + sh("b/g.h", "", "echo > $out") + "build a.o: cc a.c || b/g.h\n", files={"a.c": "#include \"g.h\"\nint a;\n"}),
-    Case("header-shadowed", RACE, CC + "build a.o: cc a.c\n" + sh("a/g.h", "", "echo > $out"), ["RACE  a/g.h"], files={"a.c": "#include \"g.h\"\nint a;\n", "b/g.h": "", "a/x": ""}),
+    Case("header", RACE, CC + sh("b/g.h", "", "echo > $out") + "build a.o: cc a.c\n", ["RACE  b/g.h"], files={"a.c": "#include \"g.h\"\nint a;\n", "b/x": ""}, missing=1),
+    Case("header-ordered", SAFE, CC + sh("b/g.h", "", "echo > $out") + "build a.o: cc a.c || b/g.h\n", files={"a.c": "#include \"g.h\"\nint a;\n"}, missing=0),
+    Case("header-shadowed", RACE, CC + "build a.o: cc a.c\n" + sh("a/g.h", "", "echo > $out"), ["RACE  a/g.h"], files={"a.c": "#include \"g.h\"\nint a;\n", "b/g.h": "", "a/x": ""}, missing=0),
     Case("header-asked-for", RACE, CC + "build a.o: cc a.c\n" + sh("g.h", "", "echo > $out"), ["RACE  g.h"], files={"a.c": HAS}),
     Case("temporary", RACE, sh("a", "", "echo a > t; mv t a") + sh("b", "", "echo b > t; mv t b"), ["advice: give each recipe a name of its own"]),
     Case("temporary-own", SAFE, sh("a", "", "echo a > t.$out; mv t.$out a") + sh("b", "", "echo b > t.$out; mv t.$out b")),
@@ -116,7 +117,7 @@ CASES = [
          setup="touch -d 2001-01-01 s; ninja -j1 > /dev/null; sleep 0.1; touch s", files={"s": ""}, options=["--warm"]),
     Case("part", SAFE, GEN + sh("a", "", USE) + sh("b", "g", "cat g > b"), words="ninja b"),
     Case("other-names", RACE, "", words="ninja -C sub -f my.ninja", files={"sub/my.ninja": RULES + GEN + sh("a", "", USE)}),
-    Case("failing", NONE, sh("a", "", "false"), ["the build ended with status 1"]),
+    Case("failing", NONE, sh("a", "", "false"), ["the build ended with status 1", "the serial build failed; this is build 3 with -j4"]),
     Case("serial-build-fails", RACE, sh("a", "", "for i in 1 2 3 4 5 6 7 8 9; do test -s g || sleep 0.1; done; " + USE) + GEN, ["HINT  a looks for g, which g makes", "the serial build failed"]),
     Case("dry-run", NONE, GEN, ["no make and no ninja ran"], words="ninja -n"),
     Case("log-with-a-line-too-many", NONE, GEN, ["the log of ninja names z"], words="sh ./all", files={"all": "ninja; printf '0\\t1\\t2\\tz\\t5\\n' >> .ninja_log\n"}),
@@ -138,4 +139,14 @@ CASES += [
 CASES += [
     Case("two-processes-of-one-command", SAFE, sh("a", "", "(sleep 0.3; echo 1 >> log) & (sleep 0.3; echo 2 >> log; sleep 0.2) & wait; touch a"), ["two processes of one recipe touch a file"]),
     Case("process-that-outlives-its-command", SAFE, sh("a", "", "(sleep 0.5; echo > late) > /dev/null 2>&1 & touch a") + sh("b", "a", "sleep 1; touch b"), ["when its recipe had ended"]),
+]
+LIAR = "rule liar\n  command = echo '$out: g' > $out.d; touch $out\n  deps = gcc\n  depfile = $out.d\n"
+CASES += [
+    Case("script-that-becomes-ninja", RACE, GEN + sh("a", "", USE), words="sh ./all", files={"all": "true > x; cp x y; exec ninja -j1\n"}, races=1),
+    Case("dyndep-of-two", RACE, sh("dd", "", DYNDEP % ("", " | g") + "; echo 'build b: dyndep' >> dd") + GEN + sh("a", "|| dd", USE, "dyndep = dd") + sh("b", "|| dd", "cat g > b", "dyndep = dd"), races=1),
+    Case("restat-by-dyndep", RACE, sh("dd", "", DYNDEP % ("", "") + "; echo '  restat = 1' >> dd") + sh("a", "|| dd", "true", "dyndep = dd") + sh("b", "", "touch a b"), ["RACE  a"]),
+    Case("dep-file-that-another-writes", RACE, "rule n\n  command = touch $out\n  deps = gcc\n  depfile = m\nbuild a: n\n" + sh("b", "", "echo 'a: x' > m; touch b", ), ["RACE  m"], files={"x": ""}),
+    Case("dep-file-that-lies", NONE, LIAR + GEN + "build a: liar\n", ["ninja -t missingdeps finds that a reads g, and the record has no such race"]),
+    Case("manifest-that-changed-twice", NONE, GEN + sh("a", "g", "cat g > a; echo '#' >> build.ninja"), ["nobody kept"], words="sh ./all",
+         files={"next": RULES + GEN + sh("a", "", "cat g > a; echo '#' >> build.ninja"), "all": "cp next build.ninja; exec ninja\n"}),
 ]

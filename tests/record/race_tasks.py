@@ -145,7 +145,7 @@ def races(tasks: List[Task]) -> Tuple[List[Tuple[int, int]], int]:
 def told(tasks: List[Task], root: str) -> Tuple[int, List[str]]:
     """The report of `list`."""
     found, pairs = races(tasks)
-    lines = ["races %d" % len(found), "nodes %d" % len(tasks), "recipes %d" % len(tasks), "idle 0", "waits %d" % sum(len(t.after) for t in tasks), "pairs %d" % pairs]
+    lines = ["races %d" % len(found), "nodes %d" % len(tasks), "recipes %d" % len(tasks), "idle 0", "waits 0", "pairs %d" % pairs]
     for a, b in found:
         path = overlap(tasks[a], tasks[b])
         lines.append("race %s : %s %s %s %s" % (below(root, path), shown(tasks[a].label), verb(tasks[a], path), shown(tasks[b].label), verb(tasks[b], path)))
@@ -167,7 +167,7 @@ def fixed(tasks: List[Task], root: str) -> Tuple[int, List[str]]:
         tasks[b].after.add(a)
         needed.append((a, b))
     assert not races(tasks)[0]
-    lines = ["# race fix: lines %d, races %d" % (len(needed), len(found))] if found else []
+    lines = ["# race fix: lines %d" % len(needed)] if found else []
     for a, b in needed:
         path = overlap(tasks[a], tasks[b])
         does = (verb(tasks[a], path), verb(tasks[b], path))

@@ -2,6 +2,7 @@
 
 import json
 import os
+import re
 import shutil
 import subprocess
 import sys
@@ -90,3 +91,15 @@ def tasks_of(folder: Path, number: str = "001") -> Dict[str, Dict[str, Any]]:
     """The tasks of one build of a record, by label."""
     lines = (folder / ".race" / "builds" / number / "tasks").read_text().splitlines()
     return {one["task"]: one for one in map(json.loads, lines)}
+
+
+def races_of(text: str) -> List[str]:
+    """The files on which a report shows a race."""
+    return re.findall(r"(?m)^RACE  (.+?)(?:  \(.*)?$", text)
+
+
+def missing(folder: Path) -> List[str]:
+    """The files of which `ninja -t missingdeps` says that a statement reads them, and waits for nobody who makes them."""
+    told = subprocess.run(["ninja", "-C", str(folder), "-t", "missingdeps"], capture_output=True, text=True, check=False, timeout=60).stdout
+    found = re.findall(r"Missing dep: .* uses (\S+)", told)
+    return [os.path.relpath(os.path.join(folder, path), folder) for path in found]

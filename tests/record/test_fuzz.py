@@ -1,15 +1,19 @@
 """The fuzzer sees what it is there for: a wrong yes, a build that the recording changed, a recorder that stops."""
 
+import shutil
 import tempfile
 import unittest
 from pathlib import Path
 
 import support  # noqa: F401
 from fuzz_builds import Outcome, Result, assumptions, differences, judge, parts
+from fuzz_ninja import NinjaDraw, NinjaProject
 from fuzz_projects import Block, Draw, Project, load
+from record.ninja_manifest import read_manifest
 
 RACE = Project(1, [Block(["a"], "a: ; sleep 0.2; echo a > a\n"), Block(["b"], "b: ; cat a > b || true\n")])
 SAFE = Project(1, [Block(["a"], "a: ; echo a > a\n"), Block(["b"], "b: a ; cat a > b\n")])
+NINJA_RACE = "build a: sh\n  c = sleep 0.2; echo a > a\nbuild b: sh\n  c = cat a > b || true\n"
 
 
 class Judges(unittest.TestCase):
@@ -18,7 +22,7 @@ class Judges(unittest.TestCase):
     def result(self, project: Project, script: str) -> Result:
         with tempfile.TemporaryDirectory() as room:
             fake = Path(room) / "recorder"
-            fake.write_text("#!/bin/sh\nshift 2\n\"$@\" > /dev/null 2>&1\n" + script)
+            fake.write_text("#!/bin/sh\nshift 2\ntest $1 = make || set -- \"$@\" -j1\n\"$@\" > /dev/null 2>&1\n" + script)
             fake.chmod(0o755)
             return judge(project, Path(room), 2, fake)
 
@@ -28,6 +32,13 @@ class Judges(unittest.TestCase):
 
     def test_race_that_is_seen(self) -> None:
         self.assertEqual("race seen", self.result(RACE, "exit 1\n").kind)
+
+    @unittest.skipUnless(shutil.which("ninja"), "ninja is missing (Debian: apt-get install ninja-build)")
+    def test_wrong_yes_over_a_manifest(self) -> None:
+        project = NinjaProject(1, [Block(["a", "b"], NINJA_RACE)])
+        self.assertEqual(["wrong yes", "race seen"], [self.result(project, "exit %d\n" % status).kind for status in (0, 1)])
+        ordered = NinjaProject(1, [Block(["a", "b"], NINJA_RACE.replace("b: sh", "b: sh a"))])
+        self.assertEqual("safe", self.result(ordered, "exit 0\n").kind)
 
     def test_right_yes(self) -> None:
         self.assertEqual(("safe", 2), (self.result(SAFE, "exit 0\n").kind, self.result(SAFE, "exit 0\n").builds))
@@ -51,8 +62,19 @@ class Projects(unittest.TestCase):
 
     def test_kept_and_loaded(self) -> None:
         with tempfile.TemporaryDirectory() as room:
-            Draw(3).draw().save(Path(room) / "p.json")
-            self.assertEqual(Draw(3).draw(), load(Path(room) / "p.json"))
+            for draw in (Draw, NinjaDraw):
+                draw(3).draw().save(Path(room) / "p.json")
+                self.assertEqual(draw(3).draw(), load(Path(room) / "p.json", {"make": Project, "ninja": NinjaProject}))
+
+    def test_manifests(self) -> None:
+        """A seed is a manifest; over many seeds each kind of statement is drawn, and ninja reads what is drawn."""
+        drawn = [NinjaDraw(seed).draw().all_files() for seed in range(60)]
+        self.assertEqual(drawn[7], NinjaDraw(7).draw().all_files())
+        text = "".join(files.get("next.ninja", files["build.ninja"]) for files in drawn)
+        for word in ("restat = 1", "dyndep = ", "pool = one", "pool = console", ": list ", ": spool ", ": phony", "|@ ", "|| ", "subninja", "include", "-C t", "again"):
+            self.assertIn(word, text)
+        for files in drawn[:20]:
+            self.assertTrue(read_manifest("", "build.ninja", files.__getitem__).edges)
 
     def test_each_part_is_smaller(self) -> None:
         found = parts(RACE)

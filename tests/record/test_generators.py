@@ -1,12 +1,12 @@
 """Projects of CMake and Meson that ninja builds, each with a fault and without; `ninja -t missingdeps` finds no more than we do."""
 
-import re
+import os
 import shutil
-import subprocess
 import unittest
-from typing import Dict, List
+from typing import Dict
 
 import support
+from support import missing, races_of
 
 GENERATOR = "#!/bin/sh\necho '#define N 1' > \"$1\"\necho hidden > \"$(dirname \"$1\")/hidden.txt\"\n"
 SLOW = "#!/bin/sh\ncase \"$*\" in *main.c*) sleep 2;; esac\nexec cc \"$@\"\n"
@@ -22,22 +22,22 @@ target_include_directories(good PRIVATE ${CMAKE_BINARY_DIR})
 add_custom_target(use ALL COMMAND cp hidden.txt use.txt)
 add_dependencies(use FIRST)
 """
+OUTER = """cmake_minimum_required(VERSION 3.13)
+project(outer NONE)
+include(ExternalProject)
+ExternalProject_Add(ext SOURCE_DIR ${CMAKE_SOURCE_DIR}/ext BINARY_DIR ext INSTALL_COMMAND "")
+"""
+EXTERNAL = """cmake_minimum_required(VERSION 3.13)
+project(inner NONE)
+add_custom_command(OUTPUT gen.h COMMAND echo 1 > gen.h)
+add_custom_target(header ALL DEPENDS ${CMAKE_BINARY_DIR}/gen.h)
+add_custom_target(user ALL COMMAND cat gen.h > use.txt || echo none > use.txt)
+"""
 MESON = """project('p', 'c')
 gen = custom_target('gen', output: 'gen.h', input: 'gen.sh', command: ['sh', '@INPUT@', '@OUTPUT@'], build_by_default: true)
 executable('prog', 'main.c'SOURCES, include_directories: '.')
 custom_target('use', output: 'use.txt', command: ['cp', '@PRIVATE@', '@OUTPUT@']FIRST, build_by_default: true)
 """
-
-
-def races_of(text: str) -> List[str]:
-    """The files on which a report shows a race."""
-    return re.findall(r"(?m)^RACE  (\S+)", text)
-
-
-def missing(folder: str) -> List[str]:
-    """What ninja itself finds on a built folder."""
-    told = subprocess.run(["ninja", "-C", folder, "-t", "missingdeps"], capture_output=True, text=True, check=False, timeout=60).stdout
-    return [path.split("/b/")[-1] for path in re.findall(r"Missing dep: \S+ uses (\S+)", told)]
 
 
 def files(name: str, text: str) -> Dict[str, str]:
@@ -53,21 +53,30 @@ class CMake(unittest.TestCase):
         with support.Project(files("CMakeLists.txt", CMAKE.replace("FIRST", "good"))) as project:
             project.sh("cmake -G Ninja -S . -B b > log")
             told = project.record(["cmake", "--build", "b"])
-            found = missing(str(project.folder / "b"))
+            found = missing(project.folder / "b")
         text = told.text() + told.stderr.decode()[-800:]
         self.assertEqual(1, told.status, text)
         self.assertEqual(["gen.h"], races_of(text), text)
         self.assertIn("add_dependencies(prog ", text)
-        self.assertLessEqual(set(found), set(races_of(text)))
-        self.assertEqual(len(found), (told.record or {})["missingdeps"])
+        self.assertEqual((["gen.h"], 1), (found, (told.record or {})["missingdeps"]))
 
     def test_hidden_file_forgotten(self) -> None:
         text = CMAKE.replace("add_dependencies(use FIRST)\n", "").replace("cp hidden.txt use.txt", "sh -c 'cp hidden.txt use.txt || true'") + "add_dependencies(prog header)\n"
         with support.Project(files("CMakeLists.txt", text)) as project:
             project.sh("cmake -G Ninja -S . -B b > log")
             told = project.record(["cmake", "--build", "b"])
-            found = missing(str(project.folder / "b"))
+            found = missing(project.folder / "b")
         self.assertEqual((1, ["hidden.txt"], []), (told.status, races_of(told.text()), found), told.text())
+
+    def test_external_project(self) -> None:
+        """A ninja that a statement starts is a build of its own, and one task of the build above."""
+        for text, wanted in ((EXTERNAL, (1, ["gen.h"])), (EXTERNAL + "add_dependencies(user header)\n", (0, []))):
+            with support.Project({"CMakeLists.txt": OUTER, "ext/CMakeLists.txt": text}) as project:
+                project.sh("cmake -G Ninja -S . -B b > log")
+                told = project.record(["cmake", "--build", "b"])
+            self.assertEqual(wanted, (told.status, races_of(told.text())), told.text() + told.stderr.decode()[-800:])
+            self.assertEqual({"ninja"}, {it["tool"] for it in told.builds})
+            self.assertEqual(["b", "b/ext"], sorted(os.path.relpath(it["folder"], os.path.realpath(project.folder)) for it in told.builds))
 
     def test_ordered(self) -> None:
         with support.Project(files("CMakeLists.txt", CMAKE.replace("FIRST", "header") + "add_dependencies(prog header)\n")) as project:
@@ -91,17 +100,18 @@ class Meson(unittest.TestCase):
         with support.Project(files("meson.build", self.text("", ""))) as project:
             project.sh("chmod +x slow; CC=$PWD/slow meson setup b > log")
             told = project.record(["meson", "compile", "-C", "b"])
-            found = missing(str(project.folder / "b"))
+            found = missing(project.folder / "b")
         text = told.text() + told.stderr.decode()[-800:]
         self.assertEqual((1, {"gen.h", "hidden.txt"}), (told.status, set(races_of(text))), text)
         self.assertIn("into the sources of 'prog'", text)
-        self.assertLessEqual(set(found), set(races_of(text)))
+        self.assertEqual((["gen.h"], 1), (found, (told.record or {})["missingdeps"]))
 
     def test_ordered(self) -> None:
         with support.Project(files("meson.build", self.text(", gen", ", depends: gen"))) as project:
             project.sh("meson setup b > log")
             told = project.record(["ninja", "-C", "b"])
-        self.assertEqual(0, told.status, told.text() + told.stderr.decode()[-800:])
+            found = missing(project.folder / "b")
+        self.assertEqual((0, 0, []), (told.status, (told.record or {})["missingdeps"], found), told.text() + told.stderr.decode()[-800:])
 
 
 if __name__ == "__main__":

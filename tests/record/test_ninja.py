@@ -6,7 +6,7 @@ import unittest
 from typing import Callable, Dict, List, Tuple
 
 import support
-from ninja_table import CASES, RULES, Case
+from ninja_table import CASES, CC, NONE, RULES, Case
 
 
 def test_of(case: Case) -> Callable[[unittest.TestCase], None]:
@@ -16,6 +16,7 @@ def test_of(case: Case) -> Callable[[unittest.TestCase], None]:
         with support.Project({"build.ninja": RULES + case.manifest, **case.files} if case.manifest else case.files) as project:
             project.sh(case.setup)
             told = project.record(case.words.split(), case.options)
+            found = support.missing(project.folder) if (project.folder / ".ninja_deps").exists() else []
         text = told.text() + told.stderr.decode()[-800:]
         self.assertEqual(case.want, told.status, text)
         for one in case.says:
@@ -24,6 +25,10 @@ def test_of(case: Case) -> Callable[[unittest.TestCase], None]:
             self.assertEqual(case.races, len(re.findall(r"(?m)^RACE", told.text())), text)
         if any(one.startswith("WARM") for one in case.says):
             self.assertRegex(told.text(), r"(?m)^WARM")
+        elif case.want != NONE:
+            self.assertLessEqual(set(found), set(support.races_of(told.text())), "what ninja finds is among the races")
+        if case.missing >= 0:
+            self.assertEqual((case.missing, case.missing), (len(found), (told.record or {})["missingdeps"]), text)
 
     return test
 
@@ -43,8 +48,32 @@ class Companions(unittest.TestCase):
             project.record(["ninja"])
             report = project.plain([str(support.TOP / "report" / "race-report"), "--race", support.race_program()])
             confirmed = project.plain([str(support.TOP / "confirm" / "race-confirm"), "--race", support.race_program()])
-        self.assertIn("in the project: build a: .. || g", report.stdout.decode(), report.stderr.decode())
-        self.assertIn("only recipes of make can be held", (confirmed.stdout + confirmed.stderr).decode())
+        self.assertIn("  fix: build a: .. || g\n", report.stdout.decode(), report.stderr.decode())
+        self.assertIn("All fixes, with these lines the build is safe (checked):\n    build a: .. || g\n", report.stdout.decode())
+        self.assertIn("CONFIRMED  all of a before g:\n", (confirmed.stdout + confirmed.stderr).decode())
+
+
+@unittest.skipUnless(shutil.which("ninja"), "ninja is missing (Debian: apt-get install ninja-build)")
+class Hints(unittest.TestCase):
+    """What is said of a build that fails with one command at a time."""
+
+    def failed(self, needs: str) -> support.Told:
+        """A reader that always fails, and that waits for what it reads or does not."""
+        manifest = RULES + "build g: sh\n  c = echo 1 > g\nbuild a: sh %s\n  c = cat g h; false\nbuild h: sh\n  c = echo 2 > h\n" % needs
+        with support.Project({"build.ninja": manifest}) as project:
+            return project.record(["ninja"])
+
+    def test_absent_files_first(self) -> None:
+        told = self.failed("")
+        self.assertEqual(2, told.status)
+        found = re.findall(r"(?m)^HINT  (.*)", re.sub(r"\n +", " ", told.text()))
+        self.assertEqual(["a looks for h, which h makes, and does not wait for it", "a looks for g, which g makes, and does not wait for it"], found)
+        self.assertIn(b"recording again with -j4 (3 of 3)", told.stderr)
+        self.assertNotIn(b"(4 of", told.stderr)
+
+    def test_none_where_it_waits(self) -> None:
+        told = self.failed("|| g h")
+        self.assertEqual((2, False), (told.status, "HINT" in told.text()))
 
 
 @unittest.skipUnless(shutil.which("ninja"), "ninja is missing (Debian: apt-get install ninja-build)")
@@ -93,6 +122,15 @@ class Fresh(unittest.TestCase):
 
     def test_own_folder(self) -> None:
         self.both(["ninja"], "")
+
+    def test_logs_go(self) -> None:
+        """What an earlier build knows of headers orders nothing in the copy: the reader may come first, and is seen to."""
+        manifest = RULES + CC + "build a.o: cc a.c\n" + "build g.h: late\n  c = echo > g.h\n"
+        with support.Project({"build.ninja": manifest, "a.c": "#if __has_include(\"g.h\")\n#include \"g.h\"\n#endif\nint a;\n"}) as project:
+            project.sh("ninja g.h a.o > /dev/null; test -f .ninja_deps; cp .ninja_deps kept")
+            project.record(["sh", "-c", "test ! -s .ninja_deps && ninja -j1"], ["--fresh"])
+            record, _ = project.left()
+        self.assertEqual([], (record or {"holes": ["none"]})["holes"])
 
     def test_make(self) -> None:
         with support.Project({"Makefile": "all: ; touch all\n"}) as project:

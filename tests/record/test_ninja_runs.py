@@ -1,11 +1,13 @@
 """Which process worked for which build statement: what does not fit is a hole."""
 
 import unittest
-from typing import List
+from typing import List, Sequence
 
 import support
+from record.assumptions import Assumptions
 from record.lives import Act, Life
 from record.names import Names
+from record.ninja_build import NinjaBuilder
 from record.ninja_runs import Kept, Runs
 from record.owners import Owners
 
@@ -15,22 +17,30 @@ MANIFEST = "rule r\n  command = $c\nbuild a: r\n  c = one\nbuild b: r\n  c = two
 class Holes(unittest.TestCase):
     """A ninja with processes and a log that are made up."""
 
-    def runs(self, texts: List[str], log: str, at_once: bool = False, cut: bool = False, manifest: str = MANIFEST) -> Runs:
+    def runs(self, texts: List[str], log: str, at_once: bool = False, cut: bool = False, manifest: str = MANIFEST, words: Sequence[str] = (), has_read: bool = True) -> Runs:
         lines = "".join("0\t5\t0\t%s\tabc\n" % path for path in log)
         with support.Project({"build.ninja": manifest, ".ninja_log": "# ninja log v5\n" + lines}) as project:
             folder = str(project.folder.resolve())
             names = Names()
             names.walk(folder)
-            ninja = Life(1, folder=folder, argv=["ninja"], is_ninja=True, starts=[(1, folder)])
-            ninja.acts.append(Act(2, "R", folder + "/build.ninja"))
+            ninja = Life(1, folder=folder, argv=["ninja", *words], is_ninja=True, starts=[(1, folder)])
+            ninja.acts += [Act(2, "R", folder + "/build.ninja")] * has_read
             for number, text in enumerate(texts):
                 born = 10 + 10 * number
                 argv = ["/bin/sh", "-c", text] if text else ["/bin/true"]
                 life = Life(10 + number, ninja, born, born + (15 if at_once else 5), folder, argv, [argv], cut)
                 life.events[("W", "%s/f%d" % (folder, number))] = born + 1
                 ninja.children.append(life)
-            lives = [ninja, *ninja.children]
-            return Runs(lives, Owners([], []), names, Kept(), True)
+            self.lives, self.names = [ninja, *ninja.children], names
+            return Runs(self.lives, Owners([], []), names, Kept(), True)
+
+    def holes(self, runs: Runs, made: str = "") -> List[str]:
+        """The holes of the build of the only stage; `made` is a folder that ninja made."""
+        if made:
+            runs.ninjas[0].life.events[("M", runs.ninjas[0].folder + "/" + made)] = 12
+        builder = NinjaBuilder(runs.ninjas[0], 0, set(), self.names, Assumptions())
+        builder.run()
+        return builder.holes
 
     def test_all_fits(self) -> None:
         runs = self.runs(["one", "two", "two"], "abc")
@@ -45,19 +55,39 @@ class Holes(unittest.TestCase):
         self.assertIn("ninja ran a command that no build statement has: three", self.runs(["three"], "").holes)
 
     def test_command_that_is_cut(self) -> None:
-        self.assertIn("no build statement has", self.runs(["one"], "a", cut=True).holes[0])
+        self.assertIn("no build statement has", " ".join(self.runs(["one"], "a", cut=True).holes))
 
     def test_child_that_is_no_command(self) -> None:
-        self.assertIn("no command", self.runs([""], "").holes[0])
+        self.assertIn("no command", " ".join(self.runs([""], "").holes))
 
     def test_log_does_not_say_which(self) -> None:
-        self.assertIn("does not say which ran", self.runs(["two", "two"], "b").holes[0])
+        self.assertIn("does not say which ran", " ".join(self.runs(["two", "two"], "b").holes))
 
     def test_two_with_one_command_at_once(self) -> None:
-        self.assertIn("ran at once", self.runs(["two", "two"], "bc", at_once=True).holes[0])
+        self.assertIn("ran at once", " ".join(self.runs(["two", "two"], "bc", at_once=True).holes))
 
     def test_manifest_that_cannot_be_read(self) -> None:
-        self.assertIn("cannot be read again", self.runs(["one"], "", manifest="build a: nothing\n").holes[0])
+        self.assertIn("cannot be read again", " ".join(self.runs(["one"], "", manifest="build a: nothing\n").holes))
+
+    def test_words_that_cannot_be_read(self) -> None:
+        self.assertIn("its words cannot be read: ninja -Z", " ".join(self.runs(["one"], "a", words=["-Z"]).holes))
+
+    def test_ninja_that_read_no_manifest(self) -> None:
+        self.assertIn("a ninja read no manifest: ninja", self.runs(["one"], "a", has_read=False).holes)
+
+    def test_order_of_the_trace(self) -> None:
+        text = "rule r\n  command = $c\nbuild a: r b\n  c = one\nbuild b: r\n  c = two\n"
+        self.assertEqual([], self.holes(self.runs(["two", "one"], "ba", manifest=text)))
+        self.assertEqual(["the order of the trace is not that of the manifest: a"], self.holes(self.runs(["one", "two"], "ab", manifest=text)))
+
+    def test_folder_that_no_statement_needs(self) -> None:
+        runs = self.runs(["one", "two", "two"], "abc")
+        self.assertEqual([], self.holes(runs))
+        self.assertIn("and no statement needs it", " ".join(self.holes(runs, "odd")))
+
+    def test_statements_in_a_ring(self) -> None:
+        text = "rule r\n  command = $c\nbuild a: r b\n  c = one\nbuild b: r a\n  c = two\n"
+        self.assertIn("wait for each other in a ring", " ".join(self.holes(self.runs(["one", "two"], "ab", manifest=text))))
 
 
 if __name__ == "__main__":

@@ -39,6 +39,16 @@ def events_of(life: Life) -> Set[Tuple[str, str]]:
 class Lives(unittest.TestCase):
     """Processes: their parents, and their numbers that come again."""
 
+    def test_threads_change_their_folder_together(self) -> None:
+        replay = played("1 clone3({flags=CLONE_VM|CLONE_FS|CLONE_FILES|CLONE_THREAD}, 88) = 2", '1 chdir("sub") = 0', '2 mkdir("a", 0777) = 0',
+                        '2 chdir("..") = 0', '1 mkdir("b", 0777) = 0')
+        self.assertIn(("M", "sub/a"), events_of(lives_of(replay, 2)[0]))
+        self.assertIn(("M", "b"), events_of(lives_of(replay, 1)[0]))
+
+    def test_a_process_changes_its_folder_alone(self) -> None:
+        replay = played("1 clone(child_stack=NULL, flags=CLONE_CHILD_CLEARTID|SIGCHLD) = 2", '1 chdir("sub") = 0', '2 mkdir("a", 0777) = 0')
+        self.assertIn(("M", "a"), events_of(lives_of(replay, 2)[0]))
+
     def test_child_ends_before_its_parents_call_returns(self) -> None:
         replay = played('1 execve("/bin/sh", ["sh", "-c", "x"], 0x1 /* 1 var */) = 0', "1 vfork( <unfinished ...>",
                         f'2 openat(AT_FDCWD<{TOP}>, "a", O_WRONLY|O_CREAT|O_TRUNC, 0666) = 3<{TOP}/a>', "2 +++ exited with 0 +++",
@@ -95,6 +105,26 @@ class Footprints(unittest.TestCase):
 
     def events(self, *lines: str) -> Set[Tuple[str, str]]:
         return events_of(lives_of(played(*("1 " + line for line in lines)), 1)[0])
+
+    def test_paths_by_way_of_proc(self) -> None:
+        (life,) = lives_of(played('1 chdir("sub") = 0', f'1 openat(AT_FDCWD<{TOP}/sub>, "/proc/self/cwd/a", O_RDONLY) = -1 ENOENT (No such file)',
+                                  f'1 openat(AT_FDCWD<{TOP}/sub>, "/proc/1/root{TOP}/b", O_WRONLY|O_CREAT, 0666) = 3<{TOP}/b>',
+                                  f'1 openat(AT_FDCWD<{TOP}/sub>, "/dev/fd/7", O_WRONLY) = 4<{TOP}/c>',
+                                  f'1 openat(AT_FDCWD<{TOP}/sub>, "/proc/2/cwd/d", O_WRONLY) = 5</elsewhere/d>',
+                                  f'1 openat(AT_FDCWD<{TOP}/sub>, "/dev/fd/8", O_RDONLY) = 6<pipe:[17]>'), 1)
+        self.assertLessEqual({("N", "sub/a"), ("W", "b"), ("W", "c")}, events_of(life))
+        self.assertIn(("W", "/elsewhere/d"), life.events)
+
+    def test_an_open_that_leads_elsewhere_is_a_hole(self) -> None:
+        for flags in ("O_RDONLY", "O_WRONLY|O_CREAT, 0666"):
+            self.assertEqual([], played(f'1 openat(AT_FDCWD<{TOP}>, "a", {flags}) = 3<{TOP}/a>').holes)
+            self.assertEqual(1, len(played(f'1 openat(AT_FDCWD<{TOP}>, "a", {flags}) = 3<{TOP}/b>').holes), flags)
+
+    def test_calls_that_hide_files_are_holes(self) -> None:
+        for call in ('chroot("/no/such/project")', 'pivot_root("a", "b")', 'mount("a", "b", "ext4", 0, NULL)', "setns(3</proc/1/ns/mnt>, 0)",
+                     "open_by_handle_at(3</>, {}, O_RDONLY)", "io_uring_setup(8, {})"):
+            self.assertEqual(1, len(played("1 %s = 0" % call).holes), call)
+            self.assertEqual([], played("1 %s = -1 EPERM (Operation not permitted)" % call).holes, call)
 
     def test_open(self) -> None:
         self.assertIn(("N", "a"), self.events(f'openat(AT_FDCWD<{TOP}>, "a", O_RDONLY) = -1 ENOENT (No such file or directory)'))

@@ -18,7 +18,7 @@ class Lines(unittest.TestCase):
     """One line each."""
 
     def test_call(self) -> None:
-        self.assertEqual([Call(7, "openat", 'AT_FDCWD</w>, "a", O_RDONLY', 3, "")],
+        self.assertEqual([Call(7, "openat", 'AT_FDCWD</w>, "a", O_RDONLY', 3, "", "/w/a")],
                          events('7 openat(AT_FDCWD</w>, "a", O_RDONLY) = 3</w/a>'))
 
     def test_failed_call(self) -> None:
@@ -68,8 +68,18 @@ class Skips(unittest.TestCase):
         self.assertEqual(1, self.kept([self.LOOK, '7 openat(AT_FDCWD</w>, "a", O_RDONLY) = 3</w/a>'], ["/w"]))
 
     def test_look_where_somebody_changes_a_name(self) -> None:
-        for change in ('8 openat(AT_FDCWD</w>, "/usr/lib/x.so", O_WRONLY|O_CREAT, 0666) = 3</usr/lib/x.so>', '8 unlink("/etc/x") = 0', '8 rename("a", "/usr/x") = 0'):
-            self.assertEqual(2, self.kept([self.LOOK, change], ["/w"]), change)
+        opens = ["8 %s, %s) = 3" % (opened, flags) for opened in ('openat(AT_FDCWD</w>, "/usr/x"', 'open("/usr/x"', 'openat2(AT_FDCWD</w>, "/usr/x"')
+                 for flags in ("O_WRONLY", "O_RDWR|O_CLOEXEC", "O_RDONLY|O_CREAT, 0666", "O_RDONLY|O_TRUNC")]
+        names = ("creat", "rename", "renameat2", "unlink", "unlinkat", "rmdir", "mkdir", "mkdirat", "mknod", "link", "linkat", "symlink", "symlinkat", "truncate", "chmod",
+                 "fchmodat", "chown", "lchown", "fchownat", "utime", "utimensat", "futimesat")
+        for change in opens + ['8   %s("a", "/usr/x") = 0' % name for name in names] + ['8 unlink("/etc/x" <unfinished ...>']:
+            calls = 1 if "unfinished" in change else 2
+            self.assertEqual(calls, self.kept([self.LOOK, change], ["/w"]), change)
+            self.assertEqual(calls, self.kept([change, self.LOOK], ["/w"]), change)
+
+    def test_changes_elsewhere_change_nothing_there(self) -> None:
+        others = ['8 unlink("/w/usr/x") = 0', '8 openat(AT_FDCWD</usr>, "x", O_RDONLY) = 3</usr/x>']
+        self.assertEqual(2, self.kept([self.LOOK, *others], ["/w"]))
 
     def test_look_below_a_top(self) -> None:
         self.assertEqual(1, self.kept([self.LOOK], ["/usr/lib"]))

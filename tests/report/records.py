@@ -41,6 +41,18 @@ def header(folder: Path, is_fixed: bool = False, **more: object) -> Path:
     return write(folder, tasks, places, **more)
 
 
+def of_ninja(folder: Path, is_fixed: bool = False) -> Path:
+    """The same where ninja ran the recipes, and CMake wrote its manifest."""
+    record = header(folder, is_fixed)
+    path = record / "builds" / "001" / "build.json"
+    about = json.loads(path.read_text(encoding="utf-8"))
+    targets = {"build/keywords.h": "words", "main.o": "shell", "lex.o": "lexer", "shell": "shell"}
+    for label, it in about["labels"].items():
+        it.update(file="build.ninja", owner={"by": "cmake", "target": targets[label]}, rule="r", pool="", depth="", sum="")
+    path.write_text(json.dumps({**about, "tool": "ninja"}), encoding="utf-8")
+    return record
+
+
 def kinds(folder: Path) -> Path:
     """A race of each kind that a race can show, with names that need care in each form."""
     tasks = [

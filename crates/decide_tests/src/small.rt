@@ -23,6 +23,27 @@ pub(crate) fn missing_header() -> [Made<'static>; 5] {
     ]
 }
 
+/// The same, where it needs the header.
+pub(crate) fn header_needed() -> [Made<'static>; 5] {
+    [
+        Made::file("gen.sh"),
+        Made::ruled("gen.h", &[0], &["gen.sh"], &["gen.h"]),
+        Made::file("a.c"),
+        Made::ruled("a.o", &[2, 1], &["a.c", "gen.h"], &["a.o"]),
+        Made::plain("all", &[1, 3]),
+    ]
+}
+
+/// Three recipes that write one file, none behind another.
+pub(crate) fn three_writers() -> [Made<'static>; 4] {
+    [
+        Made::ruled("x", &[], &[], &["t", "x"]),
+        Made::ruled("y", &[], &[], &["t", "y"]),
+        Made::ruled("z", &[], &[], &["t", "z"]),
+        Made::plain("all", &[0, 1, 2]),
+    ]
+}
+
 /// Two recipes that write one file, where a target without commands puts them in order.
 pub(crate) fn temporary_ordered() -> [Made<'static>; 6] {
     [

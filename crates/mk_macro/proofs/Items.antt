@@ -1,12 +1,13 @@
 -- The items of a text, one after another.
 use Rattle.std.proofs.Common.{◌≡◌, ℕ, zero, suc, ◌+◌, ◌<◌, ◌≤◌, false, List, [], ◌∷◌, ◌++◌, Option, Some, None, length, map, get_or, take, drop, refl, ◌∙◌, ap, arith, ◌==◌}
+use Rattle.std.specs.Prelude.{Bool, true, ◌||◌}
 use Rattle.std.specs.List.{position_or_len}
 use Rattle.std.specs.Option.{unwrap_or}
 use Rattle.std.proofs.lemmas.Bool.{false_from_ne_true}
 use Rattle.memchr.specs.Find.{IsFirstByte}
 use Rattle.mk_text.specs.Outside.{dollar}
 use Rattle.mk_macro.specs.Reference.{Plain}
-use Rattle.mk_macro.specs.References.{behind, dollar_item, dollar_length, items_behind, items_of, item_at, more_bytes}
+use Rattle.mk_macro.specs.References.{behind, dollar_item, dollar_length, holds, items_behind, items_of, item_at, more_bytes}
 
 -- the first bytes are passed over
 pub items_skip : (n : ℕ) (text : List ℕ) → items_behind n text ≡ items_of (drop n text)
@@ -38,6 +39,18 @@ plain_front text None none = items_plain (length text) text (omega arith) (λ i 
 pub plain_inside : (text : List ℕ) (place : Option ℕ) → IsFirstByte (λ b. b == dollar) text place → unwrap_or place (length text) ≤ length text
 plain_inside text (Some n) first = omega (arith, first.0.high)
 plain_inside text None none = omega arith
+
+neither : (a b : Bool) → (a || b) ≡ false → (a ≡ false) × (b ≡ false)
+neither true b h = absurd (cc)
+neither false b h = (refl, h)
+
+-- without a dollar sign all bytes do
+pub all_plain : (text : List ℕ) → holds dollar text ≡ false → items_of text ≡ map Plain text
+all_plain [] none = refl
+all_plain (b ∷ text) none =
+    let parts = neither (b == dollar) (holds dollar text) none in
+    let no : (b == dollar) ≡ false = parts.0 in
+    items_more b text ∙ rw no (ap (λ items. Plain b ∷ items) (all_plain text parts.1))
 
 -- the items of a text that begins with a dollar sign
 pub items_dollar : (text : List ℕ) → 1 ≤ length text → get_or text 0 0 ≡ dollar → items_of text ≡ dollar_item (drop 1 text) ∷ items_of (drop (dollar_length (drop 1 text)) (drop 1 text))

@@ -1,9 +1,13 @@
 -- The place of the first element that passes a test.
-use Rattle.std.proofs.Common.{◌≡◌, ℕ, suc, ◌+◌, ◌-◌, ◌<◌, ◌≤◌, Bool, true, false, cond, List, [], ◌∷◌, Some, None, length, take, drop, refl, sym, ◌∙◌, ap, arith, not, map}
+use Rattle.std.proofs.Common.{◌≡◌, ℕ, suc, ◌+◌, ◌-◌, ◌<◌, ◌≤◌, Bool, true, false, cond, List, [], ◌∷◌, Option, Some, get_or, None, length, take, drop, refl, sym, ◌∙◌, ap, arith, not, map}
 use Rattle.std.specs.Prelude.{nat_lt, ◌||◌}
 use Rattle.std.specs.List.{list_any, position, position_or_len}
-use Rattle.std.proofs.lemmas.Bool.{ltb-false, ltb-true}
+use Rattle.std.proofs.lemmas.Bool.{false_from_ne_true, le-ltb, lt-ltb, ltb-false, ltb-true}
+use Rattle.std.specs.Option.{is_some}
+use Rattle.std.specs.Prelude.{IfSome}
 use Rattle.std.proofs.lemmas.List.{take_rest, drop_all, length-map}
+use Rattle.std.proofs.lemmas.List.Sums.{position_or_len_is}
+use Rattle.memchr.specs.Find.{IsFirstByte}
 
 module _ {X : Type 0} (test : X → Bool) where
   within_more : (b rest : Bool) (n m : ℕ) → rest ≡ nat_lt n m → (b || rest) ≡ nat_lt (cond (not b) (1 + n) 0) (suc m)
@@ -54,3 +58,35 @@ module _ {X Y : Type 0} (f : X → Y) (test : Y → Bool) where
   position_of_images xs =
       ap (λ n. cond (nat_lt n (length (map f xs))) (Some n) None) (first_of_images xs)
       ∙ ap (λ m. cond (nat_lt (position_or_len (λ x. test (f x)) xs) m) (Some (position_or_len (λ x. test (f x)) xs)) None) (length-map xs f)
+
+-- a search for a byte gives the first place, where some byte passes
+module _ (test : ℕ → Bool) (xs : List ℕ) where
+  none_place : IsFirstByte test xs None → position_or_len test xs ≡ length xs
+  none_place none =
+      position_or_len_is test xs (length xs) 0 (omega arith)
+      (λ j below. false_from_ne_true (test (get_or xs j 0)) (none j (omega arith) below))
+      (λ past. absurd (omega arith))
+
+  some_place : (k : ℕ) → IsFirstByte test xs (Some k) → position_or_len test xs ≡ k
+  some_place k first =
+      let high = first.0.high in
+      position_or_len_is test xs k 0 (omega arith)
+      (λ j below. false_from_ne_true (test (get_or xs j 0)) (first.0.before j (omega arith) below))
+      (λ _. first.1)
+
+  found_within : (r : Option ℕ) → IsFirstByte test xs r → nat_lt (position_or_len test xs) (length xs) ≡ is_some r
+  found_within None none = ap (λ n. nat_lt n (length xs)) (none_place none) ∙ le-ltb (length xs) (length xs) (omega arith)
+  found_within (Some k) first = ap (λ n. nat_lt n (length xs)) (some_place k first) ∙ lt-ltb k (length xs) first.0.high
+
+  pub any_found : (r : Option ℕ) → IsFirstByte test xs r → list_any test xs ≡ is_some r
+  any_found r found = any_within test xs ∙ found_within r found
+
+  pub place_found : (r : Option ℕ) → IsFirstByte test xs r → r ≡ position test xs
+  place_found None none =
+      sym (ap (λ b. cond b (Some (position_or_len test xs)) None) (found_within None none))
+  place_found (Some k) first =
+      sym (ap (λ b. cond b (Some (position_or_len test xs)) None) (found_within (Some k) first) ∙ ap Some (some_place k first))
+
+  pub found_inside : (r : Option ℕ) → IsFirstByte test xs r → IfSome r (λ at. at < length xs)
+  found_inside None none = tt
+  found_inside (Some k) first = first.0.high

@@ -151,7 +151,7 @@ module _ {m : Macros} {busy : List Name} {k count : ℕ} where
   byte_seen : (seen : List Item) (own : List ℕ) (b : ℕ) → Expands m busy seen k (the own count) → length own + 1 ≤ byte_limit → Expands m busy (seen ++ Plain b ∷ []) k (the (own ++ b ∷ []) count)
   byte_seen seen own b e short = one_more e byte refl (sym (joined_short own (b ∷ []) count short))
 
-  bytes_seen : (seen : List Item) (own bytes : List ℕ) → Expands m busy seen k (the own count) → length own + length bytes ≤ byte_limit → Expands m busy (seen ++ map Plain bytes) k (the (own ++ bytes) count)
+  pub bytes_seen : (seen : List Item) (own bytes : List ℕ) → Expands m busy seen k (the own count) → length own + length bytes ≤ byte_limit → Expands m busy (seen ++ map Plain bytes) k (the (own ++ bytes) count)
   bytes_seen seen own [] e short =
       subst (λ (items : List Item). Expands m busy items k (the (own ++ []) count)) (sym (append-nil seen)) (subst (λ (xs : List ℕ). Expands m busy seen k (the xs count)) (sym (append-nil own)) e)
   bytes_seen seen own (b ∷ bytes) e short =

@@ -1,5 +1,5 @@
 -- The ways through the loop of an expansion.
-use Rattle.std.proofs.Common.{◌≡◌, ℕ, ◌+◌, ◌<◌, false, List, [], ◌∷◌, ◌++◌, Option, Some, None, Result, Ok, Err, length, map, refl, sym, ◌∙◌, ap, subst}
+use Rattle.std.proofs.Common.{◌≡◌, ℕ, ◌+◌, ◌<◌, ◌≤◌, false, List, [], ◌∷◌, ◌++◌, Option, Some, None, Result, Ok, Err, length, map, refl, sym, ◌∙◌, ap, subst, arith}
 use Rattle.std.specs.Prelude.{Vec, reverse}
 use Rattle.std.specs.Global.{Global}
 use Rattle.std.specs.Result.{IsErrAnd}
@@ -13,18 +13,28 @@ use Rattle.mk_name.specs.declared.fault.Kind.TheVariants.{BadReference}
 use Rattle.mk_macro.specs.Answers.{AnswersText}
 use Rattle.mk_macro.specs.declared.open.Open.{Open}
 use Rattle.mk_macro.specs.Expansion.{Expands, IsExpansion, byte_limit, is_late, macro_fault, refusal}
-use Rattle.mk_macro.specs.Expansion.{broken, refused, undefined, itself}
+use Rattle.mk_macro.specs.Expansion.{broken, refused, undefined, itself, nothing}
 use Rattle.mk_macro.specs.Layer.{Holds, Output, Puts, Text, grown}
 use Rattle.mk_macro.specs.Limits.{IsOver, IsRefusal, IsReferred, IsOverReferred, IsTooMuch}
 use Rattle.mk_macro.specs.Macros.{Definition, Macros}
 use Rattle.mk_macro.specs.Reference.{Change, Item, Reference, Plain, Refers, Broken}
-use Rattle.mk_macro.specs.References.{items_of}
+use Rattle.mk_macro.specs.References.{holds, items_of}
 use Rattle.mk_macro.specs.Substitution.{changed}
-use Rattle.mk_macro.proofs.Steps.{Level, Stands, bytes_on, bytes_too_long, closes, closes_long, enters, fails, finishes, goes_on, names, the, too_large, too_long}
+use Rattle.mk_text.specs.Outside.{dollar}
+use Rattle.mk_macro.proofs.Items.{all_plain}
+use Rattle.mk_macro.proofs.Steps.{Level, Stands, bytes_on, bytes_seen, bytes_too_long, closes, closes_long, enters, fails, finishes, goes_on, names, the, too_large, too_long}
 
 -- answers
 pub fault_answer : (m : Macros) (text : List ℕ) (f : Told) → Expands m [] (items_of text) 0 (Err f) → IsExpansion m text (Err f)
 fault_answer m text f e = record { outcome = Err f; expands = e; answers = refl }
+
+-- a text with no dollar sign, and no more bytes than a text may have, stands for itself
+pub plain_answer : (m : Macros) (text : List ℕ) → length text ≤ byte_limit → holds dollar text ≡ false → IsExpansion m text (Ok text)
+plain_answer m text short none = record {
+  outcome = the text 0;
+  expands = subst (λ (items : List Item). Expands m [] items 0 (the text 0)) (sym (all_plain text none)) (bytes_seen [] [] text nothing (omega arith));
+  answers = refl;
+}
 
 module _ (P : Result (List ℕ) Told → Type 0) where
   over_halts : (halt : Halt) (limit a : ℕ) → IsOver halt limit a → (limit < a → P (Err too_large)) → HaltsAmong halt P

@@ -1,12 +1,15 @@
 //! What a text expands to (POSIX.1-2024 XCU make, "Macros", and the profile).
-ghost use Rattle.std.specs.Prelude.{◌≡◌, ◌<◌, ◌^◌, length, option_map, IfErr, IfOk, IfSome};
+ghost use Rattle.std.specs.Prelude.{◌≡◌, ◌≤◌, ◌<◌, ◌^◌, false, length, option_map, IfErr, IfOk, IfSome};
 ghost use Rattle.mk_macro.specs.Answers.{AnswersText};
-ghost use Rattle.mk_macro.specs.Expansion.{IsExpansion};
+ghost use Rattle.mk_macro.specs.Expansion.{IsExpansion, byte_limit};
 ghost use Rattle.mk_macro.specs.Limits.{IsOverReferred, IsReferred};
 ghost use Rattle.mk_macro.specs.Macros.{macros_of};
+ghost use Rattle.mk_macro.specs.References.{holds};
+ghost use Rattle.mk_text.specs.Outside.{dollar};
 
 use crate::fault::unnamed;
-use crate::item::{Item, Reference, first_item};
+use crate::item::{Item, Reference, first_item, holds};
+use crate::layer::BYTE_LIMIT;
 use crate::macros::Macros;
 use crate::open::{Open, refuse};
 use crate::output::Output;
@@ -49,6 +52,25 @@ impl Macros {
     /// `MacroLoop` with the name of a macro whose value is being expanded. Of one reference they come
     /// in this order, but the length last. Want of memory may come in place of any answer.
     pub fn expand(&self, alloc: Global, text: &[u8]) -> Result<Vec<u8>, Halt>
+        ensures { AnswersText result (IsExpansion (macros_of self.now) text.now) }
+    {
+        if text.len() <= BYTE_LIMIT && !holds(text, b'$') {
+            return self.expand_plain(alloc, text);
+        }
+        self.expand_items(alloc, text)
+    }
+
+    /// What a text without a dollar sign expands to, which may be so long: itself.
+    fn expand_plain(&self, alloc: Global, text: &[u8]) -> Result<Vec<u8>, Halt>
+        requires short { length text.now ≤ byte_limit }
+        requires plain { holds dollar text.now ≡ false }
+        ensures { AnswersText result (IsExpansion (macros_of self.now) text.now) }
+    {
+        Ok(Vec::from_slice(alloc, text)?)
+    }
+
+    /// What a text expands to, item by item.
+    fn expand_items(&self, alloc: Global, text: &[u8]) -> Result<Vec<u8>, Halt>
         ensures { AnswersText result (IsExpansion (macros_of self.now) text.now) }
     {
         let mut out = Output::new(alloc);

@@ -106,14 +106,14 @@ fn place_of(text: &[u8], byte: u8) -> Option<usize>
     ensures place { result ≡ position (λ b. b == byte) text.now }
     ensures inside { IfSome result (λ at. at < length text.now) }
 {
-    text.iter().position(|other| *other == byte)
+    memchr(byte, text)
 }
 
 /// Whether the text holds the byte.
-fn holds(text: &[u8], byte: u8) -> bool
+pub fn holds(text: &[u8], byte: u8) -> bool
     ensures { result ≡ holds byte text.now }
 {
-    text.iter().any(|other| *other == byte)
+    memchr(byte, text).is_some()
 }
 
 /// What a reference with this name and this substitution is.

@@ -9,8 +9,8 @@ ghost use Rattle.mk_macro.specs.Words.{AreWords, ComesToSame, IsOneWord, reach};
 
 use crate::fault::unnamed;
 use crate::item::Change;
+use memchr::memchr2;
 use mk_name::fault::{Halt, Kind};
-use mk_text::lexical::is_blank;
 use std::alloc::Global;
 
 /// The place of the first blank.
@@ -18,7 +18,7 @@ fn first_blank(text: &[u8]) -> Option<usize>
     ensures place { result ≡ position is_blank text.now }
     ensures inside { IfSome result (λ at. at < length text.now) }
 {
-    text.iter().position(|byte| is_blank(*byte))
+    memchr2(b' ', b'\t', text)
 }
 
 /// What stands before the first blank, that blank, and what stands behind it.

@@ -1,5 +1,5 @@
 -- Lemmas on answers over texts that are the same.
-use Rattle.std.proofs.Common.{◌≡◌, ◌≢◌, ◌∙◌, ℕ, Bool, true, false, List, Ok, Err, subst, sym, refl, IsTrue}
+use Rattle.std.proofs.Common.{◌≡◌, ◌≢◌, ◌∙◌, ℕ, Bool, true, false, List, Result, Ok, Err, subst, sym, refl, IsTrue}
 use Rattle.mk_name.specs.Gives.{HaltsAmong}
 use Rattle.mk_name.specs.Shown.{refused_text}
 use Rattle.mk_name.specs.Told.{Told}
@@ -7,11 +7,10 @@ use Rattle.mk_name.specs.declared.fault.Halt.{Halt}
 use Rattle.mk_name.specs.declared.fault.Halt.TheVariants.{Fault}
 use Rattle.mk_race.specs.Played.{IsPlayed}
 use Rattle.mk_race.specs.Stages.{IsPlanned, Texts}
-use Rattle.mk_race.specs.Verified.{IsVerified, ProofShows}
 use Rattle.mk_race.specs.declared.planning.Planned.{Planned}
 use Rattle.mk_race.specs.declared.replaying.Played.{Played}
 use Rattle.mk_race.specs.declared.replaying.Played.TheVariants.{Allowed, NotAllowed}
-use Rattle.mk_program.specs.Answers.{IsOrderAnswer, IsReplayAnswer, IsVerifyAnswer, status_of, verdict_status, verdict_text}
+use Rattle.mk_program.specs.Answers.{IsOrderAnswer, IsReplayAnswer, IsVerifyAnswer, SaysVerdict, status_of, verdict_status, verdict_text}
 use Rattle.mk_program.specs.Includes.{Pair}
 use Rattle.mk_program.specs.PlanText.{plan_text}
 use Rattle.mk_program.specs.OutcomeText.{IsOutcomeText}
@@ -80,15 +79,14 @@ verify_told old new footprints footprints' proof proof' status text t f p h =
     (subst (λ (x : Texts). IsVerifyAnswer x footprints proof status text) t h))
 
 -- the report of the fault of a proof is its answer
-pub unverified_is : (texts : Texts) (footprints proof : List ℕ) (halt : Halt) (fault : Told) (status : Status) (text : List ℕ)
-    → HaltsAmong halt (IsVerified texts footprints proof) → halt ≡ Fault fault → status ≡ Refused → text ≡ refused_text fault
-    → IsVerifyAnswer texts footprints proof status text
-unverified_is texts footprints proof halt fault status text verified is ends told =
-    rw ends (fault, subst (λ (h : Halt). HaltsAmong h (IsVerified texts footprints proof)) is verified, told)
+pub unverified_is : (Is : Result Bool Told → Type 0) (Shown : Type 0) (halt : Halt) (fault : Told) (status : Status) (text : List ℕ)
+    → HaltsAmong halt Is → halt ≡ Fault fault → status ≡ Refused → text ≡ refused_text fault → SaysVerdict Is Shown status text
+unverified_is Is Shown halt fault status text verified is ends told =
+    rw ends (fault, subst (λ (h : Halt). HaltsAmong h Is) is verified, told)
 
 -- what is told of a proof that was judged is its answer
-pub verdict_is : (texts : Texts) (footprints proof : List ℕ) (accepted : Bool) (status : Status) (text : List ℕ)
-    → IsVerified texts footprints proof (Ok accepted) → (IsTrue accepted → ProofShows texts footprints proof)
-    → status ≡ verdict_status accepted → text ≡ verdict_text accepted → IsVerifyAnswer texts footprints proof status text
-verdict_is texts footprints proof true status text verified shows ends told = rw ends (verified, shows refl, told)
-verdict_is texts footprints proof false status text verified shows ends told = rw ends (verified, told)
+pub verdict_is : (Is : Result Bool Told → Type 0) (Shown : Type 0) (accepted : Bool) (status : Status) (text : List ℕ)
+    → Is (Ok accepted) → (IsTrue accepted → Shown) → status ≡ verdict_status accepted → text ≡ verdict_text accepted
+    → SaysVerdict Is Shown status text
+verdict_is Is Shown true status text verified shows ends told = rw ends (verified, shows refl, told)
+verdict_is Is Shown false status text verified shows ends told = rw ends (verified, told)

@@ -4,7 +4,7 @@ use Rattle.std.proofs.lemmas.Option.{none-some, same_Some}
 use Rattle.clap.specs.Kinds.{or_else}
 use Rattle.clap.specs.Words.{HasKind, Kinds, Row, Text, built, kind_of, subcommand_name_of, subcommand_of, subcommand_rows_of}
 use Rattle.clap.specs.declared.error.Error.{Error}
-use Rattle.clap.specs.declared.error.kind.ErrorKind.TheVariants.{ArgumentConflict}
+use Rattle.clap.specs.declared.error.kind.ErrorKind.{ErrorKind}
 use Rattle.clap.specs.declared.parser.matches.ArgMatches.{ArgMatches}
 use Rattle.clap.specs.declared.parser.matches.ArgMatches.TheViews.{out-ArgMatches}
 use Rattle.clap.specs.Walk.{answers_to, stop_after}
@@ -12,37 +12,38 @@ use Rattle.clap.specs.Simple.{App, Shape, argument_words, built_leaf, entered, i
 use Rattle.mk_program.specs.CommandLine as spec
 use Rattle.mk_program.specs.declared.requests.Request.{Request}
 
--- a parse that enters one of six subcommands enters the first, the second, the third, the fourth, the fifth or the sixth
-entered_name : (a : App) (s t u v w x : Shape) (stop : Option (Text × List Text)) (found : Text × List Row)
-    → a.subs ≡ s ∷ (t ∷ (u ∷ (v ∷ (w ∷ (x ∷ []))))) → entered a stop ≡ Some found
-    → (found.0 ≡ s.name) ⊎ (found.0 ≡ t.name) ⊎ (found.0 ≡ u.name) ⊎ (found.0 ≡ v.name) ⊎ (found.0 ≡ w.name) ⊎ (found.0 ≡ x.name)
-entered_name a s t u v w x None found all e = absurd (none-some found e)
-entered_name a s t u v w x (Some p) found all e =
+-- a parse that enters one of seven subcommands enters the first, the second, the third, the fourth, the fifth, the sixth or the seventh
+entered_name : (a : App) (s t u v w x z : Shape) (stop : Option (Text × List Text)) (found : Text × List Row)
+    → a.subs ≡ s ∷ (t ∷ (u ∷ (v ∷ (w ∷ (x ∷ (z ∷ [])))))) → entered a stop ≡ Some found
+    → (found.0 ≡ s.name) ⊎ (found.0 ≡ t.name) ⊎ (found.0 ≡ u.name) ⊎ (found.0 ≡ v.name) ⊎ (found.0 ≡ w.name) ⊎ (found.0 ≡ x.name) ⊎ (found.0 ≡ z.name)
+entered_name a s t u v w x z None found all e = absurd (none-some found e)
+entered_name a s t u v w x z (Some p) found all e =
     go (answers_to p.0 (label_of s)) (answers_to p.0 (label_of t)) (answers_to p.0 (label_of u)) (answers_to p.0 (label_of v)) (answers_to p.0 (label_of w))
-    (answers_to p.0 (label_of x)) (ap (λ (subs : List Shape). entered (record a { subs = subs }) (Some p)) (sym all) ∙ e)
+    (answers_to p.0 (label_of x)) (answers_to p.0 (label_of z)) (ap (λ (subs : List Shape). entered (record a { subs = subs }) (Some p)) (sym all) ∙ e)
   where
-    go : (b d f h k l : Bool)
+    go : (b d f h k l m : Bool)
         → option_map (λ (y : Shape). rows_at y p.1)
-        (cond b (Some s) (cond d (Some t) (cond f (Some u) (cond h (Some v) (cond k (Some w) (cond l (Some x) None)))))) ≡ Some found
-        → (found.0 ≡ s.name) ⊎ (found.0 ≡ t.name) ⊎ (found.0 ≡ u.name) ⊎ (found.0 ≡ v.name) ⊎ (found.0 ≡ w.name) ⊎ (found.0 ≡ x.name)
-    go true d f h k l e = inl (ap (λ (y : Text × List Row). y.0) (sym (same_Some _ _ e)))
-    go false true f h k l e = inr (inl (ap (λ (y : Text × List Row). y.0) (sym (same_Some _ _ e))))
-    go false false true h k l e = inr (inr (inl (ap (λ (y : Text × List Row). y.0) (sym (same_Some _ _ e)))))
-    go false false false true k l e = inr (inr (inr (inl (ap (λ (y : Text × List Row). y.0) (sym (same_Some _ _ e))))))
-    go false false false false true l e = inr (inr (inr (inr (inl (ap (λ (y : Text × List Row). y.0) (sym (same_Some _ _ e)))))))
-    go false false false false false true e = inr (inr (inr (inr (inr (ap (λ (y : Text × List Row). y.0) (sym (same_Some _ _ e)))))))
-    go false false false false false false e = absurd (none-some found e)
+        (cond b (Some s) (cond d (Some t) (cond f (Some u) (cond h (Some v) (cond k (Some w) (cond l (Some x) (cond m (Some z) None))))))) ≡ Some found
+        → (found.0 ≡ s.name) ⊎ (found.0 ≡ t.name) ⊎ (found.0 ≡ u.name) ⊎ (found.0 ≡ v.name) ⊎ (found.0 ≡ w.name) ⊎ (found.0 ≡ x.name) ⊎ (found.0 ≡ z.name)
+    go true d f h k l m e = inl (ap (λ (y : Text × List Row). y.0) (sym (same_Some _ _ e)))
+    go false true f h k l m e = inr (inl (ap (λ (y : Text × List Row). y.0) (sym (same_Some _ _ e))))
+    go false false true h k l m e = inr (inr (inl (ap (λ (y : Text × List Row). y.0) (sym (same_Some _ _ e)))))
+    go false false false true k l m e = inr (inr (inr (inl (ap (λ (y : Text × List Row). y.0) (sym (same_Some _ _ e))))))
+    go false false false false true l m e = inr (inr (inr (inr (inl (ap (λ (y : Text × List Row). y.0) (sym (same_Some _ _ e)))))))
+    go false false false false false true m e = inr (inr (inr (inr (inr (inl (ap (λ (y : Text × List Row). y.0) (sym (same_Some _ _ e))))))))
+    go false false false false false false true e = inr (inr (inr (inr (inr (inr (ap (λ (y : Text × List Row). y.0) (sym (same_Some _ _ e))))))))
+    go false false false false false false false e = absurd (none-some found e)
 
 -- the subcommand that the words name is one of the program's
 pub one_named : (words : List Text) (found : Text × List Row) → subcommand_of spec.race_app words ≡ Some found
     → (found.0 ≡ codes "order") ⊎ (found.0 ≡ codes "check") ⊎ (found.0 ≡ codes "verify") ⊎ (found.0 ≡ codes "replay") ⊎ (found.0 ≡ codes "serialise")
-    ⊎ (found.0 ≡ codes "list")
+    ⊎ (found.0 ≡ codes "list") ⊎ (found.0 ≡ codes "fix")
 one_named words found e =
     let top = with_leaf_noted (marked_built spec.race_app.top) in
     let stop = stop_after (built spec.race_app).top.rules (names_of (built spec.race_app)) (argument_words spec.race_app words) in
     entered_name (built spec.race_app) (built_leaf (inherited top spec.order_app.top)) (built_leaf (inherited top spec.check_app.top))
     (built_leaf (inherited top spec.verify_app.top)) (built_leaf (inherited top spec.replay_app.top)) (built_leaf (inherited top spec.serialise_app.top))
-    (built_leaf (inherited top spec.list_app.top)) stop found refl e
+    (built_leaf (inherited top spec.list_app.top)) (built_leaf (inherited top spec.fix_app.top)) stop found refl e
 
 map_map : {X Y Z : Type 0} (f : Y → Z) (g : X → Y) (o : Option X) → option_map f (option_map g o) ≡ option_map (λ (x : X). f (g x)) o
 map_map f g None = refl
@@ -75,13 +76,8 @@ still_wrong (kind ∷ kinds) more error has = has
 pub none_wrong : (kinds more : Kinds) → kinds ≡ [] → more ≡ [] → or_else kinds more ≡ []
 none_wrong kinds more none no_more = ap₂ or_else none no_more
 
--- one base at most is nothing wrong
-pub one_base : (o : Option (Text × List Row)) (name : Text) (rows : List Row) → o ≡ Some (name, rows) → spec.has_two_bases rows ≡ false → spec.value_kinds o ≡ []
-one_base o name rows is one = ap spec.value_kinds is ∙ ap (λ (b : Bool). cond b (ArgumentConflict ∷ []) []) one
-
--- two bases are wrong
-pub two_wrong : (o : Option (Text × List Row)) (name : Text) (rows : List Row) (kinds : Kinds) (error : Error) → o ≡ Some (name, rows) → spec.has_two_bases rows ≡ true
-    → kinds ≡ [] → kind_of error ≡ ArgumentConflict → HasKind (or_else kinds (spec.value_kinds o)) error
-two_wrong o name rows kinds error is two none conflict =
-    let found : spec.value_kinds o ≡ ArgumentConflict ∷ [] = ap spec.value_kinds is ∙ ap (λ (b : Bool). cond b (ArgumentConflict ∷ []) []) two in
-    subst (λ (k : Kinds). HasKind k error) (sym (ap₂ or_else none found)) (inr (inl conflict))
+-- what is wrong with the values is wrong
+pub value_wrong : (o : Option (Text × List Row)) (found : Text × List Row) (kinds : Kinds) (kind : ErrorKind) (error : Error) → o ≡ Some found
+    → spec.value_kinds (Some found) ≡ kind ∷ [] → kinds ≡ [] → kind_of error ≡ kind → HasKind (or_else kinds (spec.value_kinds o)) error
+value_wrong o found kinds kind error is wrong none same =
+    subst (λ (k : Kinds). HasKind k error) (sym (ap₂ or_else none (ap spec.value_kinds is ∙ wrong))) (inr (inl same))

@@ -1,16 +1,27 @@
 -- Lemmas on the answers to a check.
-use Rattle.std.proofs.Common.{◌≡◌, ◌≢◌, ◌∙◌, ◌==◌, ℕ, Bool, false, List, Option, Some, None, ap, subst, sym, refl, codes, slice_index_or}
+use Rattle.std.proofs.Common.{◌≡◌, ◌≢◌, ◌∙◌, ◌==◌, inl, inr, ℕ, Bool, false, List, [], ◌++◌, Option, Some, None, ap, subst, sym, refl, codes, slice_index_or}
 use Rattle.std.proofs.lemmas.Bool.{false≢true}
+use Rattle.std.proofs.lemmas.List.Elements.{All-cons, All-head, All-nil}
 use Rattle.std.specs.Borrow.{Bor}
 use Rattle.clap.specs.Words.{Row, Text}
 use Rattle.mk_report.specs.Reports.{IsReport}
 use Rattle.mk_report.specs.declared.answer.Answer.{Answer as Judged}
 use Rattle.mk_report.specs.declared.answer.Answer.TheVariants as judged
-use Rattle.mk_race.specs.Judged.{HoldsOfRace, IsAnswered, IsSafe, NoScheduleShows}
+use Rattle.mk_race.specs.Judged.{HoldsOfRace, IsSafe}
 use Rattle.mk_race.specs.Stages.{Texts}
-use Rattle.mk_program.specs.Answers.{AskToCheck, IsAnswerTo, IsCheckAnswer, SaysSafe, judged_status}
-use Rattle.mk_program.specs.CommandLine.{Asks, asked}
+use Rattle.mk_race.specs.Tasked as tasked
+use Rattle.mk_program.specs.Answers.{AskToCheck, IsAnswerTo, IsCheckAnswer, IsTasksAnswer, SaysJudged, SaysSafe, judged_status}
+use Rattle.mk_program.specs.CommandLine.{Asks, IsQuestion, asked}
+use Rattle.mk_program.specs.Includes.{Pair}
+use Rattle.mk_program.specs.Inputs.{Hold, IsLeftOut}
+use Rattle.mk_program.specs.Requests.{input_at, proof_input}
+use Rattle.mk_program.specs.declared.failures.InputFile.{InputFile}
+use Rattle.mk_program.specs.declared.failures.InputFile.TheVariants as inputs
+use Rattle.mk_program.specs.declared.inputs.InputPath.{InputPath}
 use Rattle.mk_program.specs.declared.requests.Request.TheVariants as requests
+use Rattle.mk_program.specs.declared.requests.TaskArgs.{TaskArgs}
+use Rattle.mk_program.specs.declared.requests.TaskQuestion.{TaskQuestion}
+use Rattle.mk_program.specs.declared.requests.TaskQuestion.TheVariants as questions
 use Rattle.mk_program.specs.declared.statuses.Status.{Status}
 use Rattle.mk_program.specs.declared.statuses.Status.TheVariants.{Done, Failed, No, Refused}
 
@@ -20,15 +31,15 @@ pub check_told : (old new : Texts) (footprints footprints' : List ℕ) (proof : 
 check_told old new footprints footprints' proof status text t f h =
     subst (λ (x : List ℕ). IsCheckAnswer new x proof status text) f (subst (λ (x : Texts). IsCheckAnswer x footprints proof status text) t h)
 
--- what is told of a build that was judged is its answer
-pub judged_is : (texts : Texts) (footprints : List ℕ) (answer : Judged) (proof : Bool) (status : Status) (text : List ℕ)
-    → IsAnswered texts footprints answer → (IsSafe answer → NoScheduleShows texts footprints) → HoldsOfRace answer
-    → status ≡ judged_status answer → IsReport answer proof text → IsCheckAnswer texts footprints proof status text
-judged_is texts footprints (judged.Safe jobs chains) proof status text answered headline holds ends report =
+-- what is told of a build or of tasks that were judged is their answer
+pub judged_is : (Is : Judged → Type 0) (Headline : Type 0) (answer : Judged) (proof : Bool) (status : Status) (text : List ℕ)
+    → Is answer → (IsSafe answer → Headline) → HoldsOfRace answer → status ≡ judged_status answer → IsReport answer proof text
+    → SaysJudged Is Headline proof status text
+judged_is Is Headline (judged.Safe jobs chains) proof status text answered headline holds ends report =
     rw ends (record { jobs = jobs; chains = chains; answer = answered; report = report; headline = headline tt })
-judged_is texts footprints (judged.Race jobs trace) proof status text answered headline holds ends report =
+judged_is Is Headline (judged.Race jobs trace) proof status text answered headline holds ends report =
     rw ends (record { jobs = jobs; trace = trace; answer = answered; report = report; holds = holds })
-judged_is texts footprints (judged.Refused told) proof status text answered headline holds ends report = rw ends (told, answered, report)
+judged_is Is Headline (judged.Refused told) proof status text answered headline holds ends report = rw ends (told, answered, report)
 
 -- a build that was judged is told
 pub judged_ends : (answer : Judged) (status : Status) → status ≡ judged_status answer → status ≢ Failed
@@ -41,7 +52,53 @@ not_check : (name : Text) → (found : Text) → found ≡ codes "check" → fou
 not_check name found check is first =
     false≢true (sym first ∙ ap (λ (text : Text). slice_index_or text 0 0 == 99) (sym is ∙ check))
 
--- what is told of a safe build says that no schedule shows
+-- what is asked about tasks is whether they are safe
+question_asked : (o : Option (Text × List Row)) (args : TaskArgs) → AskToCheck o → Asks (requests.Tasks args) o
+    → (name : Text) × (rows : List Row) × (name ≡ codes "check") × IsQuestion args.question name rows
+question_asked None args check asks = absurd check
+question_asked (Some found) args check asks = (found.0, found.1, check, asks.question)
+
+-- the text of tasks alone
+only_tasks : List ℕ → InputFile → List ℕ
+only_tasks tasks inputs.Include = []
+only_tasks tasks inputs.Base = []
+only_tasks tasks inputs.Makefile = []
+only_tasks tasks inputs.Listing = []
+only_tasks tasks inputs.Footprints = []
+only_tasks tasks inputs.Proof = []
+only_tasks tasks inputs.Log = []
+only_tasks tasks inputs.Tasks = tasks
+
+-- the text of each other input is empty
+no_others : (tasks : List ℕ) (path : Bor (List ℕ)) (input : InputFile) → IsLeftOut (input_at inputs.Tasks path) input → only_tasks tasks input ≡ []
+unfolding only_tasks
+no_others tasks path inputs.Include out = refl
+no_others tasks path inputs.Base out = refl
+no_others tasks path inputs.Makefile out = refl
+no_others tasks path inputs.Listing out = refl
+no_others tasks path inputs.Footprints out = refl
+no_others tasks path inputs.Proof out = refl
+no_others tasks path inputs.Log out = refl
+no_others tasks path inputs.Tasks out = absurd (All-head (λ (known : InputPath). known.input ≢ inputs.Tasks) _ [] out refl)
+
+-- what is told of safe tasks says that no schedule shows
+question_safe : (question : TaskQuestion) (path root : Bor (List ℕ)) (files : List ℕ → Option (List ℕ)) (answer : List ℕ)
+    → (name : Text) × (rows : List Row) × (name ≡ codes "check") × IsQuestion question name rows
+    → ((includes : List Pair) (text : InputFile → List ℕ) → Some [] ≡ Some includes → Hold files (input_at inputs.Tasks path ++ proof_input question) text
+    → IsTasksAnswer question root.now text Done answer)
+    → (tasks : List ℕ) → files path.now ≡ Some tasks → tasked.NoScheduleShows root.now tasks
+unfolding only_tasks
+question_safe (questions.Check proof) path root files answer asks told tasks opened =
+    let hold : Hold files (input_at inputs.Tasks path) (only_tasks tasks) = record {
+      each = All-cons (λ (known : InputPath). files known.path.now ≡ Some (only_tasks tasks known.input)) _ [] opened
+          (All-nil (λ (known : InputPath). files known.path.now ≡ Some (only_tasks tasks known.input)));
+      others = no_others tasks path;
+    } in
+    (told [] (only_tasks tasks) refl hold).headline
+question_safe (questions.Verify proof) path root files answer asks told tasks opened = absurd (not_check (codes "verify") asks.0 asks.2 asks.3.0 refl)
+question_safe questions.List path root files answer asks told tasks opened = absurd (not_check (codes "list") asks.0 asks.2 asks.3 refl)
+
+-- what is told of a safe build, or of safe tasks, says that no schedule shows
 pub says_safe : (words : List (Bor Text)) (files : List ℕ → Option (List ℕ)) (text : List ℕ) → AskToCheck (asked words)
     → IsAnswerTo words files Done text → SaysSafe words files
 says_safe words files text check (requests.Order build, asks, answer) = absurd (other (asked words) check asks)
@@ -50,7 +107,7 @@ says_safe words files text check (requests.Order build, asks, answer) = absurd (
     other None check asks = absurd check
     other (Some found) check asks = not_check (codes "order") found.0 check asks.0 refl
 says_safe words files text check (requests.Check args, asks, answer) =
-    (args, asks, λ includes texts opened held. (answer includes texts opened held).headline)
+    inl (args, asks, λ includes texts opened held. (answer includes texts opened held).headline)
 says_safe words files text check (requests.Verify args, asks, answer) = absurd (other (asked words) check asks)
   where
     other : (o : Option (Text × List Row)) → AskToCheck o → Asks (requests.Verify args) o → ⊥
@@ -71,3 +128,10 @@ says_safe words files text check (requests.List args, asks, answer) = absurd (ot
     other : (o : Option (Text × List Row)) → AskToCheck o → Asks (requests.List args) o → ⊥
     other None check asks = absurd check
     other (Some found) check asks = not_check (codes "list") found.0 check asks.0 refl
+says_safe words files text check (requests.Fix args, asks, answer) = absurd (other (asked words) check asks)
+  where
+    other : (o : Option (Text × List Row)) → AskToCheck o → Asks (requests.Fix args) o → ⊥
+    other None check asks = absurd check
+    other (Some found) check asks = not_check (codes "fix") found.0 check asks.0 refl
+says_safe words files text check (requests.Tasks args, asks, answer) =
+    inr (args, asks, question_safe args.question args.tasks args.root files text (question_asked (asked words) args check asks) answer)

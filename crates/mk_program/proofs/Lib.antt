@@ -1,12 +1,14 @@
 mod Answering
 mod Asked
 mod Failing
+mod Fixings
 mod Locals
 mod OutcomeLines
 mod PlanLines
 mod RaceLists
 mod Reading
 mod SerialAnswers
+mod TaskAnswers
 mod Told
 mod Values
 pub mod Included

@@ -1,5 +1,5 @@
 -- Lemmas on the answers to requests for all races.
-use Rattle.std.proofs.Common.{◌≡◌, ◌≢◌, ◌∙◌, ◌⊎◌, ◌==◌, inl, inr, ℕ, true, false, List, [], ◌∷◌, Ok, Err, length, ap, refl, subst, sym}
+use Rattle.std.proofs.Common.{◌≡◌, ◌≢◌, ◌∙◌, ◌⊎◌, ◌==◌, inl, inr, ℕ, true, false, List, [], ◌∷◌, Result, Ok, length, ap, refl, subst, sym}
 use Rattle.std.proofs.lemmas.Bool.{eqb-true, false≢true}
 use Rattle.std.proofs.lemmas.List.{nil_from_length}
 use Rattle.mk_name.specs.Gives.{HaltsAmong}
@@ -7,11 +7,10 @@ use Rattle.mk_name.specs.Shown.{refused_text}
 use Rattle.mk_name.specs.Told.{Told}
 use Rattle.mk_name.specs.declared.fault.Halt.{Halt}
 use Rattle.mk_name.specs.declared.fault.Halt.TheVariants.{Fault}
-use Rattle.mk_race.specs.Listed.{IsListed}
 use Rattle.mk_race.specs.Stages.{Texts}
 use Rattle.mk_race.specs.declared.listing.RaceList.{RaceList}
 use Rattle.mk_report.specs.RacesText.{IsRacesText}
-use Rattle.mk_program.specs.Answers.{IsListAnswer, races_status}
+use Rattle.mk_program.specs.Answers.{IsListAnswer, SaysList, races_status}
 use Rattle.mk_program.specs.declared.statuses.Status.{Status}
 use Rattle.mk_program.specs.declared.statuses.Status.TheVariants.{Done, No, Failed, Refused}
 
@@ -32,20 +31,18 @@ races_not_failed races status ends failed = elim (races_end races) [
   | inr some ↦ let e : ◌≡◌ {A = Status} No Failed = sym some ∙ sym ends ∙ failed in cc
 ]
 
--- the report of the fault of a build is its answer
-pub unlisted_is : (texts : Texts) (footprints : List ℕ) (halt : Halt) (fault : Told) (status : Status) (text : List ℕ)
-    → HaltsAmong halt (IsListed texts footprints) → halt ≡ Fault fault → status ≡ Refused → text ≡ refused_text fault
-    → IsListAnswer texts footprints status text
-unlisted_is texts footprints halt fault status text given is ends told =
-    rw ends (fault, subst (λ (h : Halt). HaltsAmong h (IsListed texts footprints)) is given, told)
+-- the report of the fault of a build or of tasks is their answer
+pub unlisted_is : (Is : Result RaceList Told → Type 0) (halt : Halt) (fault : Told) (status : Status) (text : List ℕ)
+    → HaltsAmong halt Is → halt ≡ Fault fault → status ≡ Refused → text ≡ refused_text fault → SaysList Is status text
+unlisted_is Is halt fault status text given is ends told = rw ends (fault, subst (λ (h : Halt). HaltsAmong h Is) is given, told)
 
--- the report of its races is its answer
-pub listed_is : (texts : Texts) (footprints : List ℕ) (listed : RaceList) (status : Status) (text : List ℕ)
-    → IsListed texts footprints (Ok listed) → status ≡ races_status listed.found.races.items
-    → IsRacesText listed.jobs listed.found.pairs listed.found.races.items text → IsListAnswer texts footprints status text
-listed_is texts footprints listed status text is ends told = elim (races_end listed.found.races.items) [
-  | inl done ↦ subst (λ (s : Status). IsListAnswer texts footprints s text) (sym (ends ∙ done)) (listed, is, sym done, told)
-  | inr some ↦ subst (λ (s : Status). IsListAnswer texts footprints s text) (sym (ends ∙ some)) (listed, is, sym some, told)
+-- the report of their races is their answer
+pub listed_is : (Is : Result RaceList Told → Type 0) (listed : RaceList) (status : Status) (text : List ℕ)
+    → Is (Ok listed) → status ≡ races_status listed.found.races.items
+    → IsRacesText listed.jobs listed.found.pairs listed.found.races.items text → SaysList Is status text
+listed_is Is listed status text is ends told = elim (races_end listed.found.races.items) [
+  | inl done ↦ subst (λ (s : Status). SaysList Is s text) (sym (ends ∙ done)) (listed, is, sym done, told)
+  | inr some ↦ subst (λ (s : Status). SaysList Is s text) (sym (ends ∙ some)) (listed, is, sym some, told)
 ]
 
 -- without a race it ends as done, and else as no

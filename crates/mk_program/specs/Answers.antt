@@ -1,5 +1,5 @@
 -- What the program answers to a request, over what the files hold, and what it writes of that.
-use Rattle.std.specs.Prelude.{◌≡◌, ◌⊎◌, ℕ, Bool, true, false, List, [], ◌∷◌, Ok, Err, Option, None, Some, IsSome, map, codes, if◌then◌else◌}
+use Rattle.std.specs.Prelude.{◌≡◌, ◌⊎◌, ℕ, Bool, true, false, List, [], ◌∷◌, Result, Ok, Err, Option, None, Some, IsSome, map, codes, if◌then◌else◌}
 use Rattle.std.specs.Borrow.{Bor}
 use Rattle.std.specs.Io.KnownBytes.{Appends}
 use Rattle.clap.specs.Words.{Row, Text}
@@ -9,17 +9,23 @@ use Rattle.mk_device.specs.Device.{AppendsBeginning}
 use Rattle.mk_cert.specs.Traces.{TraceHolds}
 use Rattle.mk_jobs.specs.Jobs.{Jobs}
 use Rattle.mk_proof.specs.Shapes.{Trace}
+use Rattle.mk_proof.specs.ProofText.{certificate_text}
+use Rattle.mk_race.specs.Fixed.{IsFixing, with_lines}
 use Rattle.mk_race.specs.Judged.{IsAnswered, NoScheduleShows}
 use Rattle.mk_race.specs.Listed.{IsListed}
 use Rattle.mk_race.specs.Played.{IsPlayed}
 use Rattle.mk_race.specs.Serialised.{IsLawfulBuild, IsSerialised}
 use Rattle.mk_race.specs.Stages.{IsPlanned, Texts}
+use Rattle.mk_race.specs.Tasked as tasked
 use Rattle.mk_race.specs.Verified.{IsVerified, ProofShows}
+use Rattle.mk_race.specs.declared.fixing.Fixing.{Fixing}
+use Rattle.mk_race.specs.declared.fixing.Fixing.TheVariants.{Fixed, NotFixed}
 use Rattle.mk_race.specs.declared.listing.RaceList.{RaceList}
 use Rattle.mk_race.specs.declared.replaying.Played.{Played}
 use Rattle.mk_race.specs.declared.replaying.Played.TheVariants.{Allowed, NotAllowed}
 use Rattle.mk_race.specs.declared.planning.Planned.{Planned}
 use Rattle.mk_race.specs.declared.serialising.Serialised.{Serialised}
+use Rattle.mk_report.specs.FixText.{not_fixed_text}
 use Rattle.mk_report.specs.RacesText.{IsRacesText}
 use Rattle.mk_report.specs.Reports.{IsReport}
 use Rattle.mk_report.specs.declared.answer.Answer.{Answer as Judged}
@@ -42,6 +48,9 @@ use Rattle.mk_program.specs.declared.requests.BuildArgs.{BuildArgs}
 use Rattle.mk_program.specs.declared.requests.CheckArgs.{CheckArgs}
 use Rattle.mk_program.specs.declared.requests.Request.{Request}
 use Rattle.mk_program.specs.declared.requests.Request.TheVariants as requests
+use Rattle.mk_program.specs.declared.requests.TaskArgs.{TaskArgs}
+use Rattle.mk_program.specs.declared.requests.TaskQuestion.{TaskQuestion}
+use Rattle.mk_program.specs.declared.requests.TaskQuestion.TheVariants as questions
 use Rattle.mk_program.specs.declared.statuses.Status.{Status}
 use Rattle.mk_program.specs.declared.statuses.Status.TheVariants as statuses
 
@@ -62,31 +71,40 @@ IsReplayAnswer texts footprints log limit tie statuses.Refused text =
     (told : Told) × IsPlayed texts footprints log limit tie (Err told) × (text ≡ refused_text told)
 IsReplayAnswer texts footprints log limit tie statuses.Failed text = ⊥
 
--- the build is safe by a certificate, and then no schedule of it shows in its files
-pub record IsToldSafe (texts : Texts) (footprints : List ℕ) (proof : Bool) (text : List ℕ) : Type 0 where
+-- what was judged is safe by a certificate, and then the headline holds
+pub record IsToldSafe (Is : Judged → Type 0) (Headline : Type 0) (proof : Bool) (text : List ℕ) : Type 0 where
   pub jobs : Jobs
   pub chains : List (List ℕ)
-  pub answer : IsAnswered texts footprints (judged.Safe jobs chains)
+  pub answer : Is (judged.Safe jobs chains)
   pub report : IsReport (judged.Safe jobs chains) proof text
-  pub headline : NoScheduleShows texts footprints
+  pub headline : Headline
 
--- two recipes of the build race, as its trace shows
-pub record IsToldRace (texts : Texts) (footprints : List ℕ) (proof : Bool) (text : List ℕ) : Type 0 where
+-- two recipes of it race, as its trace shows
+pub record IsToldRace (Is : Judged → Type 0) (proof : Bool) (text : List ℕ) : Type 0 where
   pub jobs : Jobs
   pub trace : Trace
-  pub answer : IsAnswered texts footprints (judged.Race jobs trace)
+  pub answer : Is (judged.Race jobs trace)
   pub report : IsReport (judged.Race jobs trace) proof text
   pub holds : TraceHolds jobs trace
 
--- that the build is safe, or that two recipes race, each by the report or by its proof; or the report of the fault that refuses the texts
-abbrev pub IsCheckAnswer : Texts → List ℕ → Bool → Status → List ℕ → Type 0
-IsCheckAnswer texts footprints proof statuses.Done text = IsToldSafe texts footprints proof text
-IsCheckAnswer texts footprints proof statuses.No text = IsToldRace texts footprints proof text
-IsCheckAnswer texts footprints proof statuses.Refused text =
-    (told : Told) × IsAnswered texts footprints (judged.Refused told) × (text ≡ refused_text told)
-IsCheckAnswer texts footprints proof statuses.Failed text = ⊥
+-- that it is safe, or that two recipes race, each by the report or by its proof; or the report of the fault that refuses the texts
+abbrev pub SaysJudged : (Judged → Type 0) → Type 0 → Bool → Status → List ℕ → Type 0
+SaysJudged Is Headline proof statuses.Done text = IsToldSafe Is Headline proof text
+SaysJudged Is Headline proof statuses.No text = IsToldRace Is proof text
+SaysJudged Is Headline proof statuses.Refused text = (told : Told) × Is (judged.Refused told) × (text ≡ refused_text told)
+SaysJudged Is Headline proof statuses.Failed text = ⊥
 
--- how the program ends after a build was judged
+-- that of a build: where it is safe, no schedule of it shows in its files
+abbrev pub IsCheckAnswer : Texts → List ℕ → Bool → Status → List ℕ → Type 0
+IsCheckAnswer texts footprints proof status text =
+    SaysJudged (IsAnswered texts footprints) (NoScheduleShows texts footprints) proof status text
+
+-- that of tasks below a root: where they are safe, each of them starts, and no schedule of them shows in their files
+abbrev pub IsTaskCheckAnswer : List ℕ → List ℕ → Bool → Status → List ℕ → Type 0
+IsTaskCheckAnswer root tasks proof status text =
+    SaysJudged (tasked.IsAnswerTo (tasked.tasked root tasks)) (tasked.NoScheduleShows root tasks) proof status text
+
+-- how the program ends after a build or tasks were judged
 abbrev pub judged_status : Judged → Status
 judged_status (judged.Safe jobs chains) = statuses.Done
 judged_status (judged.Race jobs trace) = statuses.No
@@ -97,13 +115,21 @@ abbrev pub verdict_text : Bool → List ℕ
 verdict_text accepted = line (if accepted then codes "accepted" else codes "not accepted")
 
 -- that the proof is accepted, where what it shows is so; or that it is not; or the report of the fault that refuses the texts
+abbrev pub SaysVerdict : (Result Bool Told → Type 0) → Type 0 → Status → List ℕ → Type 0
+SaysVerdict Is Shown statuses.Done text = Is (Ok true) × Shown × (text ≡ verdict_text true)
+SaysVerdict Is Shown statuses.No text = Is (Ok false) × (text ≡ verdict_text false)
+SaysVerdict Is Shown statuses.Refused text = (told : Told) × Is (Err told) × (text ≡ refused_text told)
+SaysVerdict Is Shown statuses.Failed text = ⊥
+
+-- that of a proof for a build
 abbrev pub IsVerifyAnswer : Texts → List ℕ → List ℕ → Status → List ℕ → Type 0
-IsVerifyAnswer texts footprints proof statuses.Done text =
-    IsVerified texts footprints proof (Ok true) × ProofShows texts footprints proof × (text ≡ verdict_text true)
-IsVerifyAnswer texts footprints proof statuses.No text = IsVerified texts footprints proof (Ok false) × (text ≡ verdict_text false)
-IsVerifyAnswer texts footprints proof statuses.Refused text =
-    (told : Told) × IsVerified texts footprints proof (Err told) × (text ≡ refused_text told)
-IsVerifyAnswer texts footprints proof statuses.Failed text = ⊥
+IsVerifyAnswer texts footprints proof status text =
+    SaysVerdict (IsVerified texts footprints proof) (ProofShows texts footprints proof) status text
+
+-- that of a proof for tasks below a root
+abbrev pub IsTaskVerifyAnswer : List ℕ → List ℕ → List ℕ → Status → List ℕ → Type 0
+IsTaskVerifyAnswer root tasks proof status text =
+    SaysVerdict (tasked.IsVerifiedOf root tasks proof) (tasked.ProofShows root tasks proof) status text
 
 -- how the program ends after a proof was judged
 abbrev pub verdict_status : Bool → Status
@@ -133,19 +159,47 @@ abbrev pub races_status : List (ℕ × ℕ) → Status
 races_status [] = statuses.Done
 races_status (race ∷ races) = statuses.No
 
--- the report of all races of a build
-abbrev pub IsToldRaces : Texts → List ℕ → Status → List ℕ → Type 0
-IsToldRaces texts footprints status text =
-    (listed : RaceList) × IsListed texts footprints (Ok listed) × (status ≡ races_status listed.found.races.items)
+-- the report of all races that were listed
+abbrev pub IsToldRaces : (Result RaceList Told → Type 0) → Status → List ℕ → Type 0
+IsToldRaces Is status text =
+    (listed : RaceList) × Is (Ok listed) × (status ≡ races_status listed.found.races.items)
     × IsRacesText listed.jobs listed.found.pairs listed.found.races.items text
 
 -- that report, or the report of the fault that refuses the texts
+abbrev pub SaysList : (Result RaceList Told → Type 0) → Status → List ℕ → Type 0
+SaysList Is statuses.Done text = IsToldRaces Is statuses.Done text
+SaysList Is statuses.No text = IsToldRaces Is statuses.No text
+SaysList Is statuses.Refused text = (told : Told) × Is (Err told) × (text ≡ refused_text told)
+SaysList Is statuses.Failed text = ⊥
+
+-- that of a build
 abbrev pub IsListAnswer : Texts → List ℕ → Status → List ℕ → Type 0
-IsListAnswer texts footprints statuses.Done text = IsToldRaces texts footprints statuses.Done text
-IsListAnswer texts footprints statuses.No text = IsToldRaces texts footprints statuses.No text
-IsListAnswer texts footprints statuses.Refused text =
-    (told : Told) × IsListed texts footprints (Err told) × (text ≡ refused_text told)
-IsListAnswer texts footprints statuses.Failed text = ⊥
+IsListAnswer texts footprints status text = SaysList (IsListed texts footprints) status text
+
+-- that of tasks below a root
+abbrev pub IsTaskListAnswer : List ℕ → List ℕ → Status → List ℕ → Type 0
+IsTaskListAnswer root tasks status text = SaysList (tasked.IsListedBelow root tasks) status text
+
+-- what is told of a build that was to be fixed: its lines, or the certificate of the build with them, and no schedule of that build
+-- shows; or the edges that no lines give it
+abbrev pub IsFixTold : Texts → List ℕ → Bool → Fixing → Status → List ℕ → Type 0
+IsFixTold texts footprints proof (Fixed lines jobs chains) status text =
+    (status ≡ statuses.Done) × NoScheduleShows (with_lines texts lines.items) footprints
+    × (text ≡ (if proof then certificate_text chains else lines.items))
+IsFixTold texts footprints proof (NotFixed jobs edges refusal) status text =
+    (status ≡ statuses.No) × (text ≡ not_fixed_text jobs edges.items refusal)
+
+abbrev pub IsToldFixing : Texts → List ℕ → Bool → Status → List ℕ → Type 0
+IsToldFixing texts footprints proof status text =
+    (fixing : Fixing) × IsFixing texts footprints (Ok fixing) × IsFixTold texts footprints proof fixing status text
+
+-- that, or the report of the fault that refuses the texts
+abbrev pub IsFixAnswer : Texts → List ℕ → Bool → Status → List ℕ → Type 0
+IsFixAnswer texts footprints proof statuses.Done text = IsToldFixing texts footprints proof statuses.Done text
+IsFixAnswer texts footprints proof statuses.No text = IsToldFixing texts footprints proof statuses.No text
+IsFixAnswer texts footprints proof statuses.Refused text =
+    (told : Told) × IsFixing texts footprints (Err told) × (text ≡ refused_text told)
+IsFixAnswer texts footprints proof statuses.Failed text = ⊥
 
 -- the base makefile of a build, where this text was read for one
 abbrev pub base_of : BuildArgs → List ℕ → List ℕ
@@ -162,6 +216,12 @@ texts_for build includes text = record {
   listing = text inputs.Listing;
 }
 
+-- the answer to a question about tasks below a root, over the texts of its inputs
+abbrev pub IsTasksAnswer : TaskQuestion → List ℕ → (InputFile → List ℕ) → Status → List ℕ → Type 0
+IsTasksAnswer (questions.Check print_proof) root text status answer = IsTaskCheckAnswer root (text inputs.Tasks) print_proof status answer
+IsTasksAnswer (questions.Verify proof) root text status answer = IsTaskVerifyAnswer root (text inputs.Tasks) (text inputs.Proof) status answer
+IsTasksAnswer questions.List root text status answer = IsTaskListAnswer root (text inputs.Tasks) status answer
+
 -- the answer to a request, over the texts of its includes and of its inputs
 abbrev pub IsAnswerOver : Request → List Pair → (InputFile → List ℕ) → Status → List ℕ → Type 0
 IsAnswerOver (requests.Order build) includes text status answer = IsOrderAnswer (texts_for build includes text) status answer
@@ -175,6 +235,9 @@ IsAnswerOver (requests.Serialise replay) includes text status answer =
     IsSerialiseAnswer (texts_for replay.build includes text) (text inputs.Footprints) (text inputs.Log) replay.limit replay.tie status answer
 IsAnswerOver (requests.List list) includes text status answer =
     IsListAnswer (texts_for list.build includes text) (text inputs.Footprints) status answer
+IsAnswerOver (requests.Fix fix) includes text status answer =
+    IsFixAnswer (texts_for fix.build includes text) (text inputs.Footprints) fix.print_proof status answer
+IsAnswerOver (requests.Tasks asked) includes text status answer = IsTasksAnswer asked.question asked.root.now text status answer
 
 -- the answer to a request, over what its files hold
 abbrev pub IsAnswer : Request → (List ℕ → Option (List ℕ)) → Status → List ℕ → Type 0
@@ -182,7 +245,7 @@ IsAnswer request files status answer =
     (includes : List Pair) (text : InputFile → List ℕ) → includes_in files (includes_path request) ≡ Some includes → Hold files (inputs_of request) text
     → IsAnswerOver request includes text status answer
 
--- the words ask to check a build
+-- the words ask to check a build or tasks
 abbrev pub AskToCheck : Option (Text × List Row) → Type 0
 AskToCheck None = ⊥
 AskToCheck (Some found) = found.0 ≡ codes "check"
@@ -193,9 +256,16 @@ IsSafeBuild check files =
     (includes : List Pair) (text : InputFile → List ℕ) → includes_in files (includes_path (requests.Check check)) ≡ Some includes
     → Hold files (inputs_of (requests.Check check)) text → NoScheduleShows (texts_for check.build includes text) (text inputs.Footprints)
 
--- the words ask to check a build, and no schedule of it shows in its files
+-- each of the tasks that are to be checked starts, and no schedule of them shows in their files, where this is the text that
+-- their file holds
+abbrev pub AreSafeTasks : TaskArgs → (List ℕ → Option (List ℕ)) → Type 0
+AreSafeTasks tasks files = (text : List ℕ) → files tasks.tasks.now ≡ Some text → tasked.NoScheduleShows tasks.root.now text
+
+-- the words ask to check a build or tasks, and no schedule of these shows in the files
 abbrev pub SaysSafe : List (Bor Text) → (List ℕ → Option (List ℕ)) → Type 0
-SaysSafe words files = (check : CheckArgs) × Asks (requests.Check check) (asked words) × IsSafeBuild check files
+SaysSafe words files =
+    ((check : CheckArgs) × Asks (requests.Check check) (asked words) × IsSafeBuild check files)
+    ⊎ ((tasks : TaskArgs) × Asks (requests.Tasks tasks) (asked words) × AreSafeTasks tasks files)
 
 -- the answer to what these words ask
 abbrev pub IsAnswerTo : List (Bor Text) → (List ℕ → Option (List ℕ)) → Status → List ℕ → Type 0
@@ -217,6 +287,8 @@ IsForSerial (requests.Verify verify) = ⊥
 IsForSerial (requests.Replay replay) = ⊥
 IsForSerial (requests.Serialise replay) = Unit {0}
 IsForSerial (requests.List list) = ⊥
+IsForSerial (requests.Fix fix) = ⊥
+IsForSerial (requests.Tasks tasks) = ⊥
 
 -- why an answer is not told: memory is short, or a log that is to be written has a name that is no text
 abbrev pub IsUntold : Request → Failure → Type 0

@@ -1,5 +1,5 @@
 -- What the program is asked by its words, as `clap` reads them.
-use Rattle.std.specs.Prelude.{ℕ, ◌≡◌, ◌⊎◌, ◌&&◌, Bool, true, List, [], ◌∷◌, map, Option, Some, None, codes, false, is_some, option_map, unwrap_or, if◌then◌else◌}
+use Rattle.std.specs.Prelude.{ℕ, ◌≡◌, ◌⊎◌, ◌&&◌, ◌||◌, Bool, true, not, List, [], ◌∷◌, map, Option, Some, None, codes, false, is_some, option_map, unwrap_or, if◌then◌else◌}
 use Rattle.std.specs.Str.{bytes_eq}
 use Rattle.std.specs.Str.Parse.{digits_value, without_leading_plus}
 use Rattle.std.specs.Borrow.{Bor}
@@ -8,7 +8,7 @@ use Rattle.clap.specs.Words.{App, IsAmong, IsUnsignedIn, Kinds, Row, Rule, Text,
 use Rattle.clap.specs.declared.builder.action.ArgAction.TheVariants.{Append, Set, SetTrue}
 use Rattle.clap.specs.declared.builder.value_parser.ValueParser.TheVariants.{Unsigned}
 use Rattle.clap.specs.declared.error.kind.ErrorKind.{ErrorKind}
-use Rattle.clap.specs.declared.error.kind.ErrorKind.TheVariants.{ArgumentConflict, DisplayHelp, DisplayVersion}
+use Rattle.clap.specs.declared.error.kind.ErrorKind.TheVariants.{ArgumentConflict, DisplayHelp, DisplayVersion, MissingRequiredArgument}
 use Rattle.mk_program.specs.declared.requests.BuildArgs.{BuildArgs}
 use Rattle.mk_program.specs.declared.requests.CheckArgs.{CheckArgs}
 use Rattle.mk_program.specs.declared.requests.ListArgs.{ListArgs}
@@ -16,49 +16,45 @@ use Rattle.mk_program.specs.declared.requests.ReplayArgs.{ReplayArgs}
 use Rattle.mk_program.specs.declared.requests.VerifyArgs.{VerifyArgs}
 use Rattle.mk_program.specs.declared.requests.Request.{Request}
 use Rattle.mk_program.specs.declared.requests.Request.TheVariants as requests
+use Rattle.mk_program.specs.declared.requests.TaskArgs.{TaskArgs}
+use Rattle.mk_program.specs.declared.requests.TaskQuestion.{TaskQuestion}
+use Rattle.mk_program.specs.declared.requests.TaskQuestion.TheVariants as questions
 
--- an option that must be given, with one value
-abbrev pub option : Text → Rule
-option id = record (new_rule id) { long = Some id; action = Some Set; value_names = 1; required = true }
-
--- the option that names a base makefile, which may be left out
-abbrev pub base : Rule
-base = record (option (codes "base")) { required = false }
+-- an option with one value, which must be given or may be left out
+abbrev pub option : Bool → Text → Rule
+option required id = record (new_rule id) { long = Some id; action = Some Set; value_names = 1; required = required }
 
 -- an option without a value
 abbrev pub flag : Text → Rule
 flag id = record (new_rule id) { long = Some id; action = Some SetTrue }
 
--- the option that names a file of includes, which may be left out
-abbrev pub includes : Rule
-includes = record (option (codes "includes")) { required = false }
-
 -- the operands: any number of words
 abbrev pub operands : Rule
 operands = record (new_rule (codes "operands")) { action = Some Append; value_names = 1 }
 
--- a command with the options and operands that every subcommand takes
-abbrev pub with_build : App → App
-with_build app =
+-- a command with the options and operands of a build, whose files must be given or may be left out
+abbrev pub with_build : Bool → App → App
+with_build required app =
     with_rule (with_rule (with_rule (with_rule (with_rule (with_rule (with_rule app
-    (option (codes "makefile"))) (option (codes "listing"))) (option (codes "root"))) base) (flag (codes "posix-base"))) includes) operands
+    (option required (codes "makefile"))) (option required (codes "listing"))) (option true (codes "root"))) (option false (codes "base")))
+    (flag (codes "posix-base"))) (option false (codes "includes"))) operands
+
+-- a command with those of a build and of tasks
+abbrev pub with_tasks : App → App
+with_tasks app = with_rule (with_rule (with_build false app) (option false (codes "footprints"))) (option false (codes "tasks"))
 
 abbrev pub order_app : App
-order_app = with_build (new_app (codes "order"))
-
--- a flag: the proof is printed in place of the report
-abbrev pub print_proof : Rule
-print_proof = record (new_rule (codes "print-proof")) { long = Some (codes "print-proof"); action = Some SetTrue }
+order_app = with_build true (new_app (codes "order"))
 
 abbrev pub check_app : App
-check_app = with_rule (with_rule (with_build (new_app (codes "check"))) (option (codes "footprints"))) print_proof
+check_app = with_rule (with_tasks (new_app (codes "check"))) (flag (codes "print-proof"))
 
 abbrev pub verify_app : App
-verify_app = with_rule (with_rule (with_build (new_app (codes "verify"))) (option (codes "footprints"))) (option (codes "proof"))
+verify_app = with_rule (with_tasks (new_app (codes "verify"))) (option true (codes "proof"))
 
 -- how many recipes may run at once
 abbrev pub limit : Rule
-limit = record (option (codes "limit")) { required = false; parser = Some (Unsigned 1 65535) }
+limit = record (option false (codes "limit")) { parser = Some (Unsigned 1 65535) }
 
 -- a flag: files of equal times count as newer
 abbrev pub tie : Rule
@@ -67,8 +63,8 @@ tie = record (new_rule (codes "tie")) { long = Some (codes "tie"); action = Some
 -- a command with the options and operands of those that read a log
 abbrev pub with_log : App → App
 with_log app =
-    with_rule (with_rule (with_rule (with_rule (with_build app)
-    (option (codes "footprints"))) (option (codes "log"))) limit) tie
+    with_rule (with_rule (with_rule (with_rule (with_build true app)
+    (option true (codes "footprints"))) (option true (codes "log"))) limit) tie
 
 abbrev pub replay_app : App
 replay_app = with_log (new_app (codes "replay"))
@@ -77,7 +73,10 @@ abbrev pub serialise_app : App
 serialise_app = with_log (new_app (codes "serialise"))
 
 abbrev pub list_app : App
-list_app = with_rule (with_build (new_app (codes "list"))) (option (codes "footprints"))
+list_app = with_tasks (new_app (codes "list"))
+
+abbrev pub fix_app : App
+fix_app = with_rule (with_rule (with_build true (new_app (codes "fix"))) (option true (codes "footprints"))) (flag (codes "print-proof"))
 
 -- the program without its subcommands: it must be given one, or be asked for its version
 abbrev pub top_app : App
@@ -89,8 +88,8 @@ top_app = record {
 -- the program with its subcommands
 abbrev pub race_app : App
 race_app =
-    with_subcommand (with_subcommand (with_subcommand (with_subcommand (with_subcommand (with_subcommand top_app
-    order_app.top) check_app.top) verify_app.top) replay_app.top) serialise_app.top) list_app.top
+    with_subcommand (with_subcommand (with_subcommand (with_subcommand (with_subcommand (with_subcommand (with_subcommand top_app
+    order_app.top) check_app.top) verify_app.top) replay_app.top) serialise_app.top) list_app.top) fix_app.top
 
 -- what these words ask: the subcommand that they name, with the values that were found
 abbrev pub asked : List (Bor Text) → Option (Text × List Row)
@@ -101,17 +100,43 @@ abbrev pub is_true : Option Text → Bool
 is_true None = false
 is_true (Some text) = bytes_eq text (codes "true")
 
+-- an option has a value, or there is an operand
+abbrev pub is_given : Text → List Row → Bool
+is_given id rows = is_some (first_of id rows)
+
 -- two base makefiles are given: a file, and the one that the standard lists
 abbrev pub has_two_bases : List Row → Bool
-has_two_bases rows = is_true (first_of (codes "posix-base") rows) && is_some (first_of (codes "base") rows)
+has_two_bases rows = is_true (first_of (codes "posix-base") rows) && is_given (codes "base") rows
 
--- what is wrong with the values that were found
+-- a file or an operand of a build is given
+abbrev pub has_build : List Row → Bool
+has_build rows =
+    is_given (codes "makefile") rows || is_given (codes "listing") rows || is_given (codes "base") rows
+    || is_true (first_of (codes "posix-base") rows) || is_given (codes "includes") rows || is_given (codes "footprints") rows
+    || is_given (codes "operands") rows
+
+-- tasks are named beside a build
+abbrev pub has_both : List Row → Bool
+has_both rows = is_given (codes "tasks") rows && has_build rows
+
+-- the files are given that a build must have, where its recipes are asked about
+abbrev pub has_files : List Row → Bool
+has_files rows = is_given (codes "makefile") rows && is_given (codes "listing") rows && is_given (codes "footprints") rows
+
+-- the subcommand of this name asks about recipes, and has neither tasks nor those files
+abbrev pub lacks_files : Text → List Row → Bool
+lacks_files name rows = not (bytes_eq name (codes "order")) && not (is_given (codes "tasks") rows) && not (has_files rows)
+
+-- what is wrong with the values that were found: two bases; tasks beside a build; or too little of a build without tasks
 abbrev pub value_kinds : Option (Text × List Row) → Kinds
 value_kinds None = []
-value_kinds (Some found) = if has_two_bases found.1 then ArgumentConflict ∷ [] else []
+value_kinds (Some found) =
+    if has_two_bases found.1 then ArgumentConflict ∷ []
+    else (if has_both found.1 then ArgumentConflict ∷ []
+    else (if lacks_files found.0 found.1 then MissingRequiredArgument ∷ [] else []))
 
--- what is wrong with these words: what `clap` finds, and where that is nothing, two base makefiles; that they call for help or
--- the version is told so too
+-- what is wrong with these words: what `clap` finds, and where that is nothing, what is wrong with their values; that they call
+-- for help or the version is told so too
 abbrev pub wrong : List (Bor Text) → Kinds
 wrong words = or_else (fault_of race_app (map (λ word. word.now) words)) (value_kinds (asked words))
 
@@ -138,6 +163,10 @@ abbrev pub IsLimit : Option Text → ℕ → Type 0
 IsLimit None limit = limit ≡ 1
 IsLimit (Some text) limit = IsUnsignedIn 1 65535 text × (limit ≡ digits_value 10 (without_leading_plus text))
 
+-- no tasks are named
+abbrev pub HasNoTasks : List Row → Type 0
+HasNoTasks rows = first_of (codes "tasks") rows ≡ None
+
 -- the check and its build have the values that were found
 pub record HasCheck (check : CheckArgs) (rows : List Row) : Type 0 where
   pub build : HasValues check.build rows
@@ -163,14 +192,30 @@ pub record HasList (list : ListArgs) (rows : List Row) : Type 0 where
   pub build : HasValues list.build rows
   pub footprints : list.footprints.now ≡ value_of (codes "footprints") rows
 
--- the request is for the subcommand of this name, with the values that were found
+-- the question is that of the subcommand of this name, with the values that were found
+abbrev pub IsQuestion : TaskQuestion → Text → List Row → Type 0
+IsQuestion (questions.Check print_proof) name rows =
+    (name ≡ codes "check") × (print_proof ≡ is_true (first_of (codes "print-proof") rows))
+IsQuestion (questions.Verify proof) name rows = (name ≡ codes "verify") × (proof.now ≡ value_of (codes "proof") rows)
+IsQuestion questions.List name rows = name ≡ codes "list"
+
+-- the tasks have the values that were found, and the question is that of the subcommand of this name
+pub record HasTasks (args : TaskArgs) (name : Text) (rows : List Row) : Type 0 where
+  pub tasks : Some args.tasks.now ≡ first_of (codes "tasks") rows
+  pub root : args.root.now ≡ value_of (codes "root") rows
+  pub question : IsQuestion args.question name rows
+
+-- the request is for the subcommand of this name, with the values that were found; where both may be asked about, for tasks if
+-- any are named, and else for a build
 abbrev pub IsFor : Request → Text → List Row → Type 0
 IsFor (requests.Order build) name rows = (name ≡ codes "order") × HasValues build rows
-IsFor (requests.Check check) name rows = (name ≡ codes "check") × HasCheck check rows
-IsFor (requests.Verify verify) name rows = (name ≡ codes "verify") × HasVerify verify rows
+IsFor (requests.Check check) name rows = (name ≡ codes "check") × HasNoTasks rows × HasCheck check rows
+IsFor (requests.Verify verify) name rows = (name ≡ codes "verify") × HasNoTasks rows × HasVerify verify rows
 IsFor (requests.Replay replay) name rows = (name ≡ codes "replay") × HasReplay replay rows
 IsFor (requests.Serialise replay) name rows = (name ≡ codes "serialise") × HasReplay replay rows
-IsFor (requests.List list) name rows = (name ≡ codes "list") × HasList list rows
+IsFor (requests.List list) name rows = (name ≡ codes "list") × HasNoTasks rows × HasList list rows
+IsFor (requests.Fix fix) name rows = (name ≡ codes "fix") × HasCheck fix rows
+IsFor (requests.Tasks tasks) name rows = HasTasks tasks name rows
 
 -- the request is for the subcommand that was found
 abbrev pub Asks : Request → Option (Text × List Row) → Type 0

@@ -16,6 +16,7 @@ word_of inputs.Listing = codes "listing"
 word_of inputs.Footprints = codes "footprints"
 word_of inputs.Proof = codes "proof"
 word_of inputs.Log = codes "log"
+word_of inputs.Tasks = codes "tasks"
 
 -- that an input cannot be opened, or cannot be read
 abbrev pub unread_text : InputFile → List ℕ

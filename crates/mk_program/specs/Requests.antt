@@ -8,6 +8,8 @@ use Rattle.mk_program.specs.declared.requests.BuildArgs.{BuildArgs}
 use Rattle.mk_program.specs.declared.requests.ReplayArgs.{ReplayArgs}
 use Rattle.mk_program.specs.declared.requests.Request.{Request}
 use Rattle.mk_program.specs.declared.requests.Request.TheVariants as requests
+use Rattle.mk_program.specs.declared.requests.TaskQuestion.{TaskQuestion}
+use Rattle.mk_program.specs.declared.requests.TaskQuestion.TheVariants as questions
 
 -- an input whose file has this path
 abbrev pub input_at : InputFile → Bor (List ℕ) → List InputPath
@@ -30,11 +32,19 @@ includes_path (requests.Verify verify) = option_map (λ path. path.now) verify.b
 includes_path (requests.Replay replay) = option_map (λ path. path.now) replay.build.includes
 includes_path (requests.Serialise replay) = option_map (λ path. path.now) replay.build.includes
 includes_path (requests.List list) = option_map (λ path. path.now) list.build.includes
+includes_path (requests.Fix fix) = option_map (λ path. path.now) fix.build.includes
+includes_path (requests.Tasks tasks) = None
 
 -- what is read for a log
 abbrev pub log_inputs : ReplayArgs → List InputPath
 log_inputs replay =
     build_inputs replay.build ++ input_at inputs.Footprints replay.footprints ++ input_at inputs.Log replay.log
+
+-- the proof, where it is asked whether one is accepted
+abbrev pub proof_input : TaskQuestion → List InputPath
+proof_input (questions.Check print_proof) = []
+proof_input (questions.Verify proof) = input_at inputs.Proof proof
+proof_input questions.List = []
 
 -- the inputs but for the includes
 abbrev pub inputs_of : Request → List InputPath
@@ -45,3 +55,5 @@ inputs_of (requests.Verify verify) =
 inputs_of (requests.Replay replay) = log_inputs replay
 inputs_of (requests.Serialise replay) = log_inputs replay
 inputs_of (requests.List list) = build_inputs list.build ++ input_at inputs.Footprints list.footprints
+inputs_of (requests.Fix fix) = build_inputs fix.build ++ input_at inputs.Footprints fix.footprints
+inputs_of (requests.Tasks tasks) = input_at inputs.Tasks tasks.tasks ++ proof_input tasks.question

@@ -12,6 +12,7 @@ ghost use Rattle.mk_program.specs.PlanText.{plan_text as text_of_plan};
 
 use crate::checking::check_answer;
 use crate::failures::{Failure, InputFile};
+use crate::fixing::fix_answer;
 use crate::includes::{IncludeText, pairs_of, read_includes};
 use crate::inputs::{InputText, read_inputs, text_of};
 use crate::listing::list_answer;
@@ -22,6 +23,7 @@ use crate::posix_base::posix_base;
 use crate::requests::{BuildArgs, ReplayArgs, Request, VerifyArgs, includes_path, inputs_of};
 use crate::serialising::serialise_answer;
 use crate::statuses::Status;
+use crate::tasks::tasks_answer;
 use mk_jobs::plan::Plan;
 use mk_name::fault::{Fault, Halt};
 use mk_name::report::refused_report;
@@ -92,6 +94,8 @@ fn answer_over(
         Request::Replay(replay) => Ok(replay_answer(alloc, replay, includes, texts)?),
         Request::Serialise(replay) => serialise_answer(alloc, replay, includes, texts),
         Request::List(list) => Ok(list_answer(alloc, list, includes, texts)?),
+        Request::Fix(fix) => Ok(fix_answer(alloc, fix, includes, texts)?),
+        Request::Tasks(args) => Ok(tasks_answer(alloc, args, texts)?),
     }
 }
 
@@ -244,7 +248,7 @@ fn plan_answer(alloc: Global, plan: &Plan) -> Result<Answer, AllocError>
 }
 
 /// Whether a proof is accepted, told.
-fn verdict_answer(alloc: Global, accepted: bool) -> Result<Answer, AllocError>
+pub(crate) fn verdict_answer(alloc: Global, accepted: bool) -> Result<Answer, AllocError>
     ensures { IfOk result (λ answer. (answer.status ≡ spec.verdict_status accepted)
         × (answer.text.items ≡ spec.verdict_text accepted)) }
 {

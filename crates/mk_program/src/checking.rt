@@ -41,11 +41,15 @@ fn check_over(alloc: Global, input: &Input<'_>, proof: bool) -> Result<Answer, A
         input.now.footprints.now proof answer.status answer.text.items) }
 {
     let judged = judge(alloc, input)?;
-    told(alloc, &judged, proof)
+    judged_answer(alloc, &judged, proof)
 }
 
-/// What was judged of a build, told.
-fn told(alloc: Global, judged: &Judged, proof: bool) -> Result<Answer, AllocError>
+/// What was judged of a build or of tasks, reported.
+pub(crate) fn judged_answer(
+    alloc: Global,
+    judged: &Judged,
+    proof: bool,
+) -> Result<Answer, AllocError>
     ensures { IfOk result (λ answer. (answer.status ≡ spec.judged_status judged.now)
         × IsReport judged.now proof answer.text.items) }
 {

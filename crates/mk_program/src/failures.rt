@@ -17,6 +17,7 @@ pub enum InputFile {
     Footprints,
     Proof,
     Log,
+    Tasks,
 }
 
 /// Why the program ends with the status of a device, of memory or of usage. Its text is what stands on the standard
@@ -70,6 +71,7 @@ fn unread_text(input: InputFile) -> &'static str
         InputFile::Footprints => "race: read failed: footprints",
         InputFile::Proof => "race: read failed: proof",
         InputFile::Log => "race: read failed: log",
+        InputFile::Tasks => "race: read failed: tasks",
     }
 }
 

@@ -26,6 +26,7 @@
 mod answers;
 mod checking;
 mod failures;
+mod fixing;
 mod includes;
 mod inputs;
 mod listing;
@@ -38,6 +39,7 @@ mod requests;
 mod running;
 mod serialising;
 mod statuses;
+mod tasks;
 mod words;
 
 pub use failures::{Failure, InputFile};

@@ -46,8 +46,8 @@ fn list_over(alloc: Global, input: &Input<'_>) -> Result<Answer, AllocError>
     }
 }
 
-/// The races of a build, reported. The only error is out of memory.
-fn races_answer(alloc: Global, listed: &RaceList) -> Result<Answer, AllocError>
+/// The races of a build or of tasks, reported. The only error is out of memory.
+pub(crate) fn races_answer(alloc: Global, listed: &RaceList) -> Result<Answer, AllocError>
     ensures { IfOk result (λ answer. (answer.status ≡ spec.races_status listed.now.found.races.items)
         × IsRacesText listed.now.jobs listed.now.found.pairs listed.now.found.races.items answer.text.items) }
 {

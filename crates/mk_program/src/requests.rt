@@ -19,7 +19,7 @@ pub struct BuildArgs<'a> {
     pub operands: Vec<&'a str>,
 }
 
-/// What is checked: a build, the path of its footprints, and whether the proof is printed in place of the report.
+/// What is checked or fixed: a build, the path of its footprints, and whether the proof is printed in place of the report.
 #[derive(Drop)]
 pub struct CheckArgs<'a> {
     pub build: BuildArgs<'a>,
@@ -53,6 +53,22 @@ pub struct ListArgs<'a> {
     pub footprints: &'a str,
 }
 
+/// What is asked about tasks: the paths of their text and of the root, and the question.
+#[derive(Clone, Copy)]
+pub struct TaskArgs<'a> {
+    pub tasks: &'a str,
+    pub root: &'a str,
+    pub question: TaskQuestion<'a>,
+}
+
+/// A question about tasks: that of the subcommand of this name, with the values that it has for tasks.
+#[derive(Clone, Copy)]
+pub enum TaskQuestion<'a> {
+    Check { print_proof: bool },
+    Verify { proof: &'a str },
+    List,
+}
+
 /// A subcommand, with its values.
 #[derive(Drop)]
 pub enum Request<'a> {
@@ -62,6 +78,8 @@ pub enum Request<'a> {
     Replay(ReplayArgs<'a>),
     Serialise(ReplayArgs<'a>),
     List(ListArgs<'a>),
+    Fix(CheckArgs<'a>),
+    Tasks(TaskArgs<'a>),
 }
 
 /// The path of the file of includes, where one is given.
@@ -74,6 +92,8 @@ pub fn includes_path<'a>(request: &Request<'a>) -> Option<&'a str>
         Request::Verify(verify) => verify.build.includes,
         Request::Replay(replay) | Request::Serialise(replay) => replay.build.includes,
         Request::List(list) => list.build.includes,
+        Request::Fix(fix) => fix.build.includes,
+        Request::Tasks(_) => None,
     }
 }
 
@@ -93,7 +113,7 @@ fn push_inputs<'a>(inputs: &mut Vec<InputPath<'a>>, request: &Request<'a>) -> Re
 {
     match request {
         Request::Order(build) => push_build(inputs, build),
-        Request::Check(check) => {
+        Request::Check(check) | Request::Fix(check) => {
             push_build(inputs, &check.build)?;
             push_input(inputs, InputFile::Footprints, check.footprints)
         }
@@ -107,6 +127,19 @@ fn push_inputs<'a>(inputs: &mut Vec<InputPath<'a>>, request: &Request<'a>) -> Re
             push_build(inputs, &list.build)?;
             push_input(inputs, InputFile::Footprints, list.footprints)
         }
+        Request::Tasks(args) => push_tasks(inputs, args),
+    }
+}
+
+/// Puts the text of tasks, and the proof where there is one, at the end.
+fn push_tasks<'a>(inputs: &mut Vec<InputPath<'a>>, args: &TaskArgs<'a>) -> Result<(), AllocError>
+    ensures { OnOk result (inputs.new.items ≡ inputs.old.items
+        ++ spec.input_at InputFile.Tasks args.now.tasks ++ spec.proof_input args.now.question) }
+{
+    push_input(inputs, InputFile::Tasks, args.tasks)?;
+    match args.question {
+        TaskQuestion::Verify { proof } => push_input(inputs, InputFile::Proof, proof),
+        TaskQuestion::Check { .. } | TaskQuestion::List => Ok(()),
     }
 }
 

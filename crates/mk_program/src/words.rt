@@ -1,24 +1,29 @@
 //! The words of the command line.
 ghost use Rattle.std.specs.Prelude.{◌≡◌, ◌⊎◌, IfOk, Ok, codes, false, option_map};
-ghost use Rattle.clap.specs.Words.{FailsBy, app_of, found_of, kind_of, rows_of, rule_of, with_subcommand};
+ghost use Rattle.clap.specs.Words.{FailsBy, app_of, first_of, found_of, kind_of, rows_of, rule_of, with_subcommand};
 ghost use Rattle.clap.specs.declared.builder.command.Command.TheViews.{out-Command as fields_of};
 ghost use Rattle.mk_program.specs.CommandLine as spec;
 
 mod check_words;
+mod fix_words;
 mod help;
 mod list_words;
+mod mistakes;
 mod replay_words;
 mod serialise_words;
+mod task_words;
 mod verify_words;
 
 use crate::requests::{BuildArgs, Request};
 use check_words::{check_args, check_command};
-use clap::error::ErrorKind;
 use clap::{Arg, ArgAction, ArgMatches, Command, Error};
+use fix_words::fix_command;
 use list_words::{list_args, list_command};
+use mistakes::{Mistake, mistake_in};
 use replay_words::{replay_args, replay_command};
 use serialise_words::serialise_command;
 use std::alloc::{AllocError, Global};
+use task_words::task_args;
 use verify_words::{verify_args, verify_command};
 
 /// Reads the words of the command line, of which the first is the program's name. A fault of the words and a call for
@@ -30,8 +35,8 @@ pub fn read_words<'a>(alloc: Global, words: &'a [&'a str]) -> Result<Request<'a>
     let matches = race_command(alloc)?.try_get_matches_from(words)?;
     match matches.subcommand() {
         Some((name, found)) => {
-            if has_two_bases(found) {
-                return Err(two_bases(alloc)?);
+            if let Some(mistake) = mistake_in(name, found) {
+                return Err(error_of(alloc, &mistake)?);
             }
             Ok(request_of(alloc, name, found)?)
         }
@@ -39,19 +44,11 @@ pub fn read_words<'a>(alloc: Global, words: &'a [&'a str]) -> Result<Request<'a>
     }
 }
 
-/// Whether these matches of a subcommand give two base makefiles.
-fn has_two_bases<'a>(found: &ArgMatches<'a>) -> bool
-    ensures { result ≡ spec.has_two_bases (rows_of (found_of found.now)) }
+/// The error of a mistake. The only error of its own is out of memory.
+fn error_of(alloc: Global, mistake: &Mistake) -> Result<Error, AllocError>
+    ensures { IfOk result (λ error. kind_of error ≡ mistake.now.kind) }
 {
-    is_true(found.get_str("posix-base")) && found.get_str("base").is_some()
-}
-
-/// That two base makefiles are given. The only error is want of memory.
-fn two_bases(alloc: Global) -> Result<Error, AllocError>
-    ensures { IfOk result (λ error. kind_of error ≡ ErrorKind.ArgumentConflict) }
-{
-    let message = "the argument '--posix-base' cannot be used with '--base <BASE>'";
-    race_command(alloc)?.error(ErrorKind::ArgumentConflict, message)
+    race_command(alloc)?.error(mistake.kind, mistake.message)
 }
 
 /// What the matches of the subcommand with this name ask for. The only error is want of memory.
@@ -61,24 +58,45 @@ fn request_of<'a>(
     found: &ArgMatches<'a>,
 ) -> Result<Request<'a>, AllocError>
     requires { (name.now ≡ codes "order") ⊎ (name.now ≡ codes "check") ⊎ (name.now ≡ codes "verify")
-        ⊎ (name.now ≡ codes "replay") ⊎ (name.now ≡ codes "serialise") ⊎ (name.now ≡ codes "list") }
+        ⊎ (name.now ≡ codes "replay") ⊎ (name.now ≡ codes "serialise") ⊎ (name.now ≡ codes "list")
+        ⊎ (name.now ≡ codes "fix") }
     ensures { IfOk result (λ request.
         spec.IsFor request name.now (rows_of (found_of found.now))) }
 {
     if name == "order" {
         return Ok(Request::Order(build_args(alloc, found)?));
     }
-    if name == "check" {
-        return Ok(Request::Check(check_args(alloc, found)?));
-    }
-    if name == "verify" {
-        return Ok(Request::Verify(verify_args(alloc, found)?));
-    }
     if name == "replay" {
         return Ok(Request::Replay(replay_args(alloc, found)?));
     }
     if name == "serialise" {
         return Ok(Request::Serialise(replay_args(alloc, found)?));
+    }
+    if name == "fix" {
+        return Ok(Request::Fix(check_args(alloc, found)?));
+    }
+    match found.get_str("tasks") {
+        Some(tasks) => Ok(Request::Tasks(task_args(name, found, tasks))),
+        None => build_request(alloc, name, found),
+    }
+}
+
+/// What the matches of a subcommand that takes tasks ask for where none are named. The only error is out of memory.
+fn build_request<'a>(
+    alloc: Global,
+    name: &str,
+    found: &ArgMatches<'a>,
+) -> Result<Request<'a>, AllocError>
+    requires named { (name.now ≡ codes "check") ⊎ (name.now ≡ codes "verify") ⊎ (name.now ≡ codes "list") }
+    requires no_tasks { spec.HasNoTasks (rows_of (found_of found.now)) }
+    ensures { IfOk result (λ request.
+        spec.IsFor request name.now (rows_of (found_of found.now))) }
+{
+    if name == "check" {
+        return Ok(Request::Check(check_args(alloc, found)?));
+    }
+    if name == "verify" {
+        return Ok(Request::Verify(verify_args(alloc, found)?));
     }
     Ok(Request::List(list_args(alloc, found)?))
 }
@@ -93,7 +111,8 @@ fn race_command<'a>(alloc: Global) -> Result<Command<'a>, AllocError>
     let command = with_made(command, verify_command(alloc))?;
     let command = with_made(command, replay_command(alloc))?;
     let command = with_made(command, serialise_command(alloc))?;
-    with_made(command, list_command(alloc))
+    let command = with_made(command, list_command(alloc))?;
+    with_made(command, fix_command(alloc))
 }
 
 /// The command with one subcommand more, where that could be made.
@@ -133,22 +152,27 @@ fn order_command<'a>(alloc: Global) -> Result<Command<'a>, AllocError>
     let command = Command::new(alloc, "order")
         .about(help::ORDER_ABOUT)
         .after_help(help::ORDER_DETAILS);
-    with_build(alloc, command)
+    with_build(alloc, command, true)
 }
 
-/// The command with the options and operands that every subcommand takes.
-fn with_build<'a>(alloc: Global, command: Command<'a>) -> Result<Command<'a>, AllocError>
-    ensures app { IfOk result (λ new. app_of new ≡ spec.with_build (app_of command.entry)) }
+/// The command with the options and operands of a build, whose makefile and listing must be given where that is required.
+fn with_build<'a>(
+    alloc: Global,
+    command: Command<'a>,
+    required: bool,
+) -> Result<Command<'a>, AllocError>
+    ensures app { IfOk result (λ new.
+        app_of new ≡ spec.with_build required (app_of command.entry)) }
     ensures local { IfOk result (λ new.
         (fields_of new).has_globals ≡ (fields_of command.entry).has_globals) }
 {
     command
-        .arg(option(alloc, "makefile", "MAKEFILE", help::MAKEFILE))?
-        .arg(option(alloc, "listing", "LISTING", help::LISTING))?
-        .arg(option(alloc, "root", "DIR", help::ROOT))?
-        .arg(base(alloc))?
+        .arg(option(alloc, "makefile", "MAKEFILE", help::MAKEFILE, required))?
+        .arg(option(alloc, "listing", "LISTING", help::LISTING, required))?
+        .arg(option(alloc, "root", "DIR", help::ROOT, true))?
+        .arg(option(alloc, "base", "BASE", help::BASE, false))?
         .arg(flag(alloc, "posix-base", help::POSIX_BASE))?
-        .arg(includes(alloc))?
+        .arg(option(alloc, "includes", "FILE", help::INCLUDES, false))?
         .arg(operands(alloc))
 }
 
@@ -162,16 +186,22 @@ fn operands<'a>(alloc: Global) -> Arg<'a>
         .help(help::OPERANDS)
 }
 
-/// An option that must be given, with one value.
-fn option<'a>(alloc: Global, name: &'a str, value: &'a str, about: &'a str) -> Arg<'a>
-    ensures rule { rule_of result ≡ spec.option name.entry.now }
+/// An option with one value, which must be given where that is required.
+fn option<'a>(
+    alloc: Global,
+    name: &'a str,
+    value: &'a str,
+    about: &'a str,
+    required: bool,
+) -> Arg<'a>
+    ensures rule { rule_of result ≡ spec.option required name.entry.now }
     ensures local { result.global ≡ false }
 {
     Arg::new(alloc, name)
         .long(name)
         .action(ArgAction::Set)
         .value_name(value)
-        .required(true)
+        .required(required)
         .help(about)
 }
 
@@ -184,22 +214,6 @@ fn flag<'a>(alloc: Global, name: &'a str, about: &'a str) -> Arg<'a>
         .long(name)
         .action(ArgAction::SetTrue)
         .help(about)
-}
-
-/// The option that names a base makefile, which may be left out.
-fn base<'a>(alloc: Global) -> Arg<'a>
-    ensures rule { rule_of result ≡ spec.base }
-    ensures local { result.global ≡ false }
-{
-    option(alloc, "base", "BASE", help::BASE).required(false)
-}
-
-/// The option that names a file of includes, which may be left out.
-fn includes<'a>(alloc: Global) -> Arg<'a>
-    ensures rule { rule_of result ≡ spec.includes }
-    ensures local { result.global ≡ false }
-{
-    option(alloc, "includes", "FILE", help::INCLUDES).required(false)
 }
 
 /// The build that these matches of a subcommand ask for. The only error is want of memory.
@@ -215,6 +229,20 @@ fn build_args<'a>(alloc: Global, found: &ArgMatches<'a>) -> Result<BuildArgs<'a>
         root: found.get_str("root").unwrap_or(""),
         operands: Vec::from_slice(alloc, found.get_strs("operands").unwrap_or(&[]))?,
     })
+}
+
+/// Whether the flag of this name is set in these matches.
+fn is_set<'a>(found: &ArgMatches<'a>, name: &str) -> bool
+    ensures { result ≡ spec.is_true (first_of name.now (rows_of (found_of found.now))) }
+{
+    is_true(found.get_str(name))
+}
+
+/// The value of the option of this name in these matches, which is empty where there is none.
+fn value_in<'a>(found: &ArgMatches<'a>, name: &str) -> &'a str
+    ensures { result.now ≡ spec.value_of name.now (rows_of (found_of found.now)) }
+{
+    found.get_str(name).unwrap_or("")
 }
 
 /// Whether a flag's value says that it is set.

@@ -2,7 +2,7 @@
 use Rattle.std.proofs.Common.{◌≡◌, ◌≤◌, ◌∙◌, ℕ, Bool, true, false, List, [], ◌∷◌, ◌++◌, append_assoc, is_ok, refl, sym, ap}
 use Rattle.std.proofs.lemmas.List.{append-nil}
 use Rattle.mk_text.specs.Spelling.{word_name}
-use Rattle.mk_jobs.specs.Jobs.{Clash, Jobs, is_listed, maker_of, node_count}
+use Rattle.mk_jobs.specs.Jobs.{Clash, Jobs, is_listed, node_count}
 use Rattle.mk_report.specs.FixText.{AreFixLines, IsFixLine, has_word, maker_obstacle, obstacle_of}
 use Rattle.mk_report.proofs.PastTheEnd.{no_maker, no_name}
 

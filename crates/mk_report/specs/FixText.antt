@@ -13,7 +13,7 @@ use Rattle.mk_jobs.specs.Jobs.{Clash, Jobs, is_listed, is_phony, maker_of, name_
 use Rattle.mk_jobs.specs.Reaching.{uses_of}
 use Rattle.mk_jobs.specs.declared.maker.Maker.{Maker}
 use Rattle.mk_jobs.specs.declared.maker.Maker.TheVariants.{Rule, Inferred, Default, Nothing}
-use Rattle.mk_report.specs.ReportText.{number_line, writes_whole}
+use Rattle.mk_report.specs.ReportText.{label_text, name_text, number_line, writes_whole}
 use Rattle.mk_report.specs.declared.fixes.FixLines.{FixLines}
 use Rattle.mk_report.specs.declared.fixes.FixLines.TheVariants.{NoRoom, NoWord, Text}
 
@@ -27,7 +27,7 @@ has_words jobs edge = has_word jobs edge.0 && has_word jobs edge.1
 
 -- a path is written, which this node reads before it
 abbrev pub reader_text : Jobs → ℕ → List ℕ → List ℕ
-reader_text jobs n path = codes "writes " ++ shown path ++ codes ", which " ++ shown (name_of jobs n) ++ codes " reads before it"
+reader_text jobs n path = codes "writes " ++ shown path ++ codes ", which " ++ label_text jobs n ++ codes " reads before it"
 
 -- what the two nodes of an edge do with a path
 abbrev pub clash_text : Jobs → ℕ × ℕ → Path → List ℕ
@@ -40,7 +40,7 @@ clash_text jobs edge path =
 abbrev pub phony_text : Jobs → ℕ × ℕ → List ℕ
 phony_text jobs edge =
     if is_phony jobs edge.0
-    then codes "; " ++ shown (name_of jobs edge.0) ++ codes " is phony, so " ++ shown (name_of jobs edge.1) ++ codes " is made each time"
+    then codes "; " ++ label_text jobs edge.0 ++ codes " is phony, so " ++ label_text jobs edge.1 ++ codes " is made each time"
     else []
 
 -- the line of an edge: its second node gets its first as a prerequisite; a remark has a path on which they clash
@@ -115,7 +115,7 @@ obstacle_of jobs n words = if words then maker_obstacle (maker_of jobs n) (is_li
 -- the line of an edge that is needed, with its obstacle
 abbrev pub need_line : Jobs → ℕ × ℕ → List ℕ
 need_line jobs edge =
-    line (codes "# needs " ++ shown (name_of jobs edge.1) ++ codes " " ++ shown (name_of jobs edge.0) ++ obstacle_of jobs edge.1 (has_words jobs edge))
+    line (codes "# needs " ++ label_text jobs edge.1 ++ name_text jobs edge.0 ++ obstacle_of jobs edge.1 (has_words jobs edge))
 
 -- a line behind a sign, which makes it a comment
 abbrev pub behind_sign : List ℕ → List ℕ

@@ -1,7 +1,8 @@
 -- The reports of jobs that are safe and of a race. Every line ends in a newline.
-use Rattle.std.specs.Prelude.{ℕ, ◌≡◌, ◌+◌, ◌-◌, ◌==◌, ◌&&◌, Bool, List, [], ◌∷◌, ◌++◌, codes, length, take, get_or, nat_lt, if◌then◌else◌}
+use Rattle.std.specs.Prelude.{ℕ, ◌≡◌, ◌+◌, ◌-◌, ◌==◌, ◌&&◌, Bool, List, [], ◌∷◌, ◌++◌, codes, drop, length, take, get_or, nat_lt, if◌then◌else◌}
 use Rattle.std.specs.Fmt.{decimal}
 use Rattle.std.specs.List.{flat_map, list_any}
+use Rattle.mk_name.specs.Names.{same_name}
 use Rattle.mk_name.specs.Shown.{line, shown}
 use Rattle.mk_path.specs.declared.path.Path.{Path}
 use Rattle.mk_path.specs.Paths.{is_over}
@@ -30,9 +31,21 @@ counts_text jobs =
     ++ number_line (codes "idle") (how_many (is_idle jobs) (node_count jobs))
     ++ number_line (codes "waits") jobs.plan.wait_uses
 
--- the names of nodes, each behind a space; what is no node has none
+-- what stands before the label in the name of a task's own node: two slashes and a NUL, which no path spells
+abbrev pub own_mark : List ℕ
+own_mark = 47 ∷ 47 ∷ 0 ∷ []
+
+-- how reports call a node: a task by its label, any other by its name
+abbrev pub label_of : List ℕ → List ℕ
+label_of name = if same_name (take 3 name) own_mark then drop 3 name else name
+
+-- the label of a node, as it is shown; what is no node has none
+unfoldable pub label_text : Jobs → ℕ → List ℕ
+label_text jobs n = shown (label_of (name_of jobs n))
+
+-- the labels of nodes, each behind a space
 abbrev pub name_text : Jobs → ℕ → List ℕ
-name_text jobs n = codes " " ++ shown (name_of jobs n)
+name_text jobs n = codes " " ++ label_text jobs n
 
 abbrev pub names_text : Jobs → List ℕ → List ℕ
 names_text jobs numbers = flat_map (name_text jobs) numbers

@@ -5,6 +5,7 @@ ghost use Rattle.mk_jobs.specs.Jobs as nodes;
 ghost use Rattle.mk_report.specs.FixText as spec;
 
 use crate::counts::push_number;
+use crate::names::{name_of, push_label};
 use crate::safe::clash_of;
 use crate::verb::writes_whole;
 use mk_jobs::jobs::Jobs;
@@ -170,16 +171,6 @@ fn push_line(
     Ok(())
 }
 
-/// The name of a node. What is no node has none.
-pub(crate) fn name_of(jobs: &Jobs, number: u32) -> &[u8]
-    ensures { result.now ≡ nodes.name_of jobs.now number }
-{
-    if number >= jobs.count() {
-        return b"";
-    }
-    jobs.name(number).as_bytes()
-}
-
 /// Puts at the end what the two nodes of an edge do with a path. The only error is out of memory.
 fn push_clash(
     out: &mut Vec<u8>,
@@ -208,7 +199,7 @@ fn push_reader(out: &mut Vec<u8>, jobs: &Jobs, first: u32, spelled: &[u8]) -> Re
     out.extend_from_slice(b"writes ")?;
     push_shown(out, spelled)?;
     out.extend_from_slice(b", which ")?;
-    push_shown(out, name_of(jobs, first))?;
+    push_label(out, jobs, first)?;
     out.extend_from_slice(b" reads before it")
 }
 
@@ -221,9 +212,9 @@ fn push_phony(out: &mut Vec<u8>, jobs: &Jobs, edge: (u32, u32)) -> Result<(), Al
         return Ok(());
     }
     out.extend_from_slice(b"; ")?;
-    push_shown(out, name_of(jobs, first))?;
+    push_label(out, jobs, first)?;
     out.extend_from_slice(b" is phony, so ")?;
-    push_shown(out, name_of(jobs, second))?;
+    push_label(out, jobs, second)?;
     out.extend_from_slice(b" is made each time")
 }
 

@@ -6,7 +6,8 @@ ghost use Rattle.mk_name.specs.Shown.{kind_line, name_line, place_line};
 ghost use Rattle.mk_jobs.specs.Jobs as nodes;
 ghost use Rattle.mk_report.specs.FixText as spec;
 
-use crate::fixes::{has_words, name_of};
+use crate::fixes::has_words;
+use crate::names::{push_label, push_name};
 use mk_jobs::jobs::Jobs;
 use mk_jobs::maker::Maker;
 use mk_name::fault::{Fault, Kind, Source};
@@ -61,9 +62,8 @@ fn push_need(
     let (first, second) = edge;
     let words = has_words(alloc, jobs, edge)?;
     out.extend_from_slice(b"# needs ")?;
-    push_shown(out, name_of(jobs, second))?;
-    out.push(b' ')?;
-    push_shown(out, name_of(jobs, first))?;
+    push_label(out, jobs, second)?;
+    push_name(out, jobs, first)?;
     out.extend_from_slice(obstacle(jobs, second, words).as_bytes())?;
     out.push(b'\n')?;
     Ok(())

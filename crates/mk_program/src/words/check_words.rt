@@ -1,12 +1,13 @@
 //! The words of `race check`.
 ghost use Rattle.std.specs.Prelude.{◌≡◌, IfOk, false};
-ghost use Rattle.clap.specs.Words.{app_of, found_of, rows_of, rule_of};
+ghost use Rattle.clap.specs.Words.{app_of, found_of, rows_of};
 ghost use Rattle.clap.specs.declared.builder.command.Command.TheViews.{out-Command as fields_of};
 ghost use Rattle.mk_program.specs.CommandLine as spec;
 
-use super::{build_args, help, is_true, option, with_build};
+use super::task_words::with_tasks;
+use super::{build_args, flag, help, is_true};
 use crate::requests::CheckArgs;
-use clap::{Arg, ArgAction, ArgMatches, Command};
+use clap::{ArgMatches, Command};
 use std::alloc::{AllocError, Global};
 
 /// The subcommand, with its options and operands.
@@ -17,20 +18,7 @@ pub(super) fn check_command<'a>(alloc: Global) -> Result<Command<'a>, AllocError
     let command = Command::new(alloc, "check")
         .about(help::CHECK_ABOUT)
         .after_help(help::CHECK_DETAILS);
-    with_build(alloc, command)?
-        .arg(option(alloc, "footprints", "FOOTPRINTS", help::FOOTPRINTS))?
-        .arg(print_proof(alloc))
-}
-
-/// The flag that the proof is printed in place of the report.
-fn print_proof<'a>(alloc: Global) -> Arg<'a>
-    ensures rule { rule_of result ≡ spec.print_proof }
-    ensures local { result.global ≡ false }
-{
-    Arg::new(alloc, "print-proof")
-        .long("print-proof")
-        .action(ArgAction::SetTrue)
-        .help(help::PRINT_PROOF)
+    with_tasks(alloc, command)?.arg(flag(alloc, "print-proof", help::PRINT_PROOF))
 }
 
 /// The check that these matches of the subcommand ask for. The only error is want of memory.

@@ -7,18 +7,23 @@ Reads a makefile as POSIX `make` does, and says what a build of it does, with a 
 
 pub const DETAILS: &str = "\
 `race check` says whether the recipes of a build may run in parallel, or which two of them race.
-`race list` lists all races of a build. `race order` prints the serial order of a build.
-`race verify` says whether a proof is good for a build: where it accepts a certificate, every run
-of the recipes leaves the same files. `race replay` says whether a log of a build is a run that
-`make -j` may make. `race serialise` writes the log of a parallel build as that of the same build
-with one job. `race order` and `race replay` end with 0 also on a build whose recipes race.
+`race list` lists all races of a build, and `race fix` prints the makefile lines that make it safe.
+`race order` prints the serial order of a build. `race verify` says whether a proof is good for a
+build: where it accepts a certificate, every run of the recipes leaves the same files.
+`race replay` says whether a log of a build is a run that `make -j` may make. `race serialise`
+writes the log of a parallel build as that of the same build with one job. `race order` and
+`race replay` end with 0 also on a build whose recipes race.
+
+With --tasks TASKS `check`, `list` and `verify` take tasks that another tool knows, such as a
+recorder of builds, in place of a makefile.
 
 Statuses:
-  0  check: the build is safe; list: there is no race; order: the order is printed; verify: the
-     proof is accepted; replay: the log is a run, complete or not; serialise: the new log is
-     printed; the help or the version is printed
-  1  check: two recipes race; list: there are races; verify: the proof is not accepted; replay: the
-     log is no run; serialise: it is none or not complete, recipes race, or its times are too large
+  0  check: the build is safe; list: there is no race; fix: the build is safe with the lines;
+     order: the order is printed; verify: the proof is accepted; replay: the log is a run, complete
+     or not; serialise: the new log is printed; the help or the version is printed
+  1  check: two recipes race; list: there are races; fix: no lines fix the build; verify: the proof
+     is not accepted; replay: the log is no run; serialise: it is none or not complete, recipes
+     race, or its times are too large
   2  the inputs are refused: the report says where and why
   3  a file cannot be read or written, memory runs out, or the command line is invalid: a line on
      standard error says which";
@@ -97,6 +102,12 @@ each means.
 With --print-proof the certificate or the trace comes in place of the report, as `race verify`
 reads it.
 
+With --tasks TASKS, which stands in place of MAKEFILE, LISTING, BASE, FILE, FOOTPRINTS and the
+operands, tasks are checked that another tool knows. TASKS is the path of a file that has for each
+task an object of JSON on a line of its own: its label, the labels of earlier tasks that have to
+end before it starts, and the paths that it reads and writes. Each task runs. Where a name would
+stand, its label stands in the report. docs/FORMATS.md has how to write them.
+
 `safe` rests on premises that race cannot see:
   - the makefile, the base, the goals and the macros are those of the build;
   - LISTING has just the files that are there when the build begins;
@@ -149,6 +160,8 @@ pub const LIST_DETAILS: &str = "\
 MAKEFILE, BASE, FILE, LISTING, DIR and the operands are those of `race order`, and FOOTPRINTS is
 that of `race check`, which shows how the first of the races comes about.
 
+With --tasks TASKS the races of these tasks are listed, as `race check` reads them.
+
 What comes out is the number of races, those of nodes, of recipes that may run, of those that
 cannot, of .WAIT and of the pairs that share a file which one of them writes, and for each race a
 line `race PATH : NAME DOES NAME DOES`: a path that both touch, the two, and what each does with
@@ -176,6 +189,48 @@ Statuses:
   3  a file cannot be read or written, memory runs out, or the command line is invalid
 ";
 
+pub const FIX_ABOUT: &str =
+    "Prints the makefile lines that make a build safe, which it has proved.";
+
+pub const FIX_DETAILS: &str = "\
+MAKEFILE, BASE, FILE, LISTING, DIR and the operands are those of `race order`, and FOOTPRINTS is
+that of `race check`.
+
+What comes out goes behind MAKEFILE: `race fix .. >> makefile`. Each line `NAME: NAME # REMARK`
+makes the second of two recipes that race wait for the first. None of the lines can be left out,
+and nothing else changes: race reads the makefile with the lines again, and prints them only where
+that build is safe and has the same files, recipes and prerequisites, except for the lines. Where
+the build is safe nothing comes out.
+
+Where no lines do that, comments alone come out: `# not fixed`, and for each line that is needed
+`# needs NAME NAME`, with `default` where .DEFAULT makes the first name, which no line can change,
+`exists` where an inference rule makes it, which a line may change, and `name` where a name cannot
+be written in a makefile. Give such a file a rule of its own. So look at the status first.
+
+The lines rest on the premises of `race check`, also for the recipes as they then are: $^ and $?
+gain a word. A file that depends on a folder or a phony target is made more often.
+
+With --print-proof the certificate of the build with the lines comes out in their place.
+
+Example, an object that uses a header, which another recipe generates, and does not say so:
+  $ printf 'all: gen.h a.o\\ngen.h:\\n\\tsh gen.sh\\na.o: a.c\\n\\tcc -c a.c\\n' > makefile
+  $ echo a.c > listing
+  $ echo '{\"target\":\"gen.h\",\"reads\":[],\"writes\":[\"gen.h\"]}' > footprints
+  $ echo '{\"target\":\"a.o\",\"reads\":[\"a.c\",\"gen.h\"],\"writes\":[\"a.o\"]}' >> footprints
+  $ race fix --makefile makefile --listing listing --root \"$PWD\" --footprints footprints
+  # race fix: lines 1
+  a.o: gen.h # reads gen.h
+
+Statuses:
+  0  the build is safe with the lines, or without any where none comes out
+  1  it needs prerequisites that no lines give it
+  2  the makefile, the base, an included text, the listing, the root, an operand or the footprints
+     is refused, or more than 1,000,000 pairs of recipes conflict
+  3  a file cannot be read or written, memory runs out, or the command line is invalid
+";
+
+pub const FIX_PROOF: &str = "Print the certificate of the fixed build in place of the lines";
+
 pub const PRINT_PROOF: &str = "Print the certificate or the trace in place of the report";
 
 pub const VERIFY_ABOUT: &str =
@@ -195,6 +250,9 @@ leads to two such recipes that run at once.
   ..                     time NODE TIME        for each file of LISTING that is a node
                          skip NODE             start NODE and finish NODE likewise
                          end
+
+With --tasks TASKS the proof is judged for these tasks, as `race check` reads them. Then NODE is the
+number of a task, the first being 0, and there are no times.
 
 The certificate rests on premises that race cannot see:
   - the makefile, the base, the goals and the macros are those of the build;
@@ -324,6 +382,8 @@ Statuses:
 ";
 
 pub const FOOTPRINTS: &str = "What the recipes read and write, one object of JSON a line";
+
+pub const TASKS: &str = "What tasks wait for, read and write, one object of JSON a line";
 
 pub const LOG: &str = "The files that are there and what happened, a JSON object a line";
 

@@ -4,7 +4,8 @@ ghost use Rattle.clap.specs.Words.{app_of, found_of, rows_of};
 ghost use Rattle.clap.specs.declared.builder.command.Command.TheViews.{out-Command as fields_of};
 ghost use Rattle.mk_program.specs.CommandLine as spec;
 
-use super::{build_args, help, option, with_build};
+use super::task_words::with_tasks;
+use super::{build_args, help};
 use crate::requests::ListArgs;
 use clap::{ArgMatches, Command};
 use std::alloc::{AllocError, Global};
@@ -17,7 +18,7 @@ pub(super) fn list_command<'a>(alloc: Global) -> Result<Command<'a>, AllocError>
     let command = Command::new(alloc, "list")
         .about(help::LIST_ABOUT)
         .after_help(help::LIST_DETAILS);
-    with_build(alloc, command)?.arg(option(alloc, "footprints", "FOOTPRINTS", help::FOOTPRINTS))
+    with_tasks(alloc, command)
 }
 
 /// What these matches of the subcommand ask to list. The only error is out of memory.

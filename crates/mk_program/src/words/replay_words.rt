@@ -27,9 +27,9 @@ pub(super) fn with_log<'a>(alloc: Global, command: Command<'a>) -> Result<Comman
     ensures local { IfOk result (λ new.
         (fields_of new).has_globals ≡ (fields_of command.entry).has_globals) }
 {
-    with_build(alloc, command)?
-        .arg(option(alloc, "footprints", "FOOTPRINTS", help::FOOTPRINTS))?
-        .arg(option(alloc, "log", "LOG", help::LOG))?
+    with_build(alloc, command, true)?
+        .arg(option(alloc, "footprints", "FOOTPRINTS", help::FOOTPRINTS, true))?
+        .arg(option(alloc, "log", "LOG", help::LOG, true))?
         .arg(limit(alloc))?
         .arg(tie(alloc))
 }
@@ -38,9 +38,7 @@ fn limit<'a>(alloc: Global) -> Arg<'a>
     ensures rule { rule_of result ≡ spec.limit }
     ensures local { result.global ≡ false }
 {
-    option(alloc, "limit", "N", help::LIMIT)
-        .required(false)
-        .value_parser(ValueParser::unsigned(1, 65_535))
+    option(alloc, "limit", "N", help::LIMIT, false).value_parser(ValueParser::unsigned(1, 65_535))
 }
 
 fn tie<'a>(alloc: Global) -> Arg<'a>

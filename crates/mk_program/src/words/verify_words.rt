@@ -4,7 +4,8 @@ ghost use Rattle.clap.specs.Words.{app_of, found_of, rows_of};
 ghost use Rattle.clap.specs.declared.builder.command.Command.TheViews.{out-Command as fields_of};
 ghost use Rattle.mk_program.specs.CommandLine as spec;
 
-use super::{build_args, help, option, with_build};
+use super::task_words::with_tasks;
+use super::{build_args, help, option};
 use crate::requests::VerifyArgs;
 use clap::{ArgMatches, Command};
 use std::alloc::{AllocError, Global};
@@ -17,9 +18,7 @@ pub(super) fn verify_command<'a>(alloc: Global) -> Result<Command<'a>, AllocErro
     let command = Command::new(alloc, "verify")
         .about(help::VERIFY_ABOUT)
         .after_help(help::VERIFY_DETAILS);
-    with_build(alloc, command)?
-        .arg(option(alloc, "footprints", "FOOTPRINTS", help::FOOTPRINTS))?
-        .arg(option(alloc, "proof", "PROOF", help::PROOF))
+    with_tasks(alloc, command)?.arg(option(alloc, "proof", "PROOF", help::PROOF, true))
 }
 
 /// The proof that these matches of the subcommand name. The only error is want of memory.

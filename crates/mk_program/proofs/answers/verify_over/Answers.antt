@@ -1,5 +1,6 @@
 use Rattle.std.proofs.lemmas.Result.{IfOk-weaker}
 use Rattle.mk_race.specs.Stages.{texts_of}
+use Rattle.mk_race.specs.Verified.{IsVerified}
 use Rattle.mk_program.proofs.Answering.{refusal_not_failed, unverified_is, verdict_is}
 use Rattle.mk_program.proofs.answers.verify_over.Goals as goal
 
@@ -8,10 +9,8 @@ returns-in-Err-clause-status c = IfOk-weaker c.refused.result _ _ (λ answer h. 
 
 pub returns-in-Err-clause-answer : goal.returns-in-Err-clause-answer
 returns-in-Err-clause-answer c =
-    IfOk-weaker c.refused.result _ _ (λ answer h. unverified_is (texts_of c.args.input.now) c.args.input.now.footprints.now c.args.proof.now
-    c.in-Err.halt h.0 _ _ c.in-Err.ensures.answer h.1 h.2 h.3) c.refused.ensures
+    IfOk-weaker c.refused.result _ _ (λ answer h. unverified_is _ _ c.in-Err.halt h.0 _ _ c.in-Err.ensures.answer h.1 h.2 h.3) c.refused.ensures
 
 pub returns-in-Ok-clause-answer : goal.returns-in-Ok-clause-answer
 returns-in-Ok-clause-answer c =
-    IfOk-weaker c.verdict_answer.result _ _ (λ answer h. verdict_is (texts_of c.args.input.now) c.args.input.now.footprints.now c.args.proof.now
-    c.in-Ok.accepted _ _ c.in-Ok.ensures.answer c.in-Ok.ensures.shows h.0 h.1) c.verdict_answer.ensures
+    IfOk-weaker c.verdict_answer.result _ _ (λ answer h. verdict_is (IsVerified (texts_of c.args.input.now) c.args.input.now.footprints.now c.args.proof.now) _ c.in-Ok.accepted _ _ c.in-Ok.ensures.answer c.in-Ok.ensures.shows h.0 h.1) c.verdict_answer.ensures

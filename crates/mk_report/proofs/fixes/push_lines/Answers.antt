@@ -1,4 +1,4 @@
-use Rattle.std.proofs.Common.{ℕ, ◌≡◌, ◌∙◌, ◌+◌, List, [], ◌∷◌, ◌++◌, append_assoc, arith, ap, drop, get_or, subst, sym, take}
+use Rattle.std.proofs.Common.{ℕ, ◌∙◌, ◌+◌, List, ◌++◌, append_assoc, arith, ap, drop, get_or, subst, sym, take}
 use Rattle.std.proofs.lemmas.List.{take-append-drop, take_more}
 use Rattle.mk_report.specs.FixText.{AreFixLines}
 use Rattle.mk_report.proofs.FixLines.{fix_lines_more}

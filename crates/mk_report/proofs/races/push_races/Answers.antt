@@ -1,4 +1,4 @@
-use Rattle.std.proofs.Common.{ℕ, ◌≡◌, ◌∙◌, ◌+◌, List, [], ◌∷◌, ◌++◌, append_assoc, ap, get_or, subst, sym, take}
+use Rattle.std.proofs.Common.{ℕ, ◌∙◌, List, ◌++◌, append_assoc, ap, get_or, subst, sym, take}
 use Rattle.std.proofs.lemmas.List.{take_more}
 use Rattle.mk_report.specs.RacesText.{AreRaceLines}
 use Rattle.mk_report.proofs.RaceLines.{race_lines_more}

@@ -1,0 +1,15 @@
+use Rattle.std.proofs.Common.{◌∙◌, ap, map, List, ℕ}
+use Rattle.std.proofs.lemmas.Result.{IfOk-weaker}
+use Rattle.std.specs.Borrow.{Bor}
+use Rattle.mk_program.proofs.Fixings.{fix_read}
+use Rattle.mk_program.proofs.fixing.fix_answer.Goals as goal
+
+abbrev texts : List (Bor (List ℕ)) → List (List ℕ)
+texts = map (λ (text : Bor (List ℕ)). text.now)
+
+pub returns-clause-answer : goal.returns-clause-answer
+returns-clause-answer c =
+    let operands = ap texts c.as_slice-2.ensures.value ∙ c.in_ok-operands.ensures ∙ ap texts c.as_slice.ensures.value in
+    let told = c.input_of-input.ensures in
+    IfOk-weaker c.fix_over.result _ _ (λ answer h text are.
+    fix_read _ _ _ _ _ answer.status answer.text.items (told.texts text are operands) (told.footprints text are) h) c.fix_over.ensures.answer

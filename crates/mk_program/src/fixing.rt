@@ -1,0 +1,82 @@
+//! The answers to `race fix`.
+ghost use Rattle.std.specs.Prelude.{◌≡◌, ◌≢◌, IfOk, List, map, ℕ};
+ghost use Rattle.mk_race.specs.Fixed.{HoldsOfFixed};
+ghost use Rattle.mk_race.specs.Stages.{Texts, texts_of};
+ghost use Rattle.mk_program.specs.Answers as spec;
+ghost use Rattle.mk_program.specs.Inputs.{AreTexts};
+
+use crate::answers::{Answer, bytes_of, input_of, refused};
+use crate::failures::InputFile;
+use crate::inputs::InputText;
+use crate::requests::CheckArgs;
+use crate::statuses::Status;
+use mk_proof::writing::write_certificate;
+use mk_race::fixing::{Fixing, fix_build};
+use mk_race::input::Input;
+use mk_report::not_fixed::not_fixed_report;
+use std::alloc::{AllocError, Global};
+
+/// The lines that fix a build, or the edges that no lines give it, or why its inputs are refused. The only error is out of
+/// memory.
+pub(crate) fn fix_answer(
+    alloc: Global,
+    fix: &CheckArgs<'_>,
+    includes: &[(&[u8], &[u8])],
+    texts: &[InputText],
+) -> Result<Answer, AllocError>
+    ensures status { IfOk result (λ answer. answer.status ≢ Status.Failed) }
+    ensures answer { IfOk result (λ answer. (text : InputFile → List ℕ) → AreTexts texts.now text
+        → spec.IsFixAnswer (spec.texts_for fix.now.build
+        (map (λ pair. (pair.0.now, pair.1.now)) includes.now) text) (text InputFile.Footprints)
+        fix.now.print_proof answer.status answer.text.items) }
+{
+    let build = &fix.build;
+    let operands = bytes_of(alloc, build.operands.as_slice())?;
+    let input = input_of(build, operands.as_slice(), includes, texts);
+    fix_over(alloc, &input, fix.print_proof)
+}
+
+/// The lines that fix a build or the proof with them, or the edges that no lines give it, or the report of its first fault. The
+/// only error is out of memory.
+fn fix_over(alloc: Global, input: &Input<'_>, proof: bool) -> Result<Answer, AllocError>
+    ensures status { IfOk result (λ answer. answer.status ≢ Status.Failed) }
+    ensures answer { IfOk result (λ answer. spec.IsFixAnswer (texts_of input.now)
+        input.now.footprints.now proof answer.status answer.text.items) }
+{
+    match fix_build(alloc, input) {
+        Ok(fixing) => fixing_answer(alloc, &fixing, proof),
+        Err(halt) => refused(alloc, halt),
+    }
+}
+
+/// What comes of a build that was to be fixed, told. The only error is out of memory.
+fn fixing_answer(alloc: Global, fixing: &Fixing, proof: bool) -> Result<Answer, AllocError>
+    ensures { IfOk result (λ answer. (texts : Texts) (footprints : List ℕ) → HoldsOfFixed texts footprints fixing.now
+        → spec.IsFixTold texts footprints proof fixing.now answer.status answer.text.items) }
+{
+    match fixing {
+        Fixing::Fixed {
+            lines,
+            certificate,
+            ..
+        } => {
+            let text = if proof {
+                write_certificate(alloc, certificate)?
+            } else {
+                Vec::from_slice(alloc, lines)?
+            };
+            Ok(Answer {
+                status: Status::Done,
+                text,
+            })
+        }
+        Fixing::NotFixed {
+            jobs,
+            edges,
+            refusal,
+        } => Ok(Answer {
+            status: Status::No,
+            text: not_fixed_report(alloc, jobs, edges, refusal.as_ref())?,
+        }),
+    }
+}

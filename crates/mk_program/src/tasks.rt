@@ -1,0 +1,74 @@
+//! The answers about tasks.
+ghost use Rattle.std.specs.Prelude.{◌≢◌, IfOk, List, ℕ};
+ghost use Rattle.mk_program.specs.Answers as spec;
+ghost use Rattle.mk_program.specs.Inputs.{AreTexts};
+
+use crate::answers::{Answer, refused, verdict_answer};
+use crate::checking::judged_answer;
+use crate::failures::InputFile;
+use crate::inputs::{InputText, text_of};
+use crate::listing::races_answer;
+use crate::requests::{TaskArgs, TaskQuestion};
+use crate::statuses::Status;
+use mk_race::tasked::{judge_tasks, list_tasks, verify_tasks};
+use std::alloc::{AllocError, Global};
+
+/// The answer to a question about tasks, or why their text is refused. The only error is out of memory.
+pub(crate) fn tasks_answer(
+    alloc: Global,
+    args: &TaskArgs<'_>,
+    texts: &[InputText],
+) -> Result<Answer, AllocError>
+    ensures status { IfOk result (λ answer. answer.status ≢ Status.Failed) }
+    ensures answer { IfOk result (λ answer. (text : InputFile → List ℕ) → AreTexts texts.now text
+        → spec.IsTasksAnswer args.now.question args.now.root.now text answer.status answer.text.items) }
+{
+    let root = args.root.as_bytes();
+    let tasks = text_of(texts, InputFile::Tasks);
+    match args.question {
+        TaskQuestion::Check { print_proof } => check_answer(alloc, root, tasks, print_proof),
+        TaskQuestion::Verify { .. } => {
+            verify_answer(alloc, root, tasks, text_of(texts, InputFile::Proof))
+        }
+        TaskQuestion::List => list_answer(alloc, root, tasks),
+    }
+}
+
+/// The report of tasks, or their proof, or the report of their first fault. The only error is out of memory.
+fn check_answer(alloc: Global, root: &[u8], tasks: &[u8], proof: bool) -> Result<Answer, AllocError>
+    ensures status { IfOk result (λ answer. answer.status ≢ Status.Failed) }
+    ensures answer { IfOk result (λ answer.
+        spec.IsTaskCheckAnswer root.now tasks.now proof answer.status answer.text.items) }
+{
+    let judged = judge_tasks(alloc, root, tasks)?;
+    judged_answer(alloc, &judged, proof)
+}
+
+/// Whether a proof is accepted for tasks, or the report of the first fault of both. The only error is out of memory.
+fn verify_answer(
+    alloc: Global,
+    root: &[u8],
+    tasks: &[u8],
+    proof: &[u8],
+) -> Result<Answer, AllocError>
+    ensures status { IfOk result (λ answer. answer.status ≢ Status.Failed) }
+    ensures answer { IfOk result (λ answer.
+        spec.IsTaskVerifyAnswer root.now tasks.now proof.now answer.status answer.text.items) }
+{
+    match verify_tasks(alloc, root, tasks, proof) {
+        Ok(accepted) => verdict_answer(alloc, accepted),
+        Err(halt) => refused(alloc, halt),
+    }
+}
+
+/// The report of all races of tasks, or of their first fault. The only error is out of memory.
+fn list_answer(alloc: Global, root: &[u8], tasks: &[u8]) -> Result<Answer, AllocError>
+    ensures status { IfOk result (λ answer. answer.status ≢ Status.Failed) }
+    ensures answer { IfOk result (λ answer.
+        spec.IsTaskListAnswer root.now tasks.now answer.status answer.text.items) }
+{
+    match list_tasks(alloc, root, tasks) {
+        Ok(listed) => races_answer(alloc, &listed),
+        Err(halt) => refused(alloc, halt),
+    }
+}

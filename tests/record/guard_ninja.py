@@ -1,0 +1,84 @@
+"""The guards of the recorder where ninja builds; guard_table.py says what each part of one is."""
+
+from typing import List
+
+from guard_table import FALSE_RACE, LOST_HOLE, LOST_IN_WARM, UNSAID, YES, Guard, case
+
+AFTER = "manifest.makers_of(edge) if m.number in place}"
+IN_POOL = "manifest.makers_of(edge) + [k for k in kept if k.value('pool') == edge.value('pool') != '' and k.number < edge.number] if m.number in place}"
+BY_LOG = ("manifest.makers_of(edge) + [manifest.makers[p] for p in __import__('subprocess').run(['ninja', '-C', self.ninja.folder, '-t', 'deps', edge.label],"
+          " capture_output=True, text=True).stdout.split() if p in manifest.makers] if m.number in place}")
+
+
+def ninja(name: str) -> str:
+    """The test of a manifest of ninja_table.py."""
+    return "test_ninja.Ninja.test_" + name.replace("-", "_")
+
+
+def runs(name: str) -> str:
+    """The test of a ninja that is made up."""
+    return "test_ninja_runs.Holes.test_" + name
+
+
+WARM: List[Guard] = [
+    Guard("ninja, warm: no yes", "main.py", "if ended == 0 and record.warm and not options.warm:", "if False:", ninja("warm"), LOST_HOLE),
+    Guard("ninja, warm: outputs that were there", "warm.py", "        found.update(targets_of(ninja, names))\n", "        pass\n", ninja("warm"), LOST_HOLE),
+    Guard("ninja, warm: all below the goals", "warm.py", "wanted = manifest.below(goals) if", "wanted = set() if", ninja("warm"), LOST_HOLE),
+    Guard("ninja, warm: said with --warm", "main.py", 'found.assumed.add("up-to-date", name)', "pass", ninja("warm-accepted"), UNSAID),
+    Guard("ninja, warm: a header that the log knows is no input", "ninja_build.py", AFTER, BY_LOG, ninja("warm-by-log-of-headers"), LOST_IN_WARM),
+    Guard("ninja, fresh: logs of earlier builds go", "fresh.py", "Path(logs, name).unlink(missing_ok=True)", "pass", "test_ninja.Fresh.test_logs_go"),
+]
+HOLES: List[Guard] = [
+    Guard("ninja, holes: a command of nobody", "ninja_runs.py", 'self.holes.append("ninja ran a command that no', 'str("ninja ran a command that no', runs("command_that_no_statement_has")),
+    Guard("ninja, holes: a command that is cut", "ninja_runs.py", " or any(job.life.cut for job in jobs):", ":", runs("command_that_is_cut")),
+    Guard("ninja, holes: a child that is no command", "ninja_runs.py", 'self.holes.append("ninja started what is', 'str("ninja started what is', runs("child_that_is_no_command")),
+    Guard("ninja, holes: words that cannot be read", "ninja_runs.py", 'self.holes.append("ninja ran commands, and', 'str("ninja ran commands, and', runs("words_that_cannot_be_read")),
+    Guard("ninja, holes: no manifest", "ninja_runs.py", 'self.holes.append("a ninja read no', 'str("a ninja read no', runs("ninja_that_read_no_manifest")),
+    Guard("ninja, holes: a manifest that cannot be read", "ninja_runs.py", '                self.holes.append("the manifest that', '                str("the manifest that', runs("manifest_that_cannot_be_read")),
+    Guard("ninja, holes: a manifest that changed since", "ninja_runs.py", "if not any(at > place for at in places):", "if True:", ninja("manifest-that-nobody-kept"), LOST_HOLE),
+    Guard("ninja, holes: a manifest that changed before", "ninja_runs.py", "and not any(at < place for at in places):", "and True:", ninja("manifest-that-changed-twice"), LOST_HOLE),
+    Guard("ninja, holes: no log", "ninja_runs.py", 'self.holes.append("ninja left no log', 'str("ninja left no log', ninja("log-is-gone"), LOST_HOLE),
+    Guard("ninja, holes: a line of the log too many", "ninja_runs.py", "sorted((counted - ran).keys())[:3]", "()", ninja("log-with-a-line-too-many"), LOST_HOLE),
+    Guard("ninja, holes: a line of the log less", "ninja_runs.py", "sorted((ran - counted).keys())[:3]", "()", ninja("log-with-a-line-less"), LOST_HOLE),
+    Guard("ninja, holes: the order of the trace", "ninja_build.py", "if lives and lives[0].born < ready:", "if False:", runs("order_of_the_trace")),
+    Guard("ninja, holes: a folder of no statement", "ninja_build.py", 'self.holes.append("ninja made the folder', 'str("ninja made the folder', runs("folder_that_no_statement_needs")),
+    Guard("ninja, holes: a ring", "ninja_build.py", 'self.holes.append("build statements of', 'str("build statements of', runs("statements_in_a_ring")),
+    Guard("ninja, holes: what missingdeps finds", "main.py", "for one in beyond if not record.warm and record.status == 0 else []:", "for one in []:", ninja("dep-file-that-lies"), LOST_HOLE),
+    Guard("ninja, missingdeps: of an earlier build", "main.py", "for m in beyond if record.warm]", "for m in ()]", ninja("warm-beside-missingdeps"), UNSAID),
+]
+ATTRIBUTION: List[Guard] = [
+    Guard("ninja, who: processes of a command", "ninja_runs.py", "            self.owners.take(job.work, job.life)\n", "            pass\n", ninja("forgotten"), YES),
+    Guard("ninja, who: the log tells which of two", "ninja_runs.py", "sorted(jobs, key=lambda j: j.life.died)", "sorted(jobs, key=lambda j: -j.life.died)", runs("log_tells_which_of_two")),
+    Guard("ninja, who: the log must say which", "ninja_runs.py", "if len(found) != len(jobs):", "if False:", runs("log_does_not_say_which")),
+    Guard("ninja, who: two of one command at once", "ninja_runs.py", "            self.check_tie(text, jobs)\n", "            pass\n", runs("two_with_one_command_at_once")),
+    Guard("ninja, who: said that the log decided", "ninja_runs.py", "        self.ties.append(text)\n", "", ninja("one-command"), UNSAID),
+    Guard("ninja, who: a ninja below a command", "ninja_runs.py", "for life in work.lives if id(life) in by_life]", "for life in ()]", ninja("ages-of-an-inner-ninja"), YES),
+    Guard("ninja, who: long commands", "main.py", '"131072"', '"4096"', ninja("long-command"), LOST_IN_WARM),
+    Guard("ninja, who: two beside each other", "ninja_import.py", 'assumed.add("tops", " ".join(argv)[:60])', "pass", ninja("beside-each-other"), UNSAID),
+    Guard("ninja, hints: none where it waits", "again.py", "return first is not second and first.number not in below[second.number] and", "return first is not second or", "test_ninja.Hints.test_none_where_it_waits"),
+    Guard("ninja, hints: absent files first", "again.py", '0 if kind == "N" else 1)', "0)", "test_ninja.Hints.test_absent_files_first"),
+    Guard("ninja, hints: at most three recordings", "main.py", "while is_again and number < TRIES:", "while is_again and number < TRIES + 1:", "test_ninja.Hints.test_absent_files_first"),
+    Guard("ninja, who: words where nothing was undone", "again.py", 'elif kind in "WDX" and path in names.before', 'elif False and path in names.before', "test_again.Undone.test_what_was_there_and_changed_stops_it"),
+]
+ORDER: List[Guard] = [
+    Guard("ninja, order: validations give none", "ninja_manifest.py", "return self.inputs + self.implicit + self.order_only", "return self.inputs + self.implicit + self.order_only + self.validations", ninja("validation"), YES),
+    Guard("ninja, order: pools give none", "ninja_build.py", AFTER, IN_POOL, ninja("pool"), YES),
+    Guard("ninja, order: pools are named", "ninja_fix.py", 'if not one.get("pool") or', 'if True or', ninja("pool"), UNSAID),
+    Guard("ninja, order: through phony ones", "ninja_build.py", "if edge.number in above]", "if edge.number in jobs]", ninja("phony"), FALSE_RACE),
+    Guard("ninja, order: through what is clean", "ninja_build.py", "if edge.number in above]", "if edge.number in jobs]", ninja("through-what-is-clean"), FALSE_RACE),
+    Guard("ninja, order: what a dyndep file adds", "ninja_runs.py", "        self.read_dyndeps(manifest)\n", "", ninja("dyndep"), FALSE_RACE),
+    Guard("ninja, order: a dyndep file adds to its statement alone", "ninja_runs.py", "if manifest.makers.get(one.output) is edge:", "if True:", ninja("dyndep-of-two"), YES),
+    Guard("ninja, order: a manifest that is remade begins again", "ninja_runs.py", 'act.kind == "R" and act.path == target:', 'act.kind == "R" and act.path == target and not places:', ninja("remade-manifest"), LOST_IN_WARM),
+]
+OWN: List[Guard] = [
+    Guard("ninja's own: looks after restat", "ninja_build.py", "if edge.is_restat or", "if", ninja("restat-of-another"), YES),
+    Guard("ninja's own: response files", "ninja_build.py", "        if response:\n", "        if False:\n", ninja("response-file"), YES),
+    Guard("ninja's own: depfiles", "ninja_build.py", 'if found and edge.value("deps") == "gcc":', "if False:", ninja("dep-file-that-another-writes"), YES),
+    Guard("ninja's own: folders of outputs", "ninja_build.py", "            self.add_folder(work, folder, begin)\n            if edge", "            if edge", ninja("folder-of-another"), YES),
+    Guard("ninja's own: its folders tell nobody", "ninja_build.py", 'work.add("T", above, place)', 'work.add("M", above, place)', ninja("folder-of-outputs"), "0 != 2"),
+    Guard("listings of interpreters count", "calls.py", "for pattern in shelltext.patterns(life.argv, life.cut):", "for pattern in () if shelltext.is_interpreter(life.argv) else shelltext.patterns(life.argv, life.cut):", ninja("listing-by-python"), YES),
+    Guard("listings of interpreters count, of their own folder", "calls.py", "for pattern in shelltext.patterns(life.argv, life.cut):", "for pattern in () if life.cut or 'list.py' in life.argv else shelltext.patterns(life.argv, life.cut):", ninja("listing-by-python-of-its-folder"), YES),
+    Guard("listings of interpreters count for make", "calls.py", "for pattern in shelltext.patterns(life.argv, life.cut):", "for pattern in () if shelltext.is_interpreter(life.argv) else shelltext.patterns(life.argv, life.cut):", case("python-lists"), YES),
+    Guard("listings of interpreters count for make, of their own folder", "calls.py", "for pattern in shelltext.patterns(life.argv, life.cut):", "for pattern in () if shelltext.is_interpreter(life.argv) else shelltext.patterns(life.argv, life.cut):", case("python-lists-its-folder"), YES),
+]
+NINJA_GUARDS = WARM + HOLES + ATTRIBUTION + ORDER + OWN
