@@ -20,8 +20,9 @@ def label_of(text):
     return label if 0 < len(label) <= oracle.GREATEST_PATH else None
 
 
-def is_everything(root, path):
-    return path.is_tree and not oracle.components(root, path.name)
+def is_everything(path):
+    """Whether a path is the tree `/`, which the root `/` spells as `./`."""
+    return path.is_tree and path.name == b"/"
 
 
 def task_line(line, root):
@@ -34,7 +35,7 @@ def task_line(line, root):
     label, after = label_of(said.get("task")), [label_of(it) for it in said["after"]]
     reads, writes = ([Path(oracle.plain(root, it.encode()), it.endswith("/")) for it in said[key]] for key in LISTS[1:])
     is_bad = label is None or None in after or any(path.name is None for path in reads + writes)
-    return None if is_bad or any(is_everything(root, it) for it in writes) else (label, after, reads, writes)
+    return None if is_bad or any(map(is_everything, writes)) else (label, after, reads, writes)
 
 
 class Jobs(answer_oracle.Jobs):
@@ -108,7 +109,7 @@ def text_of_plan(jobs):
     """The recipes of a build that can run, as a text of tasks; None where a task writes everything."""
     lines = []
     for number, footprint in jobs.footprints.items():
-        if any(is_everything(jobs.plan.root, it) for it in footprint.writes):
+        if any(map(is_everything, footprint.writes)):
             return None
         lists = ([spelled(it).decode() for it in sorted(paths)] for paths in footprint)
         names = [jobs.plan.order[it].decode() for it in sorted(behind(jobs, number))]

@@ -2,7 +2,7 @@
 
 from typing import List
 
-from guard_table import FALSE_RACE, LOST_HOLE, LOST_IN_WARM, UNSAID, YES, Guard, case
+from guard_table import FALSE_RACE, LOST_HOLE, LOST_RACE, UNSAID, YES, Guard, case
 
 AFTER = "manifest.makers_of(edge) if m.number in place}"
 IN_POOL = "manifest.makers_of(edge) + [k for k in kept if k.value('pool') == edge.value('pool') != '' and k.number < edge.number] if m.number in place}"
@@ -25,7 +25,7 @@ WARM: List[Guard] = [
     Guard("ninja, warm: outputs that were there", "warm.py", "        found.update(targets_of(ninja, names))\n", "        pass\n", ninja("warm"), LOST_HOLE),
     Guard("ninja, warm: all below the goals", "warm.py", "wanted = manifest.below(goals) if", "wanted = set() if", ninja("warm"), LOST_HOLE),
     Guard("ninja, warm: said with --warm", "main.py", 'found.assumed.add("up-to-date", name)', "pass", ninja("warm-accepted"), UNSAID),
-    Guard("ninja, warm: a header that the log knows is no input", "ninja_build.py", AFTER, BY_LOG, ninja("warm-by-log-of-headers"), LOST_IN_WARM),
+    Guard("ninja, warm: a header that the log knows is no input", "ninja_build.py", AFTER, BY_LOG, ninja("warm-by-log-of-headers"), LOST_RACE),
     Guard("ninja, fresh: logs of earlier builds go", "fresh.py", "Path(logs, name).unlink(missing_ok=True)", "pass", "test_ninja.Fresh.test_logs_go"),
 ]
 HOLES: List[Guard] = [
@@ -53,7 +53,7 @@ ATTRIBUTION: List[Guard] = [
     Guard("ninja, who: two of one command at once", "ninja_runs.py", "            self.check_tie(text, jobs)\n", "            pass\n", runs("two_with_one_command_at_once")),
     Guard("ninja, who: said that the log decided", "ninja_runs.py", "        self.ties.append(text)\n", "", ninja("one-command"), UNSAID),
     Guard("ninja, who: a ninja below a command", "ninja_runs.py", "for life in work.lives if id(life) in by_life]", "for life in ()]", ninja("ages-of-an-inner-ninja"), YES),
-    Guard("ninja, who: long commands", "main.py", '"131072"', '"4096"', ninja("long-command"), LOST_IN_WARM),
+    Guard("ninja, who: long commands", "main.py", '"131072"', '"4096"', ninja("long-command"), LOST_RACE),
     Guard("ninja, who: two beside each other", "ninja_import.py", 'assumed.add("tops", " ".join(argv)[:60])', "pass", ninja("beside-each-other"), UNSAID),
     Guard("ninja, hints: none where it waits", "again.py", "return first is not second and first.number not in below[second.number] and", "return first is not second or", "test_ninja.Hints.test_none_where_it_waits"),
     Guard("ninja, hints: absent files first", "again.py", '0 if kind == "N" else 1)', "0)", "test_ninja.Hints.test_absent_files_first"),
@@ -68,7 +68,7 @@ ORDER: List[Guard] = [
     Guard("ninja, order: through what is clean", "ninja_build.py", "if edge.number in above]", "if edge.number in jobs]", ninja("through-what-is-clean"), FALSE_RACE),
     Guard("ninja, order: what a dyndep file adds", "ninja_runs.py", "        self.read_dyndeps(manifest)\n", "", ninja("dyndep"), FALSE_RACE),
     Guard("ninja, order: a dyndep file adds to its statement alone", "ninja_runs.py", "if manifest.makers.get(one.output) is edge:", "if True:", ninja("dyndep-of-two"), YES),
-    Guard("ninja, order: a manifest that is remade begins again", "ninja_runs.py", 'act.kind == "R" and act.path == target:', 'act.kind == "R" and act.path == target and not places:', ninja("remade-manifest"), LOST_IN_WARM),
+    Guard("ninja, order: a manifest that is remade begins again", "ninja_runs.py", 'act.kind == "R" and act.path == target:', 'act.kind == "R" and act.path == target and not places:', ninja("remade-manifest"), LOST_RACE),
 ]
 OWN: List[Guard] = [
     Guard("ninja's own: looks after restat", "ninja_build.py", "if edge.is_restat or", "if", ninja("restat-of-another"), YES),

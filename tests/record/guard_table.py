@@ -1,7 +1,7 @@
 """The guards of the recorder: for each a text that turns it off, and the test that then fails.
 
 `gives` is what the failure must hold: `1 != 0` is a yes in place of a race, `0 != 1` a race in place of a yes, `2 != 0`
-a yes on a record with a hole, `1 != 2` a race that is lost where only the warm tree still bars the yes.
+a yes on a record with a hole, `1 != 2` a race that is lost where a hole or the warm tree still bars the yes.
 """
 
 from dataclasses import dataclass
@@ -10,7 +10,7 @@ from typing import List
 YES = "1 != 0"
 FALSE_RACE = "0 != 1"
 LOST_HOLE = "2 != 0"
-LOST_IN_WARM = "1 != 2"
+LOST_RACE = "1 != 2"
 UNSAID = "not found in"
 
 
@@ -77,7 +77,7 @@ NAMES: List[Guard] = [
     Guard("rename: all below goes with it", "calls.py", 'if inode.kind == "d":\n            for name, _ in', 'if False:\n            for name, _ in', "test_replay.Footprints.test_rename_of_a_folder_moves_all_below"),
     Guard("rename: two names in one step", "calls.py", 'self.holes.append("two names were exchanged', 'str("two names were exchanged', "test_replay.Footprints.test_names_that_are_exchanged_are_a_hole"),
     Guard("rename: the new name holds the file", "calls.py", "        self.names.put(new.folder, new.name, inode)\n\n    on_renameat", "\n    on_renameat", "test_replay.Footprints.test_folder_that_gets_a_third_name"),
-    Guard("links are followed when they are met", "names.py", "hops < LINK_LIMIT:", "False:", case("link-replaced"), YES),
+    Guard("links are followed when they are met", "names.py", "hops < LINK_LIMIT:", "False:", case("link-replaced"), LOST_RACE),
     Guard("failed looks are reads", "build.py", 'elif kind in "RSNPK" and path in writers:', 'elif kind in "RSPK" and path in writers:', small("absent_file"), YES),
     Guard("removals are writes", "build.py", 'CHANGES = "WCD"', 'CHANGES = "WC"', small("removed_file"), YES),
     Guard("listings see what is created", "build.py", "task.reads.add(join(folder, name))", "pass", small("pattern_of_eval"), YES),
@@ -97,7 +97,7 @@ FOLDERS: List[Guard] = [
     Guard("folders: removed", "folders.py", "    for at in folder.gone:\n", "    for at in ():\n", small("folder_removed"), YES),
     Guard("folders: not removed, as it holds something", "folders.py", "    for at in folder.gone | folder.tried:\n", "    for at in folder.gone:\n", small("folder_that_cannot_be_removed"), YES),
     Guard("folders: listed when made", "folders.py", "    add_listed(builder)\n    add_times", "    add_times", case("glob-made-folder"), YES),
-    Guard("folders: times", "folders.py", "    add_times(builder)\n    add_modes", "    add_modes", case("folder-time"), LOST_IN_WARM),
+    Guard("folders: times", "folders.py", "    add_times(builder)\n    add_modes", "    add_modes", case("folder-time"), LOST_RACE),
     Guard("folders: modes", "folders.py", "    add_modes(builder)\n\n\ndef add_folder(", "\n\ndef add_folder(", case("folder-mode"), YES),
     Guard("folders: how many are in it", "folders.py", 'if kind == "h" and path in counted:', "if False:", small("folder_links_counted"), YES),
     Guard("folders: there before the build", "folders.py", "    if existed and not folder.gone:\n", "    if False:\n", small("folder_there_already"), FALSE_RACE),
