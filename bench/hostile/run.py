@@ -274,6 +274,29 @@ def large_file(part):
     return {**footprints([["s"]]), "log": "\n".join(log) + "\n"}
 
 
+def included(lines, texts, before=""):
+    """A makefile with these lines, and texts that its include lines may name."""
+    return {"makefile": before + lines + "all:\n", "listing": "", "includes": "".join(f"{name}\n" for name in texts), "aside": texts}
+
+
+def large_values(part):
+    """1,000 include lines of a text that adds 60,000 bytes to one macro."""
+    return included(many("include a\n", 1_000 * part), {"a": "A += $(B)\n"}, "B = " + "b" * 60_000 + "\nA ::= a\n")
+
+
+def values_in_one_another(part):
+    """16 texts inside one another, each of which adds to a macro of 30 megabytes, before a word that names an empty text."""
+    macros = "B = " + "b" * 60_000 + "\nA ::= a\n" + many("A += $(B)\n", 500 * part)
+    texts = {f"t{i}": f"A += x\ninclude t{i + 1} e\n" for i in range(15)}
+    return included("include t0 e\n", {**texts, "t15": "A += x\n", "e": ""}, macros)
+
+
+def refused_values(part):
+    """An include line that is refused behind 1,000 texts that add 60,000 bytes each to one macro."""
+    words = " a" * int(999 * part)
+    return included(f"include{words} missing\n", {"a": "A += $(B)\n"}, "B = " + "b" * 60_000 + "\nA ::= a\n")
+
+
 INPUTS = {
     "suffixes, 5,000 names, 2,000 suffixes": suffixes(5_000, 2_000),
     "suffixes, 19,999 names, 100,000 suffixes": suffixes(19_999, 100_000),
@@ -308,9 +331,13 @@ INPUTS = {
     "200,000 edges": dense,
     "a million puts, 100,000 files": puts,
     "a file of 50 megabytes": large_file,
+    "include lines of large values": large_values,
+    "include lines inside one another, of large values": values_in_one_another,
+    "an include line of large values that is refused": refused_values,
+    "include lines of large texts": lambda part: included(many("include a\n", 50 * part), {"a": many("x:\n", 100_000)}),
 }
 
-# What docs/SAFETY.md allows a line of these makefiles: how many there are, and for each seconds of a processor and KiB.
+# What docs/SAFETY.md allows a line of these makefiles, or an entry that is named: how many there are, and for each seconds of a processor and KiB.
 LINES = {
     "immediate macros": (70_000, 0.0002, 72),
     "additions to one macro": (40_000, 0.0002, 72),
@@ -318,6 +345,7 @@ LINES = {
     "one entry of many references, repeated": (10_000, 0.002, 0),
     "references through a long word": (20, 1.5, 0),
     "references through a long value": (1, 10, 72 * 1_000),
+    "include lines of large texts": (5_000_000, 0.000002, 0.3),
 }
 
 
@@ -326,9 +354,11 @@ def run(args, make_input, part):
     with tempfile.TemporaryDirectory(prefix="race-bench-") as folder:
         texts = make_input(part)
         operands_of = texts.pop("words", [])
+        for name, text in texts.pop("aside", {}).items():
+            pathlib.Path(folder, name).write_text(text)
         for name, text in texts.items():
             pathlib.Path(folder, name).write_text(text)
-        size = sum(os.path.getsize(pathlib.Path(folder, name)) for name in texts) + sum(len(it) + 1 for it in operands_of)
+        size = sum(path.stat().st_size for path in pathlib.Path(folder).iterdir()) + sum(len(it) + 1 for it in operands_of)
         words = ["replay" if "log" in texts else "order", "--root", "/w"]
         words += [word for name in texts for word in ("--" + name, name)] + operands_of
         del texts

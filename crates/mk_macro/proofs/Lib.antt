@@ -3,12 +3,10 @@ pub mod Layers
 pub mod Over
 pub mod Places
 pub mod Refusals
-pub mod Saving
 pub mod Settling
 pub mod Steps
 pub mod Table
 pub mod Total
-pub mod Undoing
 pub mod Unique
 pub mod Walked
 pub mod Weaving

@@ -4,9 +4,10 @@ use Rattle.std.specs.Prelude.{Vec}
 use Rattle.std.specs.Global.{Global}
 use Rattle.std.specs.declared.cmp.Ordering.{Ordering}
 use Rattle.std.specs.Prelude.{◌++◌, Result, Ok, Err, OnOk, OnErr, MatchOption, IsSome}
+use Rattle.std.specs.List.{AllZip}
 use Rattle.std.specs.Map.{lookup, set_value, IsKeyTest, AreApart, KeepsOthers}
 use Rattle.std.proofs.lemmas.Map.Steps.{set_value_same}
-use Rattle.std.specs.BTreeMap.{BTreeMap, get_by, is_at, UpdatesBy, WritesThrough}
+use Rattle.std.specs.BTreeMap.{BTreeMap, IsClone, get_by, is_at, UpdatesBy, WritesThrough}
 use Rattle.std.specs.Option.{is_some}
 use Rattle.std.specs.Ordering.{is_eq, nat_cmp}
 use Rattle.std.specs.Cmp.{eq_by_cmp_equiv}
@@ -125,3 +126,14 @@ pub table_set_at : {X : Type 0} (m n : BTreeMap Key X) (key name : Name) (o : Op
 table_set_at m n key name o es h same view other =
     table_set m n key o h other ∙ ap (λ k. cond (same_name k other) o (lookup (same_name other) (shown m.entries))) same
     ∙ ap (λ xs. cond (same_name name other) o (lookup (same_name other) xs)) view
+
+-- a clone of a table has the same entries
+module _ (C : Key → Key → Type 0) (D : Definition → Definition → Type 0) (same_key : (x y : Key) → C x y → y.items ≡ x.items) (same_value : (d e : Definition) → D d e → e ≡ d) where
+  copied_entries : (es fs : List (Key × Definition)) → AllZip (λ p q. C p.0 q.0 × D p.1 q.1) es fs → shown fs ≡ shown es
+  copied_entries [] [] a = refl
+  copied_entries [] (y ∷ ys) a = absurd a
+  copied_entries (x ∷ xs) [] a = absurd a
+  copied_entries (x ∷ xs) (y ∷ ys) a = λ i. (same_key x.0 y.0 a.0.0 i, same_value x.1 y.1 a.0.1 i) ∷ copied_entries xs ys a.1 i
+
+  pub copied : (m n : BTreeMap Key Definition) (es : Entries) → IsClone C D m n → shown m.entries ≡ es → shown n.entries ≡ es
+  copied m n es h view = copied_entries m.entries n.entries h ∙ view

@@ -10,6 +10,5 @@ pub mod Operands
 pub mod Reference
 pub mod References
 pub mod Runs
-pub mod Saved
 pub mod Substitution
 pub mod Words

@@ -31,22 +31,23 @@ impl Model for Definition {
     ghost view = { λ a. record { value = a.value.items; manner = a.manner } };
 }
 
+impl Clone for Definition {
+    ghost is_clone = { λ old new. new ≡ old };
+
+    fn clone(&self) -> Result<Definition, AllocError> {
+        Ok(Definition {
+            value: self.value.clone()?,
+            manner: self.manner,
+        })
+    }
+}
+
 impl Definition {
     /// The definition of this value, which came in this manner.
     pub fn new(value: Vec<u8>, manner: Manner) -> Definition
         ensures { result ≡ record { value = value.items; manner = manner } }
     {
         Definition { value, manner }
-    }
-
-    /// An equal definition. The only error is want of memory.
-    pub fn copy(&self, alloc: Global) -> Result<Definition, AllocError>
-        ensures { IfOk result (λ copy. copy ≡ self.now) }
-    {
-        Ok(Definition {
-            value: Vec::from_slice(alloc, &self.value)?,
-            manner: self.manner,
-        })
     }
 
     /// The value.

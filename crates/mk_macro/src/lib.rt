@@ -4,8 +4,7 @@
 //!   operands of the command line (`specs/Operands.antt`), or tells the first bad one.
 //! - `Macros::assign` does what a line's assignment says, and leaves the macros as they were after a fault:
 //!   `specs/Assignments.antt`.
-//! - [`saved::Saved`] holds what assignments replaced, for a caller that may have to take them back:
-//!   `Macros::assign_saving` and `Macros::undo`, `specs/Saved.antt`.
+//! - `Macros::copy` gives equal macros, for a caller that may have to go back to them.
 //! - `Macros::expand` gives what a text expands to, or its first fault: `specs/Expansion.antt`, by cases
 //!   on the last of the text's items (`specs/References.antt`, `specs/Substitution.antt`). [`laws`] says
 //!   that each text has just one expansion.
@@ -22,7 +21,6 @@ pub mod macros;
 mod open;
 mod operands;
 mod output;
-pub mod saved;
 mod substitution;
 
 pub use laws::expansion_is_unique;

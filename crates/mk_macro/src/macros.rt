@@ -3,7 +3,6 @@
 ghost use Rattle.std.specs.Prelude.{◌≡◌, ◌++◌, ◌≤◌, Some, None, IfOk, IfSome, IfNone, OnOk, OnErr, length, MatchOption};
 ghost use Rattle.std.specs.Option.{option_copied};
 ghost use Rattle.mk_macro.specs.Macros.{defined, macros_of, no_macros};
-ghost use Rattle.mk_macro.specs.Saved.{restored};
 
 use crate::definition::{Definition, Manner};
 use std::alloc::{AllocError, Global};
@@ -11,8 +10,6 @@ use std::collections::BTreeMap;
 use std::marker::Model;
 
 /// What each macro stands for. The table is ordered, so that no choice of names makes a look-up slow.
-/// An assignment changes what one name stands for and nothing else, so that name with its old
-/// definition is all that an undo needs: [`Saved`](crate::saved::Saved).
 #[derive(Debug, Drop)]
 pub struct Macros {
     table: BTreeMap<Vec<u8>, Definition>,
@@ -37,6 +34,15 @@ impl Macros {
         }
     }
 
+    /// Equal macros: each name stands for the same. The only error is out of memory.
+    pub fn copy(&self) -> Result<Macros, AllocError>
+        ensures { IfOk result (λ copy. copy ≡ self.now) }
+    {
+        Ok(Macros {
+            table: self.table.clone()?,
+        })
+    }
+
     /// What the macro stands for.
     pub(crate) fn definition(&self, name: &[u8]) -> Option<&Definition>
         ensures { option_copied result ≡ macros_of self.now name.now }
@@ -56,25 +62,6 @@ impl Macros {
     {
         let key = Vec::from_slice(alloc, name)?;
         self.table.insert(key, definition)?;
-        Ok(())
-    }
-
-    /// Makes a name stand for this again, or for nothing. The only error is want of memory.
-    pub(crate) fn restore(
-        &mut self,
-        name: Vec<u8>,
-        old: Option<Definition>,
-    ) -> Result<(), AllocError>
-        ensures { OnOk result (macros_of self.new ≡ restored (macros_of self.old) name.items old) }
-    {
-        match old {
-            Some(definition) => {
-                self.table.insert(name, definition)?;
-            }
-            None => {
-                self.table.remove(name.as_slice());
-            }
-        }
         Ok(())
     }
 

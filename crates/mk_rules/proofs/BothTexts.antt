@@ -1,5 +1,6 @@
 -- The lines of two texts, read one after the other, and their book.
 use Rattle.std.proofs.Common.{ℕ, suc, List, ◌++◌, Result, Ok, Err, refl}
+use Rattle.std.specs.Result.{result_map_both}
 use Rattle.mk_name.specs.Gives.{Answers, HaltsAmong}
 use Rattle.mk_name.specs.declared.fault.Halt.{Halt}
 use Rattle.mk_name.specs.declared.fault.Halt.TheVariants as halts
@@ -7,7 +8,7 @@ use Rattle.mk_macro.specs.Macros.{Entries, Macros, macros_of}
 use Rattle.mk_include.specs.Includes.{Texts}
 use Rattle.mk_rules.specs.Book.{Book, Entry, book_of}
 use Rattle.mk_rules.specs.Placed.{Placed}
-use Rattle.mk_rules.specs.Reading.{BookSays, EndsAt, LinesSay, MakefilesSay, Point, Steps, depth_limit, line_says, point, start}
+use Rattle.mk_rules.specs.Reading.{BookSays, EndsAt, Leads, LinesSay, MakefilesSay, Point, Steps, depth_limit, line_says, point, start}
 use Rattle.mk_rules.proofs.Leading.{steps_both, steps_stop}
 
 module _ (root : List ℕ) (texts : Texts) (macros : Macros) (base more : List Placed) where
@@ -28,6 +29,12 @@ module _ (root : List ℕ) (texts : Texts) (macros : Macros) (base more : List P
     pub both_read : (entries : List Entry) (taken : ℕ) (after : Entries) → Steps (line_says root texts (suc depth_limit)) between more (Ok (point entries taken after))
         → LinesSay root texts macros (base ++ more) (Ok entries) (macros_of after)
     both_read entries taken after h = (taken, steps_both (line_says root texts (suc depth_limit)) base more (start macros) between (Ok (point entries taken after)) first h)
+
+    -- what the makefile leads to, both do
+    pub both_answer : {Y : Type 0} (result : Result Y Halt) (entries : List Entry) (taken : ℕ) (after : Entries) → Leads result (point entries taken after) (λ answer. Steps (line_says root texts (suc depth_limit)) between more answer)
+        → Answers (result_map_both (λ _. entries) (λ halt. halt) result) (λ answer. LinesSay root texts macros (base ++ more) answer (macros_of after))
+    both_answer (Ok y) entries taken after h = both_read entries taken after h
+    both_answer (Err halt) entries taken after h = more_stops halt (macros_of after) h
 
 module _ (root : List ℕ) (texts : Texts) (macros : Macros) (lines : List Placed) where
   -- what stops the lines stops their book

@@ -1,9 +1,8 @@
 -- Steps, one after another.
-use Rattle.std.proofs.Common.{◌≡◌, List, [], ◌∷◌, ◌++◌, Result, Ok, Err, refl, sym, ◌∙◌, subst}
+use Rattle.std.proofs.Common.{◌≡◌, List, [], ◌∷◌, ◌++◌, Result, Ok, Err, refl, sym, subst}
 use Rattle.mk_name.specs.declared.fault.Halt.{Halt}
 use Rattle.mk_name.specs.declared.fault.Halt.TheVariants as halts
 use Rattle.mk_macro.specs.Macros.{Macros}
-use Rattle.mk_macro.specs.Saved.{Saved, Saves}
 use Rattle.mk_rules.specs.Reading.{Ended, EndsAt, Follows, Leads, Outcome, Point, Steps}
 
 -- what ends by one way ends by another that it leads to
@@ -61,7 +60,3 @@ module _ {A : Type 0} (step : Point → A → Outcome → Type 0) where
 
       pub goes_on : (next : Point) → step now x (Ok next) → Comes start xs next rest
       goes_on next says = comes_more start xs now next x rest here says
-
--- two changes, one after the other
-pub saves_then : (saved mid now : Saved) (before between macros : Macros) → Saves saved before mid between → Saves mid between now macros → Saves saved before now macros
-saves_then saved mid now before between macros first later = (later.0 ∙ first.0, λ keeps. later.1 (first.0 ∙ keeps) ∙ first.1 keeps)

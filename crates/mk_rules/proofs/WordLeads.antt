@@ -13,7 +13,6 @@ use Rattle.mk_text.specs.Parts.{IncludeParts}
 use Rattle.mk_macro.specs.Expansion.{IsExpansion}
 use Rattle.mk_macro.specs.Macros.{Macros}
 use Rattle.std.specs.Option.{option_map_or}
-use Rattle.mk_macro.specs.Saved.{Joins, Saved, Saves, undone}
 use Rattle.mk_include.specs.Includes.{Cut, Texts, told_in}
 use Rattle.mk_include.specs.Words.{opened, text_limit, text_of_name, word_text, word_told, words_of}
 use Rattle.mk_text.specs.Spelling.{word_name}
@@ -71,20 +70,6 @@ module _ (root : List ℕ) (texts : Texts) (hyphen : Bool) (room : ℕ) (inner :
   pub word_opens : (name : Name) (cut : Cut) → word_text root texts hyphen room at.taken word ≡ Ok (Some (name, cut)) → (answer : Outcome)
       → TextSays inner (record at { taken = at.taken + 1 }) name (told_in name cut) answer → WordSays root texts hyphen room inner p before at word answer
   word_opens name cut is answer h = subst (λ (w : Result (Option (Name × Cut)) Told). WordSaysBy inner p before at w answer) (sym is) h
-
--- what is undone behind some words leads to the macros before them
-pub all_undone : (saved now : Saved) (before macros : Macros) → saved ≡ record { keeping = true; old = [] } → Saves saved before now macros → undone now.old macros ≡ before
-all_undone saved now before macros fresh saves =
-    saves.1 (ap (λ s. s.keeping) fresh) ∙ ap (λ s. undone s.old before) fresh
-
--- what was saved apart joins what was saved before
-pub apart_saves : (outer dest own taken now fresh : Saved) (before macros : Macros) → dest ≡ outer → taken ≡ own → fresh ≡ record { keeping = true; old = [] } → Saves fresh before own macros
-    → now.keeping ≡ dest.keeping → (dest.keeping ≡ true → Joins now.old dest.old taken.old) → Saves outer before now macros
-apart_saves outer dest own taken now fresh before macros dest_is taken_is is saves keeping joins = (
-  keeping ∙ ap (λ s. s.keeping) dest_is,
-  λ keeps. joins (ap (λ s. s.keeping) dest_is ∙ keeps) macros ∙ ap (λ s. undone s.old (undone taken.old macros)) dest_is ∙ ap (λ s. undone outer.old (undone s.old macros)) taken_is
-      ∙ ap (undone outer.old) (all_undone fresh own before macros is saves),
-)
 
 -- an include line by its words
 pub include_leads : {Y : Type 0} (result : Result Y Halt) (to at : Point) (root : List ℕ) (texts : Texts) (room : ℕ) (inner : Point → Placed → Outcome → Type 0) (parts : IncludeParts) (p : Placed)

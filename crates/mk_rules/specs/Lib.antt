@@ -1,3 +1,4 @@
+pub mod Before
 pub mod Book
 pub mod Entries
 pub mod Hashing

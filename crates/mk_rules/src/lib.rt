@@ -11,6 +11,7 @@
 //! - Makefiles say one thing: the law of `laws`, by `specs/Once.antt`.
 #![tactic(auto)]
 
+mod before;
 mod entries;
 mod entry;
 mod hasher;

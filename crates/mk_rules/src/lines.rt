@@ -2,15 +2,17 @@
 //!
 //! The calls go round from the lines of a text to a line, its words, and the lines of the text that a word
 //! names. Each round takes one from `room`, so they never lie deeper than that.
-ghost use Rattle.std.specs.Prelude.{◌≡◌, ◌<◌, ◌+◌, [], map, suc, true, OnOk};
+ghost use Rattle.std.specs.Prelude.{◌≡◌, ◌<◌, ◌+◌, map, suc, OnOk};
+ghost use Rattle.mk_macro.specs.Macros as specs;
 ghost use Rattle.mk_macro.specs.Macros.{macros_of};
-ghost use Rattle.mk_macro.specs.Saved.{Saves, undone};
 ghost use Rattle.mk_text.specs.LogicalLine.{parts_of};
 ghost use Rattle.mk_include.specs.Includes.{texts_of, told_in};
 ghost use Rattle.mk_include.specs.Words.{text_limit};
+ghost use Rattle.mk_rules.specs.Before.{IsBefore};
 ghost use Rattle.mk_rules.specs.Placed.{placed};
 ghost use Rattle.mk_rules.specs.Reading.{AssignmentSays, EntryLineSays, IncludeSays, Leads, Point, Steps, TextSays, WordSays, line_says, point};
 
+use crate::before::Before;
 use crate::entry::read_entry;
 use crate::placed::{Placed, begins_with_command};
 use crate::rule::Rule;
@@ -18,30 +20,32 @@ use mk_include::cut::Cut;
 use mk_include::includes::Includes;
 use mk_include::words::{word_text, words};
 use mk_macro::macros::Macros;
-use mk_macro::saved::Saved;
 use mk_name::fault::{Halt, Source};
 use mk_name::name::Name;
 use mk_text::line::Line;
 use mk_text::parts::{EntryParts, IncludeParts, Parts};
 use mk_text::root::Root;
 use std::alloc::Global;
-use std::mem;
 
-/// What stays the same for all lines.
+/// What stays the same for all lines. The macros before an include line are kept where `kept` include lines
+/// began before it.
 #[derive(Drop)]
 pub(crate) struct Reader<'r, 't> {
     pub(crate) alloc: Global,
     pub(crate) includes: &'r Includes<'t>,
     pub(crate) root: &'r Root,
+    pub(crate) kept: Option<usize>,
 }
 
-/// What was read so far: the entries, how many texts were taken in, and what assignments replaced since the
-/// include line began whose words are being read.
+/// What was read so far: the entries, how many texts were taken in, and how many include lines began. `again`
+/// is set where the macros before an include line are needed and were not kept: so many include lines began
+/// before it. The reading then ends as if memory were refused.
 #[derive(Drop)]
 pub(crate) struct SoFar {
     pub(crate) rules: Vec<Rule>,
     pub(crate) taken: usize,
-    pub(crate) saved: Saved,
+    pub(crate) begun: usize,
+    pub(crate) again: Option<usize>,
 }
 
 impl<'r, 't> Reader<'r, 't> {
@@ -52,12 +56,10 @@ impl<'r, 't> Reader<'r, 't> {
         macros: &mut Macros,
         so_far: &mut SoFar,
     ) -> Result<(), Halt>
-        ensures leads { Leads result (point so_far.new.rules.items so_far.new.taken macros.new)
+        ensures { Leads result (point so_far.new.rules.items so_far.new.taken macros.new)
             (AssignmentSays (point so_far.old.rules.items so_far.old.taken macros.old) placed.now) }
-        ensures saves { OnOk result
-            (Saves so_far.old.saved (macros_of macros.old) so_far.new.saved (macros_of macros.new)) }
     {
-        match macros.assign_saving(self.alloc, placed.line, &mut so_far.saved) {
+        match macros.assign(self.alloc, placed.line) {
             Ok(()) => Ok(()),
             Err(halt) => Err(placed.tell(self.alloc, halt)),
         }
@@ -71,10 +73,9 @@ impl<'r, 't> Reader<'r, 't> {
         macros: &Macros,
         so_far: &mut SoFar,
     ) -> Result<(), Halt>
-        ensures leads { Leads result (point so_far.new.rules.items so_far.new.taken macros.now)
+        ensures { Leads result (point so_far.new.rules.items so_far.new.taken macros.now)
             (EntryLineSays self.now.root.now parts.now
             (point so_far.old.rules.items so_far.old.taken macros.now) placed.now) }
-        ensures saved { so_far.new.saved ≡ so_far.old.saved }
     {
         match read_entry(self.alloc, placed, parts, macros, self.root) {
             Ok(rule) => {
@@ -97,44 +98,50 @@ impl<'r, 't> Reader<'r, 't> {
     ) -> Result<(), Halt>
         requires room { 0 < room }
         requires taken { so_far.old.taken < text_limit }
-        ensures leads { Leads result (point so_far.new.rules.items so_far.new.taken macros.new)
+        ensures { Leads result (point so_far.new.rules.items so_far.new.taken macros.new)
             (TextSays (line_says self.now.root.now (texts_of self.now.includes.now) room)
             (point so_far.old.rules.items (so_far.old.taken + 1) macros.old) name (told_in name cut.now)) }
-        ensures saves { OnOk result
-            (Saves so_far.old.saved (macros_of macros.old) so_far.new.saved (macros_of macros.new)) }
     {
         so_far.taken += 1;
         let lines = cut.lines(self.alloc, &name)?;
         self.read_lines(room - 1, &Source::Include(name), lines, macros, so_far)
     }
 
-    /// Reads the text that a word of an include line names. The word's own fault takes back what is saved.
+    /// Reads the text that a word of an include line names. The word's own fault leaves the macros before
+    /// the line.
     #[cycle(texts)]
     fn read_word(
         &self,
         room: usize,
         placed: &Placed,
         hyphen: bool,
+        before: &mut Before,
         word: &[u8],
         macros: &mut Macros,
         so_far: &mut SoFar,
     ) -> Result<(), Halt>
-        ensures leads { Leads result (point so_far.new.rules.items so_far.new.taken macros.new)
+        ensures leads { (first : specs.Macros) → IsBefore before.old macros.old first
+            → Leads result (point so_far.new.rules.items so_far.new.taken macros.new)
             (WordSays self.now.root.now (texts_of self.now.includes.now) hyphen room
-            (line_says self.now.root.now (texts_of self.now.includes.now) room) placed.now
-            (undone so_far.old.saved.old (macros_of macros.old))
+            (line_says self.now.root.now (texts_of self.now.includes.now) room) placed.now first
             (point so_far.old.rules.items so_far.old.taken macros.old) word.now) }
-        ensures saves { OnOk result
-            (Saves so_far.old.saved (macros_of macros.old) so_far.new.saved (macros_of macros.new)) }
+        ensures before { OnOk result ((first : specs.Macros) → IsBefore before.old macros.old first
+            → IsBefore before.new macros.new first) }
     {
         let (taken, alloc) = (so_far.taken, self.alloc);
         match word_text(alloc, self.includes, hyphen, room, taken, word, self.root) {
             Ok(None) => Ok(()),
-            Ok(Some((name, cut))) => self.read_text(room, name, cut, macros, so_far),
-            Err(halt) => {
-                macros.undo(&mut so_far.saved)?;
-                Err(placed.tell(alloc, halt))
+            Ok(Some((name, cut))) => {
+                before.pass();
+                self.read_text(room, name, cut, macros, so_far)
             }
+            Err(halt) => match before.take_back(macros) {
+                None => Err(placed.tell(alloc, halt)),
+                Some(begun) => {
+                    so_far.again = Some(begun);
+                    Err(Halt::Memory)
+                }
+            },
         }
     }
 
@@ -150,45 +157,18 @@ impl<'r, 't> Reader<'r, 't> {
         macros: &mut Macros,
         so_far: &mut SoFar,
     ) -> Result<(), Halt>
-        requires { so_far.old.saved ≡ record { keeping = true; old = [] } }
-        ensures leads { Leads result (point so_far.new.rules.items so_far.new.taken macros.new)
+        ensures { Leads result (point so_far.new.rules.items so_far.new.taken macros.new)
             (λ answer. Steps (WordSays self.now.root.now (texts_of self.now.includes.now) hyphen room
             (line_says self.now.root.now (texts_of self.now.includes.now) room) placed.now
             (macros_of macros.old)) (point so_far.old.rules.items so_far.old.taken macros.old)
             (map (λ word. word.now) words.now) answer) }
-        ensures saves { OnOk result
-            (Saves so_far.old.saved (macros_of macros.old) so_far.new.saved (macros_of macros.new)) }
     {
+        let begun = so_far.begun;
+        so_far.begun = begun.saturating_add(1);
+        let mut before = Before::new(self.kept == Some(begun), begun, macros)?;
         for word in words {
-            self.read_word(room, placed, hyphen, word, macros, so_far)?;
+            self.read_word(room, placed, hyphen, &mut before, word, macros, so_far)?;
         }
-        Ok(())
-    }
-
-    /// Reads the texts that the words of an include line name, and saves what is assigned there apart from
-    /// what was saved before.
-    #[cycle(texts)]
-    fn read_apart(
-        &self,
-        room: usize,
-        placed: &Placed,
-        hyphen: bool,
-        words: &[&[u8]],
-        macros: &mut Macros,
-        so_far: &mut SoFar,
-    ) -> Result<(), Halt>
-        ensures leads { Leads result (point so_far.new.rules.items so_far.new.taken macros.new)
-            (λ answer. Steps (WordSays self.now.root.now (texts_of self.now.includes.now) hyphen room
-            (line_says self.now.root.now (texts_of self.now.includes.now) room) placed.now
-            (macros_of macros.old)) (point so_far.old.rules.items so_far.old.taken macros.old)
-            (map (λ word. word.now) words.now) answer) }
-        ensures saves { OnOk result
-            (Saves so_far.old.saved (macros_of macros.old) so_far.new.saved (macros_of macros.new)) }
-    {
-        let outer = mem::replace(&mut so_far.saved, Saved::new(self.alloc, true));
-        self.read_words(room, placed, hyphen, words, macros, so_far)?;
-        let own = mem::replace(&mut so_far.saved, outer);
-        so_far.saved.merge(own)?;
         Ok(())
     }
 
@@ -202,17 +182,15 @@ impl<'r, 't> Reader<'r, 't> {
         macros: &mut Macros,
         so_far: &mut SoFar,
     ) -> Result<(), Halt>
-        ensures leads { Leads result (point so_far.new.rules.items so_far.new.taken macros.new)
+        ensures { Leads result (point so_far.new.rules.items so_far.new.taken macros.new)
             (IncludeSays self.now.root.now (texts_of self.now.includes.now) room
             (line_says self.now.root.now (texts_of self.now.includes.now) room) parts.now
             (point so_far.old.rules.items so_far.old.taken macros.old) placed.now) }
-        ensures saves { OnOk result
-            (Saves so_far.old.saved (macros_of macros.old) so_far.new.saved (macros_of macros.new)) }
     {
         match macros.expand(self.alloc, parts.rest()) {
             Ok(text) => {
                 let words = words(self.alloc, &text)?;
-                self.read_apart(room, placed, parts.has_hyphen(), &words, macros, so_far)
+                self.read_words(room, placed, parts.has_hyphen(), &words, macros, so_far)
             }
             Err(halt) => Err(placed.tell(self.alloc, halt)),
         }
@@ -227,11 +205,9 @@ impl<'r, 't> Reader<'r, 't> {
         macros: &mut Macros,
         so_far: &mut SoFar,
     ) -> Result<(), Halt>
-        ensures leads { Leads result (point so_far.new.rules.items so_far.new.taken macros.new)
+        ensures { Leads result (point so_far.new.rules.items so_far.new.taken macros.new)
             (line_says self.now.root.now (texts_of self.now.includes.now) (suc room)
             (point so_far.old.rules.items so_far.old.taken macros.old) placed.now) }
-        ensures saves { OnOk result
-            (Saves so_far.old.saved (macros_of macros.old) so_far.new.saved (macros_of macros.new)) }
     {
         match placed.line.parts() {
             Parts::Assign(_) => self.read_assignment(placed, macros, so_far),
@@ -251,12 +227,10 @@ impl<'r, 't> Reader<'r, 't> {
         macros: &mut Macros,
         so_far: &mut SoFar,
     ) -> Result<(), Halt>
-        ensures leads { Leads result (point so_far.new.rules.items so_far.new.taken macros.new)
+        ensures { Leads result (point so_far.new.rules.items so_far.new.taken macros.new)
             (λ answer. Steps (line_says self.now.root.now (texts_of self.now.includes.now) (suc room))
             (point so_far.old.rules.items so_far.old.taken macros.old) (placed source.now lines.now)
             answer) }
-        ensures saves { OnOk result
-            (Saves so_far.old.saved (macros_of macros.old) so_far.new.saved (macros_of macros.new)) }
     {
         for (i, line) in lines.iter().enumerate() {
             let placed = Placed {

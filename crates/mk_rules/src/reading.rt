@@ -1,5 +1,6 @@
 //! The lines of the makefiles, read one after another.
-ghost use Rattle.std.specs.Prelude.{◌≡◌, suc};
+ghost use Rattle.std.specs.Prelude.{◌≡◌, [], suc};
+ghost use Rattle.std.specs.Result.{result_map_both};
 ghost use Rattle.mk_name.specs.Gives.{Answers};
 ghost use Rattle.mk_macro.specs.Macros.{macros_of};
 ghost use Rattle.mk_macro.specs.Answers.{AnswersLeft};
@@ -12,7 +13,6 @@ use crate::rule::Rule;
 use crate::rulebook::Rulebook;
 use mk_include::includes::Includes;
 use mk_macro::macros::Macros;
-use mk_macro::saved::Saved;
 use mk_name::fault::{Fault, Halt, Kind, Source};
 use mk_text::line::Line;
 use mk_text::root::Root;
@@ -23,6 +23,52 @@ pub const DEPTH_LIMIT: usize = 16;
 
 /// The entries of the lines of the base makefile, and then those of the makefile.
 fn read_both(
+    reader: &Reader,
+    base: &[Line],
+    makefile: &[Line],
+    macros: &mut Macros,
+    so_far: &mut SoFar,
+) -> Result<(), Halt>
+    requires empty { so_far.old.rules.items ≡ [] }
+    requires untaken { so_far.old.taken ≡ 0 }
+    ensures { Answers (result_map_both (λ _. so_far.new.rules.items) (λ halt. halt) result)
+        (λ answer. LinesSay reader.now.root.now (texts_of reader.now.includes.now)
+        (macros_of macros.old) (all_lines base.now makefile.now) answer (macros_of macros.new)) }
+{
+    reader.read_lines(DEPTH_LIMIT, &Source::Base, base, macros, so_far)?;
+    reader.read_lines(DEPTH_LIMIT, &Source::Makefile, makefile, macros, so_far)
+}
+
+/// The entries of all lines. `again` comes to say before which include line the macros have to be kept, if the
+/// reading needs them and the reader does not keep them.
+fn read_once(
+    reader: &Reader,
+    base: &[Line],
+    makefile: &[Line],
+    macros: &mut Macros,
+    again: &mut Option<usize>,
+) -> Result<Vec<Rule>, Halt>
+    ensures { AnswersEntries result (λ answer. LinesSay reader.now.root.now
+        (texts_of reader.now.includes.now) (macros_of macros.old) (all_lines base.now makefile.now)
+        answer (macros_of macros.new)) }
+{
+    let mut so_far = SoFar {
+        rules: Vec::new(reader.alloc),
+        taken: 0,
+        begun: 0,
+        again: None,
+    };
+    let result = read_both(reader, base, makefile, macros, &mut so_far);
+    *again = so_far.again;
+    match result {
+        Ok(()) => Ok(so_far.rules),
+        Err(halt) => Err(halt),
+    }
+}
+
+/// The entries of all lines. They are read a second time where an include line is refused behind a text of
+/// its own: only then the macros before it are needed, and so they are kept for that line alone.
+fn read_all(
     alloc: Global,
     base: &[Line],
     makefile: &[Line],
@@ -33,25 +79,21 @@ fn read_both(
     ensures { AnswersEntries result (λ answer. LinesSay root.now (texts_of includes.now)
         (macros_of macros.old) (all_lines base.now makefile.now) answer (macros_of macros.new)) }
 {
-    let reader = Reader {
+    let first = macros.copy()?;
+    let mut again = None;
+    let mut reader = Reader {
         alloc,
         includes,
         root,
+        kept: None,
     };
-    let mut so_far = SoFar {
-        rules: Vec::new(alloc),
-        taken: 0,
-        saved: Saved::new(alloc, false),
-    };
-    reader.read_lines(DEPTH_LIMIT, &Source::Base, base, macros, &mut so_far)?;
-    reader.read_lines(
-        DEPTH_LIMIT,
-        &Source::Makefile,
-        makefile,
-        macros,
-        &mut so_far,
-    )?;
-    Ok(so_far.rules)
+    let result = read_once(&reader, base, makefile, macros, &mut again);
+    if again.is_none() {
+        return result;
+    }
+    *macros = first;
+    reader.kept = again;
+    read_once(&reader, base, makefile, macros, &mut again)
 }
 
 /// Refuses a book in which a target gets commands a second time.
@@ -109,7 +151,7 @@ pub fn read_rules(
     ensures { Answers result (λ answer. MakefilesSay root.now (texts_of includes.now)
         (macros_of macros.old) (all_lines base.now makefile.now) answer (macros_of macros.new)) }
 {
-    let rules = read_both(alloc, base, makefile, includes, macros, root)?;
+    let rules = read_all(alloc, base, makefile, includes, macros, root)?;
     let book = Rulebook::new(alloc, rules)?;
     checked(alloc, book)
 }

@@ -4,24 +4,17 @@ use Rattle.mk_macro.specs.Macros.{macros_of}
 use Rattle.mk_include.specs.Includes.{texts_of}
 use Rattle.mk_rules.specs.Placed.{placed}
 use Rattle.mk_rules.specs.Reading.{point}
-use Rattle.mk_rules.proofs.BothTexts.{base_stops, both_read, more_stops}
+use Rattle.mk_rules.proofs.BothTexts.{base_stops, both_answer}
 use Rattle.mk_rules.proofs.reading.read_both.Goals as goal
 
 pub returns-in_err-read_lines : goal.returns-in_err-read_lines
 returns-in_err-read_lines c =
     let p = err_from_is_err_and c.from_residual.result c.from_residual.ensures.1 in
-    let ends = rw c.new.ensures.items at c.in_err-read_lines.ensures.leads in
-    rw (p.1, p.2) (base_stops c.args.root.now (texts_of c.args.includes.now) (macros_of c.args.macros.now) (placed Base c.args.base.now) (placed Makefile c.args.makefile.now) c.in_err-read_lines.field-0.0 (macros_of c.read_lines.new.macros) ends)
-
-pub returns-in_err-read_lines-2 : goal.returns-in_err-read_lines-2
-returns-in_err-read_lines-2 c =
-    let p = err_from_is_err_and c.from_residual-in_err-read_lines-2.result c.from_residual-in_err-read_lines-2.ensures.1 in
-    let first = rw c.new.ensures.items at c.in_ok-read_lines.ensures.leads in
-    rw (p.1, p.2) (more_stops c.args.root.now (texts_of c.args.includes.now) (macros_of c.args.macros.now) (placed Base c.args.base.now) (placed Makefile c.args.makefile.now)
-    (point c.read_lines.new.so_far.rules.items c.read_lines.new.so_far.taken c.read_lines.new.macros) first c.in_err-read_lines-2.field-0.0 (macros_of c.read_lines-2.new.macros) c.in_err-read_lines-2.ensures.leads)
+    let ends = rw (c.requires.empty, c.requires.untaken) at c.in_err-read_lines.ensures in
+    rw (p.1, p.2) (base_stops c.args.reader.now.root.now (texts_of c.args.reader.now.includes.now) (macros_of c.args.macros.now) (placed Base c.args.base.now) (placed Makefile c.args.makefile.now) c.in_err-read_lines.field-0.0 (macros_of c.read_lines.new.macros) ends)
 
 pub returns : goal.returns
 returns c =
-    let first = rw c.new.ensures.items at c.in_ok-read_lines.ensures.leads in
-    both_read c.args.root.now (texts_of c.args.includes.now) (macros_of c.args.macros.now) (placed Base c.args.base.now) (placed Makefile c.args.makefile.now)
-    (point c.read_lines.new.so_far.rules.items c.read_lines.new.so_far.taken c.read_lines.new.macros) first c.read_lines-2.new.so_far.rules.items c.read_lines-2.new.so_far.taken c.read_lines-2.new.macros c.in_ok-read_lines-2.ensures.leads
+    let first = rw (c.requires.empty, c.requires.untaken) at c.in_ok-read_lines.ensures in
+    both_answer c.args.reader.now.root.now (texts_of c.args.reader.now.includes.now) (macros_of c.args.macros.now) (placed Base c.args.base.now) (placed Makefile c.args.makefile.now)
+    (point c.read_lines.new.so_far.rules.items c.read_lines.new.so_far.taken c.read_lines.new.macros) first c.read_lines-2.result c.read_lines-2.new.so_far.rules.items c.read_lines-2.new.so_far.taken c.read_lines-2.new.macros c.read_lines-2.ensures
