@@ -27,7 +27,7 @@ pub none_in : {X : Type 0} (x : X) → Contains [] x → ⊥
 none_in x h = let no = h.1 in omega (arith, no)
 
 -- the sources of a node are just the first nodes of the edges to it
-source_in : (edges : List (ℕ × ℕ)) (p n : ℕ) → Contains edges (p, n) → Contains (sources_to edges n) p
+pub source_in : (edges : List (ℕ × ℕ)) (p n : ℕ) → Contains edges (p, n) → Contains (sources_to edges n) p
 source_in [] p n h = absurd (none_in (p, n) h)
 source_in (e ∷ edges) p n h = elim (cons_cases e edges (p, n) h) [
   | inl is ↦
@@ -37,7 +37,7 @@ source_in (e ∷ edges) p n h = elim (cons_cases e edges (p, n) h) [
       (λ t. there e.0 (sources_to edges n) p (source_in edges p n rest)) (λ f. source_in edges p n rest)
 ]
 
-source_out : (edges : List (ℕ × ℕ)) (p n : ℕ) → Contains (sources_to edges n) p → Contains edges (p, n)
+pub source_out : (edges : List (ℕ × ℕ)) (p n : ℕ) → Contains (sources_to edges n) p → Contains edges (p, n)
 source_out [] p n = λ h. absurd (none_in p h)
 source_out (e ∷ edges) p n = cond_both (e.1 == n) (e.0 ∷ sources_to edges n) (sources_to edges n) (λ (xs : List ℕ). Contains xs p → Contains (e ∷ edges) (p, n))
     (λ t h. elim (cons_cases e.0 (sources_to edges n) p h) [
@@ -67,7 +67,7 @@ node_listed edges k [] n = refl
 node_listed edges k (node ∷ nodes) zero = refl
 node_listed edges k (node ∷ nodes) (suc n) = node_listed edges (suc k) nodes n
 
-nodes_count : (edges : List (ℕ × ℕ)) (k : ℕ) (nodes : List Node) → length (more_needs edges k nodes) ≡ length nodes
+pub nodes_count : (edges : List (ℕ × ℕ)) (k : ℕ) (nodes : List Node) → length (more_needs edges k nodes) ≡ length nodes
 nodes_count edges k [] = refl
 nodes_count edges k (node ∷ nodes) = ap suc (nodes_count edges (suc k) nodes)
 

@@ -8,6 +8,7 @@ ghost use Rattle.mk_decide.specs.Pairs.{ArePairs, HasManyPairs, too_many};
 ghost use Rattle.mk_fix.specs.Fixes.{IsFix};
 ghost use Rattle.mk_fix.specs.Musts.{AreDirect, AreDirectBelow, AreFirsts, AreMustRows, IsBehind, IsDirect, IsMustRow};
 
+use crate::added::sources_of;
 use mk_decide::pairs::clashing_pairs;
 use mk_jobs::jobs::Jobs;
 use mk_name::fault::Halt;
@@ -43,30 +44,13 @@ fn direct_races(
 {
     let count = jobs.count() as usize;
     let width = count.div_ceil(WORD);
-    let firsts = firsts_of(alloc, jobs, pairs)?;
+    let firsts = sources_of(alloc, jobs, pairs)?;
     let mut words = vec![in alloc; 0; count * width]?;
     let mut edges = Vec::new(alloc);
     add_races(jobs, &firsts, width, &mut words, &mut edges)?;
     edges.sort_unstable();
     edges.dedup();
     Ok(edges)
-}
-
-/// For each node the smaller numbers of those that clash with it. The only error is out of memory.
-fn firsts_of(alloc: Global, jobs: &Jobs, pairs: &[(u32, u32)]) -> Result<Vec<Vec<u32>>, AllocError>
-    requires pairs { ArePairs jobs.now pairs.now }
-    ensures count { IfOk result (λ firsts. length firsts.items ≡ node_count jobs.now) }
-    ensures firsts { IfOk result (λ firsts. (b : ℕ) → b < node_count jobs.now
-        → AreFirsts jobs.now (get_or (map (λ row. row.items) firsts.items) b []) b) }
-{
-    let mut firsts = Vec::new(alloc);
-    for _n in 0..jobs.count() {
-        firsts.push(Vec::new(alloc))?;
-    }
-    for &(a, b) in pairs {
-        firsts[b as usize].push(a)?;
-    }
-    Ok(firsts)
 }
 
 /// Gathers the direct races of all nodes, in rising second number, and fills the row of each. The only error is out of memory.

@@ -1,5 +1,6 @@
 mod Ahead
 mod Alike
+mod FixedTasks
 mod Fixings
 mod GoalsLemmas
 mod InOrder

@@ -1,55 +1,37 @@
 -- What the answers of a text of tasks say.
-use Rattle.std.proofs.Common.{ℕ, ◌≡◌, ◌<◌, Bool, List, Ok, Err, IfOk, Result, length, subst, sym}
-use Rattle.std.proofs.lemmas.List.{length-map}
+use Rattle.std.proofs.Common.{ℕ, ◌≡◌, Bool, List, Ok, Err, IfOk, Result, subst}
 use Rattle.std.specs.Prelude.{IsTrue}
 use Rattle.mk_name.specs.Gives.{Answers}
 use Rattle.mk_name.specs.Told.{Told}
 use Rattle.mk_name.specs.declared.fault.Halt.{Halt}
-use Rattle.mk_jobs.specs.Jobs.{Jobs, node_count}
+use Rattle.mk_jobs.specs.Jobs.{Jobs}
 use Rattle.mk_report.specs.declared.answer.Answer.{Answer}
 use Rattle.mk_sched.specs.Laws.{IsDeterminate}
 use Rattle.mk_text.specs.Spelling.{root_of}
-use Rattle.mk_task.specs.JobsOf.{jobs_of, made, node_of}
+use Rattle.mk_task.specs.JobsOf.{jobs_of, made}
 use Rattle.mk_task.specs.Tasks.{Task, tasks_of}
-use Rattle.mk_task.proofs.Starting.{stores_agree, tasks_started}
+use Rattle.mk_task.proofs.Starting.{AreTasks, each_agrees, each_started, jobs_are_tasks}
 use Rattle.mk_race.specs.Judged.{IsSafe}
 use Rattle.mk_race.specs.Tasked.{EachStarts, NoScheduleShows, ProofShows, RunsAlike, below, tasked}
 use Rattle.mk_race.specs.Verified.{IsVerifiedOn}
 
--- jobs that are those of some tasks
-pub record AreOfTasks (jobs : Jobs) : Type 0 where
-  pub root : List ℕ
-  pub tasks : List Task
-  pub are : jobs_of root tasks ≡ jobs
-
-made_of : (root : List ℕ) (read : Result (List Task) Told) (jobs : Jobs) → made root read ≡ Ok jobs → AreOfTasks jobs
-made_of root (Ok tasks) jobs is = record { root = root; tasks = tasks; are = (let e : ◌≡◌ {A = Result Jobs Told} (Ok (jobs_of root tasks)) (Ok jobs) = is in cc) }
+made_of : (root : List ℕ) (read : Result (List Task) Told) (jobs : Jobs) → made root read ≡ Ok jobs → AreTasks jobs
+made_of root (Ok tasks) jobs is = subst AreTasks (let e : ◌≡◌ {A = Result Jobs Told} (Ok (jobs_of root tasks)) (Ok jobs) = is in cc) (jobs_are_tasks root tasks)
 made_of root (Err fault) jobs is = absurd (let e : ◌≡◌ {A = Result Jobs Told} (Err fault) (Ok jobs) = is in cc)
 
-below_of : (text : List ℕ) (root : Result (List ℕ) Told) (jobs : Jobs) → below text root ≡ Ok jobs → AreOfTasks jobs
+below_of : (text : List ℕ) (root : Result (List ℕ) Told) (jobs : Jobs) → below text root ≡ Ok jobs → AreTasks jobs
 below_of text (Ok root) jobs is = made_of root (tasks_of root text) jobs is
 below_of text (Err fault) jobs is = absurd (let e : ◌≡◌ {A = Result Jobs Told} (Err fault) (Ok jobs) = is in cc)
 
--- the jobs of a text are those of some tasks
-text_of_tasks : (root text : List ℕ) (jobs : Jobs) → tasked root text ≡ Ok jobs → AreOfTasks jobs
+-- the jobs of a text are those of tasks
+pub text_of_tasks : (root text : List ℕ) (jobs : Jobs) → tasked root text ≡ Ok jobs → AreTasks jobs
 text_of_tasks root text jobs given = below_of text (root_of root) jobs given
 
-count_of : (root : List ℕ) (tasks : List Task) → node_count (jobs_of root tasks) ≡ length tasks
-unfolding node_count
-count_of root tasks = length-map tasks node_of
+pub each_starts : (jobs : Jobs) → AreTasks jobs → EachStarts jobs
+each_starts jobs are opening tie limit past n run complete there = each_started jobs are tie limit opening past n run complete there
 
-start_of : (root : List ℕ) (tasks : List Task) → EachStarts (jobs_of root tasks)
-start_of root tasks opening tie limit past n run complete there =
-    tasks_started root tasks tie limit opening past n run complete (subst (λ k. n < k) (count_of root tasks) there)
-
-each_starts : (jobs : Jobs) → AreOfTasks jobs → EachStarts jobs
-each_starts jobs those = subst EachStarts those.are (start_of those.root those.tasks)
-
-alike_of : (root : List ℕ) (tasks : List Task) → IsDeterminate (jobs_of root tasks) → RunsAlike (jobs_of root tasks)
-alike_of root tasks determinate opening tie limit other a b absent = determinate opening tie limit other a b (stores_agree root tasks opening absent)
-
-runs_alike : (jobs : Jobs) → AreOfTasks jobs → IsDeterminate jobs → RunsAlike jobs
-runs_alike jobs those determinate = subst RunsAlike those.are (alike_of those.root those.tasks (subst IsDeterminate (sym those.are) determinate))
+pub runs_alike : (jobs : Jobs) → AreTasks jobs → IsDeterminate jobs → RunsAlike jobs
+runs_alike jobs are determinate opening tie limit other a b absent = determinate opening tie limit other a b (each_agrees jobs are opening absent)
 
 -- where the answer on the jobs of tasks makes them determinate, no schedule of the tasks shows
 pub headline_of : {E : Type 0} (root text : List ℕ) (jobs : Jobs) (result : Result Answer E) → tasked root text ≡ Ok jobs

@@ -8,4 +8,5 @@ pub mod Serialised
 pub mod Settings
 pub mod Stages
 pub mod Tasked
+pub mod TasksFixed
 pub mod Verified

@@ -15,15 +15,16 @@
 //!   ([`Serialised`]).
 //!
 //! A text of tasks takes the place of all these texts but the root: [`prepare_tasks`] gives its jobs, [`judge_tasks`] their answer,
-//! [`list_tasks`] their races, and [`verify_tasks`] the answer to a proof.
+//! [`list_tasks`] their races, [`fix_tasks`] their fix ([`TaskFixing`]), and [`verify_tasks`] the answer to a proof.
 //!
 //! Each gives the first fault of its texts instead, in the order in which the stages read them, or that memory ran out.
 //!
 //! What comes out is defined in `specs/`: `Stages.antt` has the order of the stages and the answers of the first two,
 //! `Settings.antt` what operands say, `Judged.antt` the answer of a build, `Parts.antt` the same of a listing and footprints
 //! that were read ahead, `Listed.antt` all races of a build, `Fixed.antt` the fix of a build, `Verified.antt` the answer to a
-//! proof, `Played.antt` that to a log, `Serialised.antt` what comes of a log in serial order, and `Tasked.antt` the answers of
-//! a text of tasks. The module `laws` says what the jobs of a build have to do with its listing (`Laws.antt`).
+//! proof, `Played.antt` that to a log, `Serialised.antt` what comes of a log in serial order, `Tasked.antt` the answers of a text
+//! of tasks, and `TasksFixed.antt` its fix. The module `laws` says what the jobs of a build have to do with its listing
+//! (`Laws.antt`).
 #![tactic(auto)]
 
 pub mod fixing;
@@ -38,6 +39,7 @@ pub mod replaying;
 pub mod serialising;
 pub mod settings;
 pub mod tasked;
+pub mod tasks_fixing;
 pub mod verifying;
 
 pub use crate::fixing::{Fixing, fix_build};
@@ -50,4 +52,5 @@ pub use crate::preparing::{Prepared, prepare};
 pub use crate::replaying::{Played, replay_log};
 pub use crate::serialising::{Ordered, Serialised, serialise_log};
 pub use crate::tasked::{judge_tasks, list_tasks, prepare_tasks, verify_tasks};
+pub use crate::tasks_fixing::{TaskFixing, fix_tasks};
 pub use crate::verifying::verify_proof;

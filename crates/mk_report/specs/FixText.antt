@@ -1,4 +1,4 @@
--- The lines that fix a makefile, and the text where there are none. Every line ends in a newline.
+-- The lines that fix a makefile or tasks, and the text where there are none. Every line ends in a newline.
 use Rattle.std.specs.Prelude.{ℕ, ◌≡◌, ◌-◌, ◌<◌, ◌==◌, ◌&&◌, ◌||◌, Bool, true, false, not, List, [], ◌∷◌, ◌++◌, Option, Some, None, codes, get_or, is_ok, length, if◌then◌else◌}
 use Rattle.std.specs.List.{flat_map, list_all}
 use Rattle.mk_name.specs.Names.{Name}
@@ -16,6 +16,8 @@ use Rattle.mk_jobs.specs.declared.maker.Maker.TheVariants.{Rule, Inferred, Defau
 use Rattle.mk_report.specs.ReportText.{label_text, name_text, number_line, writes_whole}
 use Rattle.mk_report.specs.declared.fixes.FixLines.{FixLines}
 use Rattle.mk_report.specs.declared.fixes.FixLines.TheVariants.{NoRoom, NoWord, Text}
+use Rattle.mk_report.specs.declared.fixes.Form.{Form}
+use Rattle.mk_report.specs.declared.fixes.Form.TheVariants.{Makefile, Tasks}
 
 -- a word of a makefile can be the name of a node
 abbrev pub has_word : Jobs → ℕ → Bool
@@ -43,21 +45,31 @@ phony_text jobs edge =
     then codes "; " ++ label_text jobs edge.0 ++ codes " is phony, so " ++ label_text jobs edge.1 ++ codes " is made each time"
     else []
 
+-- how a line names a node: for a makefile by its name; for tasks by its label, as it is shown
+abbrev pub written_name : Form → Jobs → ℕ → List ℕ
+written_name Makefile jobs n = name_of jobs n
+written_name Tasks jobs n = label_text jobs n
+
+-- what ends the remark of a line; for tasks nothing does, since each of them always runs
+abbrev pub remark_end : Form → Jobs → ℕ × ℕ → List ℕ
+remark_end Makefile jobs edge = phony_text jobs edge
+remark_end Tasks jobs edge = []
+
 -- the line of an edge: its second node gets its first as a prerequisite; a remark has a path on which they clash
-abbrev pub fix_line : Jobs → Path → ℕ × ℕ → List ℕ
-fix_line jobs path edge =
-    line (name_of jobs edge.1 ++ codes ": " ++ name_of jobs edge.0 ++ codes " # " ++ clash_text jobs edge path ++ phony_text jobs edge)
+abbrev pub fix_line : Form → Jobs → Path → ℕ × ℕ → List ℕ
+fix_line form jobs path edge =
+    line (written_name form jobs edge.1 ++ codes ": " ++ written_name form jobs edge.0 ++ codes " # " ++ clash_text jobs edge path ++ remark_end form jobs edge)
 
 -- what stands for an edge: its line, with the least path on which its nodes clash; and nothing where they do not clash
-pub record IsFixLine (jobs : Jobs) (edge : ℕ × ℕ) (text : List ℕ) : Type 0 where
-  pub given : Clash jobs edge.0 edge.1 → (path : Path) × IsLeastOverlap (uses_of jobs) edge.0 edge.1 path × (text ≡ fix_line jobs path edge)
+pub record IsFixLine (form : Form) (jobs : Jobs) (edge : ℕ × ℕ) (text : List ℕ) : Type 0 where
+  pub given : Clash jobs edge.0 edge.1 → (path : Path) × IsLeastOverlap (uses_of jobs) edge.0 edge.1 path × (text ≡ fix_line form jobs path edge)
   pub left_out : (Clash jobs edge.0 edge.1 → ⊥) → text ≡ []
 
 -- what stands for the edges, in their order
-abbrev pub AreFixLines : Jobs → List (ℕ × ℕ) → List ℕ → Type 0
-AreFixLines jobs [] text = text ≡ []
-AreFixLines jobs (edge ∷ edges) text = (own : List ℕ) × (rest : List ℕ)
-    × IsFixLine jobs edge own × AreFixLines jobs edges rest × (text ≡ own ++ rest)
+abbrev pub AreFixLines : Form → Jobs → List (ℕ × ℕ) → List ℕ → Type 0
+AreFixLines form jobs [] text = text ≡ []
+AreFixLines form jobs (edge ∷ edges) text = (own : List ℕ) × (rest : List ℕ)
+    × IsFixLine form jobs edge own × AreFixLines form jobs edges rest × (text ≡ own ++ rest)
 
 -- the last line of a makefile is open: no newline ends it, or a backslash stands before that newline
 abbrev pub is_open : List ℕ → Bool
@@ -67,15 +79,25 @@ is_open makefile = not (get_or makefile (length makefile - 1) 0 == 10) || get_or
 abbrev pub gap_text : List ℕ → List ℕ
 gap_text makefile = if is_open makefile then codes "\n\n" else []
 
+-- how many lines follow
+abbrev pub lines_count : ℕ → List ℕ
+lines_count count = number_line (codes "# race fix: lines") count
+
 -- what stands before the lines of so many edges
 abbrev pub fix_head : List ℕ → ℕ → List ℕ
-fix_head makefile count = gap_text makefile ++ number_line (codes "# race fix: lines") count
+fix_head makefile count = gap_text makefile ++ lines_count count
 
 -- the text that goes behind a makefile: nothing where there is no edge
 abbrev pub IsFixText : List ℕ → Jobs → List (ℕ × ℕ) → List ℕ → Type 0
 IsFixText makefile jobs [] text = text ≡ []
 IsFixText makefile jobs (edge ∷ edges) text =
-    (lines : List ℕ) × AreFixLines jobs (edge ∷ edges) lines × (text ≡ fix_head makefile (length (edge ∷ edges)) ++ lines)
+    (lines : List ℕ) × AreFixLines Makefile jobs (edge ∷ edges) lines × (text ≡ fix_head makefile (length (edge ∷ edges)) ++ lines)
+
+-- the text for tasks: nothing where there is no edge
+abbrev pub IsTaskLines : Jobs → List (ℕ × ℕ) → List ℕ → Type 0
+IsTaskLines jobs [] text = text ≡ []
+IsTaskLines jobs (edge ∷ edges) text =
+    (lines : List ℕ) × AreFixLines Tasks jobs (edge ∷ edges) lines × (text ≡ lines_count (length (edge ∷ edges)) ++ lines)
 
 -- no text that is read has room for the lines: those of the first edges alone are too long
 pub record HasNoRoom (makefile : List ℕ) (jobs : Jobs) (edges : List (ℕ × ℕ)) : Type 0 where
@@ -83,15 +105,15 @@ pub record HasNoRoom (makefile : List ℕ) (jobs : Jobs) (edges : List (ℕ × �
   pub back : List (ℕ × ℕ)
   pub lines : List ℕ
   pub parts : edges ≡ front ++ back
-  pub are : AreFixLines jobs front lines
+  pub are : AreFixLines Makefile jobs front lines
   pub long : text_limit < length (fix_head makefile (length edges) ++ lines)
 
 -- the lines of edges were put behind an old text: all of them; or those of the first edges, behind which no text that is read has
 -- room for more
 abbrev pub HasPushed : Jobs → List (ℕ × ℕ) → List ℕ → List ℕ → Bool → Type 0
-HasPushed jobs edges old new true = (lines : List ℕ) × AreFixLines jobs edges lines × (new ≡ old ++ lines)
+HasPushed jobs edges old new true = (lines : List ℕ) × AreFixLines Makefile jobs edges lines × (new ≡ old ++ lines)
 HasPushed jobs edges old new false =
-    (front : List (ℕ × ℕ)) × (back : List (ℕ × ℕ)) × (lines : List ℕ) × (edges ≡ front ++ back) × AreFixLines jobs front lines
+    (front : List (ℕ × ℕ)) × (back : List (ℕ × ℕ)) × (lines : List ℕ) × (edges ≡ front ++ back) × AreFixLines Makefile jobs front lines
     × (new ≡ old ++ lines) × (text_limit < length new)
 
 -- what the lines of some edges come to: their text; or a name of a node is no word; or there is no room
@@ -112,10 +134,18 @@ maker_obstacle Nothing listed = []
 abbrev pub obstacle_of : Jobs → ℕ → Bool → List ℕ
 obstacle_of jobs n words = if words then maker_obstacle (maker_of jobs n) (is_listed jobs n) else codes " name"
 
+-- for tasks nothing keeps it
+abbrev pub obstacle_text : Form → Jobs → ℕ × ℕ → List ℕ
+obstacle_text Makefile jobs edge = obstacle_of jobs edge.1 (has_words jobs edge)
+obstacle_text Tasks jobs edge = []
+
 -- the line of an edge that is needed, with its obstacle
-abbrev pub need_line : Jobs → ℕ × ℕ → List ℕ
-need_line jobs edge =
-    line (codes "# needs " ++ label_text jobs edge.1 ++ name_text jobs edge.0 ++ obstacle_of jobs edge.1 (has_words jobs edge))
+abbrev pub need_line : Form → Jobs → ℕ × ℕ → List ℕ
+need_line form jobs edge = line (codes "# needs " ++ label_text jobs edge.1 ++ name_text jobs edge.0 ++ obstacle_text form jobs edge)
+
+-- the lines of needed edges, behind the word that nothing is fixed
+abbrev pub needs_text : Form → Jobs → List (ℕ × ℕ) → List ℕ
+needs_text form jobs edges = line (codes "# not fixed") ++ flat_map (need_line form jobs) edges
 
 -- a line behind a sign, which makes it a comment
 abbrev pub behind_sign : List ℕ → List ℕ
@@ -137,4 +167,4 @@ refusal_text (Some told) = told_text told
 
 -- the text where the edges are needed, and no lines can add just them
 abbrev pub not_fixed_text : Jobs → List (ℕ × ℕ) → Option Told → List ℕ
-not_fixed_text jobs edges refusal = line (codes "# not fixed") ++ flat_map (need_line jobs) edges ++ refusal_text refusal
+not_fixed_text jobs edges refusal = needs_text Makefile jobs edges ++ refusal_text refusal

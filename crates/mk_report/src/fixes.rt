@@ -1,4 +1,4 @@
-//! The lines that fix a makefile, and the text where there are none.
+//! The lines that fix a makefile, and those that fix tasks.
 ghost use Rattle.std.specs.Prelude.{ℕ, ◌≡◌, ◌++◌, IfOk, List, OnOk};
 ghost use Rattle.std.specs.List.{list_all};
 ghost use Rattle.mk_jobs.specs.Jobs as nodes;
@@ -28,6 +28,15 @@ pub enum FixLines {
     NoRoom,
 }
 
+/// What lines are for.
+#[derive(Clone, Copy, Debug, PartialEq, Eq)]
+pub enum Form {
+    /// A makefile: a line has names as words, and its remark may end with what a phony prerequisite does.
+    Makefile,
+    /// A text of tasks: a line has labels, as they are shown.
+    Tasks,
+}
+
 /// The lines that give the second node of each of these edges the first as a prerequisite, for behind this makefile (profile).
 /// There is none without an edge. A line has the least path on which its nodes clash; two nodes that do not clash have no
 /// line. The only error is out of memory.
@@ -52,6 +61,21 @@ pub fn fix_lines(
     } else {
         Ok(FixLines::NoRoom)
     }
+}
+
+/// The lines that put each task that is the second of one of these edges behind the first, with their labels (profile). There
+/// is none without an edge. A line has the least path on which its tasks clash; two that do not clash have no line. The only
+/// error is out of memory.
+pub fn task_lines(alloc: Global, jobs: &Jobs, edges: &[(u32, u32)]) -> Result<Vec<u8>, AllocError>
+    ensures { IfOk result (λ text. spec.IsTaskLines jobs.now edges.now text.items) }
+{
+    let mut out = Vec::new(alloc);
+    if edges.is_empty() {
+        return Ok(out);
+    }
+    push_count(&mut out, edges.len())?;
+    push_task_lines(&mut out, alloc, jobs, edges)?;
+    Ok(out)
 }
 
 /// Whether the names of all nodes of some edges are words of a makefile. The only error is out of memory.
@@ -110,6 +134,13 @@ fn push_head(out: &mut Vec<u8>, makefile: &[u8], count: usize) -> Result<(), All
     if is_open(makefile) {
         out.extend_from_slice(b"\n\n")?;
     }
+    push_count(out, count)
+}
+
+/// Puts at the end how many lines follow. The only error is out of memory.
+fn push_count(out: &mut Vec<u8>, count: usize) -> Result<(), AllocError>
+    ensures { OnOk result (out.new.items ≡ out.old.items ++ spec.lines_count count) }
+{
     push_number(out, b"# race fix: lines", count as u64)
 }
 
@@ -124,12 +155,28 @@ fn push_lines(
     ensures { IfOk result (spec.HasPushed jobs.now edges.now out.old.items out.new.items) }
 {
     for edge in edges {
-        push_fix_line(out, alloc, jobs, *edge)?;
+        push_fix_line(out, alloc, jobs, *edge, Form::Makefile)?;
         if out.len() > TEXT_LIMIT {
             return Ok(false);
         }
     }
     Ok(true)
+}
+
+/// Puts the lines of edges of tasks at the end. The only error is out of memory.
+fn push_task_lines(
+    out: &mut Vec<u8>,
+    alloc: Global,
+    jobs: &Jobs,
+    edges: &[(u32, u32)],
+) -> Result<(), AllocError>
+    ensures { OnOk result ((lines : List ℕ) × spec.AreFixLines Form.Tasks jobs.now edges.now lines
+        × (out.new.items ≡ out.old.items ++ lines)) }
+{
+    for edge in edges {
+        push_fix_line(out, alloc, jobs, *edge, Form::Tasks)?;
+    }
+    Ok(())
 }
 
 /// Puts the line of an edge at the end, with the least path on which its nodes clash; none where they do not clash. The only
@@ -139,13 +186,14 @@ fn push_fix_line(
     alloc: Global,
     jobs: &Jobs,
     edge: (u32, u32),
+    form: Form,
 ) -> Result<(), AllocError>
-    ensures { OnOk result ((text : List ℕ) × spec.IsFixLine jobs.now edge text
+    ensures { OnOk result ((text : List ℕ) × spec.IsFixLine form jobs.now edge text
         × (out.new.items ≡ out.old.items ++ text)) }
 {
     let (first, second) = edge;
     match clash_of(jobs, first, second) {
-        Some(path) => push_line(out, alloc, jobs, path, edge),
+        Some(path) => push_line(out, alloc, jobs, path, edge, form),
         None => Ok(()),
     }
 }
@@ -157,18 +205,39 @@ fn push_line(
     jobs: &Jobs,
     path: &Path,
     edge: (u32, u32),
+    form: Form,
 ) -> Result<(), AllocError>
-    ensures { OnOk result (out.new.items ≡ out.old.items ++ spec.fix_line jobs.now path.now edge) }
+    ensures { OnOk result (out.new.items ≡ out.old.items ++ spec.fix_line form jobs.now path.now edge) }
 {
     let (first, second) = edge;
-    out.extend_from_slice(name_of(jobs, second))?;
+    push_written(out, jobs, second, form)?;
     out.extend_from_slice(b": ")?;
-    out.extend_from_slice(name_of(jobs, first))?;
+    push_written(out, jobs, first, form)?;
     out.extend_from_slice(b" # ")?;
     push_clash(out, alloc, jobs, path, edge)?;
-    push_phony(out, jobs, edge)?;
+    push_end(out, jobs, edge, form)?;
     out.push(b'\n')?;
     Ok(())
+}
+
+/// Puts a node at the end, as a line names it. The only error is out of memory.
+fn push_written(out: &mut Vec<u8>, jobs: &Jobs, number: u32, form: Form) -> Result<(), AllocError>
+    ensures { OnOk result (out.new.items ≡ out.old.items ++ spec.written_name form jobs.now number) }
+{
+    match form {
+        Form::Makefile => out.extend_from_slice(name_of(jobs, number)),
+        Form::Tasks => push_label(out, jobs, number),
+    }
+}
+
+/// Puts at the end what ends the remark of an edge. The only error is out of memory.
+fn push_end(out: &mut Vec<u8>, jobs: &Jobs, edge: (u32, u32), form: Form) -> Result<(), AllocError>
+    ensures { OnOk result (out.new.items ≡ out.old.items ++ spec.remark_end form jobs.now edge) }
+{
+    match form {
+        Form::Makefile => push_phony(out, jobs, edge),
+        Form::Tasks => Ok(()),
+    }
 }
 
 /// Puts at the end what the two nodes of an edge do with a path. The only error is out of memory.

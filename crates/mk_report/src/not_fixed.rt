@@ -1,4 +1,4 @@
-//! What is said of a build where no lines fix it.
+//! What is said of a build where no lines fix it, and of tasks that would have too many edges.
 ghost use Rattle.std.specs.Prelude.{◌≡◌, ◌++◌, IfOk, OnOk, map};
 ghost use Rattle.std.specs.List.{flat_map};
 ghost use Rattle.std.specs.Option.{option_map};
@@ -6,7 +6,7 @@ ghost use Rattle.mk_name.specs.Shown.{kind_line, name_line, place_line};
 ghost use Rattle.mk_jobs.specs.Jobs as nodes;
 ghost use Rattle.mk_report.specs.FixText as spec;
 
-use crate::fixes::has_words;
+use crate::fixes::{Form, has_words};
 use crate::names::{push_label, push_name};
 use mk_jobs::jobs::Jobs;
 use mk_jobs::maker::Maker;
@@ -27,27 +27,39 @@ pub fn not_fixed_report(
     ensures { IfOk result (λ text. text.items
         ≡ spec.not_fixed_text jobs.now edges.now (option_map (λ fault. fault.now) refusal.entry)) }
 {
-    let mut out = Vec::from_slice(alloc, b"# not fixed\n")?;
-    push_needs(&mut out, alloc, jobs, edges)?;
+    let mut out = needs_report(alloc, jobs, edges, Form::Makefile)?;
     if let Some(fault) = refusal {
         push_refusal(&mut out, alloc, fault)?;
     }
     Ok(out)
 }
 
-/// Puts the lines of needed edges at the end. The only error is out of memory.
-fn push_needs(
-    out: &mut Vec<u8>,
+/// The text where tasks need these edges, and would have too many with them (profile): comments alone, one for each edge. The
+/// only error is out of memory.
+pub fn task_needs_report(
     alloc: Global,
     jobs: &Jobs,
     edges: &[(u32, u32)],
-) -> Result<(), AllocError>
-    ensures { OnOk result (out.new.items ≡ out.old.items ++ flat_map (spec.need_line jobs.now) edges.now) }
+) -> Result<Vec<u8>, AllocError>
+    ensures { IfOk result (λ text. text.items ≡ spec.needs_text Form.Tasks jobs.now edges.now) }
 {
+    needs_report(alloc, jobs, edges, Form::Tasks)
+}
+
+/// The text of needed edges. The only error is out of memory.
+fn needs_report(
+    alloc: Global,
+    jobs: &Jobs,
+    edges: &[(u32, u32)],
+    form: Form,
+) -> Result<Vec<u8>, AllocError>
+    ensures { IfOk result (λ text. text.items ≡ spec.needs_text form jobs.now edges.now) }
+{
+    let mut out = Vec::from_slice(alloc, b"# not fixed\n")?;
     for edge in edges {
-        push_need(out, alloc, jobs, *edge)?;
+        push_need(&mut out, alloc, jobs, *edge, form)?;
     }
-    Ok(())
+    Ok(out)
 }
 
 /// Puts the line of a needed edge at the end. The only error is out of memory.
@@ -56,17 +68,37 @@ fn push_need(
     alloc: Global,
     jobs: &Jobs,
     edge: (u32, u32),
+    form: Form,
 ) -> Result<(), AllocError>
-    ensures { OnOk result (out.new.items ≡ out.old.items ++ spec.need_line jobs.now edge) }
+    ensures { OnOk result (out.new.items ≡ out.old.items ++ spec.need_line form jobs.now edge) }
 {
     let (first, second) = edge;
-    let words = has_words(alloc, jobs, edge)?;
     out.extend_from_slice(b"# needs ")?;
     push_label(out, jobs, second)?;
     push_name(out, jobs, first)?;
-    out.extend_from_slice(obstacle(jobs, second, words).as_bytes())?;
+    push_obstacle(out, alloc, jobs, edge, form)?;
     out.push(b'\n')?;
     Ok(())
+}
+
+/// Puts at the end what keeps the line of an edge from being just that edge. The only error is out of memory.
+fn push_obstacle(
+    out: &mut Vec<u8>,
+    alloc: Global,
+    jobs: &Jobs,
+    edge: (u32, u32),
+    form: Form,
+) -> Result<(), AllocError>
+    ensures { OnOk result (out.new.items ≡ out.old.items ++ spec.obstacle_text form jobs.now edge) }
+{
+    match form {
+        Form::Makefile => {
+            let (_first, second) = edge;
+            let words = has_words(alloc, jobs, edge)?;
+            out.extend_from_slice(obstacle(jobs, second, words).as_bytes())
+        }
+        Form::Tasks => Ok(()),
+    }
 }
 
 /// What keeps a line from being just an edge to this node, if that is known, where it is known whether both names are words.

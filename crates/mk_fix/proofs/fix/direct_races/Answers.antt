@@ -1,4 +1,4 @@
-use Rattle.std.proofs.Common.{ℕ, ◌<◌, List, [], Vec, Contains, get_or, map, sym, subst, inl, inr}
+use Rattle.std.proofs.Common.{ℕ, ◌<◌, List, [], Vec, Contains, get_or, map, sym, ap, ◌∙◌, subst, inl, inr}
 use Rattle.std.specs.Global.{Global}
 use Rattle.std.proofs.lemmas.List.Filters.{dedup_is}
 use Rattle.std.proofs.lemmas.List.Kept.{Contains-dedup, Contains-from_dedup, IsStrictlySortedBy-dedup}
@@ -7,14 +7,18 @@ use Rattle.mk_jobs.proofs.JobsLemmas.{clash_live}
 use Rattle.mk_proof.proofs.Risen.{pair_cmp_total}
 use Rattle.mk_decide.specs.Pairs.{IsRising}
 use Rattle.mk_decide.proofs.Paired.{pair_equal, pair_equiv, pair_ties}
-use Rattle.mk_jobs.specs.Jobs.{node_count}
 use Rattle.mk_fix.specs.Musts.{AreFirsts}
+use Rattle.mk_fix.proofs.Made.{firsts_are, pairs_to_nodes}
 use Rattle.mk_fix.proofs.fix.direct_races.Goals as goal
 
+pub sources_of-requires : goal.sources_of-requires
+sources_of-requires c = pairs_to_nodes c.args.jobs.now c.args.pairs.now c.requires.pairs
+
 pub add_races-requires-clause-firsts : goal.add_races-requires-clause-firsts
-add_races-requires-clause-firsts c =
-    subst (λ (rows : List (Vec ℕ Global)). (b : ℕ) → b < node_count c.args.jobs.now
-    → AreFirsts c.args.jobs.now (get_or (map (λ (v : Vec ℕ Global). v.items) rows) b []) b) (sym c.deref.ensures.value) c.in_ok-firsts.ensures.firsts
+add_races-requires-clause-firsts c = λ b below.
+    subst (λ (row : List ℕ). AreFirsts c.args.jobs.now row b)
+    (sym (ap (λ (rows : List (Vec ℕ Global)). get_or (map (λ (v : Vec ℕ Global). v.items) rows) b []) c.deref.ensures.value ∙ c.in_ok-firsts.ensures.rows b below))
+    (firsts_are c.args.jobs.now c.args.pairs.now b c.requires.pairs)
 
 pub returns : goal.returns
 returns c =

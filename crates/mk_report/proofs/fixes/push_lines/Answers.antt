@@ -1,6 +1,7 @@
 use Rattle.std.proofs.Common.{ℕ, ◌∙◌, ◌+◌, List, ◌++◌, append_assoc, arith, ap, drop, get_or, subst, sym, take}
 use Rattle.std.proofs.lemmas.List.{take-append-drop, take_more}
 use Rattle.mk_report.specs.FixText.{AreFixLines}
+use Rattle.mk_report.specs.declared.fixes.Form.TheVariants.{Makefile}
 use Rattle.mk_report.proofs.FixLines.{fix_lines_more}
 use Rattle.mk_report.proofs.fixes.push_lines.Goals as goal
 
@@ -12,8 +13,8 @@ loop-edge-preserved c =
     let so_far = c.loop-edge.invariant in
     let next = c.in_ok-push_fix_line.ensures in (
       so_far.0 ++ next.0,
-      subst (λ (some : List (ℕ × ℕ)). AreFixLines jobs some (so_far.0 ++ next.0)) (sym (take_more edges i (0, 0) c.loop-edge-test.true))
-          (fix_lines_more jobs (take i edges) so_far.0 (get_or edges i (0, 0)) next.0 so_far.1 next.1),
+      subst (λ (some : List (ℕ × ℕ)). AreFixLines Makefile jobs some (so_far.0 ++ next.0)) (sym (take_more edges i (0, 0) c.loop-edge-test.true))
+          (fix_lines_more Makefile jobs (take i edges) so_far.0 (get_or edges i (0, 0)) next.0 so_far.1 next.1),
       next.2 ∙ ap (λ t. t ++ next.0) so_far.2 ∙ append_assoc c.args.out.now.items so_far.0 next.0,
     )
 
@@ -28,8 +29,8 @@ returns-then-len-gt-TEXT_LIMIT c =
       drop (i + 1) edges,
       so_far.0 ++ next.0,
       sym (take-append-drop (i + 1) edges),
-      subst (λ (some : List (ℕ × ℕ)). AreFixLines jobs some (so_far.0 ++ next.0)) (sym (take_more edges i (0, 0) c.loop-edge-test.true))
-          (fix_lines_more jobs (take i edges) so_far.0 (get_or edges i (0, 0)) next.0 so_far.1 next.1),
+      subst (λ (some : List (ℕ × ℕ)). AreFixLines Makefile jobs some (so_far.0 ++ next.0)) (sym (take_more edges i (0, 0) c.loop-edge-test.true))
+          (fix_lines_more Makefile jobs (take i edges) so_far.0 (get_or edges i (0, 0)) next.0 so_far.1 next.1),
       next.2 ∙ ap (λ t. t ++ next.0) so_far.2 ∙ append_assoc c.args.out.now.items so_far.0 next.0,
       (let len = c.len.ensures in let ok = c.push_fix_line.new.out.ok.0 in let over = c.if-len-gt-TEXT_LIMIT.true in omega (arith, len, ok, over)),
     )

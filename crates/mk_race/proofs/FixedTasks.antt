@@ -1,0 +1,89 @@
+-- What the fix of tasks says of their runs.
+use Rattle.std.proofs.Common.{ℕ, ◌≡◌, ◌∙◌, ◌<◌, List, Ok, Err, IfOk, Option, Result, Some, subst, sym}
+use Rattle.mk_name.specs.Gives.{Answers, HaltsAmong}
+use Rattle.mk_name.specs.Told.{Told}
+use Rattle.mk_name.specs.declared.fault.Halt.{Halt}
+use Rattle.mk_name.specs.declared.fault.Halt.TheVariants as halts
+use Rattle.mk_jobs.specs.Jobs.{Jobs, IsRaceFree, IsValid, node_count}
+use Rattle.mk_proof.specs.Shapes.{Trace}
+use Rattle.mk_decide.specs.LeastTraces.{IsOfLeastRace}
+use Rattle.mk_decide.specs.Pairs.{HasManyPairs, too_many}
+use Rattle.mk_fix.specs.Added.{AreRisingToLive, IsWithEdges, with_edges}
+use Rattle.mk_fix.specs.Fixes.{IsFix}
+use Rattle.mk_fix.proofs.Adding.{clash_down, count_same, listed_same, name_same, phony_same, recipe_same}
+use Rattle.mk_fix.proofs.Fixing.{fix_determinate, to_live}
+use Rattle.mk_sched.specs.Laws.{IsDeterminate}
+use Rattle.mk_task.proofs.Starting.{AreTasks}
+use Rattle.mk_race.specs.Tasked.{EachStarts, RunsAlike, tasked}
+use Rattle.mk_race.specs.TasksFixed.{AreFixedBy, FixHolds, HoldsOfFixed, IsFixingOf}
+use Rattle.mk_race.specs.declared.tasks_fixing.TaskFixing.{TaskFixing}
+use Rattle.mk_race.specs.declared.tasks_fixing.TaskFixing.TheVariants.{Fixed, NotFixed}
+use Rattle.mk_race.proofs.OfTasks.{each_starts, runs_alike, text_of_tasks}
+
+-- jobs of tasks stay so with rising edges to live nodes
+tasks_stay : (jobs : Jobs) (edges : List (ℕ × ℕ)) → AreRisingToLive jobs edges → AreTasks jobs → AreTasks (with_edges jobs edges)
+tasks_stay jobs edges rising are =
+    let was : (n : ℕ) → n < node_count (with_edges jobs edges) → n < node_count jobs = λ n below. subst (λ k. n < k) (count_same jobs edges rising) below in
+    record {
+      made = λ n below. recipe_same jobs edges rising n ∙ are.made n (was n below);
+      always = λ n below. phony_same jobs edges rising n ∙ are.always n (was n below);
+      unlisted = λ n below. listed_same jobs edges rising n ∙ are.unlisted n (was n below);
+      named = λ n below. let label = are.named n (was n below) in (label.0, name_same jobs edges rising n ∙ label.1);
+    }
+
+-- so are the jobs that are handed out with a fix
+new_tasks : (jobs new : Jobs) (edges : List (ℕ × ℕ)) → IsFix jobs edges → new ≡ with_edges jobs edges → AreTasks jobs → AreTasks new
+new_tasks jobs new edges fix is are = subst AreTasks (sym is) (tasks_stay jobs edges (to_live fix) are)
+
+holds_of : (root text : List ℕ) (jobs new : Jobs) (lines : List ℕ) (chains : List (List ℕ)) → IsValid jobs → tasked root text ≡ Ok jobs → AreFixedBy jobs lines new chains
+    → FixHolds root text new
+holds_of root text jobs new lines chains valid given fixed =
+    let are = new_tasks jobs new fixed.edges fixed.fix fixed.added (text_of_tasks root text jobs given) in
+    let determinate = subst IsDeterminate (sym fixed.added) (fix_determinate jobs fixed.edges valid fixed.fix) in
+    record {
+      jobs = jobs;
+      edges = fixed.edges;
+      given = given;
+      fix = fixed.fix;
+      added = fixed.added;
+      free = fixed.safe.race_free;
+      determinate = determinate;
+      start = each_starts new are;
+      alike = runs_alike new are determinate;
+    }
+
+fixing_holds : (root text : List ℕ) (jobs : Jobs) (fixing : TaskFixing) → IsValid jobs → tasked root text ≡ Ok jobs → IsFixingOf jobs (Ok fixing) → HoldsOfFixed root text fixing
+fixing_holds root text jobs (Fixed lines new certificate) valid given fixed = holds_of root text jobs new lines.items certificate valid given fixed
+fixing_holds root text jobs (NotFixed lines) valid given many = tt
+
+-- where tasks are fixed, no schedule of them shows, with the fix
+pub headline_of : (root text : List ℕ) (jobs : Jobs) (result : Result TaskFixing Halt) → IsValid jobs → tasked root text ≡ Ok jobs → Answers result (IsFixingOf jobs)
+    → IfOk result (HoldsOfFixed root text)
+headline_of root text jobs (Ok fixing) valid given answer = fixing_holds root text jobs fixing valid given answer
+headline_of root text jobs (Err halt) valid given answer = tt
+
+-- jobs that were made with edges are those
+pub made_is : (jobs new : Jobs) (edges : List (ℕ × ℕ)) (made : Option Jobs) → made ≡ Some new → IsWithEdges jobs edges made → new ≡ with_edges jobs edges
+made_is jobs new edges made is such = subst (IsWithEdges jobs edges) is such
+
+-- jobs with a fix clash on many pairs only where they do without it
+many_stay : (jobs : Jobs) (edges : List (ℕ × ℕ)) → AreRisingToLive jobs edges → HasManyPairs (with_edges jobs edges) → HasManyPairs jobs
+many_stay jobs edges rising many = record {
+  pairs = many.pairs;
+  rise = many.rise;
+  clash = λ a b h. let is = many.clash a b h in (is.0, clash_down jobs edges rising a b is.1);
+  many = many.many;
+}
+
+-- so too many pairs of them are too many of the jobs
+pub many_of : (jobs new : Jobs) (edges : List (ℕ × ℕ)) (halt : Halt) → IsFix jobs edges → new ≡ with_edges jobs edges
+    → HaltsAmong {Y = ℕ} halt (λ answer. (answer ≡ Err too_many) × HasManyPairs new) → HaltsAmong {Y = TaskFixing} halt (IsFixingOf jobs)
+many_of jobs new edges halts.Memory fix added many = tt
+many_of jobs new edges (halts.Fault told) fix added many = (
+  (let e : ◌≡◌ {A = Result ℕ Told} (Err told) (Err too_many) = many.0 in cc),
+  many_stay jobs edges (to_live fix) (subst HasManyPairs added many.1),
+)
+
+-- race-free jobs have no least race
+pub no_race : (jobs : Jobs) (trace : Trace) → IsRaceFree jobs → IsOfLeastRace jobs trace → ⊥
+no_race jobs trace free least = least.nodes.race.apart (free trace.first trace.second least.nodes.race.clash)

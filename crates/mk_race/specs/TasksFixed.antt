@@ -1,0 +1,59 @@
+-- The fix of a text of tasks: the edges that its jobs need, and these jobs with them.
+use Rattle.std.specs.Prelude.{ℕ, ◌≡◌, ◌<◌, List, Result, Ok, Err}
+use Rattle.mk_name.specs.Told.{Told}
+use Rattle.mk_jobs.specs.Jobs.{Jobs, IsRaceFree}
+use Rattle.mk_jobs.specs.Plan.{edge_count, edge_limit}
+use Rattle.mk_decide.specs.Decisions.{AreSafeBy}
+use Rattle.mk_decide.specs.Pairs.{HasManyPairs, too_many}
+use Rattle.mk_fix.specs.Added.{with_edges}
+use Rattle.mk_fix.specs.Fixes.{IsFix}
+use Rattle.mk_report.specs.FixText.{IsTaskLines, needs_text}
+use Rattle.mk_report.specs.declared.fixes.Form.TheVariants.{Tasks}
+use Rattle.mk_sched.specs.Laws.{IsDeterminate}
+use Rattle.mk_race.specs.Stages.{Then}
+use Rattle.mk_race.specs.Tasked.{EachStarts, RunsAlike, tasked}
+use Rattle.mk_race.specs.declared.tasks_fixing.TaskFixing.{TaskFixing}
+use Rattle.mk_race.specs.declared.tasks_fixing.TaskFixing.TheVariants.{Fixed, NotFixed}
+
+-- lines fix tasks of these jobs: they say the fix of the jobs; and the jobs with it are safe by this certificate
+pub record AreFixedBy (jobs : Jobs) (lines : List ℕ) (new : Jobs) (chains : List (List ℕ)) : Type 0 where
+  pub edges : List (ℕ × ℕ)
+  pub fix : IsFix jobs edges
+  pub says : IsTaskLines jobs edges lines
+  pub added : new ≡ with_edges jobs edges
+  pub safe : AreSafeBy new chains
+
+-- tasks of these jobs are not fixed, as this text says: with their fix they would have too many edges
+pub record AreNotFixed (jobs : Jobs) (text : List ℕ) : Type 0 where
+  pub edges : List (ℕ × ℕ)
+  pub fix : IsFix jobs edges
+  pub many : edge_limit < edge_count (with_edges jobs edges).plan.nodes
+  pub says : text ≡ needs_text Tasks jobs edges
+
+-- what comes of the jobs of tasks: lines that fix them; or the edges that they need, which are too many; or too many pairs clash
+abbrev pub IsFixingOf : Jobs → Result TaskFixing Told → Type 0
+IsFixingOf jobs (Ok (Fixed lines new certificate)) = AreFixedBy jobs lines.items new certificate
+IsFixingOf jobs (Ok (NotFixed text)) = AreNotFixed jobs text.items
+IsFixingOf jobs (Err told) = (told ≡ too_many) × HasManyPairs jobs
+
+-- the jobs of tasks, and what comes of them
+abbrev pub IsFixing : List ℕ → List ℕ → Result TaskFixing Told → Type 0
+IsFixing root text = Then (tasked root text) IsFixingOf
+
+-- the text of tasks means jobs; with their fix these are race-free and determinate, each task starts in every complete run, and
+-- their runs are alike
+pub record FixHolds (root text : List ℕ) (new : Jobs) : Type 0 where
+  pub jobs : Jobs
+  pub edges : List (ℕ × ℕ)
+  pub given : tasked root text ≡ Ok jobs
+  pub fix : IsFix jobs edges
+  pub added : new ≡ with_edges jobs edges
+  pub free : IsRaceFree new
+  pub determinate : IsDeterminate new
+  pub start : EachStarts new
+  pub alike : RunsAlike new
+
+-- where tasks are fixed, this is so of the jobs that are handed out
+abbrev pub HoldsOfFixed : List ℕ → List ℕ → TaskFixing → Type 0
+HoldsOfFixed root text (Fixed lines new certificate) = FixHolds root text new
+HoldsOfFixed root text (NotFixed lines) = Unit {0}
