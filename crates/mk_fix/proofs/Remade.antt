@@ -1,7 +1,6 @@
 -- Lemmas on jobs that were made again.
-use Rattle.std.proofs.Common.{ℕ, ◌≡◌, ◌<◌, ◌≤◌, ◌+◌, ◌↔◌, ◌∙◌, ◌&&◌, Bool, true, false, not, List, [], All, Contains, eqb, length, get_or, refl, sym, subst, inl, inr, arith}
-use Rattle.std.proofs.Math.Bool.{beq}
-use Rattle.std.proofs.lemmas.Bool.{cases_eq, cases_lt, false≢true}
+use Rattle.std.proofs.Common.{ℕ, ◌≡◌, ◌<◌, ◌≤◌, ◌+◌, ◌↔◌, ◌&&◌, Bool, true, List, [], All, Contains, eqb, length, get_or, refl, sym, subst, inl, inr, arith}
+use Rattle.std.proofs.lemmas.Bool.{cases_eq, cases_lt}
 use Rattle.std.proofs.lemmas.List.{get_or_default}
 use Rattle.std.proofs.lemmas.List.Folds.{list_any_at}
 use Rattle.std.proofs.lemmas.Map.Views.{Contains-from_any}
@@ -20,13 +19,6 @@ all_more P i all here k below = elim (cases_eq k i) [
 -- what holds at each place up to the end holds of all
 pub items_all : {X : Type 0} (P : X → Type 0) (xs : List X) (x : X) (i : ℕ) → length xs ≤ i → ((k : ℕ) → k < i → P (get_or xs k x)) → All P xs
 items_all P xs x i long all k d inside = subst P (get_or_default xs k x d inside) (all k (omega (arith, inside, long)))
-
--- two flags that are not different are the same
-pub flags_same : (a b : Bool) → not (beq a b) ≡ false → a ≡ b
-flags_same true true e = refl
-flags_same true false e = absurd (false≢true (sym e))
-flags_same false true e = absurd (false≢true (sym e))
-flags_same false false e = refl
 
 -- a node has a recipe where its maker has one
 pub recipe_is : (jobs : Jobs) (n : ℕ) → has_recipe jobs n ≡ has_commands (maker_of jobs n)

@@ -48,7 +48,7 @@ fn is_same_node(jobs: &Jobs, new: &Jobs, n: u32) -> bool
     if !is_same_name(new.name(n), jobs.name(n)) {
         return false;
     }
-    if new.is_phony(n) != jobs.is_phony(n) {
+    if !is_same_flag(new.is_phony(n), jobs.is_phony(n)) {
         return false;
     }
     let maker = jobs.maker(n);
@@ -65,11 +65,18 @@ fn is_same_name(one: &Name, other: &Name) -> bool
     one == other
 }
 
-/// Whether two makers are the same.
-fn is_same_maker(one: Maker, other: Maker) -> bool
-    ensures { IsTrue result ↔ (one ≡ other) }
+/// Whether two flags are the same.
+fn is_same_flag(first: bool, second: bool) -> bool
+    ensures { IsTrue result ↔ (first ≡ second) }
 {
-    one == other
+    first == second
+}
+
+/// Whether two makers are the same.
+fn is_same_maker(new: Maker, old: Maker) -> bool
+    ensures { IsTrue result ↔ (new ≡ old) }
+{
+    new == old
 }
 
 /// Whether a node keeps its prerequisites in new jobs, and where it has a recipe has no others but by these edges.

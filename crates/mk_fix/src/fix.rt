@@ -22,6 +22,7 @@ const WORD: usize = 64;
 /// The fix of these jobs, by first and then second number: the races that, added as edges, make the jobs race-free, where none
 /// can be left out. There is one fix of any jobs, and it is empty just where they are race-free. Where more than `PAIR_LIMIT`
 /// pairs of nodes clash the fault is `TooManyPairs` in the jobs, at place 0 (profile). For N nodes it takes N rows of N bits.
+#[tactic(auto, using(crate::proofs::Direct::direct_fix))]
 pub fn fix(alloc: Global, jobs: &Jobs) -> Result<Vec<(u32, u32)>, Halt>
     ensures fix { IfOk result (λ edges. IsFix jobs.now edges.items) }
     ensures many { IfErr result (λ halt.

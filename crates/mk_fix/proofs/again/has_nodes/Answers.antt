@@ -1,4 +1,4 @@
-use Rattle.std.proofs.Common.{ℕ, arith, refl}
+use Rattle.std.proofs.Common.{arith, refl}
 use Rattle.mk_fix.specs.Again.{HasNeeds, IsSameNode}
 use Rattle.mk_fix.proofs.Remade.{all_more}
 use Rattle.mk_fix.proofs.again.has_nodes.Goals as goal

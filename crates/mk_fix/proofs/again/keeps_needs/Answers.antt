@@ -1,4 +1,4 @@
-use Rattle.std.proofs.Common.{ℕ, ◌≤◌, ◌<◌, ◌∙◌, All, List, get_or, length, refl, subst, sym}
+use Rattle.std.proofs.Common.{ℕ, ◌≤◌, ◌∙◌, All, List, get_or, length, refl, subst, sym}
 use Rattle.std.proofs.lemmas.Bool.{false≢true}
 use Rattle.mk_jobs.specs.Jobs.{IsPrerequisite, prerequisites_of}
 use Rattle.mk_fix.proofs.Remade.{all_more, items_all}

@@ -1,4 +1,4 @@
-use Rattle.std.proofs.Common.{ℕ, ◌≡◌, ◌↔◌, ◌⊎◌, length, take}
+use Rattle.std.proofs.Common.{ℕ, ◌↔◌, ◌⊎◌, length, take}
 use Rattle.mk_path.specs.Bits.{HasBit}
 use Rattle.mk_fix.specs.Musts.{IsBehind}
 use Rattle.mk_fix.proofs.fix.merge_rows.Given as goal
