@@ -92,7 +92,7 @@ fn has_names(listing: &Listing, texts: &[&str]) -> bool {
     }) && known.next().is_none()
 }
 
-/// Whether the bad listing is told likewise.
+/// Whether the bad listing is reported likewise.
 fn are_unlisted(alloc: Global) -> bool {
     for size in 1..=BAD_LISTING.len() {
         let read = listing_in(alloc, BAD_LISTING.as_bytes(), size);
@@ -124,7 +124,7 @@ fn is_root(root: &Root) -> bool {
     root.text() == b"/w".as_slice()
 }
 
-/// Whether the footprints whose last line is cut short are told likewise.
+/// Whether the footprints whose last line is cut short are reported likewise.
 fn are_unread(alloc: Global) -> bool {
     for size in 1..=CUT_SHORT.len() {
         let read = footprints_in(alloc, CUT_SHORT.as_bytes(), size);
@@ -143,7 +143,7 @@ fn is_refused<T: Drop>(alloc: Global, read: Result<T, Halt>, report: &str) -> bo
     }
 }
 
-/// Whether a bad line is told by the piece that ends it, by all after it, and at the end.
+/// Whether a bad line is reported by the piece that ends it, by all after it, and at the end.
 fn tells_at_once(alloc: Global) -> bool {
     match Root::read(alloc, b"/w") {
         Ok(root) => stays_bad(alloc, FootReader::new(alloc, root)),
@@ -156,7 +156,7 @@ fn stays_bad(alloc: Global, reader: FootReader) -> bool {
     are_bad(alloc, &mut reader) && is_refused(alloc, reader.finish(), BAD_FIRST_REPORT)
 }
 
-/// Whether the first line is taken, and its fault is told of each piece from its end on.
+/// Whether the first line is taken, and its fault is reported of each piece from its end on.
 fn are_bad(alloc: Global, reader: &mut FootReader) -> bool {
     if reader.feed(b"x").is_err() {
         return false;

@@ -71,7 +71,7 @@ static FILES: [Build; 6] = [
 ];
 
 static TREES: [Build; 6] = [
-    // Trees: what is told is the smaller of two paths, or the tree where both are the same but for the slash.
+    // Trees: what is reported is the smaller of two paths, or the tree where both are the same except for the slash.
     Build {
         makefile: TWO,
         listing: "s\n",

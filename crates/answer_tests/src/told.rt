@@ -1,4 +1,4 @@
-//! What is told of a fault.
+//! What is reported of a fault.
 use mk_name::fault::Halt;
 use mk_name::report::refused_report;
 use std::alloc::{AllocError, Global};

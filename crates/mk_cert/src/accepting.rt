@@ -33,7 +33,7 @@ pub fn accept(jobs: &Jobs, certificate: &Certificate) -> bool
 
 /// Whether a trace shows a race of these jobs (profile): its nodes clash on its path; just the listed nodes have a time; by
 /// these times alone each step is allowed after those before it, whatever else stands in the store; and at the end both
-/// nodes run. The only error is want of memory.
+/// nodes run. The only error is out of memory.
 ///
 /// A trace that is accepted holds. Not every trace that holds is accepted; the trace of a race is.
 pub fn accept_trace(alloc: Global, jobs: &Jobs, trace: &Trace) -> Result<bool, AllocError>
@@ -53,7 +53,7 @@ pub fn accept_trace(alloc: Global, jobs: &Jobs, trace: &Trace) -> Result<bool, A
     Ok(accepted)
 }
 
-/// Whether the trace of these parts is sure. The only error is want of memory.
+/// Whether the trace of these parts is sure. The only error is out of memory.
 fn is_sure(
     alloc: Global,
     jobs: &Jobs,

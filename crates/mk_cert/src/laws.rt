@@ -47,7 +47,7 @@ pub fn store_fits()
     ensures { StoreFits }
 {}
 
-/// So no trace holds for want of a run: its steps are one from some store, and both nodes run at its end.
+/// So no trace holds for lack of a run: its steps are one from some store, and both nodes run at its end.
 pub fn holds_for_a_run()
     ensures { HoldsForARun }
 {}

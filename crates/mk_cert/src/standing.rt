@@ -20,7 +20,7 @@ pub(crate) struct Standing {
 }
 
 impl Standing {
-    /// So many nodes that wait. The only error is want of memory.
+    /// So many nodes that wait. The only error is out of memory.
     pub(crate) fn new(alloc: Global, count: u32) -> Result<Standing, AllocError>
         ensures long { IfOk result (λ standing. length standing.stages.items ≡ count) }
         ensures waiting { IfOk result (λ standing. phases_of standing.stages.items ≡ phase []) }

@@ -7,7 +7,7 @@ ghost use Rattle.mk_cert.specs.Traces.{time_of};
 use mk_jobs::jobs::Jobs;
 use std::alloc::{AllocError, Global};
 
-/// The times by their nodes, if each stands beside one of the first `count` nodes. The only error is want of memory.
+/// The times by their nodes, if each stands beside one of the first `count` nodes. The only error is out of memory.
 pub(crate) fn by_node(
     alloc: Global,
     count: u32,
@@ -28,7 +28,7 @@ pub(crate) fn by_node(
     Ok(Some(table))
 }
 
-/// The time of a node, and nought where it has none.
+/// The time of a node, and zero where it has none.
 pub(crate) fn time(table: &[Option<u32>], n: u32) -> u32
     ensures { result ≡ time_in table.now n }
 {

@@ -10,7 +10,7 @@ use mk_jobs::jobs::Jobs;
 use mk_proof::step::Step;
 use std::alloc::{AllocError, Global};
 
-/// Whether the steps are surely allowed in turn, and both nodes run after them. The only error is want of memory.
+/// Whether the steps are surely allowed in turn, and both nodes run after them. The only error is out of memory.
 pub(crate) fn all_pass(
     alloc: Global,
     jobs: &Jobs,

@@ -39,7 +39,7 @@ pub(crate) fn first_race<B: Before>(
     None
 }
 
-/// The certificate of these pairs: for each the chain that leads from its first node to its second. The only error is want of
+/// The certificate of these pairs: for each the chain that leads from its first node to its second. The only error is out of
 /// memory.
 pub(crate) fn certificate_of<B: Before>(
     alloc: Global,
@@ -63,7 +63,7 @@ pub(crate) fn certificate_of<B: Before>(
     Ok(chains)
 }
 
-/// Puts at the end the chain that leads from a to b. The only error is want of memory.
+/// Puts at the end the chain that leads from a to b. The only error is out of memory.
 fn push_chain<B: Before>(
     alloc: Global,
     jobs: &Jobs,

@@ -52,7 +52,7 @@ pub fn decide_with<B: Before>(alloc: Global, jobs: &Jobs, before: &mut B) -> Res
     Ok(verdict)
 }
 
-/// Decides by all clashing pairs. The only error is want of memory.
+/// Decides by all clashing pairs. The only error is out of memory.
 fn verdict_of<B: Before>(
     alloc: Global,
     jobs: &Jobs,

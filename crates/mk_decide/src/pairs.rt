@@ -47,7 +47,7 @@ fn too_many(alloc: Global) -> Halt
     Halt::Fault(Fault::unnamed(alloc, Kind::TooManyPairs, Source::Jobs, 0))
 }
 
-/// Puts at the end the pairs of b and each other node that reaches it, the smaller number first. The only error is want of
+/// Puts at the end the pairs of b and each other node that reaches it, the smaller number first. The only error is out of
 /// memory.
 fn add_pairs(jobs: &Jobs, pairs: &mut Vec<(u32, u32)>, b: u32) -> Result<(), AllocError>
     requires shape { IsWellFormed jobs.now }

@@ -15,7 +15,7 @@ use mk_proof::trace::Trace;
 use std::alloc::{AllocError, Global};
 
 /// The trace of a race, on the least path on which its nodes clash. `before` must speak of the same jobs. The only error is
-/// want of memory.
+/// out of memory.
 pub(crate) fn trace_of_race<B: Before>(
     alloc: Global,
     jobs: &Jobs,
@@ -38,7 +38,7 @@ pub(crate) fn trace_of_race<B: Before>(
     Ok(Trace::new(first, second, path, times, steps))
 }
 
-/// The spelling of the least path on which two nodes clash. The only error is want of memory.
+/// The spelling of the least path on which two nodes clash. The only error is out of memory.
 fn least_path(alloc: Global, jobs: &Jobs, a: u32, b: u32) -> Result<Vec<u8>, AllocError>
     requires first { a < node_count jobs.now }
     requires second { b < node_count jobs.now }
@@ -51,7 +51,7 @@ fn least_path(alloc: Global, jobs: &Jobs, a: u32, b: u32) -> Result<Vec<u8>, All
     }
 }
 
-/// The time of each listed node, beside it: how many nodes there are from it on. The only error is want of memory.
+/// The time of each listed node, beside it: how many nodes there are from it on. The only error is out of memory.
 fn times_of(alloc: Global, jobs: &Jobs) -> Result<Vec<(u32, u32)>, AllocError>
     ensures { IfOk result (λ times. times.items ≡ falling_times jobs.now 0 (node_count jobs.now)) }
 {
@@ -65,7 +65,7 @@ fn times_of(alloc: Global, jobs: &Jobs) -> Result<Vec<(u32, u32)>, AllocError>
     Ok(times)
 }
 
-/// For each node whether it is before one of two. Their numbers must be below the count of nodes. The only error is want of
+/// For each node whether it is before one of two. Their numbers must be below the count of nodes. The only error is out of
 /// memory.
 fn early_nodes<B: Before>(
     alloc: Global,
@@ -89,7 +89,7 @@ fn early_nodes<B: Before>(
     Ok(early)
 }
 
-/// The early nodes pass, in rising order; then two nodes start. The only error is want of memory.
+/// The early nodes pass, in rising order; then two nodes start. The only error is out of memory.
 fn steps_of(
     alloc: Global,
     jobs: &Jobs,
@@ -113,7 +113,7 @@ fn steps_of(
 }
 
 /// Puts at the end the steps by which a node passes: a live one starts and finishes, any other is skipped. Its number must be
-/// below the count of nodes. The only error is want of memory.
+/// below the count of nodes. The only error is out of memory.
 fn push_passing(jobs: &Jobs, steps: &mut Vec<Step>, n: u32) -> Result<(), AllocError>
     requires { n < node_count jobs.now }
     ensures { OnOk result (steps.new.items ≡ steps.old.items ++ passing jobs.now n) }

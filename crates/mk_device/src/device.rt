@@ -11,7 +11,7 @@ pub struct Broken;
 
 /// A device that gives bytes.
 pub trait Intake {
-    /// The bytes that reads give from here on, where they are told.
+    /// The bytes that reads give from here on, where the contract states them.
     ghost left: { Self → Option (List ℕ) };
 
     /// A read was refused. A device that has failed is not read again.
@@ -33,7 +33,7 @@ pub trait Intake {
 
 /// A device that takes bytes.
 pub trait Outlet {
-    /// The bytes that were written, where they are told.
+    /// The bytes that were written, where the contract states them.
     ghost written: { Self → Option (List ℕ) };
 
     /// A write was refused. A device that has failed is not written to again.
@@ -80,7 +80,7 @@ impl From<Broken> for ReadStop {
 }
 
 /// Reads a device to its end, and gives all the bytes that were left. `ReadStop::Broken` comes exactly where the device
-/// fails; the only other error is want of memory.
+/// fails; the only other error is out of memory.
 pub fn read_all<I: Intake>(alloc: Global, device: &mut I) -> Result<Vec<u8>, ReadStop>
     requires { I.has_failed device.old ≡ false }
     ensures bytes { IfOk result (λ all. IfSome (I.left device.old) (λ bytes. all.items ≡ bytes)) }

@@ -128,7 +128,7 @@ fn collect_by(
     }))
 }
 
-/// All that the goals need, or nothing where this is more than `limit` names. The only error is want of memory.
+/// All that the goals need, or nothing where this is more than `limit` names. The only error is out of memory.
 pub fn collect(
     alloc: Global,
     book: &Rulebook,

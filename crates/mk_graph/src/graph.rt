@@ -24,7 +24,7 @@ pub struct Graph {
     pub goals: Vec<usize>,
 }
 
-/// All that the goals need, or nothing where this is more than so many names or edges. The only error is want of memory.
+/// All that the goals need, or nothing where this is more than so many names or edges. The only error is out of memory.
 pub fn graph_of(
     alloc: Global,
     book: &Rulebook,

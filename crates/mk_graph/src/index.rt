@@ -233,7 +233,7 @@ fn has_many(table: &Table) -> bool {
     table.values().any(|places| places.len() > FEW)
 }
 
-/// The index of a book and a listing for some goals. The only error is want of memory.
+/// The index of a book and a listing for some goals. The only error is out of memory.
 pub(crate) fn source_index(
     alloc: Global,
     book: &Rulebook,

@@ -112,7 +112,7 @@ fn source_of(
 }
 
 /// The source that an inference rule makes a name from; none where a target rule of it has commands, or where it is
-/// phony ("Inference Rules"). The only error is want of memory.
+/// phony ("Inference Rules"). The only error is out of memory.
 pub(crate) fn inferred_source(
     alloc: Global,
     book: &Rulebook,

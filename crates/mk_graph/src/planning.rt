@@ -75,7 +75,7 @@ fn plan_for(alloc: Global, book: &Rulebook, listing: &Listing, goals: &[Name]) -
 /// The first of these faults is answered, all of the graph at place 0: `NoGoal` without goals and without a default
 /// goal; `GraphTooLarge` over 20,000 names or 200,000 edges (profile); `NoRule` with the byte-wise least name that
 /// nothing makes and that is not phony, no target and not listed; `Cycle` with the names of a cycle, each needing the
-/// next, from its least name round to that name. The only other error is want of memory.
+/// next, from its least name round to that name. The only other error is out of memory.
 pub fn plan(alloc: Global, book: &Rulebook, listing: &Listing, goals: &[Name]) -> Result<Plan, Halt>
     ensures { Answers result (IsAnswer book.now listing.now (goals_of book.now goals.now)) }
 {

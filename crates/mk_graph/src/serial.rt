@@ -63,7 +63,7 @@ fn ring_of(alloc: Global, mut stack: Vec<Step>, back: usize) -> Result<Vec<usize
 }
 
 /// The serial order of all that the goals need, or a ring of nodes that need one another. A node's row has the numbers
-/// of its prerequisites. The only error is want of memory.
+/// of its prerequisites. The only error is out of memory.
 pub fn serial_order(
     alloc: Global,
     graph: &[Vec<usize>],

@@ -27,7 +27,7 @@ impl<'t> Model for Cut<'t> {
     ghost view = { λ a. result_map_both (λ lines. lines.items) (λ fault. fault) a.lines };
 }
 
-/// Equal names. The only error is want of memory.
+/// Equal names. The only error is out of memory.
 fn copy_names(alloc: Global, names: &[Name]) -> Result<Vec<Name>, AllocError>
     ensures { IfOk result (λ copies. copies.items ≡ names.now) }
 {
@@ -38,7 +38,7 @@ fn copy_names(alloc: Global, names: &[Name]) -> Result<Vec<Name>, AllocError>
     Ok(copies)
 }
 
-/// An equal fault, told in the text that has this name.
+/// An equal fault, reported in the text that has this name.
 fn copy_in(alloc: Global, fault: &Fault, name: &Name) -> Result<Fault, AllocError>
     ensures { IfOk result (λ copy. copy ≡ record fault.now { source = Source.Include name.now }) }
 {
@@ -48,7 +48,7 @@ fn copy_in(alloc: Global, fault: &Fault, name: &Name) -> Result<Fault, AllocErro
 }
 
 impl<'t> Cut<'t> {
-    /// What this text is cut into. The only error is want of memory.
+    /// What this text is cut into. The only error is out of memory.
     pub fn of_text(alloc: Global, text: &'t [u8]) -> Result<Cut<'t>, AllocError>
         ensures { IfOk result (λ cut. cut ≡ logical_lines text.now) }
     {
@@ -59,7 +59,7 @@ impl<'t> Cut<'t> {
         }
     }
 
-    /// The lines of the text, or its fault, told in the text of this name, at its line.
+    /// The lines of the text, or its fault, reported in the text of this name, at its line.
     pub fn lines(&self, alloc: Global, name: &Name) -> Result<&[Line<'t>], Halt>
         ensures { Gives (result_map_both (λ lines. lines.now) (λ halt. halt) result)
             (told_in name.now self.now) }

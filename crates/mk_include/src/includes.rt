@@ -38,7 +38,7 @@ impl<'t> Includes<'t> {
         }
     }
 
-    /// Adds a text, unless the name has one. The only error is want of memory.
+    /// Adds a text, unless the name has one. The only error is out of memory.
     fn add(&mut self, alloc: Global, name: Name, text: &'t [u8]) -> Result<(), AllocError>
         ensures { OnOk result (texts_of self.new
             ≡ texts_of (self.old ++ (name, logical_lines text.now) ∷ [])) }
@@ -56,7 +56,7 @@ impl<'t> Includes<'t> {
     ///
     /// The first path that `plain_path` refuses is `BadName` in the source `Includes`, at the number of its
     /// pair from 1, without names. A text's own faults are no error here: who names the text tells them.
-    /// Want of memory may come in place of any answer.
+    /// Out of memory may come in place of any answer.
     pub fn read(
         alloc: Global,
         pairs: &[(&[u8], &'t [u8])],

@@ -17,7 +17,7 @@ use std::alloc::{AllocError, Global};
 /// So many texts may be taken in, each as often as it is (profile).
 pub const TEXT_LIMIT: usize = 1_000;
 
-/// The words of a text: what stands between its blanks. The only error is want of memory.
+/// The words of a text: what stands between its blanks. The only error is out of memory.
 pub fn words(alloc: Global, text: &[u8]) -> Result<Vec<&[u8]>, AllocError>
     ensures { IfOk result (λ words. map (λ word. word.now) words.items ≡ words_of text.now) }
 {
@@ -63,7 +63,7 @@ fn unknown(alloc: Global, name: Name) -> Result<Fault, AllocError>
 ///
 /// Errors, the first that applies: `BadName` with the word as it stands; `UnknownInclude` and
 /// `IncludeTooDeep` with the plain name; `TooManyIncludes` without names. The source is the makefile and the
-/// place 0: the caller moves it. Want of memory may come in place of any answer.
+/// place 0: the caller moves it. Out of memory may come in place of any answer.
 pub fn word_text<'i, 't>(
     alloc: Global,
     includes: &'i Includes<'t>,

@@ -60,7 +60,7 @@ impl Model for Jobs {
 
 impl Jobs {
     /// The jobs of a plan with a row of paths for each node: what it reads, and what it writes. Relative names stand below
-    /// this root. The only error is want of memory, and then the plan comes back as it was.
+    /// this root. The only error is out of memory, and then the plan comes back as it was.
     pub fn new(
         alloc: Global,
         plan: Plan,

@@ -7,7 +7,7 @@ use crate::plan::Plan;
 use mk_path::table::Table;
 use std::alloc::{AllocError, Global};
 
-/// For each node of a plan the numbers of its prerequisites, rising. The only error is want of memory.
+/// For each node of a plan the numbers of its prerequisites, rising. The only error is out of memory.
 pub(crate) fn needs_of(alloc: Global, plan: &Plan) -> Result<Table, AllocError>
     ensures { IfOk result (AreNeeds plan.now.nodes) }
 {
@@ -19,7 +19,7 @@ pub(crate) fn needs_of(alloc: Global, plan: &Plan) -> Result<Table, AllocError>
     Ok(needs)
 }
 
-/// Some numbers in order. The only error is want of memory.
+/// Some numbers in order. The only error is out of memory.
 fn in_order(alloc: Global, numbers: &[u32]) -> Result<Vec<u32>, AllocError>
     ensures rising { IfOk result (λ row. IsNonDecreasing row.items) }
     ensures same { IfOk result (λ row. (p : ℕ) → Contains row.items p ↔ Contains numbers.now p) }

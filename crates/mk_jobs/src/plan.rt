@@ -91,7 +91,7 @@ fn numbers_below(alloc: Global, count: u32) -> Result<Vec<u32>, AllocError>
 }
 
 impl Plan {
-    /// The plan of these nodes, of which each stands after what it needs. The only error is want of memory.
+    /// The plan of these nodes, of which each stands after what it needs. The only error is out of memory.
     pub fn new(alloc: Global, nodes: Vec<PlanNode>, wait_uses: u64) -> Result<Plan, AllocError>
         requires few { length nodes.items ≤ node_limit }
         requires few_edges { edge_count nodes.items ≤ edge_limit }

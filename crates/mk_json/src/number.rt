@@ -12,7 +12,7 @@ fn is_valued(numeral: &Numeral<'_>) -> bool
     numeral.to_u64().is_some() || numeral.to_float::<f64>(false).is_finite()
 }
 
-/// Whether the numeral behind a minus has a value: a number of 64 bits below nought, or the nearest float that is finite.
+/// Whether the numeral behind a minus has a value: a number of 64 bits below zero, or the nearest float that is finite.
 fn is_valued_below(numeral: &Numeral<'_>) -> bool
     ensures { result ≡ is_some (number_from true numeral.now) }
 {

@@ -17,7 +17,7 @@ const MAX_DEPTH: usize = 127;
 
 impl<'a> Document<'a> {
     /// Reads a text; nothing where it is no JSON, or no UTF-8. Texts with escapes are kept in the scratch, which grows to the
-    /// length of the text and is as good for the next one. The only error is want of memory.
+    /// length of the text and is as good for the next one. The only error is out of memory.
     pub fn read(
         alloc: Global,
         text: &'a [u8],
@@ -33,7 +33,7 @@ impl<'a> Document<'a> {
     }
 }
 
-/// The document that a text is. The only error is want of memory.
+/// The document that a text is. The only error is out of memory.
 fn document_in<'a>(
     alloc: Global,
     text: &'a str,
@@ -58,7 +58,7 @@ fn document_of(value: Value<'_>) -> Option<Document<'_>>
     }
 }
 
-/// The value that a text is, if it is one and nests no deeper than `MAX_DEPTH`. The only error is want of memory.
+/// The value that a text is, if it is one and nests no deeper than `MAX_DEPTH`. The only error is out of memory.
 fn value_in<'a>(
     alloc: Global,
     text: &'a str,

@@ -228,7 +228,7 @@ fn entry_in(
     }
 }
 
-/// The entry of a text that is not blank; none where it is bad. The only error is want of memory.
+/// The entry of a text that is not blank; none where it is bad. The only error is out of memory.
 pub(crate) fn entry_of(
     alloc: Global,
     text: &[u8],

@@ -35,7 +35,7 @@ fn text_of(name: &Name) -> Result<&str, LogHalt>
     }
 }
 
-/// Bytes in lower case hexadecimal. The only error is want of memory.
+/// Bytes in lower case hexadecimal. The only error is out of memory.
 fn hexadecimal(alloc: Global, bytes: &[u8]) -> Result<String, AllocError>
     ensures text { IfOk result (λ text. string_bytes text ≡ encode_lower bytes.now) }
     ensures bytes { IsBytes bytes.now }
@@ -161,7 +161,7 @@ fn push_erase(line: &mut Writer, node: &str, path: &str) -> Result<(), AllocErro
     line.end_object()
 }
 
-/// Writes a file of the opening store. The error is `NotText` where its name is not UTF-8; else it is want of memory.
+/// Writes a file of the opening store. The error is `NotText` where its name is not UTF-8; else it is out of memory.
 pub(crate) fn write_file(
     alloc: Global,
     line: &mut Writer,
@@ -179,7 +179,7 @@ pub(crate) fn write_file(
 }
 
 /// Writes an event. Its node's number must be below the count of nodes. The error is `NotText` where the node's name or the
-/// path is not UTF-8; else it is want of memory.
+/// path is not UTF-8; else it is out of memory.
 pub(crate) fn write_event(
     alloc: Global,
     line: &mut Writer,

@@ -25,7 +25,7 @@ use std::alloc::{AllocError, Global};
 ///
 /// The fault is `BadLog` in the log at the first line from 1 that is bad: one that is no such object in UTF-8, that names
 /// no node of the jobs or has a path that `plain_path` refuses, and a file that stands behind an event or behind a file
-/// of the same name. The only other error is want of memory.
+/// of the same name. The only other error is out of memory.
 pub fn read_log(alloc: Global, text: &[u8], jobs: &Jobs, root: &Root) -> Result<Log, Halt>
     ensures { Answers result (IsRead jobs.now root.now text.now) }
 {

@@ -48,7 +48,7 @@ impl From<AllocError> for LogHalt {
 /// Writes a log: its files in the byte order of their names and then its events, each as the object of JSON without spaces, its
 /// keys in byte order, and a newline (profile). The events must be of nodes of these jobs.
 ///
-/// The error is `NotText` where a name in the log, a file's, a node's or a path, is not UTF-8; else it is want of memory.
+/// The error is `NotText` where a name in the log, a file's, a node's or a path, is not UTF-8; else it is out of memory.
 /// Below a root where each name in the log is a path that names itself, `read_log` answers this log for what is written,
 /// and can answer nothing else.
 pub fn write_log(alloc: Global, jobs: &Jobs, log: &Log) -> Result<Vec<u8>, LogHalt>
@@ -129,7 +129,7 @@ fn add_event(alloc: Global, text: &mut Vec<u8>, jobs: &Jobs, event: &Event) -> R
 }
 
 /// A line with nothing in it, and room for one of usual length. It is written by itself, since a writer makes room of the
-/// size of what stands before it, up to 16 KiB, and clears it. The only error is want of memory.
+/// size of what stands before it, up to 16 KiB, and clears it. The only error is out of memory.
 fn empty_line(alloc: Global) -> Result<Writer, AllocError>
     ensures before { IfOk result (λ line. line.before ≡ []) }
     ensures tokens { IfOk result (λ line. line.tokens ≡ []) }
@@ -137,7 +137,7 @@ fn empty_line(alloc: Global) -> Result<Writer, AllocError>
     Ok(Writer::new(Vec::with_capacity(alloc, USUAL_LENGTH)?))
 }
 
-/// Puts a line that was written by itself behind a text, and ends it. The only error is want of memory.
+/// Puts a line that was written by itself behind a text, and ends it. The only error is out of memory.
 fn end_line(text: &mut Vec<u8>, line: Writer) -> Result<(), AllocError>
     requires { line.before ≡ [] }
     ensures line { OnOk result (text.new.items ≡ text.old.items ++ (print line.tokens ++ 10 ∷ [])) }

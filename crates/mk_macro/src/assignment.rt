@@ -136,7 +136,7 @@ impl Macros {
     /// for nothing yet. On such a name `+=` is `=` too (profile). An operand's macro stays as it is,
     /// and the text is not looked at (profile).
     ///
-    /// The faults are those of [`Macros::expand`]. After a fault, and after want of memory, which may
+    /// The faults are those of [`Macros::expand`]. After a fault, and after out of memory, which may
     /// come in place of any answer, the macros are as before.
     pub fn assign(&mut self, alloc: Global, line: &Line) -> Result<(), Halt>
         ensures answer { AnswersLeft result (macros_of self.new)

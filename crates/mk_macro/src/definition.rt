@@ -75,7 +75,7 @@ impl Definition {
         }
     }
 
-    /// Puts a text at the end of the value. The only error is want of memory, and then nothing is
+    /// Puts a text at the end of the value. The only error is out of memory, and then nothing is
     /// changed.
     pub fn extend(&mut self, text: &[u8]) -> Result<(), AllocError>
         ensures extended { OnOk result

@@ -50,7 +50,7 @@ impl Macros {
     /// `BadReference` for a wrong form, `InternalMacro` with the name (profile), `ExpansionTooLarge`
     /// at the reference after 10,000 and where a text comes to more than 65,536 bytes (profile),
     /// `MacroLoop` with the name of a macro whose value is being expanded. Of one reference they come
-    /// in this order, but the length last. Want of memory may come in place of any answer.
+    /// in this order, but the length last. Out of memory may come in place of any answer.
     pub fn expand(&self, alloc: Global, text: &[u8]) -> Result<Vec<u8>, Halt>
         ensures { AnswersText result (IsExpansion (macros_of self.now) text.now) }
     {

@@ -92,7 +92,7 @@ impl<'a> Layer<'a> {
     }
 
     /// Takes in what flows from the text inside, and gives what of the text no later text can change;
-    /// `None` stands for more than any text may have. The only error is want of memory.
+    /// `None` stands for more than any text may have. The only error is out of memory.
     pub fn pass(
         &mut self,
         alloc: Global,
@@ -107,7 +107,7 @@ impl<'a> Layer<'a> {
     }
 
     /// Takes in what flows from the text inside; `None` stands for more than any text may have. The
-    /// only error is want of memory.
+    /// only error is out of memory.
     fn take_in(&mut self, alloc: Global, flow: Option<Vec<u8>>) -> Result<(), AllocError>
         ensures { OnOk result (TakesIn self.old self.new (option_map (λ v. v.items) flow)) }
     {
@@ -121,7 +121,7 @@ impl<'a> Layer<'a> {
     }
 
     /// Gives what of the text no later text can change, and keeps the rest; `None` stands for more
-    /// than any text may have. The only error is want of memory.
+    /// than any text may have. The only error is out of memory.
     fn settle(&mut self, alloc: Global) -> Result<Option<Vec<u8>>, AllocError>
         ensures { IfOk result (λ flow. Settles self.old self.new (option_map (λ v. v.items) flow)) }
     {
@@ -137,7 +137,7 @@ impl<'a> Layer<'a> {
 }
 
 /// What of a text no later text can change, changed, behind what is left of the text; `None` stands
-/// for more than any text may have. The only error is want of memory.
+/// for more than any text may have. The only error is out of memory.
 fn settled(
     alloc: Global,
     change: &Option<Change>,

@@ -50,7 +50,7 @@ impl Macros {
         self.table.get(name)
     }
 
-    /// Defines a macro. The only error is want of memory, and then nothing is changed.
+    /// Defines a macro. The only error is out of memory, and then nothing is changed.
     pub(crate) fn define(
         &mut self,
         alloc: Global,

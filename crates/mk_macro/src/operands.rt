@@ -39,7 +39,7 @@ fn bad_operand(alloc: Global, place: u64) -> Halt
 }
 
 impl Macros {
-    /// Adds what an operand defines, if it does. The only error is want of memory.
+    /// Adds what an operand defines, if it does. The only error is out of memory.
     fn define_operand(&mut self, alloc: Global, operand: &[u8]) -> Result<(), AllocError>
         ensures { OnOk result (macros_of self.new ≡ with_operand (macros_of self.old) operand.now) }
     {
@@ -55,7 +55,7 @@ impl Macros {
     /// over. The last definition of a name counts, and no line changes it.
     ///
     /// The first operand that defines what is no macro's name is `BadAssignment` in the settings, at
-    /// the operand's place from 1, without names. Want of memory may come in place of any answer.
+    /// the operand's place from 1, without names. Out of memory may come in place of any answer.
     pub fn new(alloc: Global, operands: &[&[u8]]) -> Result<Macros, Halt>
         ensures { GivesMacros result (operand_macros (map (λ operand. operand.now) operands.now)) }
     {

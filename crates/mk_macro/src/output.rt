@@ -56,7 +56,7 @@ impl<'a> Output<'a> {
     }
 
     /// Begins a text inside the innermost, which goes on to it with this substitution. The only
-    /// error is want of memory.
+    /// error is out of memory.
     pub fn open(&mut self, alloc: Global, change: Option<Change<'a>>) -> Result<(), AllocError>
         ensures opened { OnOk result ((text : Text) (texts : List Text) → Holds self.old text texts
             → Holds self.new (record { change = change.entry; own = [] }) (text ∷ texts)) }
@@ -98,7 +98,7 @@ impl<'a> Output<'a> {
         self.top.push(alloc, inner.change(), inner.kept())
     }
 
-    /// Lets what later texts cannot change flow outwards. The only error is want of memory.
+    /// Lets what later texts cannot change flow outwards. The only error is out of memory.
     fn settle(&mut self, alloc: Global) -> Result<(), AllocError>
         ensures same { OnOk result ((text : Text) (texts : List Text) → Holds self.old text texts
             → Holds self.new text texts) }
@@ -112,7 +112,7 @@ impl<'a> Output<'a> {
         Ok(())
     }
 
-    /// The text, where it is the only one. The only error is want of memory.
+    /// The text, where it is the only one. The only error is out of memory.
     pub fn finish(self) -> Result<Vec<u8>, AllocError>
         ensures { IfOk result (λ all. (text : Text) → Holds self.entry text [] → all.items ≡ text.own) }
     {
@@ -123,7 +123,7 @@ impl<'a> Output<'a> {
 }
 
 /// Lets what is settled flow from each layer to the one around it, and gives what flows out of the
-/// outermost; `None` stands for more than any text may have. The only error is want of memory.
+/// outermost; `None` stands for more than any text may have. The only error is out of memory.
 fn relay(layers: &mut [Layer], alloc: Global) -> Result<Option<Vec<u8>>, AllocError>
     ensures relays { IfOk result (λ flow. Relays (reverse layers.old) (Some []) (reverse layers.new)
         (option_map (λ v. v.items) flow)) }

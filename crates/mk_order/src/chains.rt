@@ -11,7 +11,7 @@ use std::alloc::{AllocError, Global};
 
 /// The chain that shows that a is before b, if it is: from a to b edge by edge, where in front of each node but a stands the
 /// least of its prerequisites that is a or has a before it. Both numbers must be below the count of nodes, and `before`
-/// must speak of the same jobs. The only error is want of memory.
+/// must speak of the same jobs. The only error is out of memory.
 pub fn chain<B: Before>(
     alloc: Global,
     jobs: &Jobs,

@@ -33,7 +33,7 @@ impl<'a> Model for Rows<'a> {
 }
 
 impl<'a> Rows<'a> {
-    /// The rows of these jobs, of one word for each 64 nodes. The only error is want of memory.
+    /// The rows of these jobs, of one word for each 64 nodes. The only error is out of memory.
     pub fn new(alloc: Global, jobs: &'a Jobs) -> Result<Rows<'a>, AllocError>
         ensures { IfOk result (λ rows. rows ≡ jobs.now) }
     {

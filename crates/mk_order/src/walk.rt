@@ -30,7 +30,7 @@ impl<'a> Model for Walk<'a> {
 }
 
 impl<'a> Walk<'a> {
-    /// A walk over these jobs, with room for a mark for each node. The only error is want of memory.
+    /// A walk over these jobs, with room for a mark for each node. The only error is out of memory.
     pub fn new(alloc: Global, jobs: &'a Jobs) -> Result<Walk<'a>, AllocError>
         ensures { IfOk result (λ walk. walk ≡ jobs.now) }
     {

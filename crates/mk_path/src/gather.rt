@@ -28,7 +28,7 @@ pub struct Gathered<'a> {
     pub numbers: Vec<u32>,
 }
 
-/// The number of the path that comes behind these, or want of memory where numbers of 32 bits end.
+/// The number of the path that comes behind these, or out of memory where numbers of 32 bits end.
 fn next_number(paths: &[&Path]) -> Result<u32, AllocError>
     ensures is { IfOk result (λ number. number ≡ length paths.now) }
     ensures few { IfOk result (λ number. number + 1 < number_limit) }
@@ -168,7 +168,7 @@ impl<'a> Union<'a> {
     }
 }
 
-/// Two rows of paths, which rise, as one. The only error is want of memory, which is told too where there are more paths
+/// Two rows of paths, which rise, as one. The only error is out of memory, also where there are more paths
 /// than numbers of 32 bits.
 pub fn unite<'a>(
     alloc: Global,
@@ -249,8 +249,8 @@ fn join<'a>(
     })
 }
 
-/// The paths of all rows, of which each rises. Rows are united two by two, and then what comes of them. The only error is want of
-/// memory, which is told too where there are more paths than numbers of 32 bits.
+/// The paths of all rows, of which each rises. Rows are united two by two, and then what comes of them. The only error is out of
+/// memory, also where there are more paths than numbers of 32 bits.
 pub fn gather<'a>(alloc: Global, rows: &'a [Vec<Path>]) -> Result<Gathered<'a>, AllocError>
     requires { AreSorted rows.now }
     ensures { IfOk result (λ gathered. AreGathered (flat_map (λ row. row.items) rows.now)

@@ -7,7 +7,7 @@ ghost use Rattle.mk_path.specs.Table.{row_of};
 use crate::table::Table;
 use std::alloc::{AllocError, Global};
 
-/// For each number below the count the nodes whose row has it. The only error is want of memory.
+/// For each number below the count the nodes whose row has it. The only error is out of memory.
 pub fn holders(alloc: Global, rows: &Table, count: usize) -> Result<Table, AllocError>
     requires few { length rows.now ≤ node_limit }
     ensures count { IfOk result (λ holders. length holders ≡ count) }

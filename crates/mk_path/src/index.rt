@@ -58,7 +58,7 @@ impl Model for Index {
 
 impl Index {
     /// The index of nodes with a row of paths for each: what it reads, and what it writes, rising by path. The root is that
-    /// of relative names. The only error is want of memory, which is told too where there are more than 4,294,967,294
+    /// of relative names. The only error is out of memory, also where there are more than 4,294,967,294
     /// paths, or one of so many bytes.
     pub fn new(
         alloc: Global,

@@ -15,7 +15,7 @@ use std::alloc::{AllocError, Global};
 const RANK_LIMIT: usize = 4294967295;
 
 /// The ways up from the numbers of some paths to the trees over them. A path's rank is how many bytes its name has, spelled
-/// from the top, and one more for a file. The only error is want of memory, which is told too where a name is so long that
+/// from the top, and one more for a file. The only error is out of memory, also where a name is so long that
 /// its rank has no 32 bits.
 pub fn ways_up(alloc: Global, root: &Root, paths: &[&Path]) -> Result<Ups, AllocError>
     requires { ArePaths (map (λ path. path.now) paths.now) }
@@ -27,7 +27,7 @@ pub fn ways_up(alloc: Global, root: &Root, paths: &[&Path]) -> Result<Ups, Alloc
     Ok(Ups::new(next, ranks))
 }
 
-/// For each path the number of the nearest tree over it, or its own where none is. The only error is want of memory.
+/// For each path the number of the nearest tree over it, or its own where none is. The only error is out of memory.
 fn next_above(alloc: Global, root: &Root, paths: &[&Path]) -> Result<Vec<u32>, AllocError>
     requires { ArePaths (map (λ path. path.now) paths.now) }
     ensures { IfOk result (λ next. AreNearest root.now (map (λ path. path.now) paths.now) (length paths.now) next.items) }
@@ -93,7 +93,7 @@ fn find_tree(paths: &[&Path], trees: &[&Path], name: &[u8]) -> Result<u32, usize
     }
 }
 
-/// The innermost tree whose name is what a text begins with before a slash, but for a slash at its begin. The longest names
+/// The innermost tree whose name is what a text begins with before a slash, except for a slash at its begin. The longest names
 /// are looked for first, and those that a miss rules out are passed over.
 fn inner(paths: &[&Path], trees: &[&Path], text: &[u8]) -> Option<u32>
     requires { AreTrees (map (λ path. path.now) paths.now) (map (λ tree. tree.now) trees.now) }
@@ -199,7 +199,7 @@ fn next_of(paths: &[&Path], trees: &[&Path], outside: Option<u32>, t: u32) -> u3
     }
 }
 
-/// The ranks of some paths. The only error is want of memory, which is told too where a rank has no 32 bits.
+/// The ranks of some paths. The only error is out of memory, also where a rank has no 32 bits.
 fn ranks(alloc: Global, root: &Root, paths: &[&Path]) -> Result<Vec<u32>, AllocError>
     ensures { IfOk result (λ ranks. AreRanks (top_of root.now) (map (λ path. path.now) paths.now) (length paths.now) ranks.items) }
 {

@@ -13,7 +13,7 @@ pub struct Path {
 }
 
 impl Path {
-    /// An equal path. The only error is want of memory.
+    /// An equal path. The only error is out of memory.
     pub fn copy(&self, alloc: Global) -> Result<Path, AllocError>
         ensures { IfOk result (λ path. path ≡ self.now) }
     {

@@ -21,7 +21,7 @@ pub struct Numbered<'a> {
     pub writes: Table,
 }
 
-/// The paths of all rows, which rise, and their numbers. The only error is want of memory, which is told too where there are
+/// The paths of all rows, which rise, and their numbers. The only error is out of memory, also where there are
 /// more paths than numbers of 32 bits.
 pub fn number_rows<'a>(
     alloc: Global,

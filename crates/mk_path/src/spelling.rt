@@ -5,7 +5,7 @@ ghost use Rattle.mk_path.specs.Texts.{text_of};
 use crate::path::Path;
 use std::alloc::{AllocError, Global};
 
-/// The spelling of a path. The only error is want of memory.
+/// The spelling of a path. The only error is out of memory.
 pub fn text_of(alloc: Global, path: &Path) -> Result<Vec<u8>, AllocError>
     ensures { IfOk result (λ text. text.items ≡ text_of path.now) }
 {

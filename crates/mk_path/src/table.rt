@@ -34,7 +34,7 @@ impl Table {
         }
     }
 
-    /// Puts a row behind the others. The only error is want of memory, and then the rows are as they were.
+    /// Puts a row behind the others. The only error is out of memory, and then the rows are as they were.
     pub fn push_row(&mut self, row: &[u32]) -> Result<(), AllocError>
         ensures put { OnOk result (self.new ≡ self.old ++ row.now ∷ []) }
         ensures kept { OnErr result (self.new ≡ self.old) }

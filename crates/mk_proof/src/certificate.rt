@@ -78,7 +78,7 @@ impl Certificate {
         count == 0 || ends(self.chain(count - 1)) < ends(chain)
     }
 
-    /// Puts a chain at the end. The only error is want of memory, and the certificate is then as it was.
+    /// Puts a chain at the end. The only error is out of memory, and the certificate is then as it was.
     pub fn push(&mut self, chain: &[u32]) -> Result<(), AllocError>
         requires { AreShapedChains (self.old ++ chain.now ∷ []) }
         ensures pushed { OnOk result (self.new ≡ self.old ++ chain.now ∷ []) }

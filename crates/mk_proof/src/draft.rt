@@ -30,7 +30,7 @@ impl Draft {
     ghost use Rattle.mk_proof.specs.declared.draft.Draft.TheVariants.{Empty, Nodes};
     ghost use Rattle.mk_proof.specs.declared.proof.Proof.{Proof};
 
-    /// Takes a line, if it fits behind those that have come. The only error is want of memory.
+    /// Takes a line, if it fits behind those that have come. The only error is out of memory.
     pub(crate) fn add(&mut self, alloc: Global, line: &[u8]) -> Result<bool, AllocError>
         requires { IsDraft self.old }
         ensures { IfOk result (λ added. Adds self.old (words_of line.now) added self.new) }
@@ -61,7 +61,7 @@ impl Draft {
         false
     }
 
-    /// Takes the second line of a trace of these nodes. The only error is want of memory.
+    /// Takes the second line of a trace of these nodes. The only error is out of memory.
     fn add_path(
         &mut self,
         alloc: Global,
@@ -106,7 +106,7 @@ impl Draft {
     }
 }
 
-/// Takes a line of a certificate behind its first. The only error is want of memory.
+/// Takes a line of a certificate behind its first. The only error is out of memory.
 fn add_chain(
     alloc: Global,
     count: usize,
@@ -130,7 +130,7 @@ fn add_chain(
     Ok(true)
 }
 
-/// Takes a line of a trace behind its second. The only error is want of memory.
+/// Takes a line of a trace behind its second. The only error is out of memory.
 fn add_to_trace(trace: &mut Trace, is_whole: &mut bool, line: &[u8]) -> Result<bool, AllocError>
     requires { IsDraft (Steps trace.old is_whole.old) }
     ensures { IfOk result (λ added.
@@ -154,7 +154,7 @@ fn add_to_trace(trace: &mut Trace, is_whole: &mut bool, line: &[u8]) -> Result<b
     Ok(true)
 }
 
-/// Takes a time, if no step has come. The only error is want of memory.
+/// Takes a time, if no step has come. The only error is out of memory.
 fn add_time(trace: &mut Trace, node: u32, time: u32) -> Result<bool, AllocError>
     requires { IsShapedTrace trace.old }
     ensures added { IfOk result (λ added. IsTrue added ↔

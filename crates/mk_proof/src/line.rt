@@ -72,7 +72,7 @@ pub(crate) fn nodes_in(line: &[u8]) -> Option<(u32, u32)>
     }
 }
 
-/// The bytes, one or more, that a text spells in lower case hexadecimal. The only error is want of memory.
+/// The bytes, one or more, that a text spells in lower case hexadecimal. The only error is out of memory.
 fn bytes_in(alloc: Global, text: &[u8]) -> Result<Option<Vec<u8>>, AllocError>
     ensures { IfOk result (λ found. Finds encode_lower IsPath text.now (option_map (λ bytes. bytes.items) found)) }
 {
@@ -88,7 +88,7 @@ fn bytes_in(alloc: Global, text: &[u8]) -> Result<Option<Vec<u8>>, AllocError>
     Ok(Some(bytes))
 }
 
-/// The path that the second line of a trace tells. The only error is want of memory.
+/// The path that the second line of a trace tells. The only error is out of memory.
 pub(crate) fn path_in(alloc: Global, line: &[u8]) -> Result<Option<Vec<u8>>, AllocError>
     ensures { IfOk result (λ found. Finds path_line IsPath (words_of line.now) (option_map (λ bytes. bytes.items) found)) }
 {

@@ -21,7 +21,7 @@ pub(crate) fn cut(byte: u8, text: &[u8]) -> Option<(&[u8], &[u8])>
     Some((&text[..place], &text[place + 1..]))
 }
 
-/// The number that a text of at most seven digits writes; none where its first digit is a nought that is not all of it.
+/// The number that a text of at most seven digits writes; none where its first digit is a zero that is not all of it.
 pub(crate) fn number(text: &[u8]) -> Option<u32>
     ensures { Finds decimal IsShort text.now result }
 {
@@ -46,7 +46,7 @@ pub(crate) fn pair(text: &[u8]) -> Option<(u32, u32)>
     Some((number(first)?, number(second)?))
 }
 
-/// All numbers that a text writes. The only error is want of memory.
+/// All numbers that a text writes. The only error is out of memory.
 pub(crate) fn numbers(alloc: Global, text: &[u8]) -> Result<Option<Vec<u32>>, AllocError>
     ensures { IfOk result (λ found.
         Finds (map decimal) (All IsShort) (words_of text.now) (option_map (λ numbers. numbers.items) found)) }

@@ -11,7 +11,7 @@ use mk_name::fault::{Fault, Halt, Kind, Source};
 use std::alloc::Global;
 
 /// Reads a proof (profile); docs/FORMATS.md has the two forms. Each proof has one text, and no other text is read: a
-/// number has no leading nought, words have one space between them, each line ends in a newline, and nothing follows.
+/// number has no leading zero, words have one space between them, each line ends in a newline, and nothing follows.
 ///
 /// The first line that is missing, has no newline or does not fit behind those before it is `BadProof`, at that line.
 pub fn read_proof(alloc: Global, text: &[u8]) -> Result<Proof, Halt>

@@ -1,6 +1,6 @@
 //! Steps of a trace.
 
-/// A step: a node, told by its number, is skipped, starts or finishes.
+/// A step: a node, by its number, is skipped, starts or finishes.
 #[derive(Clone, Copy, Debug, PartialEq, Eq)]
 pub enum Step {
     Skip(u32),

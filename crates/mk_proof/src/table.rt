@@ -53,7 +53,7 @@ impl Table {
         )
     }
 
-    /// Puts a row at the end. The only error is want of memory, and the table is then as it was.
+    /// Puts a row at the end. The only error is out of memory, and the table is then as it was.
     pub(crate) fn push(&mut self, row: &[u32]) -> Result<(), AllocError>
         ensures pushed { OnOk result (self.new ≡ self.old ++ row.now ∷ []) }
         ensures kept { OnErr result (self.new ≡ self.old) }

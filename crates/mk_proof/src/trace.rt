@@ -103,7 +103,7 @@ impl Trace {
         node <= GREATEST_NODE && time <= GREATEST_TIME && is_behind(&self.times, node)
     }
 
-    /// Puts a time, beside its node, at the end. The only error is want of memory, and the trace is then as it was.
+    /// Puts a time, beside its node, at the end. The only error is out of memory, and the trace is then as it was.
     pub fn push_time(&mut self, node: u32, time: u32) -> Result<(), AllocError>
         requires { AreShapedTimes (self.old.times ++ (node, time) ∷ []) }
         ensures pushed { OnOk result (self.new ≡ record self.old { times = self.old.times ++ (node, time) ∷ [] }) }
@@ -113,7 +113,7 @@ impl Trace {
         Ok(())
     }
 
-    /// Puts a step at the end. The only error is want of memory, and the trace is then as it was.
+    /// Puts a step at the end. The only error is out of memory, and the trace is then as it was.
     pub fn push_step(&mut self, step: Step) -> Result<(), AllocError>
         requires { node_of step ≤ greatest_node }
         ensures pushed { OnOk result (self.new ≡ record self.old { steps = self.old.steps ++ step ∷ [] }) }

@@ -13,7 +13,7 @@ use crate::trace::Trace;
 use itoa::Buffer;
 use std::alloc::{AllocError, Global};
 
-/// Puts numbers at the end, with a space before each. The only error is want of memory.
+/// Puts numbers at the end, with a space before each. The only error is out of memory.
 fn push_numbers(out: &mut Vec<u8>, numbers: &[u32]) -> Result<(), AllocError>
     ensures { OnOk result (out.new.items ≡ out.old.items ++ flat_map (λ n. 32 ∷ decimal n) numbers.now) }
 {
@@ -25,7 +25,7 @@ fn push_numbers(out: &mut Vec<u8>, numbers: &[u32]) -> Result<(), AllocError>
     Ok(())
 }
 
-/// Puts the line of a word and numbers at the end. The only error is want of memory.
+/// Puts the line of a word and numbers at the end. The only error is out of memory.
 fn push_line(out: &mut Vec<u8>, word: &[u8], numbers: &[u32]) -> Result<(), AllocError>
     ensures { OnOk result (out.new.items ≡ out.old.items ++ written (word.now ∷ map decimal numbers.now)) }
 {
@@ -35,7 +35,7 @@ fn push_line(out: &mut Vec<u8>, word: &[u8], numbers: &[u32]) -> Result<(), Allo
     Ok(())
 }
 
-/// Puts the line of a chain at the end. The only error is want of memory.
+/// Puts the line of a chain at the end. The only error is out of memory.
 fn push_chain(out: &mut Vec<u8>, chain: &[u32]) -> Result<(), AllocError>
     requires { 0 < length chain.now }
     ensures { OnOk result (out.new.items ≡ out.old.items ++ written (chain_line chain.now)) }
@@ -44,7 +44,7 @@ fn push_chain(out: &mut Vec<u8>, chain: &[u32]) -> Result<(), AllocError>
     push_line(out, buffer.format(chain[0]).as_bytes(), &chain[1..])
 }
 
-/// Puts the line of a path at the end. The only error is want of memory.
+/// Puts the line of a path at the end. The only error is out of memory.
 fn push_path(out: &mut Vec<u8>, alloc: Global, path: &[u8]) -> Result<(), AllocError>
     ensures { OnOk result (out.new.items ≡ out.old.items ++ written (path_line path.now)) }
 {
@@ -55,7 +55,7 @@ fn push_path(out: &mut Vec<u8>, alloc: Global, path: &[u8]) -> Result<(), AllocE
     Ok(())
 }
 
-/// Puts the lines of times at the end. The only error is want of memory.
+/// Puts the lines of times at the end. The only error is out of memory.
 fn push_times(out: &mut Vec<u8>, times: &[(u32, u32)]) -> Result<(), AllocError>
     ensures { OnOk result (out.new.items ≡ out.old.items ++ text_of (map time_line times.now)) }
 {
@@ -66,7 +66,7 @@ fn push_times(out: &mut Vec<u8>, times: &[(u32, u32)]) -> Result<(), AllocError>
     Ok(())
 }
 
-/// Puts the line of a step at the end. The only error is want of memory.
+/// Puts the line of a step at the end. The only error is out of memory.
 fn push_step(out: &mut Vec<u8>, step: Step) -> Result<(), AllocError>
     ensures { OnOk result (out.new.items ≡ out.old.items ++ written (step_line step)) }
 {
@@ -77,7 +77,7 @@ fn push_step(out: &mut Vec<u8>, step: Step) -> Result<(), AllocError>
     }
 }
 
-/// Puts the lines of steps at the end. The only error is want of memory.
+/// Puts the lines of steps at the end. The only error is out of memory.
 fn push_steps(out: &mut Vec<u8>, steps: &[Step]) -> Result<(), AllocError>
     ensures { OnOk result (out.new.items ≡ out.old.items ++ text_of (map step_line steps.now)) }
 {
@@ -87,7 +87,7 @@ fn push_steps(out: &mut Vec<u8>, steps: &[Step]) -> Result<(), AllocError>
     Ok(())
 }
 
-/// Puts the lines of a certificate's chains at the end. The only error is want of memory.
+/// Puts the lines of a certificate's chains at the end. The only error is out of memory.
 fn push_chains(out: &mut Vec<u8>, certificate: &Certificate) -> Result<(), AllocError>
     ensures { OnOk result (out.new.items ≡ out.old.items ++ text_of (map chain_line certificate.now)) }
 {
@@ -98,7 +98,7 @@ fn push_chains(out: &mut Vec<u8>, certificate: &Certificate) -> Result<(), Alloc
 }
 
 /// Writes a certificate (profile); docs/FORMATS.md has its form. `read_proof` reads the text as the same certificate. The
-/// only error is want of memory.
+/// only error is out of memory.
 pub fn write_certificate(alloc: Global, certificate: &Certificate) -> Result<Vec<u8>, AllocError>
     ensures text { IfOk result (λ text. text.items ≡ certificate_text certificate.now) }
     ensures reads_back { IfOk result (λ text. ReadsAs text.items (proofs.Certificate certificate.now)) }
@@ -110,7 +110,7 @@ pub fn write_certificate(alloc: Global, certificate: &Certificate) -> Result<Vec
 }
 
 /// Writes a trace (profile); docs/FORMATS.md has its form. `read_proof` reads the text as the same trace. The only error is
-/// want of memory.
+/// out of memory.
 pub fn write_trace(alloc: Global, trace: &Trace) -> Result<Vec<u8>, AllocError>
     ensures text { IfOk result (λ text. text.items ≡ trace_text trace.now) }
     ensures reads_back { IfOk result (λ text. ReadsAs text.items (proofs.Trace trace.now)) }
@@ -120,7 +120,7 @@ pub fn write_trace(alloc: Global, trace: &Trace) -> Result<Vec<u8>, AllocError>
     Ok(text)
 }
 
-/// Puts the lines of a trace at the end. The only error is want of memory.
+/// Puts the lines of a trace at the end. The only error is out of memory.
 fn push_trace(out: &mut Vec<u8>, alloc: Global, trace: &Trace) -> Result<(), AllocError>
     ensures text { OnOk result (out.new.items ≡ out.old.items ++ trace_text trace.now) }
     ensures shaped { OnOk result (IsShapedTrace trace.now) }

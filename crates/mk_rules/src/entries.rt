@@ -37,7 +37,7 @@ pub(crate) fn has_default(entries: &[Rule]) -> bool
         .any(|entry| entry.gives_commands(b".DEFAULT"))
 }
 
-/// The prerequisites of `.PHONY`, each where it first stands. The only error is want of memory.
+/// The prerequisites of `.PHONY`, each where it first stands. The only error is out of memory.
 pub(crate) fn phony(
     alloc: Global,
     hasher: NameHasher,
@@ -80,7 +80,7 @@ fn add_suffixes(alloc: Global, suffixes: &mut NameSet, names: &[Name]) -> Result
 }
 
 /// The list of suffixes in the end: what `.SUFFIXES` names since it was last cleared. The only error is
-/// want of memory.
+/// out of memory.
 pub(crate) fn suffixes(
     alloc: Global,
     hasher: NameHasher,
@@ -98,7 +98,7 @@ pub(crate) fn suffixes(
     Ok(suffixes)
 }
 
-/// The names of inference rules, each where it first stands. The only error is want of memory.
+/// The names of inference rules, each where it first stands. The only error is out of memory.
 pub(crate) fn inference(
     alloc: Global,
     hasher: NameHasher,
@@ -118,7 +118,7 @@ pub(crate) fn inference(
     Ok(names)
 }
 
-/// The target rules in their order, without `.WAIT` among their prerequisites. The only error is want of
+/// The target rules in their order, without `.WAIT` among their prerequisites. The only error is out of
 /// memory.
 pub(crate) fn target_rules(
     alloc: Global,

@@ -68,7 +68,7 @@ fn can_infer(alloc: Global, suffixes: &NameSet, name: &Name) -> Result<bool, All
 }
 
 /// Whether the entry is an inference rule: commands, no prerequisites, and a single target that
-/// an inference rule can have. The only error is want of memory.
+/// an inference rule can have. The only error is out of memory.
 pub(crate) fn is_inference_rule(
     alloc: Global,
     suffixes: &NameSet,
@@ -87,7 +87,7 @@ pub(crate) fn is_inference_rule(
 }
 
 /// Whether the entry is a target rule: it has targets, none of them special, and is no inference rule.
-/// The only error is want of memory.
+/// The only error is out of memory.
 pub(crate) fn is_target_rule(
     alloc: Global,
     suffixes: &NameSet,

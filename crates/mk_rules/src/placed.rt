@@ -38,7 +38,7 @@ pub(crate) fn begins_with_command(lines: &[Line]) -> bool
 }
 
 impl<'a, 'text> Placed<'a, 'text> {
-    /// The halt, where a fault is told at the line.
+    /// The halt, where a fault is reported at the line.
     pub(crate) fn tell(&self, alloc: Global, halt: Halt) -> Halt
         ensures { IsToldAt self.now halt result }
     {

@@ -124,7 +124,7 @@ fn checked(alloc: Global, book: Rulebook) -> Result<Rulebook, Halt>
 /// its rest is expanded once, with the macros before the line, and a text may be named many times. Behind
 /// `-include` a name that no text has is passed over (profile).
 ///
-/// Errors, the first line that has one, told at its source and its first physical line: that of an
+/// Errors, the first line that has one, reported at its source and its first physical line: that of an
 /// assignment, of an entry's expansion, or of the expansion of an include line's rest; `BadName` for the
 /// first word of a part that spells no name; `MixedSpecial` for a special target beside another;
 /// `DefaultPrerequisites` where `.DEFAULT` has prerequisites. In an entry the targets come before the
@@ -133,7 +133,7 @@ fn checked(alloc: Global, book: Rulebook) -> Result<Rulebook, Halt>
 /// open around it, `TooManyIncludes` behind 1,000 texts in all (profile); then the faults of the text's own
 /// lines, as [`mk_text::lines::lines`] tells them, in the source `Include` of its plain name. After all
 /// lines `TwoRecipes` for the first target rule that gives commands to a target which has some from one
-/// before it: it tells the first such target, at the rule's line. Want of memory may come in place of any
+/// before it: it tells the first such target, at the rule's line. Out of memory may come in place of any
 /// answer.
 ///
 /// The macros are left as the lines say: after a refused line those before it, and so after a bad word of

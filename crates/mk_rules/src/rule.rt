@@ -39,7 +39,7 @@ impl Model for Rule {
 
 impl Rule {
     /// The entry of these parts. A target that stands twice counts once, where it first stands (profile).
-    /// The only error is want of memory.
+    /// The only error is out of memory.
     pub fn new(
         alloc: Global,
         source: Source,

@@ -29,7 +29,7 @@ struct Specials {
 }
 
 impl Specials {
-    /// What these entries say. The only error is want of memory.
+    /// What these entries say. The only error is out of memory.
     fn of_entries(
         alloc: Global,
         hasher: NameHasher,
@@ -98,7 +98,7 @@ impl Rulebook {
         Rulebook::of_rules(alloc, hasher, rules, specials)
     }
 
-    /// The book of these target rules, and of what else the entries say. The only error is want of memory.
+    /// The book of these target rules, and of what else the entries say. The only error is out of memory.
     fn of_rules(
         alloc: Global,
         hasher: NameHasher,
@@ -212,7 +212,7 @@ impl Rulebook {
     }
 
     /// The prerequisites of a name: those of all its target rules, joined in their order, without repeats
-    /// ("Target Rules"). The only error is want of memory.
+    /// ("Target Rules"). The only error is out of memory.
     pub fn prerequisites(&self, alloc: Global, name: &Name) -> Result<Vec<Name>, Halt>
         ensures joined { IfOk result (λ names. names.items ≡ prerequisites_of self.now.rules name.now) }
         ensures only_memory { IfErr result (λ halt. halt ≡ Memory) }

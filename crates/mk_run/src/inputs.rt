@@ -41,7 +41,7 @@ pub(crate) fn read_past<I: Intake>(device: &mut I) -> Result<(), Broken>
 }
 
 /// The text that a device gives, read to its end. `IoStop::Read` of its source comes exactly where the device fails; the only
-/// other error is want of memory.
+/// other error is out of memory.
 fn read_text<I: Intake>(alloc: Global, source: Source, device: &mut I) -> Result<Vec<u8>, IoStop>
     requires { I.has_failed device.old ≡ false }
     ensures text { IfOk result (λ text. GaveAll (I.left device.old) (I.left device.new) text.items) }
@@ -54,7 +54,7 @@ fn read_text<I: Intake>(alloc: Global, source: Source, device: &mut I) -> Result
     }
 }
 
-/// The texts of the makefiles, the base's first. A stop tells the device that failed; the only other is want of memory.
+/// The texts of the makefiles, the base's first. A stop tells the device that failed; the only other is out of memory.
 pub(crate) fn read_makefiles<B: Intake, M: Intake>(
     alloc: Global,
     base: &mut B,

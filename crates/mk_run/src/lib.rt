@@ -4,7 +4,7 @@
 //! report once ([`Outcome`]); or it says which device failed, or that memory ran out ([`IoStop`]). The makefiles are kept
 //! whole; the listing and the footprints come in pieces, and only what they say is kept.
 //!
-//! `specs/Run.antt` defines what is read and what is told.
+//! `specs/Run.antt` defines what is read and what is reported.
 #![tactic(auto)]
 
 mod footprints;

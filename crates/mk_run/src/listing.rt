@@ -13,7 +13,7 @@ use mk_text::root::Root;
 use std::alloc::Global;
 
 /// Reads a device to its end, and gives the listing below a root that its bytes are, or their fault. Where the root is refused
-/// it gives that fault. `ReadStop::Broken` comes exactly where the device fails; the only other error is want of memory.
+/// it gives that fault. `ReadStop::Broken` comes exactly where the device fails; the only other error is out of memory.
 pub(crate) fn read_listing<I: Intake>(
     alloc: Global,
     root: &[u8],

@@ -15,7 +15,7 @@ use mk_race::parts::judge_parts;
 use mk_report::answer::{Answer, report};
 use std::alloc::{AllocError, Global};
 
-/// What is told of a build: the kind of its answer, and the report.
+/// What is reported of a build: the kind of its answer, and the report.
 #[derive(Debug, Drop)]
 struct Told {
     outcome: Outcome,
@@ -32,7 +32,7 @@ struct Told {
 /// `IoStop::Read` of a text, in the sources `Base`, `Makefile`, `Listing` and `Footprints`, comes exactly where its device
 /// fails; of several that would, the first in this order is answered, and those behind it are not used.
 /// `IoStop::Write` comes exactly where `out` fails; a device that has failed is not used again. The only other error is
-/// want of memory. Nothing is written before all is read and judged.
+/// out of memory. Nothing is written before all is read and judged.
 pub fn run<B: Intake, M: Intake, L: Intake, F: Intake, O: Outlet>(
     alloc: Global,
     base: &mut B,
@@ -98,7 +98,7 @@ pub fn run<B: Intake, M: Intake, L: Intake, F: Intake, O: Outlet>(
     }
 }
 
-/// What is told of the build that four devices give.
+/// What is reported of the build that four devices give.
 fn told_of<B: Intake, M: Intake, L: Intake, F: Intake>(
     alloc: Global,
     base: &mut B,
@@ -139,7 +139,7 @@ fn told_of<B: Intake, M: Intake, L: Intake, F: Intake>(
     told_with(alloc, &makefiles, listing, footprints, settings)
 }
 
-/// What is told of the build of these makefiles, and of what two devices give.
+/// What is reported of the build of these makefiles, and of what two devices give.
 fn told_with<L: Intake, F: Intake>(
     alloc: Global,
     makefiles: &Makefiles,
@@ -176,7 +176,7 @@ fn told_with<L: Intake, F: Intake>(
     }
 }
 
-/// What is told of the build of these makefiles and lists.
+/// What is reported of the build of these makefiles and lists.
 fn judged(
     alloc: Global,
     makefiles: &Makefiles,
@@ -204,7 +204,7 @@ fn judged(
     tell(alloc, &answer, settings.proof)
 }
 
-/// What is told of an answer.
+/// What is reported of an answer.
 fn tell(alloc: Global, answer: &Answer, proof: bool) -> Result<Told, AllocError>
     ensures { IfOk result (λ told. (told.outcome ≡ spec.outcome_of answer.now)
         × IsReport answer.now proof told.text.items) }

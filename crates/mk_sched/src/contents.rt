@@ -31,7 +31,7 @@ impl Contents {
         self.bytes.as_slice()
     }
 
-    /// Equal contents. The only error is want of memory.
+    /// Equal contents. The only error is out of memory.
     pub fn copy(&self, alloc: Global) -> Result<Contents, AllocError>
         ensures { IfOk result (λ contents. contents ≡ self.now) }
     {

@@ -6,7 +6,7 @@ use crate::contents::Contents;
 use mk_name::name::Name;
 use std::alloc::{AllocError, Global};
 
-/// One atomic step of one node, which is told by its number in the plan (profile).
+/// One atomic step of one node, which is named by its number in the plan (profile).
 #[derive(Debug, Drop)]
 pub enum Event {
     /// The node passes without its recipe.
@@ -36,7 +36,7 @@ impl Event {
         }
     }
 
-    /// An equal event. The only error is want of memory.
+    /// An equal event. The only error is out of memory.
     pub fn copy(&self, alloc: Global) -> Result<Event, AllocError>
         ensures { IfOk result (λ event. event ≡ self.now) }
     {
@@ -75,7 +75,7 @@ fn copy_seen(alloc: Global, seen: &Option<Contents>) -> Result<Option<Contents>,
     }
 }
 
-/// Equal events. The only error is want of memory.
+/// Equal events. The only error is out of memory.
 pub(crate) fn copies(alloc: Global, events: &[Event]) -> Result<Vec<Event>, AllocError>
     ensures { IfOk result (λ copies. copies.items ≡ events.now) }
 {

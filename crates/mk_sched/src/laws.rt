@@ -35,7 +35,7 @@ pub fn serialised()
     ensures { Serialised }
 {}
 
-/// The serial list has each node's acts in their old order, but for times.
+/// The serial list has each node's acts in their old order, except for times.
 pub fn keeps_acts()
     ensures { KeepsActs }
 {}
@@ -86,7 +86,7 @@ pub fn beginning_is_run()
     ensures { BeginningIsRun }
 {}
 
-/// A run, told in the order of time.
+/// A run in the order of time.
 pub fn in_time()
     ensures { InTime }
 {}

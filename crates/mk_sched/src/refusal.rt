@@ -18,7 +18,7 @@ pub enum Refusal {
     NotRunning,
     /// V7: a look outside the reads, or a put or an erasure outside the writes.
     OutsideFootprint,
-    /// V8: a look that does not tell what stands there.
+    /// V8: a look that does not tell what is there.
     WrongBytes,
     /// V9: a put whose time is not after all times of the store.
     NotNewer,

@@ -67,7 +67,7 @@ fn is_complete(state: &State) -> bool
 ///
 /// A store whose names are not exactly those of the listing is `StoreNotListing` at place 0. The first event that is not
 /// allowed is refused at its place from 1, with the first refusal of its list that holds, and the store as it stood
-/// before. After want of memory nothing comes back.
+/// before. After out of memory nothing comes back.
 pub fn replay(
     alloc: Global,
     jobs: &Jobs,

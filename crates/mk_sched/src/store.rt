@@ -65,7 +65,7 @@ impl Store {
         self.files.iter()
     }
 
-    /// Puts a file at a name, in place of the one that stands there. The only error is want of memory, and the store is
+    /// Puts a file at a name, in place of the one that stands there. The only error is out of memory, and the store is
     /// then as it was.
     pub fn put(&mut self, name: Name, contents: Contents, time: u64) -> Result<(), AllocError>
         ensures ok { OnOk result ((x : names.Name) →
@@ -129,7 +129,7 @@ fn are_listed(files: &BTreeMap<Name, File>, listing: &Listing) -> bool
     true
 }
 
-/// An equal store. The only error is want of memory.
+/// An equal store. The only error is out of memory.
 pub fn copy_store(alloc: Global, store: &Store) -> Result<Store, AllocError>
     ensures { IfOk result (λ copy. copy ≡ store.now) }
 {

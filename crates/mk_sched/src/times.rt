@@ -35,7 +35,7 @@ impl Times {
         }
     }
 
-    /// Counts a time once more. The only error is want of memory.
+    /// Counts a time once more. The only error is out of memory.
     pub(crate) fn add(&mut self, time: u64) -> Result<(), AllocError>
         requires { count_of self.old time < 2 ^ 63 }
         ensures ok { OnOk result ((t : ℕ) → count_of self.new t ≡ count_of self.old t + one_at time t) }

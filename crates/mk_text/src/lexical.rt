@@ -48,7 +48,7 @@ pub fn split_line(text: &[u8]) -> (&[u8], Option<&[u8]>)
     }
 }
 
-/// The physical lines of a text: what stands between its newlines. The only error is want of memory.
+/// The physical lines of a text: what stands between its newlines. The only error is out of memory.
 pub fn physical_lines(alloc: Global, text: &[u8]) -> Result<Vec<&[u8]>, AllocError>
     ensures { IfOk result (λ lines. map (λ line. line.now) lines.items ≡ physical_lines text.now) }
 {

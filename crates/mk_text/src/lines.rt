@@ -150,7 +150,7 @@ fn line_of_block<'a>(
 /// `NoColon` where no `:` or `=` stands outside of references;
 /// `DoubleColon`; `BadAssignment` for `!=`, `:::=` and an assignment to what is no macro's name;
 /// `StrayRecipe` for a command line with no entry above it (profile: neither an empty line nor a
-/// comment ends one, an assignment or an include line does). Want of memory may come in place of any answer.
+/// comment ends one, an assignment or an include line does). Out of memory may come in place of any answer.
 pub fn lines<'a>(alloc: Global, text: &'a [u8]) -> Result<Vec<Line<'a>>, Halt>
     ensures lines { GivesLines result (logical_lines text.now) }
     ensures slices { IfOk result (λ lines. StandIn text.now (flat_map (λ line. line.pieces) lines.items)) }

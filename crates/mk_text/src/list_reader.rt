@@ -68,8 +68,8 @@ impl ListReader {
     }
 
     /// Reads one more piece. The first line that `plain_path` refuses is `BadName` in the listing, at that line from 1,
-    /// without names, and is answered by the call that ends the line. The only other error is want of memory. A reader that
-    /// answered a fault or want of memory answers the same ever after.
+    /// without names, and is answered by the call that ends the line. The only other error is out of memory. A reader that
+    /// answered a fault or out of memory answers the same ever after.
     pub fn feed(&mut self, piece: &[u8]) -> Result<(), Halt>
         ensures read { (root text : List ℕ) → spec.HasRead root text self.old
             → spec.HasRead root (text ++ piece.now) self.new }
@@ -87,7 +87,7 @@ impl ListReader {
         self.answer()
     }
 
-    /// The listing of all pieces, whose last line needs no newline; or the first line's fault, or want of memory, as for one
+    /// The listing of all pieces, whose last line needs no newline; or the first line's fault, or out of memory, as for one
     /// text.
     pub fn finish(self) -> Result<Listing, Halt>
         ensures listing { (root text : List ℕ) → spec.HasRead root text self

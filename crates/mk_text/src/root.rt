@@ -43,7 +43,7 @@ impl Root {
         Ok(Root::from_text(alloc, text)?)
     }
 
-    /// An equal root. The only error is want of memory.
+    /// An equal root. The only error is out of memory.
     pub fn copy(&self, alloc: Global) -> Result<Root, AllocError>
         ensures { IfOk result (λ root. root ≡ self.now) }
     {

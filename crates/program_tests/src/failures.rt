@@ -56,7 +56,7 @@ fn words_of(alloc: Global, words: &str) -> Result<Vec<&str>, AllocError> {
     words.split(" ").collect(alloc)
 }
 
-/// Whether nothing was answered, and what is wrong with the words was told.
+/// Whether nothing was answered, and what is wrong with the words was reported.
 fn is_usage(told: &Outcome) -> bool {
     told.status == Status::Failed
         && told.out.is_empty()

@@ -33,7 +33,7 @@ pub struct Book<'a> {
     pub page: Page<'a>,
 }
 
-/// The files that are there. What they hold is told, and which there are.
+/// The files that are there. Their contract states what they hold, and which there are.
 #[derive(Clone, Copy)]
 pub struct Shelf<'a> {
     pub books: &'a [Book<'a>],

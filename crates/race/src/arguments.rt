@@ -12,7 +12,7 @@ error: the words of the command line are not UTF-8 text
 
 For more information, try '--help'.";
 
-/// The words of the process, of which the first is its own name. The failures are want of memory, and `Failure::Usage`
+/// The words of the process, of which the first is its own name. The failures are out of memory, and `Failure::Usage`
 /// where a word is not UTF-8.
 pub fn arguments(rt: &HostRuntime) -> Result<Vec<String>, Failure>
     ensures { IfErr result (λ failure. (failure ≡ Failure.Memory) ⊎ IsNotText failure NOT_TEXT.now) }
@@ -24,7 +24,7 @@ pub fn arguments(rt: &HostRuntime) -> Result<Vec<String>, Failure>
     }
 }
 
-/// The same words, lent. The only error is want of memory.
+/// The same words, lent. The only error is out of memory.
 pub fn texts(alloc: Global, arguments: &[String]) -> Result<Vec<&str>, AllocError>
     ensures { IfOk result (λ texts.
         map (λ text. text.now) texts.items ≡ map string_bytes arguments.now) }

@@ -7,7 +7,7 @@ use mk_program::Opener;
 use std::fs;
 use std::fs::File;
 
-/// The files of the system. What they hold, and whether they can be opened, is not told.
+/// The files of the system. Their contract does not state what they hold, nor whether they can be opened.
 #[derive(Drop)]
 pub struct Disk<'a>(pub &'a HostRuntime);
 

@@ -50,7 +50,7 @@ fn a_report_that_is_not_written_is_told(rt: HostRuntime) -> Result<(), AllocErro
     Ok(())
 }
 
-/// Of two devices that fail, the one that is read first is told.
+/// Of two devices that fail, the one that is read first is reported.
 #[test]
 fn the_first_that_fails_is_told(rt: HostRuntime) {
     for first in 0..3 {
@@ -62,7 +62,7 @@ fn the_first_that_fails_is_told(rt: HostRuntime) {
 }
 
 /// Which device a run tells where one of them fails after some bytes: 0 to 3 one that gives, 4 the one that takes; 5 where none
-/// is told.
+/// is reported.
 fn told_of(alloc: Global, broken: usize, good: usize, out: &mut Drip) -> usize
     requires { out.old.failed ≡ false }
 {
@@ -128,7 +128,7 @@ fn good_of_two(device: usize, first: usize, second: usize) -> usize {
     }
 }
 
-/// The device that is told; 5 where none is.
+/// The device that is reported; 5 where none is.
 fn device_in(ran: &Result<Outcome, IoStop>) -> usize {
     match ran {
         Err(IoStop::Read(Source::Base)) => 0,

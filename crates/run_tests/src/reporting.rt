@@ -99,7 +99,7 @@ const BUILDS: &[Build<'static>] = &[
         report: "refused\nF1 BadName\nat listing 2\n",
         proof: "refused\nF1 BadName\nat listing 2\n",
     },
-    // A root that is refused is told before any text's fault.
+    // A root that is refused is reported before any text's fault.
     Build {
         root: "w",
         makefile: ":::\n",

@@ -11,7 +11,7 @@ use std::alloc::{AllocError, Global};
 /// A makefile, the texts `a` and `b` that its include lines may name, and what `$(A)-$(B)` stands for behind it.
 type Case = (&'static str, &'static str, &'static str, &'static str);
 
-/// Makefiles that include nothing, or whose fault is told behind all lines.
+/// Makefiles that include nothing, or whose fault is reported behind all lines.
 static ALONE: [Case; 7] = [
     ("A = x\nB ::= $@\nA = y", "", "", "x-"),
     ("A = x\na%: b\nA = y", "", "", "x-"),

@@ -5,7 +5,7 @@ use mk_rules::includes::Includes;
 use mk_text::root::Root;
 use std::alloc::Global;
 
-/// The place that a fault is told at.
+/// The place that a fault is reported at.
 fn place_of(halt: &Halt) -> u64 {
     match halt {
         Halt::Fault(fault) => fault.place(),
@@ -13,7 +13,7 @@ fn place_of(halt: &Halt) -> u64 {
     }
 }
 
-/// Where a second path is told as bad behind one with a blank, and 0 where both are read.
+/// Where a second path is reported as bad behind one with a blank, and 0 where both are read.
 fn place_told(alloc: Global, root: &Root, path: &[u8]) -> u64 {
     match Includes::read(alloc, &[(b"a b", b"x y"), (path, b"x")], root) {
         Ok(_) => 0,

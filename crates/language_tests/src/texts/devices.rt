@@ -119,7 +119,7 @@ fn writes_all_or_a_beginning(rt: HostRuntime) {
     assert!(rt; all_write(rt.alloc()));
 }
 
-/// A reader that is interrupted once, gives three bytes and then fails, or, told so, ends.
+/// A reader that is interrupted once, gives three bytes and then fails, or, if asked to, ends.
 #[derive(Drop)]
 struct Moody {
     calls: u8,
@@ -154,7 +154,7 @@ fn feeds_text(alloc: Global) -> bool {
     }
 }
 
-/// Whether the bytes of such a reader are fed, or that it fails is told.
+/// Whether the bytes of such a reader are fed, or that it fails is reported.
 fn feeds_moody(alloc: Global, fails: bool) -> bool {
     match read_all(alloc, &mut Feed::new(Moody { calls: 0, fails })) {
         Ok(all) => !fails && all.as_slice() == b"xyz".as_slice(),

@@ -40,7 +40,7 @@ fn are_words(alloc: Global, root: &Root) -> bool {
     so
 }
 
-/// Whether what has no bytes, a byte of nought or a newline is neither a word nor a path.
+/// Whether what has no bytes, a byte of zero or a newline is neither a word nor a path.
 fn are_neither(alloc: Global, root: &Root) -> bool {
     let mut so = true;
     for text in [b"".as_slice(), b"a\0", b"\na"] {
