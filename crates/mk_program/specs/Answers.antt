@@ -17,6 +17,7 @@ use Rattle.mk_race.specs.Played.{IsPlayed}
 use Rattle.mk_race.specs.Serialised.{IsLawfulBuild, IsSerialised}
 use Rattle.mk_race.specs.Stages.{IsPlanned, Texts}
 use Rattle.mk_race.specs.Tasked as tasked
+use Rattle.mk_race.specs.TasksFixed.{FixHolds, IsFixing as IsTaskFixing}
 use Rattle.mk_race.specs.Verified.{IsVerified, ProofShows}
 use Rattle.mk_race.specs.declared.fixing.Fixing.{Fixing}
 use Rattle.mk_race.specs.declared.fixing.Fixing.TheVariants.{Fixed, NotFixed}
@@ -25,6 +26,8 @@ use Rattle.mk_race.specs.declared.replaying.Played.{Played}
 use Rattle.mk_race.specs.declared.replaying.Played.TheVariants.{Allowed, NotAllowed}
 use Rattle.mk_race.specs.declared.planning.Planned.{Planned}
 use Rattle.mk_race.specs.declared.serialising.Serialised.{Serialised}
+use Rattle.mk_race.specs.declared.tasks_fixing.TaskFixing.{TaskFixing}
+use Rattle.mk_race.specs.declared.tasks_fixing.TaskFixing.TheVariants as tasks_fixed
 use Rattle.mk_report.specs.FixText.{not_fixed_text}
 use Rattle.mk_report.specs.RacesText.{IsRacesText}
 use Rattle.mk_report.specs.Reports.{IsReport}
@@ -189,17 +192,27 @@ IsFixTold texts footprints proof (Fixed lines jobs chains) status text =
 IsFixTold texts footprints proof (NotFixed jobs edges refusal) status text =
     (status ≡ statuses.No) × (text ≡ not_fixed_text jobs edges.items refusal)
 
-abbrev pub IsToldFixing : Texts → List ℕ → Bool → Status → List ℕ → Type 0
-IsToldFixing texts footprints proof status text =
-    (fixing : Fixing) × IsFixing texts footprints (Ok fixing) × IsFixTold texts footprints proof fixing status text
+-- what is said of tasks that were to be fixed: their lines, or the certificate of the tasks with them, of which no schedule shows;
+-- or the edges that they need, which are too many
+abbrev pub SaysTasksFixed : List ℕ → List ℕ → Bool → TaskFixing → Status → List ℕ → Type 0
+SaysTasksFixed root tasks proof (tasks_fixed.Fixed lines jobs chains) status text =
+    (status ≡ statuses.Done) × FixHolds root tasks jobs × (text ≡ (if proof then certificate_text chains else lines.items))
+SaysTasksFixed root tasks proof (tasks_fixed.NotFixed needs) status text = (status ≡ statuses.No) × (text ≡ needs.items)
 
--- that, or the report of the fault that refuses the texts
+-- what is said of a fix, or the report of the fault that refuses the texts
+abbrev pub SaysFixing : {F : Type 0} → (Result F Told → Type 0) → (F → Status → List ℕ → Type 0) → Status → List ℕ → Type 0
+SaysFixing {F} Is Says statuses.Done text = (fixing : F) × Is (Ok fixing) × Says fixing statuses.Done text
+SaysFixing {F} Is Says statuses.No text = (fixing : F) × Is (Ok fixing) × Says fixing statuses.No text
+SaysFixing Is Says statuses.Refused text = (told : Told) × Is (Err told) × (text ≡ refused_text told)
+SaysFixing Is Says statuses.Failed text = ⊥
+
+-- that of a build
 abbrev pub IsFixAnswer : Texts → List ℕ → Bool → Status → List ℕ → Type 0
-IsFixAnswer texts footprints proof statuses.Done text = IsToldFixing texts footprints proof statuses.Done text
-IsFixAnswer texts footprints proof statuses.No text = IsToldFixing texts footprints proof statuses.No text
-IsFixAnswer texts footprints proof statuses.Refused text =
-    (told : Told) × IsFixing texts footprints (Err told) × (text ≡ refused_text told)
-IsFixAnswer texts footprints proof statuses.Failed text = ⊥
+IsFixAnswer texts footprints proof status text = SaysFixing (IsFixing texts footprints) (IsFixTold texts footprints proof) status text
+
+-- that of tasks below a root
+abbrev pub IsTaskFixAnswer : List ℕ → List ℕ → Bool → Status → List ℕ → Type 0
+IsTaskFixAnswer root tasks proof status text = SaysFixing (IsTaskFixing root tasks) (SaysTasksFixed root tasks proof) status text
 
 -- the base makefile of a build, where this text was read for one
 abbrev pub base_of : BuildArgs → List ℕ → List ℕ
@@ -221,6 +234,7 @@ abbrev pub IsTasksAnswer : TaskQuestion → List ℕ → (InputFile → List ℕ
 IsTasksAnswer (questions.Check print_proof) root text status answer = IsTaskCheckAnswer root (text inputs.Tasks) print_proof status answer
 IsTasksAnswer (questions.Verify proof) root text status answer = IsTaskVerifyAnswer root (text inputs.Tasks) (text inputs.Proof) status answer
 IsTasksAnswer questions.List root text status answer = IsTaskListAnswer root (text inputs.Tasks) status answer
+IsTasksAnswer (questions.Fix print_proof) root text status answer = IsTaskFixAnswer root (text inputs.Tasks) print_proof status answer
 
 -- the answer to a request, over the texts of its includes and of its inputs
 abbrev pub IsAnswerOver : Request → List Pair → (InputFile → List ℕ) → Status → List ℕ → Type 0

@@ -76,7 +76,7 @@ abbrev pub list_app : App
 list_app = with_tasks (new_app (codes "list"))
 
 abbrev pub fix_app : App
-fix_app = with_rule (with_rule (with_build true (new_app (codes "fix"))) (option true (codes "footprints"))) (flag (codes "print-proof"))
+fix_app = with_rule (with_tasks (new_app (codes "fix"))) (flag (codes "print-proof"))
 
 -- the program without its subcommands: it must be given one, or be asked for its version
 abbrev pub top_app : App
@@ -198,6 +198,8 @@ IsQuestion (questions.Check print_proof) name rows =
     (name ≡ codes "check") × (print_proof ≡ is_true (first_of (codes "print-proof") rows))
 IsQuestion (questions.Verify proof) name rows = (name ≡ codes "verify") × (proof.now ≡ value_of (codes "proof") rows)
 IsQuestion questions.List name rows = name ≡ codes "list"
+IsQuestion (questions.Fix print_proof) name rows =
+    (name ≡ codes "fix") × (print_proof ≡ is_true (first_of (codes "print-proof") rows))
 
 -- the tasks have the values that were found, and the question is that of the subcommand of this name
 pub record HasTasks (args : TaskArgs) (name : Text) (rows : List Row) : Type 0 where
@@ -214,7 +216,7 @@ IsFor (requests.Verify verify) name rows = (name ≡ codes "verify") × HasNoTas
 IsFor (requests.Replay replay) name rows = (name ≡ codes "replay") × HasReplay replay rows
 IsFor (requests.Serialise replay) name rows = (name ≡ codes "serialise") × HasReplay replay rows
 IsFor (requests.List list) name rows = (name ≡ codes "list") × HasNoTasks rows × HasList list rows
-IsFor (requests.Fix fix) name rows = (name ≡ codes "fix") × HasCheck fix rows
+IsFor (requests.Fix fix) name rows = (name ≡ codes "fix") × HasNoTasks rows × HasCheck fix rows
 IsFor (requests.Tasks tasks) name rows = HasTasks tasks name rows
 
 -- the request is for the subcommand that was found

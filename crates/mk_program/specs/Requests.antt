@@ -45,6 +45,7 @@ abbrev pub proof_input : TaskQuestion → List InputPath
 proof_input (questions.Check print_proof) = []
 proof_input (questions.Verify proof) = input_at inputs.Proof proof
 proof_input questions.List = []
+proof_input (questions.Fix print_proof) = []
 
 -- the inputs but for the includes
 abbrev pub inputs_of : Request → List InputPath

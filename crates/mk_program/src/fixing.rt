@@ -1,5 +1,6 @@
 //! The answers to `race fix`.
-ghost use Rattle.std.specs.Prelude.{◌≡◌, ◌≢◌, IfOk, List, map, ℕ};
+ghost use Rattle.std.specs.Prelude.{◌≡◌, ◌≢◌, IfOk, List, if◌then◌else◌, map, ℕ};
+ghost use Rattle.mk_proof.specs.ProofText.{certificate_text};
 ghost use Rattle.mk_race.specs.Fixed.{HoldsOfFixed};
 ghost use Rattle.mk_race.specs.Stages.{Texts, texts_of};
 ghost use Rattle.mk_program.specs.Answers as spec;
@@ -10,6 +11,7 @@ use crate::failures::InputFile;
 use crate::inputs::InputText;
 use crate::requests::CheckArgs;
 use crate::statuses::Status;
+use mk_proof::certificate::Certificate;
 use mk_proof::writing::write_certificate;
 use mk_race::fixing::{Fixing, fix_build};
 use mk_race::input::Input;
@@ -59,17 +61,10 @@ fn fixing_answer(alloc: Global, fixing: &Fixing, proof: bool) -> Result<Answer, 
             lines,
             certificate,
             ..
-        } => {
-            let text = if proof {
-                write_certificate(alloc, certificate)?
-            } else {
-                Vec::from_slice(alloc, lines)?
-            };
-            Ok(Answer {
-                status: Status::Done,
-                text,
-            })
-        }
+        } => Ok(Answer {
+            status: Status::Done,
+            text: fixed_text(alloc, lines, certificate, proof)?,
+        }),
         Fixing::NotFixed {
             jobs,
             edges,
@@ -79,4 +74,20 @@ fn fixing_answer(alloc: Global, fixing: &Fixing, proof: bool) -> Result<Answer, 
             text: not_fixed_report(alloc, jobs, edges, refusal.as_ref())?,
         }),
     }
+}
+
+/// The lines of a fix, or the certificate with them. The only error is out of memory.
+pub(crate) fn fixed_text(
+    alloc: Global,
+    lines: &[u8],
+    certificate: &Certificate,
+    proof: bool,
+) -> Result<Vec<u8>, AllocError>
+    ensures { IfOk result (λ text.
+        text.items ≡ (if proof then certificate_text certificate.now else lines.now)) }
+{
+    if proof {
+        return write_certificate(alloc, certificate);
+    }
+    Ok(Vec::from_slice(alloc, lines)?)
 }

@@ -67,6 +67,7 @@ pub enum TaskQuestion<'a> {
     Check { print_proof: bool },
     Verify { proof: &'a str },
     List,
+    Fix { print_proof: bool },
 }
 
 /// A subcommand, with its values.
@@ -139,7 +140,7 @@ fn push_tasks<'a>(inputs: &mut Vec<InputPath<'a>>, args: &TaskArgs<'a>) -> Resul
     push_input(inputs, InputFile::Tasks, args.tasks)?;
     match args.question {
         TaskQuestion::Verify { proof } => push_input(inputs, InputFile::Proof, proof),
-        TaskQuestion::Check { .. } | TaskQuestion::List => Ok(()),
+        TaskQuestion::Check { .. } | TaskQuestion::List | TaskQuestion::Fix { .. } => Ok(()),
     }
 }
 

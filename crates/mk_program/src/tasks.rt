@@ -1,16 +1,19 @@
 //! The answers about tasks.
 ghost use Rattle.std.specs.Prelude.{◌≢◌, IfOk, List, ℕ};
+ghost use Rattle.mk_race.specs.TasksFixed.{HoldsOfFixed};
 ghost use Rattle.mk_program.specs.Answers as spec;
 ghost use Rattle.mk_program.specs.Inputs.{AreTexts};
 
 use crate::answers::{Answer, refused, verdict_answer};
 use crate::checking::judged_answer;
 use crate::failures::InputFile;
+use crate::fixing::fixed_text;
 use crate::inputs::{InputText, text_of};
 use crate::listing::races_answer;
 use crate::requests::{TaskArgs, TaskQuestion};
 use crate::statuses::Status;
 use mk_race::tasked::{judge_tasks, list_tasks, verify_tasks};
+use mk_race::tasks_fixing::{TaskFixing, fix_tasks};
 use std::alloc::{AllocError, Global};
 
 /// The answer to a question about tasks, or why their text is refused. The only error is out of memory.
@@ -31,6 +34,7 @@ pub(crate) fn tasks_answer(
             verify_answer(alloc, root, tasks, text_of(texts, InputFile::Proof))
         }
         TaskQuestion::List => list_answer(alloc, root, tasks),
+        TaskQuestion::Fix { print_proof } => fix_answer(alloc, root, tasks, print_proof),
     }
 }
 
@@ -70,5 +74,37 @@ fn list_answer(alloc: Global, root: &[u8], tasks: &[u8]) -> Result<Answer, Alloc
     match list_tasks(alloc, root, tasks) {
         Ok(listed) => races_answer(alloc, &listed),
         Err(halt) => refused(alloc, halt),
+    }
+}
+
+/// The lines that fix tasks or the proof with them, or the edges that they need, or the report of their first fault. The only error is
+/// out of memory.
+fn fix_answer(alloc: Global, root: &[u8], tasks: &[u8], proof: bool) -> Result<Answer, AllocError>
+    ensures status { IfOk result (λ answer. answer.status ≢ Status.Failed) }
+    ensures answer { IfOk result (λ answer.
+        spec.IsTaskFixAnswer root.now tasks.now proof answer.status answer.text.items) }
+{
+    match fix_tasks(alloc, root, tasks) {
+        Ok(fixing) => fixing_answer(alloc, &fixing, proof),
+        Err(halt) => refused(alloc, halt),
+    }
+}
+
+/// What comes of tasks that were to be fixed, reported. The only error is out of memory.
+fn fixing_answer(alloc: Global, fixing: &TaskFixing, proof: bool) -> Result<Answer, AllocError>
+    ensures { IfOk result (λ answer. (root tasks : List ℕ) → HoldsOfFixed root tasks fixing.now
+        → spec.SaysTasksFixed root tasks proof fixing.now answer.status answer.text.items) }
+{
+    match fixing {
+        TaskFixing::Fixed {
+            lines, certificate, ..
+        } => Ok(Answer {
+            status: Status::Done,
+            text: fixed_text(alloc, lines, certificate, proof)?,
+        }),
+        TaskFixing::NotFixed { text } => Ok(Answer {
+            status: Status::No,
+            text: Vec::from_slice(alloc, text)?,
+        }),
     }
 }

@@ -72,9 +72,6 @@ fn request_of<'a>(
     if name == "serialise" {
         return Ok(Request::Serialise(replay_args(alloc, found)?));
     }
-    if name == "fix" {
-        return Ok(Request::Fix(check_args(alloc, found)?));
-    }
     match found.get_str("tasks") {
         Some(tasks) => Ok(Request::Tasks(task_args(name, found, tasks))),
         None => build_request(alloc, name, found),
@@ -87,7 +84,8 @@ fn build_request<'a>(
     name: &str,
     found: &ArgMatches<'a>,
 ) -> Result<Request<'a>, AllocError>
-    requires named { (name.now ≡ codes "check") ⊎ (name.now ≡ codes "verify") ⊎ (name.now ≡ codes "list") }
+    requires named { (name.now ≡ codes "check") ⊎ (name.now ≡ codes "verify") ⊎ (name.now ≡ codes "list")
+        ⊎ (name.now ≡ codes "fix") }
     requires no_tasks { spec.HasNoTasks (rows_of (found_of found.now)) }
     ensures { IfOk result (λ request.
         spec.IsFor request name.now (rows_of (found_of found.now))) }
@@ -98,7 +96,10 @@ fn build_request<'a>(
     if name == "verify" {
         return Ok(Request::Verify(verify_args(alloc, found)?));
     }
-    Ok(Request::List(list_args(alloc, found)?))
+    if name == "list" {
+        return Ok(Request::List(list_args(alloc, found)?));
+    }
+    Ok(Request::Fix(check_args(alloc, found)?))
 }
 
 /// The program, with its subcommands.

@@ -4,7 +4,8 @@ ghost use Rattle.clap.specs.Words.{app_of};
 ghost use Rattle.clap.specs.declared.builder.command.Command.TheViews.{out-Command as fields_of};
 ghost use Rattle.mk_program.specs.CommandLine as spec;
 
-use super::{flag, help, option, with_build};
+use super::task_words::with_tasks;
+use super::{flag, help};
 use clap::Command;
 use std::alloc::{AllocError, Global};
 
@@ -16,7 +17,5 @@ pub(super) fn fix_command<'a>(alloc: Global) -> Result<Command<'a>, AllocError>
     let command = Command::new(alloc, "fix")
         .about(help::FIX_ABOUT)
         .after_help(help::FIX_DETAILS);
-    with_build(alloc, command, true)?
-        .arg(option(alloc, "footprints", "FOOTPRINTS", help::FOOTPRINTS, true))?
-        .arg(flag(alloc, "print-proof", help::FIX_PROOF))
+    with_tasks(alloc, command)?.arg(flag(alloc, "print-proof", help::FIX_PROOF))
 }

@@ -22,7 +22,8 @@ pub(super) fn with_tasks<'a>(alloc: Global, command: Command<'a>) -> Result<Comm
 
 /// What these matches of the subcommand of this name ask about the tasks that they name.
 pub(super) fn task_args<'a>(name: &str, found: &ArgMatches<'a>, tasks: &'a str) -> TaskArgs<'a>
-    requires named { (name.now ≡ codes "check") ⊎ (name.now ≡ codes "verify") ⊎ (name.now ≡ codes "list") }
+    requires named { (name.now ≡ codes "check") ⊎ (name.now ≡ codes "verify") ⊎ (name.now ≡ codes "list")
+        ⊎ (name.now ≡ codes "fix") }
     requires tasks { Some tasks.now ≡ first_of (codes "tasks") (rows_of (found_of found.now)) }
     ensures { spec.HasTasks result name.now (rows_of (found_of found.now)) }
 {
@@ -35,7 +36,8 @@ pub(super) fn task_args<'a>(name: &str, found: &ArgMatches<'a>, tasks: &'a str) 
 
 /// The question of the subcommand of this name.
 fn task_question<'a>(name: &str, found: &ArgMatches<'a>) -> TaskQuestion<'a>
-    requires { (name.now ≡ codes "check") ⊎ (name.now ≡ codes "verify") ⊎ (name.now ≡ codes "list") }
+    requires { (name.now ≡ codes "check") ⊎ (name.now ≡ codes "verify") ⊎ (name.now ≡ codes "list")
+        ⊎ (name.now ≡ codes "fix") }
     ensures { spec.IsQuestion result name.now (rows_of (found_of found.now)) }
 {
     if name == "check" {
@@ -48,5 +50,10 @@ fn task_question<'a>(name: &str, found: &ArgMatches<'a>) -> TaskQuestion<'a>
             proof: value_in(found, "proof"),
         };
     }
-    TaskQuestion::List
+    if name == "list" {
+        return TaskQuestion::List;
+    }
+    TaskQuestion::Fix {
+        print_proof: is_set(found, "print-proof"),
+    }
 }
