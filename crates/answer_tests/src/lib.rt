@@ -10,6 +10,6 @@ mod parts;
 #[cfg(test)]
 mod pieces;
 #[cfg(test)]
-mod tables;
+mod reported;
 #[cfg(test)]
-mod told;
+mod tables;

@@ -1,7 +1,7 @@
 //! The reports of builds whose listing and footprints come byte by byte.
 use crate::pieces::{footprints_in, listing_in};
+use crate::reported::is_text;
 use crate::tables::{Build, builds_of_files, builds_of_trees};
-use crate::told::is_text;
 use mk_foot::footprints::Footprints;
 use mk_name::fault::{Fault, Halt};
 use mk_race::input::Settings;
@@ -35,13 +35,13 @@ fn reports_of_trees(rt: HostRuntime) {
 /// Whether this is the report of a build.
 fn is_reported(alloc: Global, build: &Build) -> bool {
     match listed(alloc, build) {
-        Ok(answer) => is_told(alloc, &answer, build.report),
+        Ok(answer) => has_report(alloc, &answer, build.report),
         Err(_) => false,
     }
 }
 
-fn is_told(alloc: Global, answer: &Answer, told: &str) -> bool {
-    is_text(report(alloc, answer, false), told)
+fn has_report(alloc: Global, answer: &Answer, reported: &str) -> bool {
+    is_text(report(alloc, answer, false), reported)
 }
 
 /// The answer of a build by what is read ahead: its listing first.

@@ -1,7 +1,7 @@
 //! Listings and footprints that come in pieces.
 ghost use Rattle.std.specs.Prelude.{◌<◌};
 
-use crate::told::is_told;
+use crate::reported::has_report;
 use mk_foot::foot_reader::FootReader;
 use mk_foot::footprints::Footprints;
 use mk_name::fault::Halt;
@@ -39,8 +39,8 @@ fn footprints_in_pieces_of_any_size(rt: HostRuntime) {
 }
 
 #[test]
-fn first_bad_line_is_told_at_once(rt: HostRuntime) {
-    assert!(rt; tells_at_once(rt.alloc()));
+fn first_bad_line_is_reported_at_once(rt: HostRuntime) {
+    assert!(rt; reports_at_once(rt.alloc()));
 }
 
 /// A listing that comes in pieces of a size.
@@ -139,12 +139,12 @@ fn are_unread(alloc: Global) -> bool {
 fn is_refused<T: Drop>(alloc: Global, read: Result<T, Halt>, report: &str) -> bool {
     match read {
         Ok(_) => false,
-        Err(halt) => is_told(alloc, &halt, report),
+        Err(halt) => has_report(alloc, &halt, report),
     }
 }
 
 /// Whether a bad line is reported by the piece that ends it, by all after it, and at the end.
-fn tells_at_once(alloc: Global) -> bool {
+fn reports_at_once(alloc: Global) -> bool {
     match Root::read(alloc, b"/w") {
         Ok(root) => stays_bad(alloc, FootReader::new(alloc, root)),
         Err(_) => false,

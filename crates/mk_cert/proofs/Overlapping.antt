@@ -113,4 +113,4 @@ overlaps jobs a b p shape apart (inr reach) =
 pub of_race : (jobs : Jobs) (trace : Trace) → IsWellFormed jobs → IsValid jobs → IsOfRace jobs trace → IsSure jobs trace
 of_race jobs trace shape valid of =
     let clash = overlaps jobs trace.first trace.second of.path shape of.different of.overlap in
-    subst (IsSure jobs) (sym of.is) (is_sure jobs of.early trace.first trace.second (text_of of.path) valid clash of.not_before of.not_after of.tells)
+    subst (IsSure jobs) (sym of.is) (is_sure jobs of.early trace.first trace.second (text_of of.path) valid clash of.not_before of.not_after of.reports)

@@ -12,7 +12,7 @@ use Rattle.mk_sched.specs.Sure.{surely_stale}
 use Rattle.mk_sched.proofs.Basics.{split}
 use Rattle.mk_cert.specs.Traces.{AreOfListed, event_of, time_of, time_at}
 use Rattle.mk_cert.specs.Sure.{surely_fresh, is_waiting, is_ready, passes, all_pass}
-use Rattle.mk_cert.specs.Races.{TellsEarly, passing, early_steps, falling_times}
+use Rattle.mk_cert.specs.Races.{ReportsEarly, passing, early_steps, falling_times}
 use Rattle.mk_cert.specs.Laws.{RaceTraceIsSure, RaceTraceHolds}
 use Rattle.mk_proof.specs.declared.step.Step.{Step}
 use Rattle.mk_proof.specs.declared.step.Step.TheVariants.{Start}
@@ -243,12 +243,12 @@ module _ (jobs : Jobs) (early : ℕ → Bool) where
       ])
       (λ late. ap is_running (waits n k (inl late)))
 
-  module _ (first second : ℕ) (valid : IsValid jobs) (tells : TellsEarly jobs first second early) where
+  module _ (first second : ℕ) (valid : IsValid jobs) (reports : ReportsEarly jobs first second early) where
     -- what an early node needs is early
     needed_early : (n p : ℕ) → early n ≡ true → IsPrerequisite jobs p n → early p ≡ true
-    needed_early n p is step = elim ((tells n).0 is) [
-      | inl before ↦ (tells p).1 (inl (before_first step before))
-      | inr before ↦ (tells p).1 (inr (before_first step before))
+    needed_early n p is step = elim ((reports n).0 is) [
+      | inl before ↦ (reports p).1 (inl (before_first step before))
+      | inr before ↦ (reports p).1 (inr (before_first step before))
     ]
 
     early_turns : (n : ℕ) → n ≤ node_count jobs → InTurn jobs (time_at (falling jobs)) [] (early_steps jobs early n)
@@ -260,16 +260,16 @@ module _ (jobs : Jobs) (early : ℕ → Bool) where
         (λ late. rw late tt)))
 
 pub is_sure : RaceTraceIsSure
-is_sure jobs early first second path valid clash not_before not_after tells =
+is_sure jobs early first second path valid clash not_before not_after reports =
     let live = both_live clash in
     let times : ℕ → ℕ = time_at (falling jobs) in
     let count : ℕ = node_count jobs in
     let past : List Event = early_past jobs early count in
-    let late_first : early first ≡ false = false_from_ne_true _ (λ is. elim ((tells first).0 is) [
+    let late_first : early first ≡ false = false_from_ne_true _ (λ is. elim ((reports first).0 is) [
       | inl before ↦ absurd (let less = before_less valid before in omega arith)
       | inr before ↦ not_before before
     ]) in
-    let late_second : early second ≡ false = false_from_ne_true _ (λ is. elim ((tells second).0 is) [
+    let late_second : early second ≡ false = false_from_ne_true _ (λ is. elim ((reports second).0 is) [
       | inl before ↦ not_after before
       | inr before ↦ absurd (let less = before_less valid before in omega arith)
     ]) in
@@ -277,18 +277,18 @@ is_sure jobs early first second path valid clash not_before not_after tells =
     let two_waits = waits jobs early count second (inl late_second) in
     let none : running_below past count ≡ 0 = count_none (λ k. is_running (phase past k)) count (rests jobs early count) in
     let one_ready = ready_from jobs times past first live.first_node one_waits
-    (λ p step. passed jobs early count p ((tells p).1 (inl (edge step))) (lt_trans (valid.smaller first p step) live.first_node)) in
+    (λ p step. passed jobs early count p ((reports p).1 (inl (edge step))) (lt_trans (valid.smaller first p step) live.first_node)) in
     let one = start_passes jobs times past first one_ready live.first_live (live_stale jobs first valid live.first_live) (omega arith) in
     let next : List Event = event_of (Start first) ∷ past in
     let more : running_below next count ≡ suc (running_below past count) = start_moves jobs past first (lt-ltb _ _ live.first_node) one_waits in
     let two_ready = ready_from jobs times next second live.second_node (rw (ne_eqb first second (apart clash)) two_waits)
     (λ p step.
-    let is : early p ≡ true = (tells p).1 (inr (edge step)) in
+    let is : early p ≡ true = (reports p).1 (inr (edge step)) in
     rw (ne_eqb first p (λ same. false≢true (sym late_first ∙ (ap early same ∙ is))))
     (passed jobs early count p is (lt_trans (valid.smaller second p step) live.second_node))) in
     let two = start_passes jobs times next second two_ready live.second_live (live_stale jobs second valid live.second_live) (omega arith) in
     let last : List Step = Start first ∷ Start second ∷ [] in
-    let turns = turns_both jobs times (early_steps jobs early count) last [] (early_turns jobs early first second valid tells count (omega arith))
+    let turns = turns_both jobs times (early_steps jobs early count) last [] (early_turns jobs early first second valid reports count (omega arith))
     (subst (λ (before : List Event). InTurn jobs times before last) (sym (early_is jobs early count)) (one, (two, tt))) in
     let end : onto (early_steps jobs early count ++ last) [] ≡ event_of (Start second) ∷ event_of (Start first) ∷ past =
     onto_both (early_steps jobs early count) last [] ∙ ap (onto last) (early_is jobs early count) in
@@ -301,5 +301,5 @@ is_sure jobs early first second path valid clash not_before not_after tells =
     }
 
 pub race_holds : RaceTraceHolds
-race_holds jobs early first second path valid clash not_before not_after tells =
-    holds jobs _ valid (is_sure jobs early first second path valid clash not_before not_after tells)
+race_holds jobs early first second path valid clash not_before not_after reports =
+    holds jobs _ valid (is_sure jobs early first second path valid clash not_before not_after reports)

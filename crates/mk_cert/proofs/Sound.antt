@@ -13,7 +13,7 @@ use Rattle.mk_sched.specs.Events.{Event, Phase, phase, is_passed, is_running, is
 use Rattle.mk_sched.specs.Runs.{May, IsRun, IsReady}
 use Rattle.mk_sched.specs.Sure.{HasTimes, surely_stale}
 use Rattle.mk_sched.proofs.OneRun.{own_file}
-use Rattle.mk_sched.proofs.Listing.{controls_tell}
+use Rattle.mk_sched.proofs.Listing.{controls_report}
 use Rattle.mk_sched.proofs.Surely.{surely}
 use Rattle.mk_cert.specs.Traces.{Follows, event_of, past_of, time_at}
 use Rattle.mk_cert.specs.Sure.{surely_older, surely_fresh, is_ready, passes, all_pass}
@@ -117,7 +117,7 @@ pass_on jobs times first second past (step ∷ done) rest pass = pass_on jobs ti
 
 -- who follows the steps is in the phases that they tell
 alike : {jobs : Jobs} {tie : Bool} {opening : Store} {past : List Event} {steps : List Step} → Follows jobs tie opening past steps → phase (past_of steps) ≡ phase past
-alike {past = past} follows = fun_ext (λ n. ap (λ (es : List Event). phase es n) (sym follows.steps_alone) ∙ controls_tell past n)
+alike {past = past} follows = fun_ext (λ n. ap (λ (es : List Event). phase es n) (sym follows.steps_alone) ∙ controls_report past n)
 
 pub holds : SureTraceHolds
 holds jobs trace valid sure = record {

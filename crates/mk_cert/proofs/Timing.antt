@@ -9,7 +9,7 @@ use Rattle.mk_proof.specs.declared.step.Step.{Step}
 use Rattle.mk_jobs.specs.Jobs.{Jobs, IsValid, is_listed, node_count, prerequisites_of}
 use Rattle.mk_jobs.specs.Laws.{AreLive}
 use Rattle.mk_sched.proofs.Basics.{split}
-use Rattle.mk_cert.specs.Standing.{Tell, time_in}
+use Rattle.mk_cert.specs.Standing.{HoldsTimes, time_in}
 use Rattle.mk_cert.specs.Sure.{IsSure, all_pass}
 use Rattle.mk_cert.specs.Traces.{AreOfListed, ClashesOn, time_at, time_of}
 use Rattle.mk_cert.proofs.Clashing.{both_live}
@@ -38,8 +38,8 @@ all_listed jobs table long nodes n = elim (cases_lt n (node_count jobs)) [
 ]
 
 -- the times of a table are those of the trace
-pub by_table : (table : List (Option ℕ)) (times : List (ℕ × ℕ)) → Tell table times → time_in table ≡ time_at times
-by_table table times tell = fun_ext (λ n. ap (λ (o : Option ℕ). unwrap_or o 0) (tell n))
+pub by_table : (table : List (Option ℕ)) (times : List (ℕ × ℕ)) → HoldsTimes table times → time_in table ≡ time_at times
+by_table table times reports = fun_ext (λ n. ap (λ (o : Option ℕ). unwrap_or o 0) (reports n))
 
 -- what a node needs are nodes
 pub needs_below : (jobs : Jobs) (n : ℕ) (needs : List ℕ) → IsValid jobs → n < node_count jobs → needs ≡ prerequisites_of jobs n
@@ -62,18 +62,18 @@ no_node_timed jobs trace n past some sure =
     omega (arith, below, past)
 
 -- the table of a sure trace has just the listed nodes
-pub listed_of : (jobs : Jobs) (table : List (Option ℕ)) (times : List (ℕ × ℕ)) → Tell table times
+pub listed_of : (jobs : Jobs) (table : List (Option ℕ)) (times : List (ℕ × ℕ)) → HoldsTimes table times
     → AreOfListed jobs times → (n : ℕ) → is_some (get_or table n None) ≡ is_listed jobs n
-listed_of jobs table times tell listed n = ap is_some (tell n) ∙ listed n
+listed_of jobs table times reports listed n = ap is_some (reports n) ∙ listed n
 
 -- the last test, where all others were passed
 pub sure_by : (jobs : Jobs) (trace : Trace) (table : List (Option ℕ)) (pass : Bool) → ClashesOn jobs trace.first trace.second trace.path
-    → Tell table trace.times → ((n : ℕ) → is_some (get_or table n None) ≡ is_listed jobs n)
+    → HoldsTimes table trace.times → ((n : ℕ) → is_some (get_or table n None) ≡ is_listed jobs n)
     → pass ≡ all_pass jobs (time_in table) trace.first trace.second [] trace.steps → (pass ≡ true) ↔ IsSure jobs trace
-sure_by jobs trace table pass clash tell listed is =
+sure_by jobs trace table pass clash reports listed is =
     let same : pass ≡ all_pass jobs (time_at trace.times) trace.first trace.second [] trace.steps =
-    is ∙ ap (λ (times : ℕ → ℕ). all_pass jobs times trace.first trace.second [] trace.steps) (by_table table trace.times tell) in (
-      λ passes. record { clash = clash; listed = λ n. ap is_some (sym (tell n)) ∙ listed n; steps = sym same ∙ passes },
+    is ∙ ap (λ (times : ℕ → ℕ). all_pass jobs times trace.first trace.second [] trace.steps) (by_table table trace.times reports) in (
+      λ passes. record { clash = clash; listed = λ n. ap is_some (sym (reports n)) ∙ listed n; steps = sym same ∙ passes },
       λ sure. same ∙ sure.steps,
     )
 

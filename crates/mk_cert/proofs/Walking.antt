@@ -20,7 +20,7 @@ use Rattle.mk_cert.proofs.Followed.{one_more}
 -- where the walk stands after a past, with the rest of the steps before it
 pub record IsAt (jobs : Jobs) (times : ℕ → ℕ) (first second : ℕ) (past : List Event) (steps rest : List Step) (stages : List Stage) (running : ℕ) : Type 0 where
   pub long : length stages ≡ node_count jobs
-  pub tells : phases_of stages ≡ phase past
+  pub reports : phases_of stages ≡ phase past
   pub counted : running ≡ running_below past (node_count jobs)
   pub few : node_count jobs < 2 ^ 32
   pub left : all_pass jobs times first second [] steps ≡ all_pass jobs times first second past rest
@@ -38,7 +38,7 @@ pub begun : (jobs : Jobs) (times : ℕ → ℕ) (first second : ℕ) (steps : Li
     → length stages ≡ node_count jobs → phases_of stages ≡ phase [] → running ≡ 0 → node_count jobs < 2 ^ 32 → IsAt jobs times first second [] steps steps stages running
 begun jobs times first second steps stages running long waits none few = record {
   long = long;
-  tells = waits;
+  reports = waits;
   counted = none ∙ sym (count_none (node_count jobs));
   few = few;
   left = refl;
@@ -86,11 +86,11 @@ module _ (jobs : Jobs) (times : ℕ → ℕ) (first second : ℕ) (past : List E
     (at : IsAt jobs times first second past steps rest stages running) where
   -- the nodes that run, by their stages
   pub by_stages : running ≡ count_to (λ k. is_running (phases_of stages k)) (node_count jobs)
-  by_stages = at.counted ∙ ap (λ (phases : ℕ → Phase). count_to (λ k. is_running (phases k)) (node_count jobs)) (sym at.tells)
+  by_stages = at.counted ∙ ap (λ (phases : ℕ → Phase). count_to (λ k. is_running (phases k)) (node_count jobs)) (sym at.reports)
 
   -- a test of a step by the stages is one by the past
   pub by_past : (b : Bool) (step : Step) → b ≡ passes jobs times (phases_of stages) step → b ≡ passes jobs times (phase past) step
-  by_past b step is = is ∙ ap (λ (phases : ℕ → Phase). passes jobs times phases step) at.tells
+  by_past b step is = is ∙ ap (λ (phases : ℕ → Phase). passes jobs times phases step) at.reports
 
   module _ (step : Step) (b : Bool) (is : b ≡ passes jobs times (phases_of stages) step) (pass : b ≡ true) where
     here : passes jobs times (phase past) step ≡ true
@@ -110,7 +110,7 @@ module _ (jobs : Jobs) (times : ℕ → ℕ) (first second : ℕ) (past : List E
         → Moves (event_of step).act running now → IsAt jobs times first second (event_of step ∷ past) steps later set now
     next later set now cut made long goes = record {
       long = long ∙ at.long;
-      tells = made ∙ ap (λ (phases : ℕ → Phase). moved phases step) at.tells ∙ moved_is past step;
+      reports = made ∙ ap (λ (phases : ℕ → Phase). moved phases step) at.reports ∙ moved_is past step;
       counted = moved_once step running now _ goes moving;
       few = at.few;
       left = at.left ∙ ap (all_pass jobs times first second past) cut
@@ -128,4 +128,4 @@ module _ (jobs : Jobs) (times : ℕ → ℕ) (first second : ℕ) (past : List E
   pub ends : rest ≡ [] → is_running (phases_of stages first) && is_running (phases_of stages second) ≡ all_pass jobs times first second [] steps
   ends none = sym (
       at.left ∙ ap (all_pass jobs times first second past) none
-      ∙ ap (λ (phases : ℕ → Phase). is_running (phases first) && is_running (phases second)) (sym at.tells))
+      ∙ ap (λ (phases : ℕ → Phase). is_running (phases first) && is_running (phases second)) (sym at.reports))

@@ -16,7 +16,7 @@ use Rattle.mk_proof.specs.Shapes.{Trace}
 use Rattle.mk_cert.specs.Certificates.{IsCertificate, IsAtEnds}
 use Rattle.mk_cert.specs.Traces.{ClashesOn, Fits, TraceHolds, event_of, past_of}
 use Rattle.mk_cert.specs.Sure.{IsSure, passes, surely_fresh}
-use Rattle.mk_cert.specs.Races.{TellsEarly, race_trace}
+use Rattle.mk_cert.specs.Races.{ReportsEarly, race_trace}
 use Rattle.mk_proof.specs.declared.step.Step.{Step}
 
 -- jobs with a certificate are race-free
@@ -52,14 +52,14 @@ abbrev pub RaceTraceIsSure : Type 0
 RaceTraceIsSure =
     (jobs : Jobs) (early : ℕ → Bool) (first second : ℕ) (path : List ℕ)
     → IsValid jobs → ClashesOn jobs first second path → (Before jobs first second → ⊥) → (Before jobs second first → ⊥)
-    → TellsEarly jobs first second early → IsSure jobs (race_trace jobs early first second path)
+    → ReportsEarly jobs first second early → IsSure jobs (race_trace jobs early first second path)
 
 -- so it holds
 abbrev pub RaceTraceHolds : Type 0
 RaceTraceHolds =
     (jobs : Jobs) (early : ℕ → Bool) (first second : ℕ) (path : List ℕ)
     → IsValid jobs → ClashesOn jobs first second path → (Before jobs first second → ⊥) → (Before jobs second first → ⊥)
-    → TellsEarly jobs first second early → TraceHolds jobs (race_trace jobs early first second path)
+    → ReportsEarly jobs first second early → TraceHolds jobs (race_trace jobs early first second path)
 
 -- from any store that fits, and with any `tie`, the steps of a trace that holds are themselves a run, and both nodes run at
 -- its end

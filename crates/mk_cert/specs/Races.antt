@@ -10,8 +10,8 @@ use Rattle.mk_proof.specs.declared.step.Step.{Step}
 use Rattle.mk_proof.specs.declared.step.Step.TheVariants.{Skip, Start, Finish}
 
 -- the test tells which nodes are before one of the two
-abbrev pub TellsEarly : Jobs → ℕ → ℕ → (ℕ → Bool) → Type 0
-TellsEarly jobs first second early = (n : ℕ) → (early n ≡ true) ↔ (Before jobs n first ⊎ Before jobs n second)
+abbrev pub ReportsEarly : Jobs → ℕ → ℕ → (ℕ → Bool) → Type 0
+ReportsEarly jobs first second early = (n : ℕ) → (early n ≡ true) ↔ (Before jobs n first ⊎ Before jobs n second)
 
 -- how a node passes: a live one starts and finishes, any other is skipped
 abbrev pub passing : Jobs → ℕ → List Step
@@ -42,5 +42,5 @@ pub record IsOfRace (jobs : Jobs) (trace : Trace) : Type 0 where
   pub overlap : IsOverlap (uses_of jobs) trace.first trace.second path
   pub not_before : Before jobs trace.first trace.second → ⊥
   pub not_after : Before jobs trace.second trace.first → ⊥
-  pub tells : TellsEarly jobs trace.first trace.second early
+  pub reports : ReportsEarly jobs trace.first trace.second early
   pub is : trace ≡ race_trace jobs early trace.first trace.second (text_of path)

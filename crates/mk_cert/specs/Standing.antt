@@ -33,8 +33,8 @@ abbrev pub time_in : List (Option ℕ) → ℕ → ℕ
 time_in table n = unwrap_or (get_or table n None) 0
 
 -- a table has the times of the nodes, each at its node's place
-abbrev pub Tell : List (Option ℕ) → List (ℕ × ℕ) → Type 0
-Tell table times = (n : ℕ) → get_or table n None ≡ time_of times n
+abbrev pub HoldsTimes : List (Option ℕ) → List (ℕ × ℕ) → Type 0
+HoldsTimes table times = (n : ℕ) → get_or table n None ≡ time_of times n
 
 -- the paths that a node reads, and those that it writes
 abbrev pub row_of : Jobs → ℕ → List Path

@@ -1,7 +1,7 @@
 //! The times of a trace, each at the place of its node.
 ghost use Rattle.std.specs.Prelude.{◌≡◌, ◌<◌, ◌≤◌, ◌↔◌, ℕ, IfNone, IfOk, IfSome, IsTrue, None, get_or, is_some, length, true};
 ghost use Rattle.mk_jobs.specs.Jobs.{is_listed, node_count};
-ghost use Rattle.mk_cert.specs.Standing.{Tell, time_in};
+ghost use Rattle.mk_cert.specs.Standing.{HoldsTimes, time_in};
 ghost use Rattle.mk_cert.specs.Traces.{time_of};
 
 use mk_jobs::jobs::Jobs;
@@ -14,7 +14,7 @@ pub(crate) fn by_node(
     times: &[(u32, u32)],
 ) -> Result<Option<Vec<Option<u32>>>, AllocError>
     ensures long { IfOk result (λ found. IfSome found (λ table. length table.items ≡ count)) }
-    ensures told { IfOk result (λ found. IfSome found (λ table. Tell table.items times.now)) }
+    ensures reported { IfOk result (λ found. IfSome found (λ table. HoldsTimes table.items times.now)) }
     ensures none { IfOk result (λ found. IfNone found ((n : ℕ) × (count ≤ n) × (is_some (time_of times.now n) ≡ true))) }
 {
     let mut table = vec![in alloc; None; count as usize]?;

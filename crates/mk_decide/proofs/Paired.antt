@@ -8,7 +8,7 @@ use Rattle.std.proofs.lemmas.Bool.Decides.{nat_tests}
 use Rattle.std.proofs.lemmas.Cmp.{and_equiv, nat_eq_equiv, on_equiv}
 use Rattle.std.proofs.lemmas.List.Elements.{Contains-append_left, Contains-push, Contains-push_cases}
 use Rattle.mk_name.specs.Gives.{HaltsAmong}
-use Rattle.mk_name.specs.Told.{Told}
+use Rattle.mk_name.specs.Reported.{Reported}
 use Rattle.mk_name.specs.declared.fault.Halt.{Halt}
 use Rattle.mk_name.specs.declared.fault.Halt.TheVariants as halts
 use Rattle.mk_jobs.specs.Jobs.{Jobs, Clash, node_count}
@@ -87,7 +87,7 @@ pub pair_ties : (p q : ℕ × ℕ) → (eqb p.0 q.0 && eqb p.1 q.1) ≡ eq_by_cm
 pair_ties p q = ap₂ (λ a b. a && b) (ties_nat p.0 q.0) (ties_nat p.1 q.1) ∙ ties_then (nat_cmp p.0 q.0) (nat_cmp p.1 q.1)
 
 -- a fault with a fact
-pub halts_with : (P : Result ℕ Told → Type 0) (Q : Type 0) (halt : Halt) → HaltsAmong {Y = ℕ} halt P → Q → HaltsAmong {Y = ℕ} halt (λ answer. P answer × Q)
+pub halts_with : (P : Result ℕ Reported → Type 0) (Q : Type 0) (halt : Halt) → HaltsAmong {Y = ℕ} halt P → Q → HaltsAmong {Y = ℕ} halt (λ answer. P answer × Q)
 halts_with P Q halts.Memory there fact = tt
 halts_with P Q (halts.Fault fault) there fact = (there, fact)
 

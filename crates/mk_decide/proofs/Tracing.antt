@@ -20,7 +20,7 @@ use Rattle.mk_proof.specs.Shapes.{Trace, trace_of, AreShapedTimes, IsShapedTrace
 use Rattle.mk_proof.specs.declared.step.Step.{Step}
 use Rattle.mk_proof.specs.declared.step.Step.TheVariants.{Finish, Skip, Start}
 use Rattle.mk_sched.proofs.Basics.{split}
-use Rattle.mk_cert.specs.Races.{IsOfRace, TellsEarly, early_steps, falling_times, passing, race_trace}
+use Rattle.mk_cert.specs.Races.{IsOfRace, ReportsEarly, early_steps, falling_times, passing, race_trace}
 use Rattle.mk_decide.specs.LeastTraces.{SpellsLeast}
 use Rattle.mk_decide.specs.Races.{IsRace}
 
@@ -127,10 +127,10 @@ early_shaped jobs early (suc n) few = All-append IsOfNode (early_steps jobs earl
 -- ---- early nodes
 
 -- a table of all nodes tells of all numbers
-pub tells_all : (jobs : Jobs) (first second n : ℕ) (early : List Bool) → IsValid jobs → first < node_count jobs → second < node_count jobs → node_count jobs ≤ n → length early ≡ n
-    → ((k : ℕ) → k < n → (get_or early k false ≡ true) ↔ (Before jobs k first ⊎ Before jobs k second)) → TellsEarly jobs first second (λ k. get_or early k false)
-tells_all jobs first second n early valid first_node second_node all long tells k = elim (cases_lt k n) [
-  | inl below ↦ tells k below
+pub reports_all : (jobs : Jobs) (first second n : ℕ) (early : List Bool) → IsValid jobs → first < node_count jobs → second < node_count jobs → node_count jobs ≤ n → length early ≡ n
+    → ((k : ℕ) → k < n → (get_or early k false ≡ true) ↔ (Before jobs k first ⊎ Before jobs k second)) → ReportsEarly jobs first second (λ k. get_or early k false)
+reports_all jobs first second n early valid first_node second_node all long reports k = elim (cases_lt k n) [
+  | inl below ↦ reports k below
   | inr past ↦ (
     λ is. absurd (false≢true (sym (get_or_past early k false (omega arith)) ∙ is)),
     λ before. elim before [
@@ -158,15 +158,15 @@ trace_shaped jobs early first second text shape race spells =
     }
 
 of_that_race : (jobs : Jobs) (early : ℕ → Bool) (first second : ℕ) (text : List ℕ) → IsRace jobs first second → SpellsLeast jobs first second text
-    → TellsEarly jobs first second early → IsOfRace jobs (race_trace jobs early first second text)
-of_that_race jobs early first second text race spells tells = record {
+    → ReportsEarly jobs first second early → IsOfRace jobs (race_trace jobs early first second text)
+of_that_race jobs early first second text race spells reports = record {
   early = early;
   path = spells.path;
   different = race.clash.1.different;
   overlap = spells.least.overlap;
   not_before = λ before. race.apart (inl before);
   not_after = λ after. race.apart (inr after);
-  tells = tells;
+  reports = reports;
   is = ap (λ t. race_trace jobs early first second t) spells.spells;
 }
 
@@ -185,7 +185,7 @@ parts_shaped jobs early first second text times steps shape race spells parts =
     subst IsShapedTrace (sym (parts_are jobs early first second text times steps parts)) (trace_shaped jobs (λ n. get_or early n false) first second text shape race spells)
 
 pub parts_of_race : (jobs : Jobs) (early : List Bool) (first second : ℕ) (text : List ℕ) (times : List (ℕ × ℕ)) (steps : List Step) (trace : Trace)
-    → IsRace jobs first second → SpellsLeast jobs first second text → TellsEarly jobs first second (λ n. get_or early n false)
+    → IsRace jobs first second → SpellsLeast jobs first second text → ReportsEarly jobs first second (λ n. get_or early n false)
     → ArePartsOf jobs early first second times steps → trace ≡ trace_of first second text times steps → IsOfRace jobs trace
-parts_of_race jobs early first second text times steps trace race spells tells parts is =
-    subst (IsOfRace jobs) (sym (is ∙ parts_are jobs early first second text times steps parts)) (of_that_race jobs (λ n. get_or early n false) first second text race spells tells)
+parts_of_race jobs early first second text times steps trace race spells reports parts is =
+    subst (IsOfRace jobs) (sym (is ∙ parts_are jobs early first second text times steps parts)) (of_that_race jobs (λ n. get_or early n false) first second text race spells reports)

@@ -2,7 +2,7 @@
 use Rattle.std.specs.Prelude.{ℕ, ◌<◌, ◌≤◌, ◌↔◌, List, [], length}
 use Rattle.std.specs.List.{Contains}
 use Rattle.std.specs.List.Sorted.{IsStrictlySortedBy}
-use Rattle.mk_name.specs.Told.{Told}
+use Rattle.mk_name.specs.Reported.{Reported}
 use Rattle.mk_name.specs.declared.fault.Kind.TheVariants.{TooManyPairs}
 use Rattle.mk_name.specs.declared.fault.Source.TheVariants as sources
 use Rattle.mk_jobs.specs.Jobs.{Jobs, Clash}
@@ -44,5 +44,5 @@ pub record Holds (pairs : List (ℕ × ℕ)) (a b : ℕ) : Type 0 where
   pub falling : b < a → Contains pairs (b, a)
 
 -- the fault of too many pairs
-abbrev pub too_many : Told
+abbrev pub too_many : Reported
 too_many = record { kind = TooManyPairs; source = sources.Jobs; place = 0; names = [] }

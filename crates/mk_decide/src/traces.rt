@@ -3,7 +3,7 @@ ghost use Rattle.std.specs.Prelude.{◌≡◌, ◌<◌, ◌++◌, ◌∷◌, [],
 ghost use Rattle.mk_jobs.specs.Jobs.{Clash, node_count};
 ghost use Rattle.mk_jobs.specs.Shape.{IsWellFormed};
 ghost use Rattle.mk_proof.specs.declared.step.Step.TheVariants.{Start};
-ghost use Rattle.mk_cert.specs.Races.{IsOfRace, TellsEarly, early_steps, falling_times, passing};
+ghost use Rattle.mk_cert.specs.Races.{IsOfRace, ReportsEarly, early_steps, falling_times, passing};
 ghost use Rattle.mk_decide.specs.LeastTraces.{HasNodes, SpellsLeast};
 ghost use Rattle.mk_decide.specs.Races.{IsRace};
 
@@ -78,7 +78,7 @@ fn early_nodes<B: Before>(
     requires first { first < node_count jobs.now }
     requires second { second < node_count jobs.now }
     ensures long { IfOk result (λ early. length early.items ≡ node_count jobs.now) }
-    ensures tells { IfOk result (λ early. TellsEarly jobs.now first second (λ n. get_or early.items n false)) }
+    ensures reports { IfOk result (λ early. ReportsEarly jobs.now first second (λ n. get_or early.items n false)) }
     ensures keeps { B.jobs before.new ≡ B.jobs before.old }
 {
     let mut early = Vec::new(alloc);

@@ -89,7 +89,7 @@ module _ (jobs : Jobs) (edges : List (ℕ × ℕ)) (tie : Bool) (limit : ℕ) (o
         stale = sym (same_must past n run ready.in_jobs ready.waits) ∙ may.stale;
         room = rw (sym (count_same jobs edges rising)) may.room;
       }
-  still_may past n (Look path seen) run may = record { runs = may.runs; reads = sym (read_same jobs edges rising n path) ∙ may.reads; tells = may.tells }
+  still_may past n (Look path seen) run may = record { runs = may.runs; reads = sym (read_same jobs edges rising n path) ∙ may.reads; reports = may.reports }
   still_may past n (Put path bytes time) run may = record { runs = may.runs; writes = sym (write_same jobs edges rising n path) ∙ may.writes; newer = may.newer }
   still_may past n (Erase path) run may = record { runs = may.runs; writes = sym (write_same jobs edges rising n path) ∙ may.writes }
   still_may past n Finish run may = may

@@ -10,7 +10,7 @@ use Rattle.std.proofs.lemmas.List.Elements.{All-nil}
 use Rattle.std.proofs.lemmas.Option.{unwrap_or-slice_get, slice_get_past}
 use Rattle.std.specs.Global.{Global}
 use Rattle.std.specs.List.Sorted.{IsStrictlySortedBy}
-use Rattle.mk_name.specs.Told.{Told}
+use Rattle.mk_name.specs.Reported.{Reported}
 use Rattle.mk_name.specs.Names.{Name, has, same_name, IsDistinct}
 use Rattle.mk_name.specs.Gives.{Halts}
 use Rattle.mk_name.specs.declared.fault.Kind.TheVariants.{MissingFootprint, WritesTarget}
@@ -22,7 +22,7 @@ use Rattle.mk_path.specs.declared.path.Path.{Path}
 use Rattle.mk_jobs.specs.Plan.{Plan, Node, names_of, nobody, NeedsStandBefore, edge_count, edge_limit, node_limit}
 use Rattle.mk_jobs.proofs.Numberings.{has_at}
 use Rattle.mk_path.specs.Taken.{is_taken}
-use Rattle.mk_foot.specs.Attached.{HasAll, attached_beside, first_fault, footprint_of, jobs_with, node_answer, node_fault, recipe_fault, told}
+use Rattle.mk_foot.specs.Attached.{HasAll, attached_beside, first_fault, footprint_of, jobs_with, node_answer, node_fault, recipe_fault, reported}
 use Rattle.mk_foot.specs.Footprints.{Footprint, Footprints, footprint_at, no_footprint}
 use Rattle.mk_jobs.specs.Jobs.{Jobs, node_at, node_count, name_of, is_live, reads_of, writes_of, may_write}
 use Rattle.mk_jobs.specs.Recipes.{is_live_node}
@@ -31,16 +31,16 @@ use Rattle.mk_jobs.proofs.Accessors.{live_is, name_count, name_there, needs_smal
 use Rattle.mk_jobs.proofs.JobsLemmas.{live_node}
 
 -- what a value or a fault says of the fault before it
-pub fault_none : {X : Type 0} (o : Option Told) (x y : X) → option_map_or (λ fault. Err fault) o (Ok x) ≡ Ok y → (o ≡ None) × (x ≡ y)
-fault_none None x y e = (refl, (let f : ◌≡◌ {A = Result _ Told} (Ok x) (Ok y) = e in cc))
-fault_none (Some t) x y e = absurd (let f : ◌≡◌ {A = Result _ Told} (Err t) (Ok y) = e in cc)
+pub fault_none : {X : Type 0} (o : Option Reported) (x y : X) → option_map_or (λ fault. Err fault) o (Ok x) ≡ Ok y → (o ≡ None) × (x ≡ y)
+fault_none None x y e = (refl, (let f : ◌≡◌ {A = Result _ Reported} (Ok x) (Ok y) = e in cc))
+fault_none (Some t) x y e = absurd (let f : ◌≡◌ {A = Result _ Reported} (Err t) (Ok y) = e in cc)
 
-pub fault_some : {X : Type 0} (o : Option Told) (x : X) (t : Told) → option_map_or (λ fault. Err fault) o (Ok x) ≡ Err t → o ≡ Some t
-fault_some None x t e = absurd (let f : ◌≡◌ {A = Result _ Told} (Ok x) (Err t) = e in cc)
-fault_some (Some s) x t e = (let f : ◌≡◌ {A = Result _ Told} (Err s) (Err t) = e in cc)
+pub fault_some : {X : Type 0} (o : Option Reported) (x : X) (t : Reported) → option_map_or (λ fault. Err fault) o (Ok x) ≡ Err t → o ≡ Some t
+fault_some None x t e = absurd (let f : ◌≡◌ {A = Result _ Reported} (Ok x) (Err t) = e in cc)
+fault_some (Some s) x t e = (let f : ◌≡◌ {A = Result _ Reported} (Err s) (Err t) = e in cc)
 
 -- a halt for one answer is one for another with the same faults
-pub halts_along : {X Y : Type 0} (halt : Halt) (small : Result X Told) (big : Result Y Told) → ((t : Told) → small ≡ Err t → big ≡ Err t)
+pub halts_along : {X Y : Type 0} (halt : Halt) (small : Result X Reported) (big : Result Y Reported) → ((t : Reported) → small ≡ Err t → big ≡ Err t)
     → Halts halt small → Halts halt big
 halts_along halts.Memory small big same h = tt
 halts_along (halts.Fault fault) small big same h = same fault h
@@ -70,7 +70,7 @@ rows_none plan owned footprints = record {
 }
 
 module _ (plan : Plan) (owned : List Name) (footprints : Footprints) (n : ℕ) (within : n < length plan.nodes) (reads writes : List (List Path)) (before : RowsTo plan owned footprints n reads writes) where
-  fault_in : ℕ × Node → Option Told
+  fault_in : ℕ × Node → Option Reported
   fault_in = node_fault owned footprints
 
   node : Node
@@ -83,14 +83,14 @@ module _ (plan : Plan) (owned : List Name) (footprints : Footprints) (n : ℕ) (
       ∙ ap (λ x. x ∷ drop (n + 1) (enumerate_from 0 plan.nodes))
       (get_or-enumerate_from 0 plan.nodes n (0, nobody) within ∙ ap (λ m. (m, get_or plan.nodes n nobody)) (omega arith))
 
-  at_first : (o : Option Told) → fault_in (n, node) ≡ o
+  at_first : (o : Option Reported) → fault_in (n, node) ≡ o
       → slice_get (filter_map fault_in (drop n (enumerate_from 0 plan.nodes))) 0 ≡ slice_get (cons_option o (filter_map fault_in (drop (n + 1) (enumerate_from 0 plan.nodes)))) 0
   at_first o e =
       ap (λ l. slice_get (filter_map fault_in l) 0) node_here
       ∙ ap (λ p. slice_get (cons_option p (filter_map fault_in (drop (n + 1) (enumerate_from 0 plan.nodes)))) 0) e
 
   -- the fault of a node is the first
-  pub fault_first : (t : Told) → node_answer owned footprints (n, get_or plan.nodes n nobody) ≡ Err t → attached_beside owned plan footprints ≡ Err t
+  pub fault_first : (t : Reported) → node_answer owned footprints (n, get_or plan.nodes n nobody) ≡ Err t → attached_beside owned plan footprints ≡ Err t
   unfolding fault_in node
   fault_first t e =
       let here = fault_some (node_fault owned footprints (n, get_or plan.nodes n nobody)) _ t e in
@@ -218,10 +218,10 @@ module _ (plan : Plan) (owned : List Name) (footprints : Footprints)
 
   free_writes : (n : ℕ) (own : Name) (o : Option Footprint) (x : Name) → recipe_fault footprints.root owned n own o ≡ None
       → has same_name owned x ≡ true → is_taken footprints.root (unwrap_or o no_footprint).writes own x ≡ false
-  free_writes n own None x none there = absurd (let g : Some (told MissingFootprint n (own ∷ [])) ≡ None = none in cc)
+  free_writes n own None x none there = absurd (let g : Some (reported MissingFootprint n (own ∷ [])) ≡ None = none in cc)
   free_writes n own (Some footprint) x none there =
       not_taken own footprint.writes owned x
-      (option_none (λ y. told WritesTarget n (own ∷ y ∷ [])) (find (is_taken footprints.root footprint.writes own) owned) none) there
+      (option_none (λ y. reported WritesTarget n (own ∷ y ∷ [])) (find (is_taken footprints.root footprint.writes own) owned) none) there
 
   -- a name that is written and not taken is the own one
   same_own : (own : Name) (writes : List Path) (x : Name) → covered footprints.root writes x ≡ true → is_taken footprints.root writes own x ≡ false → own ≡ x

@@ -8,7 +8,7 @@ use Rattle.std.proofs.lemmas.List.{append-nil, length-append, take_all, take_at}
 use Rattle.std.proofs.lemmas.List.Elements.{filter_map-append}
 use Rattle.std.proofs.lemmas.List.Sums.{sum_by-append, sum_by-cons}
 use Rattle.std.proofs.lemmas.Grind.{flat_map-append}
-use Rattle.mk_name.specs.Told.{Told}
+use Rattle.mk_name.specs.Reported.{Reported}
 use Rattle.mk_name.specs.declared.fault.Kind.{Kind}
 use Rattle.mk_name.specs.declared.fault.Kind.TheVariants.{BadFootprint, FootprintsTooLarge}
 use Rattle.mk_text.specs.Blocks.{physical_lines}
@@ -17,7 +17,7 @@ use Rattle.mk_text.proofs.FedLines.{joined, joined_open, lines_joined}
 use Rattle.mk_foot.specs.declared.foot_reader.Stop.{Stop}
 use Rattle.mk_foot.specs.declared.foot_reader.Stop.TheVariants.{Memory, Fault}
 use Rattle.mk_foot.specs.Lines.{Line, lines_in}
-use Rattle.mk_foot.specs.Footprints.{AreFootprints, Footprints, fault_at, fault_by, first_fault, greatest_place, lines_of, path_count, path_limit, told, told_at}
+use Rattle.mk_foot.specs.Footprints.{AreFootprints, Footprints, fault_at, fault_by, first_fault, greatest_place, lines_of, path_count, path_limit, reported, reported_at}
 use Rattle.mk_foot.specs.FootReader.{AreGood, HasRead, HasReadBy, HasReadLines, HasStopped, IsUnderWay, Reader}
 
 -- ---- the first fault of some lines and one more
@@ -71,21 +71,21 @@ faults_push root ended x =
     ∙ ap₂ (λ fs gs. fs ++ gs) (faults_alike root [] ended (x ∷ []))
     (one (fault_at root (ended ++ x ∷ []) (1 + length ended, x)) ∙ ap (λ n. option_to_list (fault_at root (ended ++ x ∷ []) (n, x))) (omega arith))
   where
-    one : (o : Option Told) → cons_option o [] ≡ option_to_list o
+    one : (o : Option Reported) → cons_option o [] ≡ option_to_list o
     one None = refl
     one (Some t) = refl
 
-first_of : (faults : List Told) (o : Option Told) → slice_get faults 0 ≡ None → slice_get (faults ++ option_to_list o) 0 ≡ o
+first_of : (faults : List Reported) (o : Option Reported) → slice_get faults 0 ≡ None → slice_get (faults ++ option_to_list o) 0 ≡ o
 first_of [] None none = refl
 first_of [] (Some t) none = refl
 first_of (f ∷ fs) o none = absurd (let e : Some f ≡ None = none in cc)
 
-still_first : (faults more : List Told) (t : Told) → slice_get faults 0 ≡ Some t → slice_get (faults ++ more) 0 ≡ Some t
-still_first [] more t some = absurd (let e : ◌≡◌ {A = Option Told} None (Some t) = some in cc)
+still_first : (faults more : List Reported) (t : Reported) → slice_get faults 0 ≡ Some t → slice_get (faults ++ more) 0 ≡ Some t
+still_first [] more t some = absurd (let e : ◌≡◌ {A = Option Reported} None (Some t) = some in cc)
 still_first (f ∷ fs) more t some = some
 
 -- a fault stays the first
-pub fault_stays : (root : List ℕ) (ended : List (List ℕ)) (x : List ℕ) (t : Told) → first_fault root ended ≡ Some t → first_fault root (ended ++ x ∷ []) ≡ Some t
+pub fault_stays : (root : List ℕ) (ended : List (List ℕ)) (x : List ℕ) (t : Reported) → first_fault root ended ≡ Some t → first_fault root (ended ++ x ∷ []) ≡ Some t
 fault_stays root ended x t is = ap (λ fs. slice_get fs 0) (faults_push root ended x) ∙ still_first _ _ t is
 
 -- behind good lines the fault of the next one is the first
@@ -125,23 +125,23 @@ module _ (root : List ℕ) (ended : List (List ℕ)) (x : List ℕ) where
         ∙ ap (λ (ls : List (List ℕ)). fault_by (lines_in root x) (path_count (lines_of root ls)) (length ended + 1)) whole_take
         ∙ ap (λ p. fault_by p (path_count (lines_of root (ended ++ x ∷ []))) (length ended + 1)) e
 
-    pub bad_first : lines_in root x ≡ None → first_fault root (ended ++ x ∷ []) ≡ Some (told_at BadFootprint place)
-    bad_first e = fault_here None e ∙ ap (λ p. Some (told_at BadFootprint p)) (sym place_is)
+    pub bad_first : lines_in root x ≡ None → first_fault root (ended ++ x ∷ []) ≡ Some (reported_at BadFootprint place)
+    bad_first e = fault_here None e ∙ ap (λ p. Some (reported_at BadFootprint p)) (sym place_is)
 
     pub large_first : (line : Line) → lines_in root x ≡ Some (line ∷ []) → path_limit < paths + (length line.reads + length line.writes)
-        → first_fault root (ended ++ x ∷ []) ≡ Some (told_at FootprintsTooLarge place)
+        → first_fault root (ended ++ x ∷ []) ≡ Some (reported_at FootprintsTooLarge place)
     large_first line e over =
         fault_here (Some (line ∷ [])) e
-        ∙ ap (λ n. cond (nat_lt path_limit n) (Some (told FootprintsTooLarge (length ended + 1))) None) (counted paths (line ∷ []) e before.count)
+        ∙ ap (λ n. cond (nat_lt path_limit n) (Some (reported FootprintsTooLarge (length ended + 1))) None) (counted paths (line ∷ []) e before.count)
         ∙ cond-true (nat_lt path_limit (paths + path_count (line ∷ []))) _ _ (lt-ltb path_limit (paths + path_count (line ∷ [])) (omega (arith, over, one_line line)))
-        ∙ ap (λ p. Some (told_at FootprintsTooLarge p)) (sym place_is)
+        ∙ ap (λ p. Some (reported_at FootprintsTooLarge p)) (sym place_is)
 
     pub good_more : (said : List Line) (count : ℕ) (new : Footprints) → lines_in root x ≡ Some said → count ≡ paths + path_count said → count ≤ path_limit
         → AreFootprints root new (lines_of root ended ++ said) → AreGood root (ended ++ x ∷ []) new count
     good_more said count new e is few united = record {
       good =
           fault_here (Some said) e
-          ∙ ap (λ n. cond (nat_lt path_limit n) (Some (told FootprintsTooLarge (length ended + 1))) None) (counted paths said e before.count ∙ sym is)
+          ∙ ap (λ n. cond (nat_lt path_limit n) (Some (reported FootprintsTooLarge (length ended + 1))) None) (counted paths said e before.count ∙ sym is)
           ∙ cond-false (nat_lt path_limit count) _ _ (le-ltb path_limit count few);
       united = subst (λ (ls : List Line). AreFootprints root new ls) (sym (lines_more said e)) united;
       count = is ∙ sym (counted paths said e before.count);
@@ -150,7 +150,7 @@ module _ (root : List ℕ) (ended : List (List ℕ)) (x : List ℕ) where
 
 -- a call that stops but for memory by a fault
 pub stops_by : (stop : Stop) (root : List ℕ) (lines : List (List ℕ)) (kind : Kind) (place : ℕ) → (stop ≢ Memory → stop ≡ Fault kind place)
-    → (stop ≢ Memory → first_fault root lines ≡ Some (told_at kind place)) → HasStopped root lines stop
+    → (stop ≢ Memory → first_fault root lines ≡ Some (reported_at kind place)) → HasStopped root lines stop
 stops_by Memory root lines kind place is holds = tt
 stops_by (Fault given at) root lines kind place is holds =
     let other : Fault given at ≢ Memory = λ e. cc in
@@ -182,7 +182,7 @@ stopped_ends : (stop : Option Stop) (root : List ℕ) (ended : List (List ℕ)) 
     → HasReadBy stop root ended line reader → HasReadBy stop root (ended ++ line ∷ []) [] reader
 stopped_ends None root ended line reader some read = absurd (false≢true some)
 stopped_ends (Some Memory) root ended line reader some read = tt
-stopped_ends (Some (Fault kind place)) root ended line reader some read = fault_stays root ended line (told_at kind place) read
+stopped_ends (Some (Fault kind place)) root ended line reader some read = fault_stays root ended line (reported_at kind place) read
 
 pub ends_stopped : (root : List ℕ) (ended : List (List ℕ)) (line : List ℕ) (reader : Reader) → is_some reader.stop ≡ true
     → HasReadLines root ended line reader → HasReadLines root (ended ++ line ∷ []) [] reader

@@ -3,7 +3,7 @@ use Rattle.std.proofs.Common.{◌≡◌, ℕ, List, [], ◌∷◌, Ok, Err, Opti
 use Rattle.std.specs.Cmp.Lexicographic.{texts_ties}
 use Rattle.std.specs.Map.{lookup}
 use Rattle.mk_name.specs.Names.{Name, same_name}
-use Rattle.mk_name.specs.Told.{Told}
+use Rattle.mk_name.specs.Reported.{Reported}
 use Rattle.mk_foot.specs.Footprints.{AreFootprints, ByTarget, Footprints, Unites, footprint_in}
 use Rattle.mk_foot.specs.Lines.{Line}
 use Rattle.mk_foot.specs.Once.{ReadOnce}
@@ -25,11 +25,11 @@ footprints_once root lines one other a b =
     let entries : one.by_target ≡ other.by_target = united_once lines one.by_target other.by_target a.unites b.unites in
     λ i. record { root = roots i; by_target = entries i }
 
-no_fault : {A : Type 0} (o : Option Told) (told : Told) → o ≡ None → o ≡ Some told → A
-no_fault o told none some = absurd (cc (sym none ∙ some))
+no_fault : {A : Type 0} (o : Option Reported) (reported : Reported) → o ≡ None → o ≡ Some reported → A
+no_fault o reported none some = absurd (cc (sym none ∙ some))
 
 pub read_once : ReadOnce
 read_once root text (Ok one) (Ok other) a b = ap Ok (footprints_once root _ one other a.1 b.1)
-read_once root text (Ok one) (Err told) a b = no_fault _ told a.0 b
-read_once root text (Err told) (Ok other) a b = no_fault _ told b.0 a
-read_once root text (Err told) (Err other) a b = let same : Some told ≡ Some other = sym a ∙ b in cc
+read_once root text (Ok one) (Err reported) a b = no_fault _ reported a.0 b
+read_once root text (Err reported) (Ok other) a b = no_fault _ reported b.0 a
+read_once root text (Err reported) (Err other) a b = let same : Some reported ≡ Some other = sym a ∙ b in cc

@@ -3,7 +3,7 @@ use Rattle.std.specs.Prelude.{◌≡◌, ◌≤◌, ℕ, List, Option, None, Som
 use Rattle.mk_name.specs.declared.fault.Halt.{Halt}
 use Rattle.mk_name.specs.declared.fault.Halt.TheVariants as halts
 use Rattle.mk_text.specs.Fed.{IsCut}
-use Rattle.mk_foot.specs.Footprints.{AreFootprints, Footprints, first_fault, greatest_place, lines_of, path_count, path_limit, told_at}
+use Rattle.mk_foot.specs.Footprints.{AreFootprints, Footprints, first_fault, greatest_place, lines_of, path_count, path_limit, reported_at}
 use Rattle.mk_foot.specs.declared.foot_reader.Stop.{Stop}
 use Rattle.mk_foot.specs.declared.foot_reader.Stop.TheVariants.{Memory, Fault}
 
@@ -32,7 +32,7 @@ pub record IsUnderWay (root : List ℕ) (ended : List (List ℕ)) (open_line : L
 -- what a reader that stopped says of the lines that ended: the first fault is theirs; want of memory says nothing
 abbrev pub HasStopped : List ℕ → List (List ℕ) → Stop → Type 0
 HasStopped root ended Memory = Unit {0}
-HasStopped root ended (Fault kind place) = first_fault root ended ≡ Some (told_at kind place)
+HasStopped root ended (Fault kind place) = first_fault root ended ≡ Some (reported_at kind place)
 
 -- the reader is under way, or has stopped
 abbrev pub HasReadBy : Option Stop → List ℕ → List (List ℕ) → List ℕ → Reader → Type 0
@@ -53,7 +53,7 @@ pub record HasRead (root text : List ℕ) (reader : Reader) : Type 0 where
 -- why a reader that stopped gives no footprints
 abbrev pub halt_of : Stop → Halt
 halt_of Memory = halts.Memory
-halt_of (Fault kind place) = halts.Fault (told_at kind place)
+halt_of (Fault kind place) = halts.Fault (reported_at kind place)
 
 -- what a reader answers to a piece: nothing, or why it goes no further
 abbrev pub answer_of : Option Stop → Result (Unit {0}) Halt

@@ -7,7 +7,7 @@ use Rattle.std.specs.Ordering.{is_eq, nat_cmp}
 use Rattle.std.specs.List.Sorted.{IsStrictlySortedBy}
 use Rattle.std.specs.Map.{keys_of, lookup}
 use Rattle.mk_name.specs.Names.{Name, same_name}
-use Rattle.mk_name.specs.Told.{Told}
+use Rattle.mk_name.specs.Reported.{Reported}
 use Rattle.mk_name.specs.declared.fault.Kind.{Kind}
 use Rattle.mk_name.specs.declared.fault.Kind.TheVariants.{BadFootprint, FootprintsTooLarge}
 use Rattle.mk_name.specs.declared.fault.Source.TheVariants as sources
@@ -90,31 +90,31 @@ abbrev pub path_limit : ℕ
 path_limit = 1000000
 
 -- a fault of the footprints at a place, without names
-abbrev pub told_at : Kind → ℕ → Told
-told_at kind place = record { kind = kind; source = sources.Footprints; place = place; names = [] }
+abbrev pub reported_at : Kind → ℕ → Reported
+reported_at kind place = record { kind = kind; source = sources.Footprints; place = place; names = [] }
 
 -- the greatest place: what would pass it stays there
 abbrev pub greatest_place : ℕ
 greatest_place = 2 ^ 64 - 1
 
-abbrev pub told : Kind → ℕ → Told
-told kind place = told_at kind (min place greatest_place)
+abbrev pub reported : Kind → ℕ → Reported
+reported kind place = reported_at kind (min place greatest_place)
 
 -- the fault of a physical line, given what it says and how many paths there are with its own
-abbrev pub fault_by : Option (List Line) → ℕ → ℕ → Option Told
-fault_by None count place = Some (told BadFootprint place)
-fault_by (Some said) count place = if nat_lt path_limit count then Some (told FootprintsTooLarge place) else None
+abbrev pub fault_by : Option (List Line) → ℕ → ℕ → Option Reported
+fault_by None count place = Some (reported BadFootprint place)
+fault_by (Some said) count place = if nat_lt path_limit count then Some (reported FootprintsTooLarge place) else None
 
 -- the fault of the physical line at a place from 1: it is bad, or with it there are too many paths
-abbrev pub fault_at : List ℕ → List (List ℕ) → ℕ × List ℕ → Option Told
+abbrev pub fault_at : List ℕ → List (List ℕ) → ℕ × List ℕ → Option Reported
 fault_at root texts placed = fault_by (lines_in root placed.1) (path_count (lines_of root (take placed.0 texts))) placed.0
 
 -- the first of these faults
-abbrev pub first_fault : List ℕ → List (List ℕ) → Option Told
+abbrev pub first_fault : List ℕ → List (List ℕ) → Option Reported
 first_fault root texts = slice_get (filter_map (fault_at root texts) (enumerate_from 1 texts)) 0
 
 -- what `read_footprints` answers: the footprints of all lines, or the first fault
-abbrev pub IsRead : List ℕ → List ℕ → Result Footprints Told → Type 0
+abbrev pub IsRead : List ℕ → List ℕ → Result Footprints Reported → Type 0
 IsRead root text (Ok footprints) = (first_fault root (lines text) ≡ None) × AreFootprints root footprints (lines_of root (lines text))
 IsRead root text (Err fault) = first_fault root (lines text) ≡ Some fault
 

@@ -180,7 +180,7 @@ fn live_row(
 
 /// The fault of a live recipe whose target no footprint names. The only error is want of memory.
 fn missing(alloc: Global, n: u32, own: &Name) -> Result<Halt, AllocError>
-    ensures { IfOk result (λ halt. halt ≡ halts.Fault (spec.told Kind.MissingFootprint n (own.now ∷ []))) }
+    ensures { IfOk result (λ halt. halt ≡ halts.Fault (spec.reported Kind.MissingFootprint n (own.now ∷ []))) }
 {
     let names = vec![in alloc; own.copy(alloc)?]?;
     Ok(fault(Kind::MissingFootprint, n, names))
@@ -188,7 +188,7 @@ fn missing(alloc: Global, n: u32, own: &Name) -> Result<Halt, AllocError>
 
 /// A fault of a node.
 fn fault(kind: Kind, n: u32, names: Vec<Name>) -> Halt
-    ensures { result ≡ halts.Fault (spec.told kind n names.items) }
+    ensures { result ≡ halts.Fault (spec.reported kind n names.items) }
 {
     Halt::Fault(Fault::new(kind, Source::Jobs, u64::from(n), names))
 }

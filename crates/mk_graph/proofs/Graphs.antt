@@ -121,11 +121,11 @@ source_within names None source s = tt
 source_within names (Some n) source s = s.within n (in_head nat_eq nat_is_exact n [])
 
 -- there is a number where there is a source
-pub source_told : (names : List Name) (number : Option ℕ) (source : Option Name) → SourceStands names number source → is_some number ≡ is_some source
-source_told names None None s = refl
-source_told names None (Some x) s = let e = s.names_are in absurd cc
-source_told names (Some n) None s = let e = s.names_are in absurd cc
-source_told names (Some n) (Some x) s = refl
+pub source_reported : (names : List Name) (number : Option ℕ) (source : Option Name) → SourceStands names number source → is_some number ≡ is_some source
+source_reported names None None s = refl
+source_reported names None (Some x) s = let e = s.names_are in absurd cc
+source_reported names (Some n) None s = let e = s.names_are in absurd cc
+source_reported names (Some n) (Some x) s = refl
 
 -- what was read is in range
 pub entries_below : (book : Book) (listing goals names : List Name) (entries : Entries) (sources : List (Option ℕ)) (starts : List ℕ) (read p : ℕ) → Collected book listing goals names entries sources starts read → AllBelow (length names) (get_or entries p None)

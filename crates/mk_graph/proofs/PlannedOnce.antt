@@ -9,7 +9,7 @@ use Rattle.std.specs.Cmp.Lexicographic.{nat_list_cmp_total, slice_cmp, texts_tie
 use Rattle.std.proofs.lemmas.Bool.{both_ways}
 use Rattle.std.proofs.lemmas.List.{ext_get_or, get_or-map, length-map}
 use Rattle.mk_name.specs.Names.{IsDistinct, Name, firsts, has, same_name}
-use Rattle.mk_name.specs.Told.{Told}
+use Rattle.mk_name.specs.Reported.{Reported}
 use Rattle.mk_name.specs.declared.fault.Kind.TheVariants as kinds
 use Rattle.mk_name.proofs.Names.{In, IsExact, distinct_kept, in_cons_cases, in_head, in_tail, name_is_exact, nat_is_exact}
 use Rattle.mk_rules.specs.Book.{Book, is_phony}
@@ -149,7 +149,7 @@ module _ (book : Book) (listing goals : List Name) where
   made : (name : Name) → IsLeastUnmade book listing goals name → AllMade book listing goals → ⊥
   made name p all = both_ways _ (all name p.node) p.unmade
 
-  comes_once : (one other : Result Plan Told) → Comes book listing goals one → Comes book listing goals other → Agree one other
+  comes_once : (one other : Result Plan Reported) → Comes book listing goals one → Comes book listing goals other → Agree one other
   comes_once _ _ (too_large t) (too_large s) = inl refl
   comes_once _ _ (too_large t) (no_rule name s l) = absurd (s t)
   comes_once _ _ (too_large t) (cycle names s all c) = absurd (s t)
@@ -167,11 +167,11 @@ module _ (book : Book) (listing goals : List Name) where
   comes_once _ _ (planned plan s all is) (cycle names t every c) = absurd (cycle_is_there same_name name_is_exact (needs book listing) goals upto names c is.no_cycle)
   comes_once _ _ (planned plan s all is) (planned other t every so) = plan_same plan other is so
 
-pub agree_same : {X : Type 0} (one other : Result X Told) → one ≡ other → Agree one other
+pub agree_same : {X : Type 0} (one other : Result X Reported) → one ≡ other → Agree one other
 agree_same (Ok x) (Ok y) e = cc
-agree_same (Err told) (Err other) e = inl (cc)
-agree_same (Ok x) (Err told) e = absurd (cc e)
-agree_same (Err told) (Ok x) e = absurd (cc e)
+agree_same (Err reported) (Err other) e = inl (cc)
+agree_same (Ok x) (Err reported) e = absurd (cc e)
+agree_same (Err reported) (Ok x) e = absurd (cc e)
 
 pub planned_once : PlannedOnce
 planned_once book listing [] one other a b = agree_same one other (a ∙ sym b)

@@ -1,7 +1,7 @@
 -- What `plan` answers.
 use Rattle.std.specs.Prelude.{◌≡◌, ◌<◌, ℕ, false, List, [], ◌∷◌, map, length, nat_eq, get_or, IsTrue, Option, Some, None, Result, Ok, Err}
 use Rattle.mk_name.specs.Names.{Name, same_name, has}
-use Rattle.mk_name.specs.Told.{Told}
+use Rattle.mk_name.specs.Reported.{Reported}
 use Rattle.mk_name.specs.declared.fault.Kind.{Kind}
 use Rattle.mk_name.specs.declared.fault.Kind.TheVariants as kinds
 use Rattle.mk_name.specs.declared.fault.Source.TheVariants as sources
@@ -12,7 +12,7 @@ use Rattle.mk_graph.specs.Makers.{maker_of, needs, is_unmade}
 use Rattle.mk_jobs.specs.Plan.{Node, Plan, edge_limit, node_limit}
 
 -- a fault of the graph
-abbrev pub graph_fault : Kind → List Name → Told
+abbrev pub graph_fault : Kind → List Name → Reported
 graph_fault kind names = record { kind = kind; source = sources.Graph; place = 0; names = names }
 
 abbrev pub goal_list : Option Name → List Name
@@ -54,13 +54,13 @@ pub record IsPlan (book : Book) (listing goals : List Name) (plan : Plan) : Type
   pub waits : plan.wait_uses ≡ book.wait_uses
 
 -- what comes for some goals: first a graph that is too large, then a name that nothing makes, then a cycle, else a plan
-pub data Comes (book : Book) (listing goals : List Name) : Result Plan Told → Type 0 where
+pub data Comes (book : Book) (listing goals : List Name) : Result Plan Reported → Type 0 where
   too_large : IsTooLarge book listing goals → Comes book listing goals (Err (graph_fault kinds.GraphTooLarge []))
   no_rule : (name : Name) → (IsTooLarge book listing goals → ⊥) → IsLeastUnmade book listing goals name → Comes book listing goals (Err (graph_fault kinds.NoRule (name ∷ [])))
   cycle : (names : List Name) → (IsTooLarge book listing goals → ⊥) → AllMade book listing goals → IsCycle same_name upto (needs book listing) goals names → Comes book listing goals (Err (graph_fault kinds.Cycle names))
   planned : (plan : Plan) → (IsTooLarge book listing goals → ⊥) → AllMade book listing goals → IsPlan book listing goals plan → Comes book listing goals (Ok plan)
 
 -- without a goal there is nothing to plan
-abbrev pub IsAnswer : Book → List Name → List Name → Result Plan Told → Type 0
+abbrev pub IsAnswer : Book → List Name → List Name → Result Plan Reported → Type 0
 IsAnswer book listing [] answer = answer ≡ Err (graph_fault kinds.NoGoal [])
 IsAnswer book listing (g ∷ gs) answer = Comes book listing (g ∷ gs) answer

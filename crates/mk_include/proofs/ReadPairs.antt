@@ -6,7 +6,7 @@ use Rattle.std.specs.List.{position, position_from}
 use Rattle.std.specs.Option.{option_map_or}
 use Rattle.mk_name.specs.Gives.{Halts, halt_at}
 use Rattle.mk_name.specs.Names.{Name}
-use Rattle.mk_name.specs.Told.{Told}
+use Rattle.mk_name.specs.Reported.{Reported}
 use Rattle.mk_name.specs.declared.fault.Halt.{Halt}
 use Rattle.mk_name.specs.declared.fault.Halt.TheVariants as halts
 use Rattle.mk_name.specs.declared.fault.Source.TheVariants as sources
@@ -16,11 +16,11 @@ use Rattle.mk_include.specs.Includes.{Cut, Named, includes_of, is_bad, named_pai
 use Rattle.mk_include.proofs.TextTable.{texts_more}
 
 -- a path that spells a name, and one that spells none
-spells : (b : Bool) (name out : List ℕ) (bad : Told) → (if b then Ok name else Err bad) ≡ Ok out → (b ≡ true) × (out ≡ name)
+spells : (b : Bool) (name out : List ℕ) (bad : Reported) → (if b then Ok name else Err bad) ≡ Ok out → (b ≡ true) × (out ≡ name)
 spells true name out bad h = (refl, (cc))
 spells false name out bad h = absurd cc
 
-spells_none : (b : Bool) (name : List ℕ) (bad problem : Told) → (if b then Ok name else Err bad) ≡ Err problem → (b ≡ false) × (problem ≡ bad)
+spells_none : (b : Bool) (name : List ℕ) (bad problem : Reported) → (if b then Ok name else Err bad) ≡ Err problem → (b ≡ false) × (problem ≡ bad)
 spells_none true name bad problem h = absurd cc
 spells_none false name bad problem h = (refl, (cc))
 
@@ -37,7 +37,7 @@ module _ (root : List ℕ) {V : Type 0} (pair : V → List ℕ × List ℕ) (xs 
   place = position_from-zero is_bad (map pair xs)
 
   -- the answer where the first bad pair is known
-  abbrev answer_by : Option ℕ → Result (Name → Option Cut) Told
+  abbrev answer_by : Option ℕ → Result (Name → Option Cut) Reported
   answer_by first = option_map_or (λ n. Err (record (bad_name sources.Includes []) { place = n + 1 })) first (Ok (texts_of (map (named_pair root) (map pair xs))))
 
   module _ (i : ℕ) (d : V) (within : i < length xs) (before : position_from is_bad 0 (map pair xs) ≡ position_from is_bad i (map pair (drop i xs))) where
@@ -67,7 +67,7 @@ module _ (root : List ℕ) {V : Type 0} (pair : V → List ℕ × List ℕ) (xs 
     bad_here (halts.Fault problem) h =
         let none = spells_none (is_path (pair (get_or xs i d)).0) (plain_name root (pair (get_or xs i d)).0) (bad_name sources.Makefile []) problem h in
         ap answer_by (place ∙ parted ∙ refused (is_path (pair (get_or xs i d)).0) (Some i) (position_from is_bad (i + 1) (map pair (drop (i + 1) xs))) none.0)
-        ∙ ap (λ (told : Told). Err (record told { source = sources.Includes; place = i + 1 })) (sym none.1)
+        ∙ ap (λ (reported : Reported). Err (record reported { source = sources.Includes; place = i + 1 })) (sym none.1)
 
   pub all_read : (i : ℕ) (texts : Named) → length xs ≤ i → position_from is_bad 0 (map pair xs) ≡ position_from is_bad i (map pair (drop i xs))
       → texts_of texts ≡ texts_of (map (named_pair root) (map pair (take i xs))) → includes_of root (map pair xs) ≡ Ok (texts_of texts)

@@ -6,7 +6,7 @@ use Rattle.std.specs.Option.{option_map_or}
 use Rattle.std.specs.Result.{result_map_both}
 use Rattle.mk_name.specs.Gives.{Gives}
 use Rattle.mk_name.specs.Names.{Name, same_name}
-use Rattle.mk_name.specs.Told.{Told}
+use Rattle.mk_name.specs.Reported.{Reported}
 use Rattle.mk_name.specs.declared.fault.Halt.{Halt}
 use Rattle.mk_name.specs.declared.fault.Source.TheVariants as sources
 use Rattle.mk_text.specs.LogicalLine.{LogicalLine}
@@ -15,12 +15,12 @@ use Rattle.mk_text.specs.Spelling.{bad_name, is_path, plain_name}
 
 -- what a text is cut into: its lines, or its first fault
 abbrev pub Cut : Type 0
-Cut = Result (List LogicalLine) Told
+Cut = Result (List LogicalLine) Reported
 
 -- the same, where a fault is told in the text of this name
-abbrev pub told_in : Name → Cut → Cut
-told_in name (Ok lines) = Ok lines
-told_in name (Err fault) = Err (record fault { source = sources.Include name })
+abbrev pub reported_in : Name → Cut → Cut
+reported_in name (Ok lines) = Ok lines
+reported_in name (Err fault) = Err (record fault { source = sources.Include name })
 
 -- names, each with what its text is cut into
 abbrev pub Named : Type 0
@@ -42,10 +42,10 @@ abbrev pub is_bad : List ℕ × List ℕ → Bool
 is_bad pair = not (is_path pair.0)
 
 -- the texts of some pairs, or the fault of the first whose path spells no name; places count from 1
-abbrev pub includes_of : List ℕ → List (List ℕ × List ℕ) → Result Texts Told
+abbrev pub includes_of : List ℕ → List (List ℕ × List ℕ) → Result Texts Reported
 includes_of root pairs =
     option_map_or (λ n. Err (record (bad_name sources.Includes []) { place = n + 1 })) (position is_bad pairs) (Ok (texts_of (map (named_pair root) pairs)))
 
 -- a call gives these texts, or this fault, unless memory ran out
-abbrev pub GivesTexts : Result Named Halt → Result Texts Told → Type 0
+abbrev pub GivesTexts : Result Named Halt → Result Texts Reported → Type 0
 GivesTexts result answer = Gives (result_map_both texts_of (λ halt. halt) result) answer

@@ -3,7 +3,7 @@ use Rattle.std.specs.Prelude.{ℕ, Bool, List, [], ◌∷◌, Option, None, Some
 use Rattle.std.specs.List.{slice_split}
 use Rattle.std.specs.Option.{option_map_or}
 use Rattle.mk_name.specs.Names.{Name}
-use Rattle.mk_name.specs.Told.{Told}
+use Rattle.mk_name.specs.Reported.{Reported}
 use Rattle.mk_name.specs.declared.fault.Kind.{Kind}
 use Rattle.mk_name.specs.declared.fault.Kind.TheVariants.{UnknownInclude, IncludeTooDeep, TooManyIncludes}
 use Rattle.mk_name.specs.declared.fault.Source.TheVariants.{Makefile}
@@ -16,29 +16,29 @@ abbrev pub words_of : List ℕ → List (List ℕ)
 words_of text = filter (λ word. not (length word == 0)) (slice_split is_blank text)
 
 -- a fault of a word: who reads its line tells where it is
-abbrev pub word_told : Kind → List Name → Told
-word_told kind names = record { kind = kind; source = Makefile; place = 0; names = names }
+abbrev pub word_reported : Kind → List Name → Reported
+word_reported kind names = record { kind = kind; source = Makefile; place = 0; names = names }
 
 -- so many texts may be taken in
 abbrev pub text_limit : ℕ
 text_limit = 1000
 
 -- a text of this name, where so many more may open inside one another, behind so many that were taken in
-abbrev pub opened : ℕ → ℕ → Name → Cut → Result (Option (Name × Cut)) Told
+abbrev pub opened : ℕ → ℕ → Name → Cut → Result (Option (Name × Cut)) Reported
 opened room taken name cut =
-    if room == 0 then Err (word_told IncludeTooDeep (name ∷ []))
-    else (if nat_le text_limit taken then Err (word_told TooManyIncludes []) else Ok (Some (name, cut)))
+    if room == 0 then Err (word_reported IncludeTooDeep (name ∷ []))
+    else (if nat_le text_limit taken then Err (word_reported TooManyIncludes []) else Ok (Some (name, cut)))
 
 -- the text of a name: a hyphen passes over one that no text has
-abbrev pub text_named : Texts → Bool → ℕ → ℕ → Name → Result (Option (Name × Cut)) Told
+abbrev pub text_named : Texts → Bool → ℕ → ℕ → Name → Result (Option (Name × Cut)) Reported
 text_named texts hyphen room taken name =
-    option_map_or (opened room taken name) (texts name) (if hyphen then Ok None else Err (word_told UnknownInclude (name ∷ [])))
+    option_map_or (opened room taken name) (texts name) (if hyphen then Ok None else Err (word_reported UnknownInclude (name ∷ [])))
 
 -- the same of a word's name, or of its fault
-abbrev pub text_of_name : Texts → Bool → ℕ → ℕ → Result Name Told → Result (Option (Name × Cut)) Told
+abbrev pub text_of_name : Texts → Bool → ℕ → ℕ → Result Name Reported → Result (Option (Name × Cut)) Reported
 text_of_name texts hyphen room taken (Err fault) = Err fault
 text_of_name texts hyphen room taken (Ok name) = text_named texts hyphen room taken name
 
 -- the text that a word names, nothing, or the word's own fault
-abbrev pub word_text : List ℕ → Texts → Bool → ℕ → ℕ → List ℕ → Result (Option (Name × Cut)) Told
+abbrev pub word_text : List ℕ → Texts → Bool → ℕ → ℕ → List ℕ → Result (Option (Name × Cut)) Reported
 word_text root texts hyphen room taken word = text_of_name texts hyphen room taken (word_name root word)

@@ -3,7 +3,7 @@ ghost use Rattle.std.specs.Prelude.{◌≡◌, IfOk};
 ghost use Rattle.std.specs.Result.{result_map_both};
 ghost use Rattle.mk_name.specs.Gives.{Gives};
 ghost use Rattle.mk_text.specs.LogicalLines.{logical_lines};
-ghost use Rattle.mk_include.specs.Includes.{told_in};
+ghost use Rattle.mk_include.specs.Includes.{reported_in};
 
 use mk_name::fault::{Fault, Halt, Source};
 use mk_name::name::Name;
@@ -62,7 +62,7 @@ impl<'t> Cut<'t> {
     /// The lines of the text, or its fault, reported in the text of this name, at its line.
     pub fn lines(&self, alloc: Global, name: &Name) -> Result<&[Line<'t>], Halt>
         ensures { Gives (result_map_both (λ lines. lines.now) (λ halt. halt) result)
-            (told_in name.now self.now) }
+            (reported_in name.now self.now) }
     {
         match &self.lines {
             Ok(lines) => Ok(lines.as_slice()),

@@ -3,7 +3,7 @@ ghost use Rattle.std.specs.Prelude.{◌≡◌, [], ◌∷◌, map, IfOk, option_
 ghost use Rattle.std.specs.Result.{result_map_both};
 ghost use Rattle.mk_name.specs.Gives.{Gives};
 ghost use Rattle.mk_include.specs.Includes.{texts_of};
-ghost use Rattle.mk_include.specs.Words.{opened, word_text, word_told, words_of};
+ghost use Rattle.mk_include.specs.Words.{opened, word_text, word_reported, words_of};
 
 use crate::cut::Cut;
 use crate::includes::Includes;
@@ -52,7 +52,7 @@ fn opened<'i, 't>(
 
 /// The fault of a name that no text has.
 fn unknown(alloc: Global, name: Name) -> Result<Fault, AllocError>
-    ensures { IfOk result (λ fault. fault ≡ word_told Kind.UnknownInclude (name ∷ [])) }
+    ensures { IfOk result (λ fault. fault ≡ word_reported Kind.UnknownInclude (name ∷ [])) }
 {
     Fault::naming(alloc, Kind::UnknownInclude, Source::Makefile, 0, name)
 }

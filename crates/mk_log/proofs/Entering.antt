@@ -52,8 +52,8 @@ some_alike f None = refl
 some_alike f (Some x) = refl
 
 -- a test for nothing tells it of what is made of it, too
-pub tells_nothing : {A B : Type 0} (f : A → B) (o : Option A) (p : Option B) (none : Bool) → is_some o ≡ not none → option_map f o ≡ p → none ≡ not (is_some p)
-tells_nothing f o p none is made = opposite none ∙ ap not (sym is ∙ some_alike f o ∙ ap is_some made)
+pub reports_nothing : {A B : Type 0} (f : A → B) (o : Option A) (p : Option B) (none : Bool) → is_some o ≡ not none → option_map f o ≡ p → none ≡ not (is_some p)
+reports_nothing f o p none is made = opposite none ∙ ap not (sym is ∙ some_alike f o ∙ ap is_some made)
 
 -- the name of a file that may follow is free
 free : (before : List Entry) (path : Name) → (not (list_any is_event before) && not (list_any (is_at path) before)) ≡ true → store_of (files_of before) path ≡ None

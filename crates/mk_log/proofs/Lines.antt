@@ -13,7 +13,7 @@ use Rattle.mk_jobs.specs.Jobs.{Jobs}
 use Rattle.mk_sched.specs.Stores.{File}
 use Rattle.mk_sched.specs.Stored.{Files}
 use Rattle.mk_sched.specs.declared.event.Event.{Event}
-use Rattle.mk_log.specs.Spelled.{Adds, IsSpelled, names_told, object_of}
+use Rattle.mk_log.specs.Spelled.{Adds, IsSpelled, names_reported, object_of}
 use Rattle.mk_log.specs.Writing.{line_of}
 use Rattle.mk_log.specs.declared.entry.Entry.{Entry}
 
@@ -23,10 +23,10 @@ none_added jobs text = record { lines = sym (append-nil text); is_text = refl; s
 
 -- the line of one entry
 pub one_added : (jobs : Jobs) (entry : Entry) (d : Data) (old new : List ℕ) → d ≡ object_of jobs entry → new ≡ old ++ line_of d
-    → list_all is_utf8 (names_told jobs entry) ≡ true → IsSpelled jobs entry → Adds jobs (entry ∷ []) old new
+    → list_all is_utf8 (names_reported jobs entry) ≡ true → IsSpelled jobs entry → Adds jobs (entry ∷ []) old new
 one_added jobs entry d old new same line text spelled = record {
   lines = line ∙ ap (λ e. old ++ line_of e) same ∙ ap (λ t. old ++ t) (sym (append-nil (line_of (object_of jobs entry))));
-  is_text = ap (list_all is_utf8) (append-nil (names_told jobs entry)) ∙ text;
+  is_text = ap (list_all is_utf8) (append-nil (names_reported jobs entry)) ∙ text;
   spelled = All-cons (IsSpelled jobs) entry [] spelled (All-nil (IsSpelled jobs));
 }
 
@@ -39,8 +39,8 @@ more_added jobs first later old middle new a b =
       lines = b.lines ∙ ap (λ t. t ++ lines_for later) a.lines ∙ append_assoc old (lines_for first) (lines_for later)
           ∙ ap (λ t. old ++ t) (sym (ap (flat_map line_of) (map-append (object_of jobs) first later)
           ∙ flat_map-append line_of (map (object_of jobs) first) (map (object_of jobs) later)));
-      is_text = ap (list_all is_utf8) (flat_map-append (names_told jobs) first later)
-          ∙ list_all-append is_utf8 (flat_map (names_told jobs) first) (flat_map (names_told jobs) later)
+      is_text = ap (list_all is_utf8) (flat_map-append (names_reported jobs) first later)
+          ∙ list_all-append is_utf8 (flat_map (names_reported jobs) first) (flat_map (names_reported jobs) later)
           ∙ rw (a.is_text, b.is_text) refl;
       spelled = All-append (IsSpelled jobs) first later a.spelled b.spelled;
     }

@@ -5,9 +5,9 @@ use Rattle.std.proofs.lemmas.Bool.{cond-true, cond-false}
 use Rattle.std.proofs.lemmas.List.{drop_all, drop_more, take_more, take_all, get_or-map, length-map}
 use Rattle.std.proofs.lemmas.List.FromFn.{get_or-enumerate_from, length-enumerate_from}
 use Rattle.std.specs.Borrow.{Bor}
-use Rattle.mk_name.specs.Told.{Told}
+use Rattle.mk_name.specs.Reported.{Reported}
 use Rattle.mk_jobs.specs.Jobs.{Jobs}
-use Rattle.mk_log.specs.Reading.{IsLogOf, entries_of, is_good, fault_at, first_fault, told}
+use Rattle.mk_log.specs.Reading.{IsLogOf, entries_of, is_good, fault_at, first_fault, reported}
 use Rattle.mk_log.specs.Adding.{AddsLine}
 use Rattle.mk_log.specs.Logs.{Log}
 
@@ -25,7 +25,7 @@ module _ (jobs : Jobs) (root : List ℕ) (texts : List (List ℕ)) (number : ℕ
       (get_or-enumerate_from 0 texts number (0, text) within ∙ ap (λ n. (n, get_or texts number text)) (omega arith) ∙ ap (λ x. (number, x)) (sym is))
 
   -- the fault here, before those that are left
-  at_first : (o : Option Told) → fault_at jobs root texts (number, text) ≡ o
+  at_first : (o : Option Reported) → fault_at jobs root texts (number, text) ≡ o
       → slice_get (filter_map (fault_at jobs root texts) (drop number (enumerate_from 0 texts))) 0
       ≡ slice_get (cons_option o (filter_map (fault_at jobs root texts) (drop (number + 1) (enumerate_from 0 texts)))) 0
   at_first o e =
@@ -34,18 +34,18 @@ module _ (jobs : Jobs) (root : List ℕ) (texts : List (List ℕ)) (number : ℕ
 
   module _ (old new : Log) (before : ReadsTo jobs root texts number old) where
     -- a line that is not good is the first fault
-    pub bad_first : (good : Bool) → AddsLine jobs root old text good new → good ≡ false → first_fault jobs root texts ≡ Some (told (number + 1))
+    pub bad_first : (good : Bool) → AddsLine jobs root old text good new → good ≡ false → first_fault jobs root texts ≡ Some (reported (number + 1))
     bad_first good adds bad =
         sym before.first
-        ∙ at_first (Some (told (number + 1)))
-        (cond-false (is_good jobs root (take number texts) text) None (Some (told (number + 1))) (sym (adds (take number texts) before.known).0 ∙ bad))
+        ∙ at_first (Some (reported (number + 1)))
+        (cond-false (is_good jobs root (take number texts) text) None (Some (reported (number + 1))) (sym (adds (take number texts) before.known).0 ∙ bad))
 
     -- behind a good one the reading goes on
     pub goes_on : (good : Bool) → AddsLine jobs root old text good new → good ≡ true → ReadsTo jobs root texts (number + 1) new
     goes_on good adds fine =
         let added = adds (take number texts) before.known in
         record {
-          first = sym (at_first None (cond-true (is_good jobs root (take number texts) text) None (Some (told (number + 1))) (sym added.0 ∙ fine))) ∙ before.first;
+          first = sym (at_first None (cond-true (is_good jobs root (take number texts) text) None (Some (reported (number + 1))) (sym added.0 ∙ fine))) ∙ before.first;
           known = subst (λ (ts : List (List ℕ)). IsLogOf (entries_of jobs root ts) new) (sym (take_more texts number text within ∙ ap (λ t. take number texts ++ t ∷ []) (sym is))) (added.1 fine);
         }
 

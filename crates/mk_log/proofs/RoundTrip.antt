@@ -14,7 +14,7 @@ use Rattle.std.proofs.lemmas.Map.Text.{is_eq-slice_cmp}
 use Rattle.serde_json.specs.Data.{Data}
 use Rattle.serde_json.specs.Written.{compact_text}
 use Rattle.mk_name.specs.Names.{Name, same_name}
-use Rattle.mk_name.specs.Told.{Told}
+use Rattle.mk_name.specs.Reported.{Reported}
 use Rattle.mk_jobs.specs.Jobs.{Jobs}
 use Rattle.mk_sched.specs.Stores.{File}
 use Rattle.mk_sched.specs.Stored.{Files, IsInOrder, store_of}
@@ -23,7 +23,7 @@ use Rattle.mk_text.specs.Listing.{lines}
 use Rattle.mk_log.specs.Entries.{entries_in}
 use Rattle.mk_log.specs.Objects.{event_object, file_object}
 use Rattle.mk_log.specs.Reading.{IsLogOf, IsRead, entries_of, events_of, fault_at, files_of, first_fault, is_at, is_event, is_good, may_follow}
-use Rattle.mk_log.specs.Spelled.{IsOneLine, IsSpelled, entries_told, file_entry, names_told, object_of}
+use Rattle.mk_log.specs.Spelled.{IsOneLine, IsSpelled, entries_reported, file_entry, names_reported, object_of}
 use Rattle.mk_log.specs.Writing.{NamesItself, ReadBack, line_of, log_text, names_in, names_of}
 use Rattle.mk_log.specs.Logs.{Log}
 use Rattle.mk_log.specs.declared.entry.Entry.{Entry}
@@ -80,14 +80,14 @@ all_right : {X : Type 0} (P : X → Type 0) (xs ys : List X) → All P (xs ++ ys
 all_right P [] ys all = all
 all_right P (x ∷ xs) ys all = all_right P xs ys (All-tail P x (xs ++ ys) all)
 
-are_back : (jobs : Jobs) (root : List ℕ) (entries : List Entry) → All (IsSpelled jobs) entries → All (NamesItself root) (flat_map (names_told jobs) entries)
+are_back : (jobs : Jobs) (root : List ℕ) (entries : List Entry) → All (IsSpelled jobs) entries → All (NamesItself root) (flat_map (names_reported jobs) entries)
     → AreBack jobs root entries
 are_back jobs root [] spelled named = tt
 are_back jobs root (entry ∷ entries) spelled named =
     let first = All-head (IsSpelled jobs) entry entries spelled in (
-      first.back root (all_left (NamesItself root) (names_told jobs entry) (flat_map (names_told jobs) entries) named),
+      first.back root (all_left (NamesItself root) (names_reported jobs entry) (flat_map (names_reported jobs) entries) named),
       are_back jobs root entries (All-tail (IsSpelled jobs) entry entries spelled)
-          (all_right (NamesItself root) (names_told jobs entry) (flat_map (names_told jobs) entries) named),
+          (all_right (NamesItself root) (names_reported jobs entry) (flat_map (names_reported jobs) entries) named),
     )
 
 -- each entry may follow those before it
@@ -174,7 +174,7 @@ events_kept (placed ∷ files) events = events_kept files events
 
 -- the names of a log are those that its entries tell
 names_kept : (jobs : Jobs) (files : Files) (events : List Event)
-    → flat_map (names_told jobs) (map file_entry files ++ map (λ event. Happens event) events) ≡ keys_of files ++ flat_map (names_in jobs) events
+    → flat_map (names_reported jobs) (map file_entry files ++ map (λ event. Happens event) events) ≡ keys_of files ++ flat_map (names_in jobs) events
 names_kept jobs [] [] = refl
 names_kept jobs [] (event ∷ events) = ap (λ rest. names_in jobs event ++ rest) (names_kept jobs [] events)
 names_kept jobs (placed ∷ files) events = ap (λ rest. placed.0 ∷ rest) (names_kept jobs files events)
@@ -202,10 +202,10 @@ abbrev LinesRead : Jobs → List ℕ → List (List ℕ) → Log → Type 0
 LinesRead jobs root texts log = (first_fault jobs root texts ≡ None) × IsLogOf (entries_of jobs root texts) log
 
 -- the lines of spelled entries say the log that has these entries
-pub read_back : (jobs : Jobs) (log : Log) (root : List ℕ) → All (IsSpelled jobs) (entries_told log) → IsInOrder log.store → ReadBack jobs root log
-    → IsRead jobs root (flat_map line_of (map (object_of jobs) (entries_told log))) (Ok log)
+pub read_back : (jobs : Jobs) (log : Log) (root : List ℕ) → All (IsSpelled jobs) (entries_reported log) → IsInOrder log.store → ReadBack jobs root log
+    → IsRead jobs root (flat_map line_of (map (object_of jobs) (entries_reported log))) (Ok log)
 read_back jobs log root spelled in_order named =
-    let entries = entries_told log in
+    let entries = entries_reported log in
     let texts = map (text_of jobs) entries ++ [] ∷ [] in
     let cut : lines (flat_map line_of (map (object_of jobs) entries)) ≡ texts =
     lines_cut (map (object_of jobs) entries) (one_lines jobs entries spelled) ∙ ap (λ (xs : List (List ℕ)). xs ++ [] ∷ []) (map_twice jobs entries) in
@@ -213,7 +213,7 @@ read_back jobs log root spelled in_order named =
     let good = are_good jobs root [] [] entries refl back (files_turn [] log.store log.events in_order) in
     let said = all_entries jobs root entries back in
     subst (λ (xs : List (List ℕ)). LinesRead jobs root xs log) (sym cut) (
-      ap (λ (faults : List Told). slice_get faults 0) (none_at_fault jobs root texts [] texts refl good),
+      ap (λ (faults : List Reported). slice_get faults 0) (none_at_fault jobs root texts [] texts refl good),
       record {
         files = λ x. ap (λ (files : Files). store_of files x) (sym (ap files_of said ∙ files_kept log.store log.events));
         in_order = in_order;
@@ -222,9 +222,9 @@ read_back jobs log root spelled in_order named =
     )
 
 -- the text of a log is the lines of its entries
-pub log_lines : (jobs : Jobs) (log : Log) → flat_map line_of (map (object_of jobs) (entries_told log)) ≡ log_text jobs log
+pub log_lines : (jobs : Jobs) (log : Log) → flat_map line_of (map (object_of jobs) (entries_reported log)) ≡ log_text jobs log
 log_lines jobs log = ap (flat_map line_of) (objects_kept jobs log.store log.events)
 
 -- and its names are those that the entries tell
-pub log_names : (jobs : Jobs) (log : Log) → flat_map (names_told jobs) (entries_told log) ≡ names_of jobs log
+pub log_names : (jobs : Jobs) (log : Log) → flat_map (names_reported jobs) (entries_reported log) ≡ names_of jobs log
 log_names jobs log = names_kept jobs log.store log.events

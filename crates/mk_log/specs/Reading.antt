@@ -3,7 +3,7 @@ use Rattle.std.specs.Prelude.{ℕ, ◌≡◌, ◌+◌, ◌&&◌, ◌↔◌, not,
 use Rattle.std.specs.List.{enumerate_from, filter_map, flat_map, list_all, list_any}
 use Rattle.std.specs.Option.{option_map_or}
 use Rattle.mk_name.specs.Names.{Name, same_name}
-use Rattle.mk_name.specs.Told.{Told}
+use Rattle.mk_name.specs.Reported.{Reported}
 use Rattle.mk_name.specs.declared.fault.Kind.TheVariants.{BadLog}
 use Rattle.mk_name.specs.declared.fault.Source.TheVariants as sources
 use Rattle.mk_text.specs.Listing.{lines}
@@ -53,15 +53,15 @@ abbrev pub is_good : Jobs → List ℕ → List (List ℕ) → List ℕ → Bool
 is_good jobs root before text = option_map_or (list_all (may_follow (entries_of jobs root before))) (entries_in jobs root text) false
 
 -- a bad line of a log
-abbrev pub told : ℕ → Told
-told place = record { kind = BadLog; source = sources.Log; place = place; names = [] }
+abbrev pub reported : ℕ → Reported
+reported place = record { kind = BadLog; source = sources.Log; place = place; names = [] }
 
 -- the fault of a physical line, with the number of those before it; places count from 1
-abbrev pub fault_at : Jobs → List ℕ → List (List ℕ) → ℕ × List ℕ → Option Told
-fault_at jobs root texts placed = if is_good jobs root (take placed.0 texts) placed.1 then None else Some (told (placed.0 + 1))
+abbrev pub fault_at : Jobs → List ℕ → List (List ℕ) → ℕ × List ℕ → Option Reported
+fault_at jobs root texts placed = if is_good jobs root (take placed.0 texts) placed.1 then None else Some (reported (placed.0 + 1))
 
 -- the first of these faults
-abbrev pub first_fault : Jobs → List ℕ → List (List ℕ) → Option Told
+abbrev pub first_fault : Jobs → List ℕ → List (List ℕ) → Option Reported
 first_fault jobs root texts = slice_get (filter_map (fault_at jobs root texts) (enumerate_from 0 texts)) 0
 
 -- a log holds what entries say: at each name the file that they tell, and the events in their order
@@ -71,10 +71,10 @@ pub record IsLogOf (entries : List Entry) (log : Log) : Type 0 where
   pub events : log.events ≡ events_of entries
 
 -- what `read_log` answers
-abbrev pub IsRead : Jobs → List ℕ → List ℕ → Result Log Told → Type 0
+abbrev pub IsRead : Jobs → List ℕ → List ℕ → Result Log Reported → Type 0
 IsRead jobs root text (Ok log) = (first_fault jobs root (lines text) ≡ None) × IsLogOf (entries_of jobs root (lines text)) log
 IsRead jobs root text (Err fault) = first_fault jobs root (lines text) ≡ Some fault
 
 -- a text reads as a log: it may have that log for an answer, and no other answer
 abbrev pub IsReadAs : Jobs → List ℕ → List ℕ → Log → Type 0
-IsReadAs jobs root text log = (answer : Result Log Told) → IsRead jobs root text answer ↔ (answer ≡ Ok log)
+IsReadAs jobs root text log = (answer : Result Log Reported) → IsRead jobs root text answer ↔ (answer ≡ Ok log)

@@ -22,8 +22,8 @@ abbrev pub file_entry : Name × File → Entry
 file_entry placed = Holds placed.0 placed.1.bytes placed.1.time
 
 -- the entries of a log: its files, and then its events
-abbrev pub entries_told : Log → List Entry
-entries_told log = map file_entry log.store ++ map (λ event. Happens event) log.events
+abbrev pub entries_reported : Log → List Entry
+entries_reported log = map file_entry log.store ++ map (λ event. Happens event) log.events
 
 -- the object of an entry
 abbrev pub object_of : Jobs → Entry → Data
@@ -31,9 +31,9 @@ object_of jobs (Holds path bytes time) = file_object path (record { bytes = byte
 object_of jobs (Happens event) = event_object jobs event
 
 -- the names that an entry tells
-abbrev pub names_told : Jobs → Entry → List Name
-names_told jobs (Holds path bytes time) = path ∷ []
-names_told jobs (Happens event) = names_in jobs event
+abbrev pub names_reported : Jobs → Entry → List Name
+names_reported jobs (Holds path bytes time) = path ∷ []
+names_reported jobs (Happens event) = names_in jobs event
 
 -- no byte is a newline
 abbrev pub IsOneLine : List ℕ → Type 0
@@ -42,13 +42,13 @@ IsOneLine text = All (λ b. (b == 10) ≡ false) text
 -- an entry's object stands on one line, and says the entry below a root where the entry's names are paths that name themselves
 pub record IsSpelled (jobs : Jobs) (entry : Entry) : Type 0 where
   pub one_line : IsOneLine (compact_text (object_of jobs entry))
-  pub back : (root : List ℕ) → All (NamesItself root) (names_told jobs entry)
+  pub back : (root : List ℕ) → All (NamesItself root) (names_reported jobs entry)
       → entries_in jobs root (compact_text (object_of jobs entry)) ≡ Some (entry ∷ [])
 
 -- the second text is the first and the lines of these entries, whose names are UTF-8
 pub record Adds (jobs : Jobs) (entries : List Entry) (old new : List ℕ) : Type 0 where
   pub lines : new ≡ old ++ flat_map line_of (map (object_of jobs) entries)
-  pub is_text : list_all is_utf8 (flat_map (names_told jobs) entries) ≡ true
+  pub is_text : list_all is_utf8 (flat_map (names_reported jobs) entries) ≡ true
   pub spelled : All (IsSpelled jobs) entries
 
 -- what a look may have seen is bytes

@@ -3,7 +3,7 @@ ghost use Rattle.std.specs.Prelude.{◌≡◌, [], List, ℕ, IfOk};
 ghost use Rattle.mk_name.specs.Gives.{Answers};
 ghost use Rattle.mk_name.specs.declared.fault.Halt.TheVariants as halts;
 ghost use Rattle.mk_log.specs.Adding.{AddsEntry, AddsLine};
-ghost use Rattle.mk_log.specs.Reading.{IsLogOf, IsRead, may_follow, told};
+ghost use Rattle.mk_log.specs.Reading.{IsLogOf, IsRead, may_follow, reported};
 ghost use Rattle.mk_log.specs.declared.entry.Entry.{Entry};
 ghost use Rattle.mk_log.specs.declared.entry.Entry.TheVariants.{Holds};
 
@@ -52,7 +52,7 @@ fn empty_log(alloc: Global) -> Log
 
 /// The fault of a bad line.
 fn fault(alloc: Global, place: u64) -> Halt
-    ensures { result ≡ halts.Fault (told place) }
+    ensures { result ≡ halts.Fault (reported place) }
 {
     Halt::Fault(Fault::unnamed(alloc, Kind::BadLog, Source::Log, place))
 }

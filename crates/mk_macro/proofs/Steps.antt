@@ -3,7 +3,7 @@ use Rattle.std.proofs.Common.{◌≡◌, ℕ, ◌+◌, ◌<◌, ◌≤◌, inl, 
 use Rattle.std.proofs.lemmas.Bool.{cases_lt, le-ltb, lt-ltb}
 use Rattle.std.proofs.lemmas.List.{append-nil}
 use Rattle.mk_name.specs.Names.{Name}
-use Rattle.mk_name.specs.Told.{Told}
+use Rattle.mk_name.specs.Reported.{Reported}
 use Rattle.mk_name.specs.declared.fault.Kind.TheVariants.{ExpansionTooLarge}
 use Rattle.mk_macro.specs.declared.open.Open.{Open}
 use Rattle.mk_macro.specs.Expansion.{Expands, Gives, Outcome, byte_limit, is_late, joined, macro_fault, refusal}
@@ -21,7 +21,7 @@ names opens = map (λ o. o.name.now) opens
 abbrev pub the : List ℕ → ℕ → Outcome
 the text count = Ok (record { text = text; count = count })
 
-abbrev pub too_large : Told
+abbrev pub too_large : Reported
 too_large = macro_fault ExpansionTooLarge []
 
 -- some items are done, and these are left
@@ -64,7 +64,7 @@ pub record Stands (m : Macros) (text : List ℕ) (opens : List Open) (output : O
   pub holds : Holds output inner texts
 
 -- a fault stays, whatever follows
-fault_stays : {m : Macros} {busy : List Name} {k : ℕ} {f : Told} (seen left : List Item) → Expands m busy seen k (Err f) → Expands m busy (seen ++ left) k (Err f)
+fault_stays : {m : Macros} {busy : List Name} {k : ℕ} {f : Reported} (seen left : List Item) → Expands m busy seen k (Err f) → Expands m busy (seen ++ left) k (Err f)
 fault_stays {m} {busy} {k} {f} seen [] e = subst (λ (items : List Item). Expands m busy items k (Err f)) (sym (append-nil seen)) e
 fault_stays {m} {busy} {k} {f} seen (x ∷ left) e =
     subst (λ (items : List Item). Expands m busy items k (Err f)) (append_assoc seen (x ∷ []) left) (fault_stays (seen ++ x ∷ []) left (failed x e refl))
@@ -75,14 +75,14 @@ more_seen : {m : Macros} {busy : List Name} {items left : List Item} {item : Ite
     → Expands m busy (p.seen ++ item ∷ []) k outcome
 more_seen p g e = one_more p.so_far g refl e
 
-item_fault : {m : Macros} {busy : List Name} {items left : List Item} {item : Item} {k count : ℕ} {own : List ℕ} {given : Outcome} {f : Told}
+item_fault : {m : Macros} {busy : List Name} {items left : List Item} {item : Item} {k count : ℕ} {own : List ℕ} {given : Outcome} {f : Reported}
     → Progress m busy items k own count (item ∷ left) → Gives m busy item count given → joined own given ≡ Err f → Expands m busy items k (Err f)
 item_fault {m} {busy} {items} {left} {item} {k} {f = f} p g e =
     subst (λ (xs : List Item). Expands m busy xs k (Err f)) (append_assoc p.seen (item ∷ []) left ∙ sym p.all)
     (fault_stays (p.seen ++ item ∷ []) left (more_seen p g (sym e)))
 
 -- a fault inside is a fault of the whole
-level_fault : {m : Macros} {f : Told} (text : List ℕ) (opens : List Open) (change : Option Change) (texts : List Text) (items : List Item) (k : ℕ)
+level_fault : {m : Macros} {f : Reported} (text : List ℕ) (opens : List Open) (change : Option Change) (texts : List Text) (items : List Item) (k : ℕ)
     → Level m text opens change texts items k → Expands m (names opens) items k (Err f) → Expands m [] (items_of text) 0 (Err f)
 level_fault {m} {f} text [] change [] items k l e =
     subst (λ (n : ℕ). Expands m [] (items_of text) n (Err f)) l.1 (subst (λ (xs : List Item). Expands m [] xs k (Err f)) l.0 e)
@@ -96,7 +96,7 @@ level_fault {m} {f} text (o ∷ opens) change (next ∷ texts) items k l e =
     level_fault text opens next.change texts l.0.items l.0.k l.2 (item_fault is.progress (late is.allowed is.found is.is_late_one inner refl) refl)
 
 -- an item fails
-pub fails : {m : Macros} {text : List ℕ} {output : Output} {left : List Item} {item : Item} {count : ℕ} {given : Outcome} {f : Told} (opens : List Open)
+pub fails : {m : Macros} {text : List ℕ} {output : Output} {left : List Item} {item : Item} {count : ℕ} {given : Outcome} {f : Reported} (opens : List Open)
     (s : Stands m text opens output (item ∷ left) count) → Gives m (names opens) item count given → joined s.inner.own given ≡ Err f → Expands m [] (items_of text) 0 (Err f)
 fails {text = text} opens s g e = level_fault text opens s.inner.change s.texts s.items s.k s.level (item_fault s.progress g e)
 

@@ -4,7 +4,7 @@ use Rattle.std.specs.Prelude.{if◌then◌else◌, nat_le, nat_lt}
 use Rattle.std.proofs.lemmas.Bool.{leb-false}
 use Rattle.std.proofs.lemmas.List.{append-nil}
 use Rattle.mk_name.specs.Names.{Name, has, same_name}
-use Rattle.mk_name.specs.Told.{Told}
+use Rattle.mk_name.specs.Reported.{Reported}
 use Rattle.mk_name.specs.declared.fault.Kind.TheVariants.{ExpansionTooLarge, InternalMacro, MacroLoop}
 use Rattle.mk_macro.specs.Expansion.{Expands, Gives, IsExpansion, Outcome, byte_limit, is_internal, is_late, joined, macro_fault, reference_limit, referred, refusal, text_of}
 use Rattle.mk_macro.specs.Expansion.{nothing, failed, one_more, byte, broken, refused, undefined, itself, late}
@@ -71,7 +71,7 @@ module _ (m : Macros) where
     by_definition busy r count le none None found = (Ok (record { text = []; count = count + 1 }), undefined none found, omega arith)
     by_definition busy r count le none (Some d) found = by_manner busy r count le none d found (is_late d.manner) refl
 
-    by_refusal : (busy : List Name) (r : Reference) (count : ℕ) → least ≤ count → (o : Option Told) → refusal busy count r.name ≡ o → ItemGives busy (Refers r) count
+    by_refusal : (busy : List Name) (r : Reference) (count : ℕ) → least ≤ count → (o : Option Reported) → refusal busy count r.name ≡ o → ItemGives busy (Refers r) count
     by_refusal busy r count le (Some fault) is = (Err fault, refused is, tt)
     by_refusal busy r count le None is = by_definition busy r count le is (m r.name) refl
 
@@ -99,7 +99,7 @@ module _ (m : Macros) where
   come zero least more = λ busy items count le within. absurd (omega arith)
   come (suc k) least more = items_from least (come k (least + 1) (omega arith))
 
-pub some_expansion : (m : Macros) (text : List ℕ) → (answer : Result (List ℕ) Told) × IsExpansion m text answer
+pub some_expansion : (m : Macros) (text : List ℕ) → (answer : Result (List ℕ) Reported) × IsExpansion m text answer
 some_expansion m text =
     let some = come m (reference_limit + 1) 0 (omega arith) [] (items_of text) 0 (omega arith) (omega arith) in
     (text_of some.0, record { outcome = some.0; expands = some.1; answers = refl })

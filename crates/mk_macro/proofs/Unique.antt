@@ -2,7 +2,7 @@
 use Rattle.std.proofs.Common.{◌≡◌, ℕ, ◌+◌, true, false, List, [], ◌∷◌, ◌++◌, Option, Some, None, Result, Ok, Err, refl, sym, ◌∙◌, ap, subst}
 use Rattle.std.proofs.lemmas.Bool.{false≢true}
 use Rattle.mk_name.specs.Names.{Name}
-use Rattle.mk_name.specs.Told.{Told}
+use Rattle.mk_name.specs.Reported.{Reported}
 use Rattle.mk_macro.specs.Expansion.{Expanded, Expands, Gives, IsExpansion, Outcome, is_late, joined, referred, text_of}
 use Rattle.mk_macro.specs.Expansion.{nothing, failed, one_more, byte, broken, refused, undefined, itself, late}
 use Rattle.mk_macro.specs.Macros.{Definition, Macros}
@@ -27,7 +27,7 @@ same_front (a ∷ xs) (b ∷ ys) x y e =
 some_none : {X : Type 0} {o : Option X} {x : X} → o ≡ Some x → o ≡ None → ⊥
 some_none a b = cc
 
-err_ok : {f : Told} {e : Expanded} → ◌≡◌ {A = Outcome} (Err f) (Ok e) → ⊥
+err_ok : {f : Reported} {e : Expanded} → ◌≡◌ {A = Outcome} (Err f) (Ok e) → ⊥
 err_ok e = cc
 
 same_some : {X : Type 0} {o : Option X} {x y : X} → o ≡ Some x → o ≡ Some y → x ≡ y
@@ -90,5 +90,5 @@ mutual
 pub items_come_to_one : (m : Macros) (busy : List Name) (items : List Item) (count : ℕ) (one other : Outcome) → Expands m busy items count one → Expands m busy items count other → one ≡ other
 items_come_to_one m busy items count one other e e2 = items_unique e e2
 
-pub one_expansion : (m : Macros) (text : List ℕ) (one other : Result (List ℕ) Told) → IsExpansion m text one → IsExpansion m text other → one ≡ other
+pub one_expansion : (m : Macros) (text : List ℕ) (one other : Result (List ℕ) Reported) → IsExpansion m text one → IsExpansion m text other → one ≡ other
 one_expansion m text one other e e2 = e.answers ∙ ap text_of (items_unique e.expands e2.expands) ∙ sym e2.answers

@@ -5,7 +5,7 @@ use Rattle.std.specs.Global.{Global}
 use Rattle.std.specs.Result.{IsErrAnd}
 use Rattle.std.proofs.lemmas.Result.{err_from_is_err_and}
 use Rattle.std.proofs.lemmas.List.{append-nil, reverse-append}
-use Rattle.mk_name.specs.Told.{Told}
+use Rattle.mk_name.specs.Reported.{Reported}
 use Rattle.mk_name.specs.Gives.{HaltsAmong}
 use Rattle.mk_name.specs.declared.fault.Halt.{Halt}
 use Rattle.mk_name.specs.declared.fault.Halt.TheVariants as halts
@@ -25,7 +25,7 @@ use Rattle.mk_macro.proofs.Items.{all_plain}
 use Rattle.mk_macro.proofs.Steps.{Level, Stands, bytes_on, bytes_seen, bytes_too_long, closes, closes_long, enters, fails, finishes, goes_on, names, the, too_large, too_long}
 
 -- answers
-pub fault_answer : (m : Macros) (text : List ℕ) (f : Told) → Expands m [] (items_of text) 0 (Err f) → IsExpansion m text (Err f)
+pub fault_answer : (m : Macros) (text : List ℕ) (f : Reported) → Expands m [] (items_of text) 0 (Err f) → IsExpansion m text (Err f)
 fault_answer m text f e = record { outcome = Err f; expands = e; answers = refl }
 
 -- a text with no dollar sign, and no more bytes than a text may have, stands for itself
@@ -36,12 +36,12 @@ plain_answer m text short none = record {
   answers = refl;
 }
 
-module _ (P : Result (List ℕ) Told → Type 0) where
+module _ (P : Result (List ℕ) Reported → Type 0) where
   over_halts : (halt : Halt) (limit a : ℕ) → IsOver halt limit a → (limit < a → P (Err too_large)) → HaltsAmong halt P
   over_halts halts.Memory limit a over k = tt
-  over_halts (halts.Fault f) limit a over k = subst (λ (g : Told). P (Err g)) (sym over.0) (k over.1)
+  over_halts (halts.Fault f) limit a over k = subst (λ (g : Reported). P (Err g)) (sym over.0) (k over.1)
 
-  refusal_halts : (halt : Halt) (r : Option Told) → IsRefusal halt r → ((f : Told) → r ≡ Some f → P (Err f)) → HaltsAmong halt P
+  refusal_halts : (halt : Halt) (r : Option Reported) → IsRefusal halt r → ((f : Reported) → r ≡ Some f → P (Err f)) → HaltsAmong halt P
   refusal_halts halts.Memory r is k = tt
   refusal_halts (halts.Fault f) r is k = k f is
 
@@ -58,7 +58,7 @@ module _ (P : Result (List ℕ) Told → Type 0) where
   pub over_answer : (result : Result (Vec ℕ Global) Halt) (halt : Halt) (limit a : ℕ) → IsErrAnd result (λ y. y ≡ halt) → IsOver halt limit a → (limit < a → P (Err too_large)) → AnswersText result P
   over_answer result halt limit a same over k = passed_on result halt same (over_halts halt limit a over k)
 
-  pub refusal_answer : (result : Result (Vec ℕ Global) Halt) (halt : Halt) (r : Option Told) → IsErrAnd result (λ y. y ≡ halt) → IsRefusal halt r → ((f : Told) → r ≡ Some f → P (Err f)) → AnswersText result P
+  pub refusal_answer : (result : Result (Vec ℕ Global) Halt) (halt : Halt) (r : Option Reported) → IsErrAnd result (λ y. y ≡ halt) → IsRefusal halt r → ((f : Reported) → r ≡ Some f → P (Err f)) → AnswersText result P
   refusal_answer result halt r same is k = passed_on result halt same (refusal_halts halt r is k)
 
   pub referred_answer : (result : Result (Vec ℕ Global) Halt) (halt : Halt) (o : Option Definition) (change : Option Change) (output : Output) (text : Text) (texts : List Text) → Holds output text texts
@@ -93,7 +93,7 @@ module _ {m : Macros} {text : List ℕ} {output : Output} {left : List Item} {co
   broken_fails later e = fault_answer m text _ (fails opens (left_is e s) broken refl)
 
   module _ (r : Reference) (behind : List ℕ) (e : left ≡ Refers r ∷ items_of behind) where
-    pub refused_fails : (f : Told) → refusal (names opens) count r.name ≡ Some f → IsExpansion m text (Err f)
+    pub refused_fails : (f : Reported) → refusal (names opens) count r.name ≡ Some f → IsExpansion m text (Err f)
     refused_fails f is = fault_answer m text f (fails opens (left_is e s) (refused is) refl)
 
     module _ (allowed : refusal (names opens) count r.name ≡ None) where

@@ -2,7 +2,7 @@
 use Rattle.std.specs.Prelude.{◌≡◌, ℕ, List, [], ◌∷◌, ◌++◌, Option, None, Some, Result, Ok}
 use Rattle.std.specs.Result.{result_map_both}
 use Rattle.mk_name.specs.Names.{Name}
-use Rattle.mk_name.specs.Told.{Told}
+use Rattle.mk_name.specs.Reported.{Reported}
 use Rattle.mk_text.specs.LogicalLine.{LogicalLine, parts_of}
 use Rattle.mk_text.specs.declared.parts.Parts.{Parts}
 use Rattle.mk_text.specs.declared.parts.Parts.TheVariants.{Assign, Entry, Recipe, Include}
@@ -55,25 +55,25 @@ effect None operator text = first_effect operator text
 effect (Some old) operator text = effect_on old.manner old.value operator text
 
 -- the macros that an effect on this name leads to, or its fault
-abbrev pub LeadsTo : Macros → Name → Effect → Result Macros Told → Type 0
+abbrev pub LeadsTo : Macros → Name → Effect → Result Macros Reported → Type 0
 LeadsTo macros name Stays answer = answer ≡ Ok macros
 LeadsTo macros name (Becomes definition) answer = answer ≡ Ok (defined macros name definition)
 LeadsTo macros name (Fixes front text) answer =
-    (value : Result (List ℕ) Told)
+    (value : Result (List ℕ) Reported)
     × IsExpansion macros text value
     × (answer ≡ result_map_both (λ v. defined macros name (immediate (front ++ v))) (λ fault. fault) value)
 
 -- the macros behind an assignment of this text to this name, or its fault
-abbrev pub IsAssigned : Macros → Name → Operator → List ℕ → Result Macros Told → Type 0
+abbrev pub IsAssigned : Macros → Name → Operator → List ℕ → Result Macros Reported → Type 0
 IsAssigned macros name operator text answer = LeadsTo macros name (effect (macros name) operator text) answer
 
 -- the macros behind a line of these parts, or its fault: only an assignment changes any
-abbrev pub IsBehind : Parts → Macros → Result Macros Told → Type 0
+abbrev pub IsBehind : Parts → Macros → Result Macros Reported → Type 0
 IsBehind (Assign parts) macros answer = IsAssigned macros parts.name parts.operator parts.value answer
 IsBehind (Entry parts) macros answer = answer ≡ Ok macros
 IsBehind Recipe macros answer = answer ≡ Ok macros
 IsBehind (Include parts) macros answer = answer ≡ Ok macros
 
 -- the macros behind a line, or its fault
-abbrev pub IsAssignment : Macros → LogicalLine → Result Macros Told → Type 0
+abbrev pub IsAssignment : Macros → LogicalLine → Result Macros Reported → Type 0
 IsAssignment macros line answer = IsBehind (parts_of line) macros answer

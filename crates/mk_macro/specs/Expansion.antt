@@ -2,7 +2,7 @@
 use Rattle.std.specs.Prelude.{◌≡◌, ℕ, ◌+◌, Bool, true, false, List, [], ◌∷◌, ◌++◌, Option, None, Some, Result, Ok, Err, length, codes, ◌==◌, ◌&&◌, ◌||◌, nat_lt, nat_le, if◌then◌else◌}
 use Rattle.std.specs.List.{list_any}
 use Rattle.mk_name.specs.Names.{Name, has, same_name}
-use Rattle.mk_name.specs.Told.{Told}
+use Rattle.mk_name.specs.Reported.{Reported}
 use Rattle.mk_name.specs.declared.fault.Kind.{Kind}
 use Rattle.mk_name.specs.declared.fault.Kind.TheVariants.{MacroLoop, BadReference, InternalMacro, ExpansionTooLarge}
 use Rattle.mk_name.specs.declared.fault.Source.TheVariants.{Makefile}
@@ -27,10 +27,10 @@ pub record Expanded : Type 0 where
 
 -- what an expansion comes to: a text, or a fault
 abbrev pub Outcome : Type 0
-Outcome = Result Expanded Told
+Outcome = Result Expanded Reported
 
 -- a fault of an expansion: who expands sets its place
-abbrev pub macro_fault : Kind → List Name → Told
+abbrev pub macro_fault : Kind → List Name → Reported
 macro_fault kind names = record { kind = kind; source = Makefile; place = 0; names = names }
 
 -- the names of internal macros: one of these bytes, alone or before `D` or `F`
@@ -44,7 +44,7 @@ is_internal (a ∷ b ∷ []) = is_internal_sign a && (b == 68 || b == 70)
 is_internal (a ∷ b ∷ c ∷ name) = false
 
 -- why a reference to this macro is refused, with so many references before it, inside the values of the busy macros
-abbrev pub refusal : List Name → ℕ → Name → Option Told
+abbrev pub refusal : List Name → ℕ → Name → Option Reported
 refusal busy count name =
     if is_internal name then Some (macro_fault InternalMacro (name ∷ []))
     else (if nat_le reference_limit count then Some (macro_fault ExpansionTooLarge [])
@@ -73,7 +73,7 @@ mutual
   -- what items come to, behind so many references, inside the values of the busy macros: by cases on the last item
   pub data Expands (macros : Macros) : List Name → List Item → ℕ → Outcome → Type 0 where
     nothing : {busy : List Name} {count : ℕ} → Expands macros busy [] count (Ok (record { text = []; count = count }))
-    failed : {busy : List Name} {items all : List Item} (item : Item) {count : ℕ} {fault : Told}
+    failed : {busy : List Name} {items all : List Item} (item : Item) {count : ℕ} {fault : Reported}
         → Expands macros busy items count (Err fault) → all ≡ items ++ item ∷ [] → Expands macros busy all count (Err fault)
     one_more : {busy : List Name} {items all : List Item} {item : Item} {count : ℕ} {front : Expanded} {given outcome : Outcome}
         → Expands macros busy items count (Ok front) → Gives macros busy item front.count given
@@ -83,7 +83,7 @@ mutual
   pub data Gives (macros : Macros) : List Name → Item → ℕ → Outcome → Type 0 where
     byte : {busy : List Name} {b count : ℕ} → Gives macros busy (Plain b) count (Ok (record { text = b ∷ []; count = count }))
     broken : {busy : List Name} {count : ℕ} → Gives macros busy Broken count (Err (macro_fault BadReference []))
-    refused : {busy : List Name} {reference : Reference} {count : ℕ} {fault : Told}
+    refused : {busy : List Name} {reference : Reference} {count : ℕ} {fault : Reported}
         → refusal busy count reference.name ≡ Some fault → Gives macros busy (Refers reference) count (Err fault)
     undefined : {busy : List Name} {reference : Reference} {count : ℕ}
         → refusal busy count reference.name ≡ None → macros reference.name ≡ None
@@ -98,12 +98,12 @@ mutual
         → outcome ≡ referred reference inner → Gives macros busy (Refers reference) count outcome
 
 -- the text of an outcome, or its fault
-abbrev pub text_of : Outcome → Result (List ℕ) Told
+abbrev pub text_of : Outcome → Result (List ℕ) Reported
 text_of (Err fault) = Err fault
 text_of (Ok expanded) = Ok expanded.text
 
 -- what a text expands to under these macros, by itself
-pub record IsExpansion (macros : Macros) (text : List ℕ) (answer : Result (List ℕ) Told) : Type 0 where
+pub record IsExpansion (macros : Macros) (text : List ℕ) (answer : Result (List ℕ) Reported) : Type 0 where
   pub outcome : Outcome
   pub expands : Expands macros [] (items_of text) 0 outcome
   pub answers : answer ≡ text_of outcome

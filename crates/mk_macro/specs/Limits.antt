@@ -1,6 +1,6 @@
 -- What comes of a reference, and of a text that would be longer than it may be.
 use Rattle.std.specs.Prelude.{◌≡◌, ◌<◌, ◌+◌, ℕ, true, false, List, [], Option, None, Some, length}
-use Rattle.mk_name.specs.Told.{Told}
+use Rattle.mk_name.specs.Reported.{Reported}
 use Rattle.mk_name.specs.declared.fault.Halt.{Halt}
 use Rattle.mk_name.specs.declared.fault.Halt.TheVariants as halts
 use Rattle.mk_name.specs.declared.fault.Kind.TheVariants.{ExpansionTooLarge}
@@ -16,7 +16,7 @@ IsOver halts.Memory limit length = Unit {0}
 IsOver (halts.Fault fault) limit length = (fault ≡ macro_fault ExpansionTooLarge []) × (limit < length)
 
 -- memory ran out, or this is the refusal's fault
-abbrev pub IsRefusal : Halt → Option Told → Type 0
+abbrev pub IsRefusal : Halt → Option Reported → Type 0
 IsRefusal halts.Memory refusal = Unit {0}
 IsRefusal (halts.Fault fault) refusal = refusal ≡ Some fault
 

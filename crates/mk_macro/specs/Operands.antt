@@ -2,7 +2,7 @@
 use Rattle.std.specs.Prelude.{ℕ, ◌+◌, Bool, List, [], Result, Ok, Err, fold, ◌&&◌, not, if◌then◌else◌}
 use Rattle.std.specs.List.{position}
 use Rattle.std.specs.Option.{option_map_or}
-use Rattle.mk_name.specs.Told.{Told}
+use Rattle.mk_name.specs.Reported.{Reported}
 use Rattle.mk_name.specs.declared.fault.Kind.TheVariants.{BadAssignment}
 use Rattle.mk_name.specs.declared.fault.Source.TheVariants.{Settings}
 use Rattle.mk_text.specs.LogicalLines.{equals, is_macro_name}
@@ -25,10 +25,10 @@ with_operand macros operand =
     else macros
 
 -- a fault of the operand at this place
-abbrev pub operand_fault : ℕ → Told
+abbrev pub operand_fault : ℕ → Reported
 operand_fault place = record { kind = BadAssignment; source = Settings; place = place; names = [] }
 
 -- the macros of all operands, the last of a name counting, or the fault of the first bad one; places count from 1
-abbrev pub operand_macros : List (List ℕ) → Result Macros Told
+abbrev pub operand_macros : List (List ℕ) → Result Macros Reported
 operand_macros operands =
     option_map_or (λ n. Err (operand_fault (n + 1))) (position is_bad operands) (Ok (fold with_operand no_macros operands))

@@ -1,27 +1,27 @@
 -- What a call says that gives a value, a fault or want of memory.
 use Rattle.std.specs.Prelude.{◌≡◌, ℕ, Result, Ok, Err}
-use Rattle.mk_name.specs.Told.{Told}
+use Rattle.mk_name.specs.Reported.{Reported}
 use Rattle.mk_name.specs.declared.fault.Halt.{Halt}
 use Rattle.mk_name.specs.declared.fault.Halt.TheVariants as halts
 use Rattle.mk_name.specs.declared.fault.Source.{Source}
 
 -- want of memory may come in place of any answer; a fault is the answer's own
-abbrev pub Halts : {Y : Type 0} → Halt → Result Y Told → Type 0
+abbrev pub Halts : {Y : Type 0} → Halt → Result Y Reported → Type 0
 Halts halts.Memory answer = Unit {0}
 Halts (halts.Fault fault) answer = answer ≡ Err fault
 
 -- a call gives this value or this fault, unless memory ran out
-abbrev pub Gives : {Y : Type 0} → Result Y Halt → Result Y Told → Type 0
+abbrev pub Gives : {Y : Type 0} → Result Y Halt → Result Y Reported → Type 0
 Gives (Ok value) answer = answer ≡ Ok value
 Gives (Err halt) answer = Halts halt answer
 
 -- want of memory may come in place of any answer; a fault is one of the answers
-abbrev pub HaltsAmong : {Y : Type 0} → Halt → (Result Y Told → Type 0) → Type 0
+abbrev pub HaltsAmong : {Y : Type 0} → Halt → (Result Y Reported → Type 0) → Type 0
 HaltsAmong halts.Memory answers = Unit {0}
 HaltsAmong (halts.Fault fault) answers = answers (Err fault)
 
 -- a call gives a value or a fault that is one of the answers, unless memory ran out
-abbrev pub Answers : {Y : Type 0} → Result Y Halt → (Result Y Told → Type 0) → Type 0
+abbrev pub Answers : {Y : Type 0} → Result Y Halt → (Result Y Reported → Type 0) → Type 0
 Answers (Ok value) answers = answers (Ok value)
 Answers (Err halt) answers = HaltsAmong halt answers
 

@@ -1,4 +1,4 @@
 pub mod Gives
 pub mod Names
 pub mod Shown
-pub mod Told
+pub mod Reported

@@ -2,7 +2,7 @@
 use Rattle.std.specs.Prelude.{ℕ, ◌/◌, ◌%◌, Bool, List, [], ◌∷◌, ◌++◌, ◌==◌, ◌&&◌, ◌||◌, nat_le, not, slice_index, codes, if◌then◌else◌}
 use Rattle.std.specs.List.{flat_map}
 use Rattle.std.specs.Fmt.{decimal}
-use Rattle.mk_name.specs.Told.{Told}
+use Rattle.mk_name.specs.Reported.{Reported}
 use Rattle.mk_name.specs.declared.fault.Kind.{Kind}
 use Rattle.mk_name.specs.declared.fault.Kind.TheVariants as kinds
 use Rattle.mk_name.specs.declared.fault.Source.{Source}
@@ -132,5 +132,5 @@ abbrev pub name_line : List ℕ → List ℕ
 name_line name = line (codes "name " ++ shown name)
 
 -- the report of a fault: that the input is refused, what is wrong, where, and which names it tells
-abbrev pub refused_text : Told → List ℕ
-refused_text told = line (codes "refused") ++ kind_line told.kind ++ place_line told.source told.place ++ flat_map name_line told.names
+abbrev pub refused_text : Reported → List ℕ
+refused_text reported = line (codes "refused") ++ kind_line reported.kind ++ place_line reported.source reported.place ++ flat_map name_line reported.names

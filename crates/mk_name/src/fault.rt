@@ -186,9 +186,9 @@ pub struct Fault {
 }
 
 impl Model for Fault {
-    ghost use Rattle.mk_name.specs.Told.{Told};
+    ghost use Rattle.mk_name.specs.Reported.{Reported};
 
-    ghost Value = { Told };
+    ghost Value = { Reported };
 
     ghost view = { λ a. record { kind = a.kind; source = a.source; place = a.place; names = a.names.items } };
 }

@@ -34,11 +34,11 @@ module _ {K : Type 0} (cmp : K → K → Ordering) (total : IsTotalOrder cmp) wh
   ]
 
   -- where the test of equality is that of the order, the search tells whether x stands in the list
-  pub search_tells : (same : K → K → Bool) → ((y x : K) → same y x ≡ is_eq (cmp y x)) → (xs : List K) (x : K) (r : Result ℕ ℕ)
+  pub search_reports : (same : K → K → Bool) → ((y x : K) → same y x ≡ is_eq (cmp y x)) → (xs : List K) (x : K) (r : Result ℕ ℕ)
       → IsStrictlySortedBy cmp xs → IsSearchInRange r (length xs) → IsBinarySearchResult (λ y. cmp y x) xs r → is_ok r ≡ has same xs x
-  search_tells same ties xs x (Ok i) sorted inside found =
+  search_reports same ties xs x (Ok i) sorted inside found =
       sym (list_any_at (λ y. same y x) xs i x inside (ties (get_or xs i x) x ∙ ap is_eq (found x)))
-  search_tells same ties xs x (Err i) sorted inside found =
+  search_reports same ties xs x (Err i) sorted inside found =
       let parts = found (rises xs x sorted) in
       sym (list_any_none (λ y. same y x) xs (λ k d within. elim (cases_order k i) [
         | inl at ↦ ties (get_or xs k d) x ∙ ap is_eq (parts.1 k d (omega (arith, at)) within)

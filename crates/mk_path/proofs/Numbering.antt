@@ -14,7 +14,7 @@ use Rattle.mk_path.specs.declared.path.Path.{Path}
 use Rattle.mk_path.specs.Index.{path_at}
 use Rattle.mk_path.specs.Paths.{path_cmp, same_path}
 use Rattle.mk_path.specs.Places.{AreNumbers, ArePlaces}
-use Rattle.mk_path.proofs.Halves.{search_tells}
+use Rattle.mk_path.proofs.Halves.{search_reports}
 use Rattle.mk_path.proofs.PathOrder.{path_cmp_total, path_ties}
 
 -- the path behind a reference
@@ -75,7 +75,7 @@ not_missed paths asked i rise inside found there =
     let is : (get_or paths k asked).now ≡ asked.now = sym (get_or-map behind paths k asked asked.now below) ∙ there.2 in
     let same : same_path (get_or paths k asked).now asked.now ≡ true = ap (λ (p : Path). same_path p asked.now) is ∙ same_itself asked.now in
     let has : list_any (λ (y : Bor Path). same_path y.now asked.now) paths ≡ true = list_any_at (λ (y : Bor Path). same_path y.now asked.now) paths k asked below same in
-    both_ways _ refl (search_tells order order_total (λ p q. same_path p.now q.now) (λ p q. path_ties p.now q.now) paths asked (Err i) (rise_before paths rise) inside found ∙ has)
+    both_ways _ refl (search_reports order order_total (λ p q. same_path p.now q.now) (λ p q. path_ties p.now q.now) paths asked (Err i) (rise_before paths rise) inside found ∙ has)
 
 -- a reference to a path of these
 pub record Behind (paths : List (Bor Path)) (p : Path) : Type 0 where

@@ -2,7 +2,7 @@
 use Rattle.std.proofs.Common.{◌≡◌, ◌≢◌, ◌∙◌, ℕ, Bool, true, false, List, Result, Ok, Err, subst, sym, refl, IsTrue}
 use Rattle.mk_name.specs.Gives.{HaltsAmong}
 use Rattle.mk_name.specs.Shown.{refused_text}
-use Rattle.mk_name.specs.Told.{Told}
+use Rattle.mk_name.specs.Reported.{Reported}
 use Rattle.mk_name.specs.declared.fault.Halt.{Halt}
 use Rattle.mk_name.specs.declared.fault.Halt.TheVariants.{Fault}
 use Rattle.mk_race.specs.Played.{IsPlayed}
@@ -25,36 +25,36 @@ pub texts_are : (root root' : List ℕ) (operands operands' : List (List ℕ)) (
 texts_are root root' operands operands' base base' makefile makefile' listing listing' includes r o b m l x y is_x is_y = cc
 
 -- the answer to a replay over what was read is the one over the texts
-pub replay_told : (old new : Texts) (footprints footprints' log log' : List ℕ) (limit : ℕ) (tie : Bool) (status : Status) (text : List ℕ)
+pub replay_reported : (old new : Texts) (footprints footprints' log log' : List ℕ) (limit : ℕ) (tie : Bool) (status : Status) (text : List ℕ)
     → old ≡ new → footprints ≡ footprints' → log ≡ log' → IsReplayAnswer old footprints log limit tie status text
     → IsReplayAnswer new footprints' log' limit tie status text
-replay_told old new footprints footprints' log log' limit tie status text t f l h =
+replay_reported old new footprints footprints' log log' limit tie status text t f l h =
     subst (λ (x : List ℕ). IsReplayAnswer new footprints' x limit tie status text) l
     (subst (λ (x : List ℕ). IsReplayAnswer new x log limit tie status text) f
     (subst (λ (x : Texts). IsReplayAnswer x footprints log limit tie status text) t h))
 
 -- the report of the fault of a replay is its answer
-pub refused_is : (texts : Texts) (footprints log : List ℕ) (limit limit' : ℕ) (tie : Bool) (halt : Halt) (fault : Told) (status : Status) (text : List ℕ)
+pub refused_is : (texts : Texts) (footprints log : List ℕ) (limit limit' : ℕ) (tie : Bool) (halt : Halt) (fault : Reported) (status : Status) (text : List ℕ)
     → HaltsAmong halt (IsPlayed texts footprints log limit' tie) → halt ≡ Fault fault → limit' ≡ limit → status ≡ Refused → text ≡ refused_text fault
     → IsReplayAnswer texts footprints log limit tie status text
-refused_is texts footprints log limit limit' tie halt fault status text played is same ends told =
+refused_is texts footprints log limit limit' tie halt fault status text played is same ends reported =
     let at : HaltsAmong (Fault fault) (IsPlayed texts footprints log limit' tie) = subst (λ (h : Halt). HaltsAmong h (IsPlayed texts footprints log limit' tie)) is played in
-    rw ends (fault, subst (λ (n : ℕ). IsPlayed texts footprints log n tie (Err fault)) same at, told)
+    rw ends (fault, subst (λ (n : ℕ). IsPlayed texts footprints log n tie (Err fault)) same at, reported)
 
 -- what is told of a log that was played is its answer
 pub outcome_is : (texts : Texts) (footprints log : List ℕ) (limit limit' : ℕ) (tie : Bool) (played : Played) (status : Status) (text : List ℕ)
     → IsPlayed texts footprints log limit' tie (Ok played) → limit' ≡ limit → status ≡ status_of played → IsOutcomeText played text
     → IsReplayAnswer texts footprints log limit tie status text
-outcome_is texts footprints log limit limit' tie (Allowed replayed) status text played same ends told =
-    rw ends (replayed, subst (λ (n : ℕ). IsPlayed texts footprints log n tie (Ok (Allowed replayed))) same played, told)
-outcome_is texts footprints log limit limit' tie (NotAllowed place refusal) status text played same ends told =
-    rw ends (place, refusal, subst (λ (n : ℕ). IsPlayed texts footprints log n tie (Ok (NotAllowed place refusal))) same played, told)
+outcome_is texts footprints log limit limit' tie (Allowed replayed) status text played same ends reported =
+    rw ends (replayed, subst (λ (n : ℕ). IsPlayed texts footprints log n tie (Ok (Allowed replayed))) same played, reported)
+outcome_is texts footprints log limit limit' tie (NotAllowed place refusal) status text played same ends reported =
+    rw ends (place, refusal, subst (λ (n : ℕ). IsPlayed texts footprints log n tie (Ok (NotAllowed place refusal))) same played, reported)
 
 -- the report of the fault of a plan is its answer
-pub unplanned_is : (texts : Texts) (halt : Halt) (fault : Told) (status : Status) (text : List ℕ)
+pub unplanned_is : (texts : Texts) (halt : Halt) (fault : Reported) (status : Status) (text : List ℕ)
     → HaltsAmong halt (IsPlanned texts) → halt ≡ Fault fault → status ≡ Refused → text ≡ refused_text fault → IsOrderAnswer texts status text
-unplanned_is texts halt fault status text planned is ends told =
-    rw ends (fault, subst (λ (h : Halt). HaltsAmong h (IsPlanned texts)) is planned, told)
+unplanned_is texts halt fault status text planned is ends reported =
+    rw ends (fault, subst (λ (h : Halt). HaltsAmong h (IsPlanned texts)) is planned, reported)
 
 -- what is refused has not failed
 pub refusal_not_failed : (status : Status) → status ≡ Refused → status ≢ Failed
@@ -67,26 +67,26 @@ not_failed status done failed = let e : ◌≡◌ {A = Status} Done Failed = sym
 -- what is told of a plan is its answer
 pub plan_is : (texts : Texts) (planned : Planned) (status : Status) (text : List ℕ)
     → IsPlanned texts (Ok planned) → status ≡ Done → text ≡ plan_text planned.plan → IsOrderAnswer texts status text
-plan_is texts planned status text is ends told = rw ends (planned, is, told)
+plan_is texts planned status text is ends reported = rw ends (planned, is, reported)
 
 -- the answer to a proof over what was read is the one over the texts
-pub verify_told : (old new : Texts) (footprints footprints' proof proof' : List ℕ) (status : Status) (text : List ℕ)
+pub verify_reported : (old new : Texts) (footprints footprints' proof proof' : List ℕ) (status : Status) (text : List ℕ)
     → old ≡ new → footprints ≡ footprints' → proof ≡ proof' → IsVerifyAnswer old footprints proof status text
     → IsVerifyAnswer new footprints' proof' status text
-verify_told old new footprints footprints' proof proof' status text t f p h =
+verify_reported old new footprints footprints' proof proof' status text t f p h =
     subst (λ (x : List ℕ). IsVerifyAnswer new footprints' x status text) p
     (subst (λ (x : List ℕ). IsVerifyAnswer new x proof status text) f
     (subst (λ (x : Texts). IsVerifyAnswer x footprints proof status text) t h))
 
 -- the report of the fault of a proof is its answer
-pub unverified_is : (Is : Result Bool Told → Type 0) (Shown : Type 0) (halt : Halt) (fault : Told) (status : Status) (text : List ℕ)
+pub unverified_is : (Is : Result Bool Reported → Type 0) (Shown : Type 0) (halt : Halt) (fault : Reported) (status : Status) (text : List ℕ)
     → HaltsAmong halt Is → halt ≡ Fault fault → status ≡ Refused → text ≡ refused_text fault → SaysVerdict Is Shown status text
-unverified_is Is Shown halt fault status text verified is ends told =
-    rw ends (fault, subst (λ (h : Halt). HaltsAmong h Is) is verified, told)
+unverified_is Is Shown halt fault status text verified is ends reported =
+    rw ends (fault, subst (λ (h : Halt). HaltsAmong h Is) is verified, reported)
 
 -- what is told of a proof that was judged is its answer
-pub verdict_is : (Is : Result Bool Told → Type 0) (Shown : Type 0) (accepted : Bool) (status : Status) (text : List ℕ)
+pub verdict_is : (Is : Result Bool Reported → Type 0) (Shown : Type 0) (accepted : Bool) (status : Status) (text : List ℕ)
     → Is (Ok accepted) → (IsTrue accepted → Shown) → status ≡ verdict_status accepted → text ≡ verdict_text accepted
     → SaysVerdict Is Shown status text
-verdict_is Is Shown true status text verified shows ends told = rw ends (verified, shows refl, told)
-verdict_is Is Shown false status text verified shows ends told = rw ends (verified, told)
+verdict_is Is Shown true status text verified shows ends reported = rw ends (verified, shows refl, reported)
+verdict_is Is Shown false status text verified shows ends reported = rw ends (verified, reported)

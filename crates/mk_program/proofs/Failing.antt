@@ -6,7 +6,7 @@ use Rattle.clap.specs.Words.{HasKind, IsAmong, Kinds, kind_of}
 use Rattle.clap.specs.declared.error.Error.{Error}
 use Rattle.clap.specs.declared.error.kind.ErrorKind.{ErrorKind}
 use Rattle.clap.specs.declared.error.kind.ErrorKind.TheVariants.{OutOfMemory}
-use Rattle.mk_program.specs.Answers.{IsFailureOf, IsForSerial, IsRequestFailure, IsUntold}
+use Rattle.mk_program.specs.Answers.{IsFailureOf, IsForSerial, IsRequestFailure, IsUnreported}
 use Rattle.mk_program.specs.CommandLine.{Asks, IsAnswerable, IsCall, asked, wrong}
 use Rattle.mk_program.specs.Includes.{IsIncludeFailure}
 use Rattle.mk_program.specs.Inputs.{IsInputFailure}
@@ -26,13 +26,13 @@ no_write failure (inl memory) = λ is. cc
 no_write failure (inr read) = λ is. cc
 
 -- a name that is no text is told of a log in serial order alone
-not_told : (X : Type 0) (opens : List ℕ → Option Bool) (request : Request) → (X × IsIncludeFailure NotText) ⊎ IsInputFailure opens (inputs_of request) NotText ⊎ IsUntold request NotText
+not_reported : (X : Type 0) (opens : List ℕ → Option Bool) (request : Request) → (X × IsIncludeFailure NotText) ⊎ IsInputFailure opens (inputs_of request) NotText ⊎ IsUnreported request NotText
     → IsForSerial request
-not_told X opens request (inl (given, inl memory)) = cc
-not_told X opens request (inl (given, inr read)) = cc
-not_told X opens request (inr (inl fails)) = absurd fails
-not_told X opens request (inr (inr (inl memory))) = cc
-not_told X opens request (inr (inr (inr untold))) = untold.0
+not_reported X opens request (inl (given, inl memory)) = cc
+not_reported X opens request (inl (given, inr read)) = cc
+not_reported X opens request (inr (inl fails)) = absurd fails
+not_reported X opens request (inr (inr (inl memory))) = cc
+not_reported X opens request (inr (inr (inr unreported))) = unreported.0
 
 -- a failure of the files that the words ask for may come of the words
 pub input_failure : (words : List (Bor (List ℕ))) (opens : List ℕ → Option Bool) (request : Request) (failure : Failure) → Asks request (asked words)
@@ -40,11 +40,11 @@ pub input_failure : (words : List (Bor (List ℕ))) (opens : List ℕ → Option
 input_failure words opens request (Read input) asks fails = (request, asks, fails)
 input_failure words opens request Write asks fails = tt
 input_failure words opens request Memory asks fails = tt
-input_failure words opens request NotText asks fails = (request, asks, not_told (IsSome (includes_path request)) opens request fails)
+input_failure words opens request NotText asks fails = (request, asks, not_reported (IsSome (includes_path request)) opens request fails)
 input_failure words opens request (Usage text) asks (inl included) = absurd (no_usage text included.1)
 input_failure words opens request (Usage text) asks (inr (inl fails)) = absurd fails
 input_failure words opens request (Usage text) asks (inr (inr (inl memory))) = cc
-input_failure words opens request (Usage text) asks (inr (inr (inr untold))) = let e : Usage text ≡ NotText = untold.1 in cc
+input_failure words opens request (Usage text) asks (inr (inr (inr unreported))) = let e : Usage text ≡ NotText = unreported.1 in cc
 
 -- and is none of the output
 input_not_written : (opens : List ℕ → Option Bool) (inputs : List InputPath) (failure : Failure) → IsInputFailure opens inputs failure → failure ≢ Write
@@ -58,7 +58,7 @@ pub not_written : (opens : List ℕ → Option Bool) (request : Request) (failur
 not_written opens request failure (inl included) = no_write failure included.1
 not_written opens request failure (inr (inl fails)) = input_not_written opens (inputs_of request) failure fails
 not_written opens request failure (inr (inr (inl memory))) = λ is. cc
-not_written opens request failure (inr (inr (inr untold))) = λ is. let e : failure ≡ NotText = untold.1 in cc
+not_written opens request failure (inr (inr (inr unreported))) = λ is. let e : failure ≡ NotText = unreported.1 in cc
 
 -- why the words get no answer but the help or the version
 abbrev pub IsRefusal : ErrorKind → Failure → Type 0

@@ -2,14 +2,14 @@
 use Rattle.std.proofs.Common.{◌≡◌, ◌≢◌, ◌∙◌, ℕ, Bool, List, Ok, subst, sym}
 use Rattle.mk_name.specs.Gives.{HaltsAmong}
 use Rattle.mk_name.specs.Shown.{refused_text}
-use Rattle.mk_name.specs.Told.{Told}
+use Rattle.mk_name.specs.Reported.{Reported}
 use Rattle.mk_name.specs.declared.fault.Halt.{Halt}
 use Rattle.mk_name.specs.declared.fault.Halt.TheVariants.{Fault}
 use Rattle.mk_race.specs.Fixed.{IsFixing}
 use Rattle.mk_race.specs.Stages.{Texts}
 use Rattle.mk_race.specs.declared.fixing.Fixing.{Fixing}
 use Rattle.mk_race.specs.declared.fixing.Fixing.TheVariants.{Fixed, NotFixed}
-use Rattle.mk_program.specs.Answers.{IsFixAnswer, IsFixTold}
+use Rattle.mk_program.specs.Answers.{IsFixAnswer, IsFixReported}
 use Rattle.mk_program.specs.declared.statuses.Status.{Status}
 use Rattle.mk_program.specs.declared.statuses.Status.TheVariants.{Done, No, Failed, Refused}
 
@@ -21,25 +21,25 @@ fix_read old new footprints footprints' proof status text t f h =
 
 -- what is told of a build ends as done or as no
 pub fixing_not_failed : (texts : Texts) (footprints : List ℕ) (proof : Bool) (fixing : Fixing) (status : Status) (text : List ℕ)
-    → IsFixTold texts footprints proof fixing status text → status ≢ Failed
-fixing_not_failed texts footprints proof (Fixed lines jobs chains) status text told failed =
-    let e : ◌≡◌ {A = Status} Done Failed = sym told.0 ∙ failed in cc
-fixing_not_failed texts footprints proof (NotFixed jobs edges refusal) status text told failed =
-    let e : ◌≡◌ {A = Status} No Failed = sym told.0 ∙ failed in cc
+    → IsFixReported texts footprints proof fixing status text → status ≢ Failed
+fixing_not_failed texts footprints proof (Fixed lines jobs chains) status text reported failed =
+    let e : ◌≡◌ {A = Status} Done Failed = sym reported.0 ∙ failed in cc
+fixing_not_failed texts footprints proof (NotFixed jobs edges refusal) status text reported failed =
+    let e : ◌≡◌ {A = Status} No Failed = sym reported.0 ∙ failed in cc
 
 -- the report of the fault of a build is its answer
-pub unfixed_is : (texts : Texts) (footprints : List ℕ) (proof : Bool) (halt : Halt) (fault : Told) (status : Status) (text : List ℕ)
+pub unfixed_is : (texts : Texts) (footprints : List ℕ) (proof : Bool) (halt : Halt) (fault : Reported) (status : Status) (text : List ℕ)
     → HaltsAmong halt (IsFixing texts footprints) → halt ≡ Fault fault → status ≡ Refused → text ≡ refused_text fault
     → IsFixAnswer texts footprints proof status text
-unfixed_is texts footprints proof halt fault status text given is ends told =
-    rw ends (fault, subst (λ (h : Halt). HaltsAmong h (IsFixing texts footprints)) is given, told)
+unfixed_is texts footprints proof halt fault status text given is ends reported =
+    rw ends (fault, subst (λ (h : Halt). HaltsAmong h (IsFixing texts footprints)) is given, reported)
 
 -- what is told of it is its answer
 pub fixed_is : (texts : Texts) (footprints : List ℕ) (proof : Bool) (fixing : Fixing) (status : Status) (text : List ℕ)
-    → IsFixing texts footprints (Ok fixing) → IsFixTold texts footprints proof fixing status text → IsFixAnswer texts footprints proof status text
-fixed_is texts footprints proof (Fixed lines jobs chains) status text is told =
-    subst (λ (s : Status). IsFixTold texts footprints proof (Fixed lines jobs chains) s text → IsFixAnswer texts footprints proof s text) (sym told.0)
-    (λ here. (Fixed lines jobs chains, is, here)) told
-fixed_is texts footprints proof (NotFixed jobs edges refusal) status text is told =
-    subst (λ (s : Status). IsFixTold texts footprints proof (NotFixed jobs edges refusal) s text → IsFixAnswer texts footprints proof s text) (sym told.0)
-    (λ here. (NotFixed jobs edges refusal, is, here)) told
+    → IsFixing texts footprints (Ok fixing) → IsFixReported texts footprints proof fixing status text → IsFixAnswer texts footprints proof status text
+fixed_is texts footprints proof (Fixed lines jobs chains) status text is reported =
+    subst (λ (s : Status). IsFixReported texts footprints proof (Fixed lines jobs chains) s text → IsFixAnswer texts footprints proof s text) (sym reported.0)
+    (λ here. (Fixed lines jobs chains, is, here)) reported
+fixed_is texts footprints proof (NotFixed jobs edges refusal) status text is reported =
+    subst (λ (s : Status). IsFixReported texts footprints proof (NotFixed jobs edges refusal) s text → IsFixAnswer texts footprints proof s text) (sym reported.0)
+    (λ here. (NotFixed jobs edges refusal, is, here)) reported

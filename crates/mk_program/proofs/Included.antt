@@ -17,10 +17,10 @@ pub line_more : (files now : List ℕ → Option (List ℕ)) → ((path : List �
     → (later : List Pair) × (pairs_of files rest ≡ Some later) × (new ++ later ≡ pairs)
 line_more files now same line lines rest old new pairs more parted is whole adds =
     let parts = both_parts (line_pairs files line) (pairs_of files rest) more (sym (ap (pairs_of files) parted) ∙ is) in
-    let told = ap (λ (o : Option (List ℕ)). if length line == 0 then Some [] else option_map (λ text. (line, text) ∷ []) o) (same line) in (
+    let reported = ap (λ (o : Option (List ℕ)). if length line == 0 then Some [] else option_map (λ text. (line, text) ∷ []) o) (same line) in (
       parts.1,
       parts.3,
-      ap (λ (xs : List Pair). xs ++ parts.1) (adds parts.0 (told ∙ parts.2)) ∙ append_assoc old parts.0 parts.1 ∙ ap (λ (xs : List Pair). old ++ xs) parts.4 ∙ whole,
+      ap (λ (xs : List Pair). xs ++ parts.1) (adds parts.0 (reported ∙ parts.2)) ∙ append_assoc old parts.0 parts.1 ∙ ap (λ (xs : List Pair). old ++ xs) parts.4 ∙ whole,
     )
 
 -- no line is left

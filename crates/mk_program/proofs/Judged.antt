@@ -26,9 +26,9 @@ use Rattle.mk_program.specs.declared.statuses.Status.{Status}
 use Rattle.mk_program.specs.declared.statuses.Status.TheVariants.{Done, Failed, No, Refused}
 
 -- the answer to a check over what was read is the one over the texts
-pub check_told : (old new : Texts) (footprints footprints' : List ℕ) (proof : Bool) (status : Status) (text : List ℕ)
+pub check_reported : (old new : Texts) (footprints footprints' : List ℕ) (proof : Bool) (status : Status) (text : List ℕ)
     → old ≡ new → footprints ≡ footprints' → IsCheckAnswer old footprints proof status text → IsCheckAnswer new footprints' proof status text
-check_told old new footprints footprints' proof status text t f h =
+check_reported old new footprints footprints' proof status text t f h =
     subst (λ (x : List ℕ). IsCheckAnswer new x proof status text) f (subst (λ (x : Texts). IsCheckAnswer x footprints proof status text) t h)
 
 -- what is told of a build or of tasks that were judged is their answer
@@ -39,13 +39,13 @@ judged_is Is Headline (judged.Safe jobs chains) proof status text answered headl
     rw ends (record { jobs = jobs; chains = chains; answer = answered; report = report; headline = headline tt })
 judged_is Is Headline (judged.Race jobs trace) proof status text answered headline holds ends report =
     rw ends (record { jobs = jobs; trace = trace; answer = answered; report = report; holds = holds })
-judged_is Is Headline (judged.Refused told) proof status text answered headline holds ends report = rw ends (told, answered, report)
+judged_is Is Headline (judged.Refused reported) proof status text answered headline holds ends report = rw ends (reported, answered, report)
 
 -- a build that was judged is told
 pub judged_ends : (answer : Judged) (status : Status) → status ≡ judged_status answer → status ≢ Failed
 judged_ends (judged.Safe jobs chains) status ends failed = let e : ◌≡◌ {A = Status} Done Failed = sym ends ∙ failed in cc
 judged_ends (judged.Race jobs trace) status ends failed = let e : ◌≡◌ {A = Status} No Failed = sym ends ∙ failed in cc
-judged_ends (judged.Refused told) status ends failed = let e : ◌≡◌ {A = Status} Refused Failed = sym ends ∙ failed in cc
+judged_ends (judged.Refused reported) status ends failed = let e : ◌≡◌ {A = Status} Refused Failed = sym ends ∙ failed in cc
 
 -- a name that begins with another letter is not that of a check
 not_check : (name : Text) → (found : Text) → found ≡ codes "check" → found ≡ name → (slice_index_or name 0 0 == 99) ≡ false → ⊥
@@ -88,15 +88,15 @@ question_safe : (question : TaskQuestion) (path root : Bor (List ℕ)) (files : 
     → IsTasksAnswer question root.now text Done answer)
     → (tasks : List ℕ) → files path.now ≡ Some tasks → tasked.NoScheduleShows root.now tasks
 unfolding only_tasks
-question_safe (questions.Check proof) path root files answer asks told tasks opened =
+question_safe (questions.Check proof) path root files answer asks reported tasks opened =
     let hold : Hold files (input_at inputs.Tasks path) (only_tasks tasks) = record {
       each = All-cons (λ (known : InputPath). files known.path.now ≡ Some (only_tasks tasks known.input)) _ [] opened
           (All-nil (λ (known : InputPath). files known.path.now ≡ Some (only_tasks tasks known.input)));
       others = no_others tasks path;
     } in
-    (told [] (only_tasks tasks) refl hold).headline
-question_safe (questions.Verify proof) path root files answer asks told tasks opened = absurd (not_check (codes "verify") asks.0 asks.2 asks.3.0 refl)
-question_safe questions.List path root files answer asks told tasks opened = absurd (not_check (codes "list") asks.0 asks.2 asks.3 refl)
+    (reported [] (only_tasks tasks) refl hold).headline
+question_safe (questions.Verify proof) path root files answer asks reported tasks opened = absurd (not_check (codes "verify") asks.0 asks.2 asks.3.0 refl)
+question_safe questions.List path root files answer asks reported tasks opened = absurd (not_check (codes "list") asks.0 asks.2 asks.3 refl)
 
 -- what is told of a safe build, or of safe tasks, says that no schedule shows
 pub says_safe : (words : List (Bor Text)) (files : List ℕ → Option (List ℕ)) (text : List ℕ) → AskToCheck (asked words)

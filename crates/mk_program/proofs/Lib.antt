@@ -9,7 +9,7 @@ mod RaceLists
 mod Reading
 mod SerialAnswers
 mod TaskAnswers
-mod Told
+mod Reported
 mod Values
 pub mod Included
 pub mod Judged

@@ -7,9 +7,9 @@ use Rattle.mk_sched.specs.Stores.{File}
 use Rattle.mk_program.specs.OutcomeText.{file_line, file_lines}
 
 -- a refusal that is told in parts
-pub refusal_told : (number word place : List ℕ) → codes "not allowed V" ++ (number ++ 32 ∷ (word ++ (32 ∷ 97 ∷ 116 ∷ 32 ∷ (place ++ 10 ∷ []))))
+pub refusal_reported : (number word place : List ℕ) → codes "not allowed V" ++ (number ++ 32 ∷ (word ++ (32 ∷ 97 ∷ 116 ∷ 32 ∷ (place ++ 10 ∷ []))))
     ≡ line (codes "not allowed V" ++ number ++ codes " " ++ word ++ codes " at " ++ place)
-refusal_told number word place = simp append_assoc
+refusal_reported number word place = simp append_assoc
 
 -- the line of one file more, in front of those that are left
 pub lines_step : (old new all : List ℕ) (name : Name) (file : File) (before rest : Files) → before ≡ (name, file) ∷ rest → old ++ file_lines before ≡ all

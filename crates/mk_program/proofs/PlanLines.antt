@@ -46,12 +46,12 @@ lines_step nodes i before after within so_far line = go (slice_get nodes i) refl
     go (Some node) is line = line ∙ ap (λ l. l ++ node_line nodes i node) so_far ∙ sym (lines_more nodes i node is)
 
 -- a line that is told in parts is the node's
-pub line_told : (nodes : List Node) (i : ℕ) (maker : Maker) (name : Name) (prerequisites : List ℕ) (old head new : List ℕ)
+pub line_reported : (nodes : List Node) (i : ℕ) (maker : Maker) (name : Name) (prerequisites : List ℕ) (old head new : List ℕ)
     → maker ≡ (node_at nodes i).maker → name ≡ (node_at nodes i).name → prerequisites ≡ (node_at nodes i).prerequisites
     → head ≡ decimal i ++ (32 ∷ (kind_word maker ++ 32 ∷ []))
     → new ≡ (((old ++ head) ++ shown name) ++ needs nodes prerequisites) ++ 10 ∷ []
     → IfSome (slice_get nodes i) (λ node. new ≡ old ++ node_line nodes i node)
-line_told nodes i maker name prerequisites old head new m n p h e = go (slice_get nodes i) refl
+line_reported nodes i maker name prerequisites old head new m n p h e = go (slice_get nodes i) refl
   where
     go : (o : Option Node) → slice_get nodes i ≡ o → IfSome o (λ node. new ≡ old ++ node_line nodes i node)
     go None is = tt

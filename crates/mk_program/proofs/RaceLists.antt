@@ -4,7 +4,7 @@ use Rattle.std.proofs.lemmas.Bool.{eqb-true, false≢true}
 use Rattle.std.proofs.lemmas.List.{nil_from_length}
 use Rattle.mk_name.specs.Gives.{HaltsAmong}
 use Rattle.mk_name.specs.Shown.{refused_text}
-use Rattle.mk_name.specs.Told.{Told}
+use Rattle.mk_name.specs.Reported.{Reported}
 use Rattle.mk_name.specs.declared.fault.Halt.{Halt}
 use Rattle.mk_name.specs.declared.fault.Halt.TheVariants.{Fault}
 use Rattle.mk_race.specs.Stages.{Texts}
@@ -32,17 +32,17 @@ races_not_failed races status ends failed = elim (races_end races) [
 ]
 
 -- the report of the fault of a build or of tasks is their answer
-pub unlisted_is : (Is : Result RaceList Told → Type 0) (halt : Halt) (fault : Told) (status : Status) (text : List ℕ)
+pub unlisted_is : (Is : Result RaceList Reported → Type 0) (halt : Halt) (fault : Reported) (status : Status) (text : List ℕ)
     → HaltsAmong halt Is → halt ≡ Fault fault → status ≡ Refused → text ≡ refused_text fault → SaysList Is status text
-unlisted_is Is halt fault status text given is ends told = rw ends (fault, subst (λ (h : Halt). HaltsAmong h Is) is given, told)
+unlisted_is Is halt fault status text given is ends reported = rw ends (fault, subst (λ (h : Halt). HaltsAmong h Is) is given, reported)
 
 -- the report of their races is their answer
-pub listed_is : (Is : Result RaceList Told → Type 0) (listed : RaceList) (status : Status) (text : List ℕ)
+pub listed_is : (Is : Result RaceList Reported → Type 0) (listed : RaceList) (status : Status) (text : List ℕ)
     → Is (Ok listed) → status ≡ races_status listed.found.races.items
     → IsRacesText listed.jobs listed.found.pairs listed.found.races.items text → SaysList Is status text
-listed_is Is listed status text is ends told = elim (races_end listed.found.races.items) [
-  | inl done ↦ subst (λ (s : Status). SaysList Is s text) (sym (ends ∙ done)) (listed, is, sym done, told)
-  | inr some ↦ subst (λ (s : Status). SaysList Is s text) (sym (ends ∙ some)) (listed, is, sym some, told)
+listed_is Is listed status text is ends reported = elim (races_end listed.found.races.items) [
+  | inl done ↦ subst (λ (s : Status). SaysList Is s text) (sym (ends ∙ done)) (listed, is, sym done, reported)
+  | inr some ↦ subst (λ (s : Status). SaysList Is s text) (sym (ends ∙ some)) (listed, is, sym some, reported)
 ]
 
 -- without a race it ends as done, and else as no

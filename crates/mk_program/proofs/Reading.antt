@@ -21,13 +21,13 @@ pub record FirstAreOpen {F : Type 0} (left : F → Option (List ℕ)) (failed : 
   pub same_opens : (path : List ℕ) → opens_now path ≡ opens path
   pub named : map (λ file. file.input) files ≡ map (λ known. known.input) (take i inputs)
   pub work : All (λ file. failed file.file ≡ false) files
-  pub told : (want : InputFile → List ℕ) → HoldEach text inputs want → All (λ file. left file.file ≡ Some (want file.input)) files
+  pub reported : (want : InputFile → List ℕ) → HoldEach text inputs want → All (λ file. left file.file ≡ Some (want file.input)) files
 
 -- what is read so far, of all files, and those that are left
 pub record AreReadSoFar {F : Type 0} (left : F → Option (List ℕ)) (failed : F → Bool) (all rest : List (OpenInput F)) (texts : List InputText) : Type 0 where
   pub named : map (λ file. file.input) all ≡ map (λ known. known.input) texts ++ map (λ file. file.input) rest
   pub work : All (λ file. failed file.file ≡ false) rest
-  pub told : (want : InputFile → List ℕ) → All (λ file. left file.file ≡ Some (want file.input)) all
+  pub reported : (want : InputFile → List ℕ) → All (λ file. left file.file ≡ Some (want file.input)) all
       → All (λ file. left file.file ≡ Some (want file.input)) rest × All (λ known. known.text.items ≡ want known.input) texts
 
 module _ {F : Type 0} (left : F → Option (List ℕ)) (failed : F → Bool) where
@@ -40,7 +40,7 @@ module _ {F : Type 0} (left : F → Option (List ℕ)) (failed : F → Bool) whe
     same_opens = λ path. refl;
     named = refl;
     work = All-nil (λ (file : OpenInput F). failed file.file ≡ false);
-    told = λ want holds. All-nil (λ (file : OpenInput F). left file.file ≡ Some (want file.input));
+    reported = λ want holds. All-nil (λ (file : OpenInput F). left file.file ≡ Some (want file.input));
   })
 
   -- one file more
@@ -66,7 +66,7 @@ module _ {F : Type 0} (left : F → Option (List ℕ)) (failed : F → Bool) whe
         named = named_all;
         work = All-append (λ (f : OpenInput F). failed f.file ≡ false) files (file ∷ []) so_far.work
             (All-cons (λ (f : OpenInput F). failed f.file ≡ false) file [] works (All-nil (λ (f : OpenInput F). failed f.file ≡ false)));
-        told = λ want holds. All-append (λ (f : OpenInput F). left f.file ≡ Some (want f.input)) files (file ∷ []) (so_far.told want holds)
+        reported = λ want holds. All-append (λ (f : OpenInput F). left f.file ≡ Some (want f.input)) files (file ∷ []) (so_far.reported want holds)
             (All-cons (λ (f : OpenInput F). left f.file ≡ Some (want f.input)) file []
             (whole (want file.input) (so_far.same_text known.path.now ∙ holds i d within ∙ ap (λ (n : InputFile). Some (want n)) (sym input)))
             (All-nil (λ (f : OpenInput F). left f.file ≡ Some (want f.input))));
@@ -83,7 +83,7 @@ module _ {F : Type 0} (left : F → Option (List ℕ)) (failed : F → Bool) whe
   none_read all rest texts whole none work = rw (whole, none) (record {
     named = refl;
     work = work;
-    told = λ want holds. (holds, All-nil (λ (known : InputText). known.text.items ≡ want known.input));
+    reported = λ want holds. (holds, All-nil (λ (known : InputText). known.text.items ≡ want known.input));
   })
 
   -- one file more
@@ -100,8 +100,8 @@ module _ {F : Type 0} (left : F → Option (List ℕ)) (failed : F → Bool) whe
       rw grown (record {
         named = named_all;
         work = All-tail (λ (f : OpenInput F). failed f.file ≡ false) file rest first.work;
-        told = λ want holds.
-            let both = first.told want holds in
+        reported = λ want holds.
+            let both = first.reported want holds in
             let is : text.text.items ≡ want file.input = subst (λ (o : Option (List ℕ)). IfSome o (λ bytes. text.text.items ≡ bytes))
             (All-head (λ (f : OpenInput F). left f.file ≡ Some (want f.input)) file rest both.0) read in (
               All-tail (λ (f : OpenInput F). left f.file ≡ Some (want f.input)) file rest both.0,

@@ -4,7 +4,7 @@ use Rattle.mk_jobs.specs.Jobs.{Jobs}
 use Rattle.mk_log.specs.Logs.{Log}
 use Rattle.mk_name.specs.Gives.{HaltsAmong}
 use Rattle.mk_name.specs.Shown.{refused_text}
-use Rattle.mk_name.specs.Told.{Told}
+use Rattle.mk_name.specs.Reported.{Reported}
 use Rattle.mk_name.specs.declared.fault.Halt.{Halt}
 use Rattle.mk_name.specs.declared.fault.Halt.TheVariants.{Fault}
 use Rattle.mk_race.specs.Serialised.{IsLawful, IsLawfulBuild, IsSerialised}
@@ -20,10 +20,10 @@ use Rattle.mk_program.specs.declared.statuses.Status.{Status}
 use Rattle.mk_program.specs.declared.statuses.Status.TheVariants.{Done, No, Failed, Refused}
 
 -- the answer over what was read is the one over the texts
-pub serial_told : (old new : Texts) (footprints footprints' log log' : List ℕ) (limit : ℕ) (tie : Bool) (status : Status) (text : List ℕ)
+pub serial_reported : (old new : Texts) (footprints footprints' log log' : List ℕ) (limit : ℕ) (tie : Bool) (status : Status) (text : List ℕ)
     → old ≡ new → footprints ≡ footprints' → log ≡ log' → IsSerialiseAnswer old footprints log limit tie status text
     → IsSerialiseAnswer new footprints' log' limit tie status text
-serial_told old new footprints footprints' log log' limit tie status text t f l h =
+serial_reported old new footprints footprints' log log' limit tie status text t f l h =
     subst (λ (x : List ℕ). IsSerialiseAnswer new footprints' x limit tie status text) l
     (subst (λ (x : List ℕ). IsSerialiseAnswer new x log limit tie status text) f
     (subst (λ (x : Texts). IsSerialiseAnswer x footprints log limit tie status text) t h))
@@ -43,22 +43,22 @@ order_not_failed order status ends failed = elim (ends_as order) [
 ]
 
 -- the report of the fault of a log, or of its build, is its answer
-pub unordered_is : (texts : Texts) (footprints log : List ℕ) (limit limit' : ℕ) (tie : Bool) (halt : Halt) (fault : Told) (status : Status) (text : List ℕ)
+pub unordered_is : (texts : Texts) (footprints log : List ℕ) (limit limit' : ℕ) (tie : Bool) (halt : Halt) (fault : Reported) (status : Status) (text : List ℕ)
     → HaltsAmong halt (IsSerialised texts footprints log limit' tie) → halt ≡ Fault fault → limit' ≡ limit → status ≡ Refused → text ≡ refused_text fault
     → IsSerialiseAnswer texts footprints log limit tie status text
-unordered_is texts footprints log limit limit' tie halt fault status text given is same ends told =
+unordered_is texts footprints log limit limit' tie halt fault status text given is same ends reported =
     let at : HaltsAmong (Fault fault) (IsSerialised texts footprints log limit' tie) = subst (λ (h : Halt). HaltsAmong h (IsSerialised texts footprints log limit' tie)) is given in
-    rw ends (fault, subst (λ (n : ℕ). IsSerialised texts footprints log n tie (Err fault)) same at, told)
+    rw ends (fault, subst (λ (n : ℕ). IsSerialised texts footprints log n tie (Err fault)) same at, reported)
 
 -- what is told of a log is its answer
 pub order_is : (texts : Texts) (footprints log : List ℕ) (limit limit' : ℕ) (tie : Bool) (given : Serialised) (status : Status) (text : List ℕ)
     → IsSerialised texts footprints log limit' tie (Ok given) → IsLawfulBuild texts footprints log tie given → limit' ≡ limit → status ≡ order_status given.order
     → IsOrderText given.jobs given.order text → IsSerialiseAnswer texts footprints log limit tie status text
-order_is texts footprints log limit limit' tie given status text is law same ends told =
+order_is texts footprints log limit limit' tie given status text is law same ends reported =
     let at : IsSerialised texts footprints log limit tie (Ok given) = subst (λ (n : ℕ). IsSerialised texts footprints log n tie (Ok given)) same is in
     elim (ends_as given.order) [
-      | inl done ↦ subst (λ (s : Status). IsSerialiseAnswer texts footprints log limit tie s text) (sym (ends ∙ done)) (given, at, law, sym done, told)
-      | inr refused ↦ subst (λ (s : Status). IsSerialiseAnswer texts footprints log limit tie s text) (sym (ends ∙ refused)) (given, at, law, sym refused, told)
+      | inl done ↦ subst (λ (s : Status). IsSerialiseAnswer texts footprints log limit tie s text) (sym (ends ∙ done)) (given, at, law, sym done, reported)
+      | inr refused ↦ subst (λ (s : Status). IsSerialiseAnswer texts footprints log limit tie s text) (sym (ends ∙ refused)) (given, at, law, sym refused, reported)
     ]
 
 nodes_in : (jobs : Jobs) (tie : Bool) (log : Log) (order : Ordered) → IsLawful jobs tie log order → HasNodes jobs order

@@ -4,7 +4,7 @@ use Rattle.std.specs.Borrow.{Bor}
 use Rattle.std.specs.Io.KnownBytes.{Appends}
 use Rattle.clap.specs.Words.{Row, Text}
 use Rattle.mk_name.specs.Shown.{line, refused_text}
-use Rattle.mk_name.specs.Told.{Told}
+use Rattle.mk_name.specs.Reported.{Reported}
 use Rattle.mk_device.specs.Device.{AppendsBeginning}
 use Rattle.mk_cert.specs.Traces.{TraceHolds}
 use Rattle.mk_jobs.specs.Jobs.{Jobs}
@@ -61,7 +61,7 @@ use Rattle.mk_program.specs.declared.statuses.Status.TheVariants as statuses
 abbrev pub IsOrderAnswer : Texts → Status → List ℕ → Type 0
 IsOrderAnswer texts statuses.Done text = (planned : Planned) × IsPlanned texts (Ok planned) × (text ≡ plan_text planned.plan)
 IsOrderAnswer texts statuses.No text = ⊥
-IsOrderAnswer texts statuses.Refused text = (told : Told) × IsPlanned texts (Err told) × (text ≡ refused_text told)
+IsOrderAnswer texts statuses.Refused text = (reported : Reported) × IsPlanned texts (Err reported) × (text ≡ refused_text reported)
 IsOrderAnswer texts statuses.Failed text = ⊥
 
 -- the text of the run, or of the refusal of an event or of the files, or the report of the fault that refuses the texts
@@ -71,11 +71,11 @@ IsReplayAnswer texts footprints log limit tie statuses.Done text =
 IsReplayAnswer texts footprints log limit tie statuses.No text =
     (place : ℕ) × (refusal : Refusal) × IsPlayed texts footprints log limit tie (Ok (NotAllowed place refusal)) × IsOutcomeText (NotAllowed place refusal) text
 IsReplayAnswer texts footprints log limit tie statuses.Refused text =
-    (told : Told) × IsPlayed texts footprints log limit tie (Err told) × (text ≡ refused_text told)
+    (reported : Reported) × IsPlayed texts footprints log limit tie (Err reported) × (text ≡ refused_text reported)
 IsReplayAnswer texts footprints log limit tie statuses.Failed text = ⊥
 
 -- what was judged is safe by a certificate, and then the headline holds
-pub record IsToldSafe (Is : Judged → Type 0) (Headline : Type 0) (proof : Bool) (text : List ℕ) : Type 0 where
+pub record IsReportedSafe (Is : Judged → Type 0) (Headline : Type 0) (proof : Bool) (text : List ℕ) : Type 0 where
   pub jobs : Jobs
   pub chains : List (List ℕ)
   pub answer : Is (judged.Safe jobs chains)
@@ -83,7 +83,7 @@ pub record IsToldSafe (Is : Judged → Type 0) (Headline : Type 0) (proof : Bool
   pub headline : Headline
 
 -- two recipes of it race, as its trace shows
-pub record IsToldRace (Is : Judged → Type 0) (proof : Bool) (text : List ℕ) : Type 0 where
+pub record IsReportedRace (Is : Judged → Type 0) (proof : Bool) (text : List ℕ) : Type 0 where
   pub jobs : Jobs
   pub trace : Trace
   pub answer : Is (judged.Race jobs trace)
@@ -92,9 +92,9 @@ pub record IsToldRace (Is : Judged → Type 0) (proof : Bool) (text : List ℕ) 
 
 -- that it is safe, or that two recipes race, each by the report or by its proof; or the report of the fault that refuses the texts
 abbrev pub SaysJudged : (Judged → Type 0) → Type 0 → Bool → Status → List ℕ → Type 0
-SaysJudged Is Headline proof statuses.Done text = IsToldSafe Is Headline proof text
-SaysJudged Is Headline proof statuses.No text = IsToldRace Is proof text
-SaysJudged Is Headline proof statuses.Refused text = (told : Told) × Is (judged.Refused told) × (text ≡ refused_text told)
+SaysJudged Is Headline proof statuses.Done text = IsReportedSafe Is Headline proof text
+SaysJudged Is Headline proof statuses.No text = IsReportedRace Is proof text
+SaysJudged Is Headline proof statuses.Refused text = (reported : Reported) × Is (judged.Refused reported) × (text ≡ refused_text reported)
 SaysJudged Is Headline proof statuses.Failed text = ⊥
 
 -- that of a build: where it is safe, no schedule of it shows in its files
@@ -111,17 +111,17 @@ IsTaskCheckAnswer root tasks proof status text =
 abbrev pub judged_status : Judged → Status
 judged_status (judged.Safe jobs chains) = statuses.Done
 judged_status (judged.Race jobs trace) = statuses.No
-judged_status (judged.Refused told) = statuses.Refused
+judged_status (judged.Refused reported) = statuses.Refused
 
 -- the text of a proof's judgement
 abbrev pub verdict_text : Bool → List ℕ
 verdict_text accepted = line (if accepted then codes "accepted" else codes "not accepted")
 
 -- that the proof is accepted, where what it shows is so; or that it is not; or the report of the fault that refuses the texts
-abbrev pub SaysVerdict : (Result Bool Told → Type 0) → Type 0 → Status → List ℕ → Type 0
+abbrev pub SaysVerdict : (Result Bool Reported → Type 0) → Type 0 → Status → List ℕ → Type 0
 SaysVerdict Is Shown statuses.Done text = Is (Ok true) × Shown × (text ≡ verdict_text true)
 SaysVerdict Is Shown statuses.No text = Is (Ok false) × (text ≡ verdict_text false)
-SaysVerdict Is Shown statuses.Refused text = (told : Told) × Is (Err told) × (text ≡ refused_text told)
+SaysVerdict Is Shown statuses.Refused text = (reported : Reported) × Is (Err reported) × (text ≡ refused_text reported)
 SaysVerdict Is Shown statuses.Failed text = ⊥
 
 -- that of a proof for a build
@@ -144,17 +144,17 @@ status_of (Allowed replayed) = statuses.Done
 status_of (NotAllowed place refusal) = statuses.No
 
 -- what is told of a log that was read: its serial order, or why it has none; and what is put in order is the same build
-abbrev pub IsToldOrder : Texts → List ℕ → List ℕ → ℕ → Bool → Status → List ℕ → Type 0
-IsToldOrder texts footprints log limit tie status text =
+abbrev pub IsReportedOrder : Texts → List ℕ → List ℕ → ℕ → Bool → Status → List ℕ → Type 0
+IsReportedOrder texts footprints log limit tie status text =
     (given : Serialised) × IsSerialised texts footprints log limit tie (Ok given) × IsLawfulBuild texts footprints log tie given
     × (status ≡ order_status given.order) × IsOrderText given.jobs given.order text
 
 -- that, or the report of the fault that refuses the texts
 abbrev pub IsSerialiseAnswer : Texts → List ℕ → List ℕ → ℕ → Bool → Status → List ℕ → Type 0
-IsSerialiseAnswer texts footprints log limit tie statuses.Done text = IsToldOrder texts footprints log limit tie statuses.Done text
-IsSerialiseAnswer texts footprints log limit tie statuses.No text = IsToldOrder texts footprints log limit tie statuses.No text
+IsSerialiseAnswer texts footprints log limit tie statuses.Done text = IsReportedOrder texts footprints log limit tie statuses.Done text
+IsSerialiseAnswer texts footprints log limit tie statuses.No text = IsReportedOrder texts footprints log limit tie statuses.No text
 IsSerialiseAnswer texts footprints log limit tie statuses.Refused text =
-    (told : Told) × IsSerialised texts footprints log limit tie (Err told) × (text ≡ refused_text told)
+    (reported : Reported) × IsSerialised texts footprints log limit tie (Err reported) × (text ≡ refused_text reported)
 IsSerialiseAnswer texts footprints log limit tie statuses.Failed text = ⊥
 
 -- how the program ends after all races were listed: with 0 where there is none
@@ -163,16 +163,16 @@ races_status [] = statuses.Done
 races_status (race ∷ races) = statuses.No
 
 -- the report of all races that were listed
-abbrev pub IsToldRaces : (Result RaceList Told → Type 0) → Status → List ℕ → Type 0
-IsToldRaces Is status text =
+abbrev pub IsReportedRaces : (Result RaceList Reported → Type 0) → Status → List ℕ → Type 0
+IsReportedRaces Is status text =
     (listed : RaceList) × Is (Ok listed) × (status ≡ races_status listed.found.races.items)
     × IsRacesText listed.jobs listed.found.pairs listed.found.races.items text
 
 -- that report, or the report of the fault that refuses the texts
-abbrev pub SaysList : (Result RaceList Told → Type 0) → Status → List ℕ → Type 0
-SaysList Is statuses.Done text = IsToldRaces Is statuses.Done text
-SaysList Is statuses.No text = IsToldRaces Is statuses.No text
-SaysList Is statuses.Refused text = (told : Told) × Is (Err told) × (text ≡ refused_text told)
+abbrev pub SaysList : (Result RaceList Reported → Type 0) → Status → List ℕ → Type 0
+SaysList Is statuses.Done text = IsReportedRaces Is statuses.Done text
+SaysList Is statuses.No text = IsReportedRaces Is statuses.No text
+SaysList Is statuses.Refused text = (reported : Reported) × Is (Err reported) × (text ≡ refused_text reported)
 SaysList Is statuses.Failed text = ⊥
 
 -- that of a build
@@ -185,11 +185,11 @@ IsTaskListAnswer root tasks status text = SaysList (tasked.IsListedBelow root ta
 
 -- what is told of a build that was to be fixed: its lines, or the certificate of the build with them, and no schedule of that build
 -- shows; or the edges that no lines give it
-abbrev pub IsFixTold : Texts → List ℕ → Bool → Fixing → Status → List ℕ → Type 0
-IsFixTold texts footprints proof (Fixed lines jobs chains) status text =
+abbrev pub IsFixReported : Texts → List ℕ → Bool → Fixing → Status → List ℕ → Type 0
+IsFixReported texts footprints proof (Fixed lines jobs chains) status text =
     (status ≡ statuses.Done) × NoScheduleShows (with_lines texts lines.items) footprints
     × (text ≡ (if proof then certificate_text chains else lines.items))
-IsFixTold texts footprints proof (NotFixed jobs edges refusal) status text =
+IsFixReported texts footprints proof (NotFixed jobs edges refusal) status text =
     (status ≡ statuses.No) × (text ≡ not_fixed_text jobs edges.items refusal)
 
 -- what is said of tasks that were to be fixed: their lines, or the certificate of the tasks with them, of which no schedule shows;
@@ -200,15 +200,15 @@ SaysTasksFixed root tasks proof (tasks_fixed.Fixed lines jobs chains) status tex
 SaysTasksFixed root tasks proof (tasks_fixed.NotFixed needs) status text = (status ≡ statuses.No) × (text ≡ needs.items)
 
 -- what is said of a fix, or the report of the fault that refuses the texts
-abbrev pub SaysFixing : {F : Type 0} → (Result F Told → Type 0) → (F → Status → List ℕ → Type 0) → Status → List ℕ → Type 0
+abbrev pub SaysFixing : {F : Type 0} → (Result F Reported → Type 0) → (F → Status → List ℕ → Type 0) → Status → List ℕ → Type 0
 SaysFixing {F} Is Says statuses.Done text = (fixing : F) × Is (Ok fixing) × Says fixing statuses.Done text
 SaysFixing {F} Is Says statuses.No text = (fixing : F) × Is (Ok fixing) × Says fixing statuses.No text
-SaysFixing Is Says statuses.Refused text = (told : Told) × Is (Err told) × (text ≡ refused_text told)
+SaysFixing Is Says statuses.Refused text = (reported : Reported) × Is (Err reported) × (text ≡ refused_text reported)
 SaysFixing Is Says statuses.Failed text = ⊥
 
 -- that of a build
 abbrev pub IsFixAnswer : Texts → List ℕ → Bool → Status → List ℕ → Type 0
-IsFixAnswer texts footprints proof status text = SaysFixing (IsFixing texts footprints) (IsFixTold texts footprints proof) status text
+IsFixAnswer texts footprints proof status text = SaysFixing (IsFixing texts footprints) (IsFixReported texts footprints proof) status text
 
 -- that of tasks below a root
 abbrev pub IsTaskFixAnswer : List ℕ → List ℕ → Bool → Status → List ℕ → Type 0
@@ -305,13 +305,13 @@ IsForSerial (requests.Fix fix) = ⊥
 IsForSerial (requests.Tasks tasks) = ⊥
 
 -- why an answer is not told: memory is short, or a log that is to be written has a name that is no text
-abbrev pub IsUntold : Request → Failure → Type 0
-IsUntold request failure = (failure ≡ failures.Memory) ⊎ (IsForSerial request × (failure ≡ failures.NotText))
+abbrev pub IsUnreported : Request → Failure → Type 0
+IsUnreported request failure = (failure ≡ failures.Memory) ⊎ (IsForSerial request × (failure ≡ failures.NotText))
 
 -- a failure of a request: of its includes, where it has any, of its inputs, or of the answer
 abbrev pub IsRequestFailure : (List ℕ → Option Bool) → Request → Failure → Type 0
 IsRequestFailure opens request failure =
-    (IsSome (includes_path request) × IsIncludeFailure failure) ⊎ IsInputFailure opens (inputs_of request) failure ⊎ IsUntold request failure
+    (IsSome (includes_path request) × IsIncludeFailure failure) ⊎ IsInputFailure opens (inputs_of request) failure ⊎ IsUnreported request failure
 
 -- the failure may come of these words, where some files may be shut
 abbrev pub IsFailureOf : List (Bor Text) → (List ℕ → Option Bool) → Failure → Type 0

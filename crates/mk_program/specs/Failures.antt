@@ -31,5 +31,5 @@ failure_text failures.NotText = codes "race: not text"
 failure_text (failures.Usage text) = string_bytes text
 
 -- the line of the failure was written behind what stood there
-abbrev pub TellsFailure : Failure → Option (List ℕ) → Option (List ℕ) → Type 0
-TellsFailure failure old new = Appends old new (line (failure_text failure))
+abbrev pub IsFailureReported : Failure → Option (List ℕ) → Option (List ℕ) → Type 0
+IsFailureReported failure old new = Appends old new (line (failure_text failure))

@@ -1,7 +1,7 @@
 //! The answers to requests.
 ghost use Rattle.std.specs.Prelude.{◌≡◌, ◌≢◌, IfErr, IfOk, List, map, ℕ};
 ghost use Rattle.mk_name.specs.Shown.{refused_text};
-ghost use Rattle.mk_name.specs.Told.{Told};
+ghost use Rattle.mk_name.specs.Reported.{Reported};
 ghost use Rattle.mk_name.specs.declared.fault.Halt.TheVariants as halts;
 ghost use Rattle.mk_race.specs.Stages.{texts_of};
 ghost use Rattle.mk_program.specs.Answers as spec;
@@ -66,7 +66,7 @@ fn answer_with(
     texts: &[InputText],
 ) -> Result<Answer, Failure>
     ensures status { IfOk result (λ answer. answer.status ≢ Status.Failed) }
-    ensures failure { IfErr result (spec.IsUntold request.now) }
+    ensures failure { IfErr result (spec.IsUnreported request.now) }
     ensures answer { IfOk result (λ answer. (text : InputFile → List ℕ) → AreTexts texts.now text
         → spec.IsAnswerOver request.now (shown included.now) text answer.status answer.text.items) }
 {
@@ -82,7 +82,7 @@ fn answer_over(
     texts: &[InputText],
 ) -> Result<Answer, Failure>
     ensures status { IfOk result (λ answer. answer.status ≢ Status.Failed) }
-    ensures failure { IfErr result (spec.IsUntold request.now) }
+    ensures failure { IfErr result (spec.IsUnreported request.now) }
     ensures answer { IfOk result (λ answer. (text : InputFile → List ℕ) → AreTexts texts.now text
         → spec.IsAnswerOver request.now (map (λ pair. (pair.0.now, pair.1.now)) includes.now) text
         answer.status answer.text.items) }
@@ -276,8 +276,8 @@ fn outcome_answer(alloc: Global, played: &Played) -> Result<Answer, AllocError>
 
 /// The report of a fault; want of memory is no answer.
 pub(crate) fn refused(alloc: Global, halt: Halt) -> Result<Answer, AllocError>
-    ensures { IfOk result (λ answer. (told : Told) × (halt ≡ halts.Fault told)
-        × (answer.status ≡ Status.Refused) × (answer.text.items ≡ refused_text told)) }
+    ensures { IfOk result (λ answer. (reported : Reported) × (halt ≡ halts.Fault reported)
+        × (answer.status ≡ Status.Refused) × (answer.text.items ≡ refused_text reported)) }
 {
     match halt {
         Halt::Fault(fault) => fault_answer(alloc, &fault),

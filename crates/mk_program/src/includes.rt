@@ -25,7 +25,7 @@ pub fn read_includes<P: Opener>(
     opener: &mut P,
     path: Option<&str>,
 ) -> Result<Vec<IncludeText>, Failure>
-    ensures told { IfOk result (λ texts. (pairs : List spec.Pair)
+    ensures reported { IfOk result (λ texts. (pairs : List spec.Pair)
         → spec.includes_in (P.text opener.old) (option_map (λ path. path.now) path.entry) ≡ Some pairs
         → spec.shown texts.items ≡ pairs) }
     ensures given { IfErr result (λ failure. IsSome (option_map (λ path. path.now) path.entry)) }
@@ -63,7 +63,7 @@ fn read_listed<P: Opener>(
     opener: &mut P,
     listed: &[u8],
 ) -> Result<Vec<IncludeText>, Failure>
-    ensures told { IfOk result (λ texts. (pairs : List spec.Pair)
+    ensures reported { IfOk result (λ texts. (pairs : List spec.Pair)
         → spec.pairs_of (P.text opener.old) (physical_lines listed.now) ≡ Some pairs
         → spec.shown texts.items ≡ pairs) }
     ensures failure { IfErr result spec.IsIncludeFailure }
@@ -87,7 +87,7 @@ fn read_line<P: Opener>(
     texts: &mut Vec<IncludeText>,
     line: &[u8],
 ) -> Result<(), Failure>
-    ensures told { OnOk result ((pairs : List spec.Pair)
+    ensures reported { OnOk result ((pairs : List spec.Pair)
         → spec.line_pairs (P.text opener.old) line.now ≡ Some pairs
         → spec.shown texts.new.items ≡ spec.shown texts.old.items ++ pairs) }
     ensures failure { IfErr result spec.IsIncludeFailure }
@@ -108,7 +108,7 @@ fn read_line<P: Opener>(
 
 /// The text of the file of this path.
 fn read_file<P: Opener>(alloc: Global, opener: &mut P, path: &str) -> Result<Vec<u8>, Failure>
-    ensures told { IfOk result (λ text. (bytes : List ℕ)
+    ensures reported { IfOk result (λ text. (bytes : List ℕ)
         → P.text opener.old path.now ≡ Some bytes → text.items ≡ bytes) }
     ensures failure { IfErr result spec.IsIncludeFailure }
     ensures same_text { (path : List ℕ) → P.text opener.new path ≡ P.text opener.old path }

@@ -37,7 +37,7 @@ pub fn read_inputs<P: Opener>(
     opener: &mut P,
     inputs: &[InputPath<'_>],
 ) -> Result<Vec<InputText>, Failure>
-    ensures told { IfOk result (λ texts. (text : InputFile → List ℕ)
+    ensures reported { IfOk result (λ texts. (text : InputFile → List ℕ)
         → spec.Hold (P.text opener.old) inputs.now text → spec.AreTexts texts.items text) }
     ensures failure { IfErr result (spec.IsInputFailure (P.opens opener.old) inputs.now) }
 {
@@ -66,7 +66,7 @@ fn open_all<P: Opener>(
     ensures named { IfOk result (λ files.
         map (λ file. file.input) files.items ≡ map (λ known. known.input) inputs.now) }
     ensures work { IfOk result (λ files. All (λ file. P.File.has_failed file.file ≡ false) files.items) }
-    ensures told { IfOk result (λ files. (text : InputFile → List ℕ)
+    ensures reported { IfOk result (λ files. (text : InputFile → List ℕ)
         → spec.HoldEach (P.text opener.old) inputs.now text
         → All (λ file. P.File.left file.file ≡ Some (text file.input)) files.items) }
     ensures opened { IfOk result (λ _. All (spec.MayOpen (P.opens opener.old)) inputs.now) }
@@ -114,7 +114,7 @@ fn read_files<I: Intake + Drop>(
     requires { All (λ file. I.has_failed file.file ≡ false) files.items }
     ensures named { IfOk result (λ texts.
         map (λ known. known.input) texts.items ≡ map (λ file. file.input) files.items) }
-    ensures told { IfOk result (λ texts. (text : InputFile → List ℕ)
+    ensures reported { IfOk result (λ texts. (text : InputFile → List ℕ)
         → All (λ file. I.left file.file ≡ Some (text file.input)) files.items
         → All (λ known. known.text.items ≡ text known.input) texts.items) }
     ensures failure { IfErr result (λ failure. (failure ≡ Failure.Memory)

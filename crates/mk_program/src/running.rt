@@ -6,7 +6,7 @@ ghost use Rattle.clap.specs.Words.{kind_of};
 ghost use Rattle.mk_name.specs.Shown.{line};
 ghost use Rattle.mk_program.specs.Answers as spec;
 ghost use Rattle.mk_program.specs.CommandLine.{IsAnswerable, IsCall, asked, wrong};
-ghost use Rattle.mk_program.specs.Failures.{TellsFailure};
+ghost use Rattle.mk_program.specs.Failures.{IsFailureReported};
 
 use crate::answers::{Answer, answer_of};
 use crate::failures::Failure;
@@ -47,10 +47,10 @@ pub fn race_words<'a, P: Opener, O: Outlet, E: Outlet>(
         → spec.WritesBeginning words.entry.now (P.text opener.old) (O.written out.old) (O.written out.new) }
     // A failure is told by its line, where the device takes one, and nothing else is.
     ensures failed { O.has_failed out.new ≡ true → result ≡ Status.Failed }
-    ensures told { result ≡ Status.Failed → E.has_failed err.new ≡ false → (failure : Failure)
+    ensures reported { result ≡ Status.Failed → E.has_failed err.new ≡ false → (failure : Failure)
         × spec.IsFailureOf words.entry.now (P.opens opener.old) failure
         × ((failure ≡ Failure.Write) ↔ (O.has_failed out.new ≡ true))
-        × TellsFailure failure (E.written err.old) (E.written err.new) }
+        × IsFailureReported failure (E.written err.old) (E.written err.new) }
     ensures silent { result ≢ Status.Failed → err.new ≡ err.old }
 {
     match answer_written(alloc, words, opener, out) {
@@ -64,11 +64,11 @@ pub fn race_words<'a, P: Opener, O: Outlet, E: Outlet>(
 pub fn fail<E: Outlet>(failure: &Failure, err: &mut E) -> Status
     requires { E.has_failed err.old ≡ false }
     ensures status { result ≡ Status.Failed }
-    ensures told { E.has_failed err.new ≡ false
-        → TellsFailure failure.now (E.written err.old) (E.written err.new) }
+    ensures reported { E.has_failed err.new ≡ false
+        → IsFailureReported failure.now (E.written err.old) (E.written err.new) }
 {
-    let told = write_line(err, failure.text().as_bytes());
-    let _ = told;
+    let reported = write_line(err, failure.text().as_bytes());
+    let _ = reported;
     Status::Failed
 }
 

@@ -53,13 +53,13 @@ fn serialise_over(
         (failure ≡ Failure.Memory) ⊎ (failure ≡ Failure.NotText)) }
 {
     match serialise_log(alloc, input, log, u32::from(limit), tie) {
-        Ok(given) => told(alloc, &given),
+        Ok(given) => reported(alloc, &given),
         Err(halt) => Ok(refused(alloc, halt)?),
     }
 }
 
 /// What comes of a log, told. The events of a log in serial order must be of nodes.
-fn told(alloc: Global, given: &Serialised) -> Result<Answer, Failure>
+fn reported(alloc: Global, given: &Serialised) -> Result<Answer, Failure>
     requires { HasNodes given.now.jobs given.now.order }
     ensures answer { IfOk result (λ answer. (answer.status ≡ order_status given.now.order)
         × IsOrderText given.now.jobs given.now.order answer.text.items) }

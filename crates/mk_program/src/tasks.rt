@@ -97,7 +97,9 @@ fn fixing_answer(alloc: Global, fixing: &TaskFixing, proof: bool) -> Result<Answ
 {
     match fixing {
         TaskFixing::Fixed {
-            lines, certificate, ..
+            lines,
+            certificate,
+            ..
         } => Ok(Answer {
             status: Status::Done,
             text: fixed_text(alloc, lines, certificate, proof)?,

@@ -12,7 +12,7 @@ use Rattle.hex.specs.Hex.{IsBytes}
 use Rattle.mk_proof.proofs.Texts.{begins, whole}
 use Rattle.mk_proof.proofs.Words.{whole_lines-cons, whole_lines-none}
 use Rattle.mk_proof.specs.Drafts.{AreNodes, IsCut, IsDraft, IsPath, lines_of}
-use Rattle.mk_proof.specs.ProofText.{BeginProof, IsGood, IsNoProof, IsRead, IsShapedProof, Line, end_line, path_line, proof_lines, proof_text, text_of, told, whole_lines, words_of, written}
+use Rattle.mk_proof.specs.ProofText.{BeginProof, IsGood, IsNoProof, IsRead, IsShapedProof, Line, end_line, path_line, proof_lines, proof_text, text_of, reported, whole_lines, words_of, written}
 use Rattle.mk_proof.specs.Shapes.{AreShapedSteps, AreShapedTimes, IsShapedTrace, greatest_node, greatest_time, node_of}
 use Rattle.mk_proof.specs.declared.draft.Draft.{Draft}
 use Rattle.mk_proof.specs.declared.draft.Draft.TheVariants.{Empty, Chains, Nodes, Steps}
@@ -95,7 +95,7 @@ module _ (text : List ℕ) (good : ℕ) (rest : List ℕ) (draft : Draft) (reads
   inside = let all = length-append (lines_of draft ++ words_of line ∷ []) (whole_lines behind) in omega (arith, ap length whole_rest, long)
 
   -- the line is the first bad one
-  pub bad_here : ¬ (BeginProof (lines_of draft ++ words_of line ∷ [])) → IsNoProof text (told (good + 1))
+  pub bad_here : ¬ (BeginProof (lines_of draft ++ words_of line ∷ [])) → IsNoProof text (reported (good + 1))
   bad_here not = record {
     none = λ proof shaped is. not (begins proof (lines_of draft ++ words_of line ∷ []) (whole_lines behind) shaped (omega (arith, long)) (sym (whole proof text shaped is) ∙ whole_rest));
     good = good;
@@ -138,7 +138,7 @@ module _ (text : List ℕ) (good : ℕ) (rest : List ℕ) (draft : Draft) (reads
   all_lines : whole_lines text ≡ lines_of draft
   all_lines = reads.whole_is ∙ ap (λ (ls : List Line). lines_of draft ++ ls) (whole_lines-none rest none) ∙ append-nil (lines_of draft)
 
-  not_whole : ((proof : Proof) → IsShapedProof proof → proof_text proof ≡ text → ⊥) → IsNoProof text (told (good + 1))
+  not_whole : ((proof : Proof) → IsShapedProof proof → proof_text proof ≡ text → ⊥) → IsNoProof text (reported (good + 1))
   not_whole never = record {
     none = never;
     good = good;
@@ -147,11 +147,11 @@ module _ (text : List ℕ) (good : ℕ) (rest : List ℕ) (draft : Draft) (reads
   }
 
   -- a line is missing
-  pub missing : ((proof : Proof) → IsShapedProof proof → ¬ (proof_lines proof ≡ lines_of draft)) → IsNoProof text (told (good + 1))
+  pub missing : ((proof : Proof) → IsShapedProof proof → ¬ (proof_lines proof ≡ lines_of draft)) → IsNoProof text (reported (good + 1))
   missing never = not_whole (λ proof shaped is. never proof shaped (sym (whole proof text shaped is) ∙ all_lines))
 
   -- bytes follow
-  pub more_bytes : 0 < length rest → IsNoProof text (told (good + 1))
+  pub more_bytes : 0 < length rest → IsNoProof text (reported (good + 1))
   more_bytes some = not_whole (λ proof shaped is.
       let same : proof_lines proof ≡ lines_of draft = sym (whole proof text shaped is) ∙ all_lines in
       let nothing : rest ≡ [] = append_cancel_left (text_of (lines_of draft)) rest [] (sym reads.text_is ∙ sym is ∙ ap text_of same ∙ sym (append-nil (text_of (lines_of draft)))) in

@@ -7,7 +7,7 @@ use Rattle.std.specs.Fmt.{decimal}
 use Rattle.std.specs.List.{All}
 use Rattle.hex.proofs.HexLemmas.{decode_of-encode_lower, decode_of-same}
 use Rattle.hex.specs.Hex.{IsBytes, decode_of, encode_lower}
-use Rattle.mk_name.specs.Told.{Told}
+use Rattle.mk_name.specs.Reported.{Reported}
 use Rattle.mk_proof.proofs.Beginnings.{chain_same, chains_front, next_of}
 use Rattle.mk_proof.proofs.Following.{Next, decimal_same, end_not_step, end_not_time, heads, map_same, next, not_nil, tag, tails}
 use Rattle.mk_proof.proofs.Words.{IsClean, IsCleanLine, Lacks-decimal, Lacks-encode_lower, Lacks-from, whole_lines-text}
@@ -110,7 +110,7 @@ one_text p q small large same = same_lines p q small large (sym (whole p (proof_
 
 -- ---- the answer on the text of a proof
 
-answer_is : (text : List ℕ) (proof : Proof) → IsShapedProof proof → proof_text proof ≡ text → (answer : Result Proof Told) → IsRead text answer → answer ≡ Ok proof
+answer_is : (text : List ℕ) (proof : Proof) → IsShapedProof proof → proof_text proof ≡ text → (answer : Result Proof Reported) → IsRead text answer → answer ≡ Ok proof
 answer_is text proof shaped is (Ok other) read = ap (λ p. Ok p) (one_text other proof read.0 shaped (read.1 ∙ sym is))
 answer_is text proof shaped is (Err fault) read = absurd (read.none proof shaped is)
 

@@ -3,7 +3,7 @@ use Rattle.std.specs.Prelude.{ℕ, ◌≡◌, ◌<◌, ◌≤◌, ◌+◌, ◌==
 use Rattle.std.specs.Fmt.{decimal}
 use Rattle.std.specs.List.{flat_map, join_with_byte, slice_split}
 use Rattle.hex.specs.Hex.{IsBytes, encode_lower}
-use Rattle.mk_name.specs.Told.{Told}
+use Rattle.mk_name.specs.Reported.{Reported}
 use Rattle.mk_name.specs.declared.fault.Kind.TheVariants.{BadProof}
 use Rattle.mk_name.specs.declared.fault.Source.TheVariants as sources
 use Rattle.mk_proof.specs.Shapes.{AreShapedChains, IsShapedTrace, Trace, most_chains}
@@ -126,21 +126,21 @@ pub record IsFirstBad (text : List ℕ) (n : ℕ) : Type 0 where
   pub here : ¬ (IsGood text n)
 
 -- a line of a proof that is not good
-abbrev pub told : ℕ → Told
-told place = record { kind = BadProof; source = sources.Proof; place = place; names = [] }
+abbrev pub reported : ℕ → Reported
+reported place = record { kind = BadProof; source = sources.Proof; place = place; names = [] }
 
 -- a text is no proof: it is the text of none, and the fault tells its first line that is not good; places count from 1
-pub record IsNoProof (text : List ℕ) (fault : Told) : Type 0 where
+pub record IsNoProof (text : List ℕ) (fault : Reported) : Type 0 where
   pub none : (proof : Proof) → IsShapedProof proof → ¬ (proof_text proof ≡ text)
   pub good : ℕ
   pub first : IsFirstBad text good
-  pub says : fault ≡ told (good + 1)
+  pub says : fault ≡ reported (good + 1)
 
 -- what `read_proof` answers: the proof that is written so, or the first line that is not good
-abbrev pub IsRead : List ℕ → Result Proof Told → Type 0
+abbrev pub IsRead : List ℕ → Result Proof Reported → Type 0
 IsRead text (Ok proof) = IsShapedProof proof × (proof_text proof ≡ text)
 IsRead text (Err fault) = IsNoProof text fault
 
 -- a text reads as this proof and as nothing else
 abbrev pub ReadsAs : List ℕ → Proof → Type 0
-ReadsAs text proof = (answer : Result Proof Told) → IsRead text answer ↔ (answer ≡ Ok proof)
+ReadsAs text proof = (answer : Result Proof Reported) → IsRead text answer ↔ (answer ≡ Ok proof)

@@ -2,7 +2,7 @@
 ghost use Rattle.std.specs.Prelude.{◌≡◌, ◌+◌, ◌<◌, ◌^◌};
 ghost use Rattle.mk_name.specs.Gives.{Answers};
 ghost use Rattle.mk_name.specs.declared.fault.Halt.TheVariants as halts;
-ghost use Rattle.mk_proof.specs.ProofText.{IsRead, told};
+ghost use Rattle.mk_proof.specs.ProofText.{IsRead, reported};
 
 use crate::draft::Draft;
 use crate::number::cut;
@@ -36,7 +36,7 @@ pub fn read_proof(alloc: Global, text: &[u8]) -> Result<Proof, Halt>
 /// The fault of the line behind so many good ones.
 fn bad_line(alloc: Global, good: usize) -> Halt
     requires { good + 1 < 2 ^ 64 }
-    ensures { result ≡ halts.Fault (told (good + 1)) }
+    ensures { result ≡ halts.Fault (reported (good + 1)) }
 {
     let place = good as u64 + 1;
     Halt::Fault(Fault::new(Kind::BadProof, Source::Proof, place, Vec::new(alloc)))

@@ -1,7 +1,7 @@
 -- What the fix of tasks says of their runs.
 use Rattle.std.proofs.Common.{ℕ, ◌≡◌, ◌∙◌, ◌<◌, List, Ok, Err, IfOk, Option, Result, Some, subst, sym}
 use Rattle.mk_name.specs.Gives.{Answers, HaltsAmong}
-use Rattle.mk_name.specs.Told.{Told}
+use Rattle.mk_name.specs.Reported.{Reported}
 use Rattle.mk_name.specs.declared.fault.Halt.{Halt}
 use Rattle.mk_name.specs.declared.fault.Halt.TheVariants as halts
 use Rattle.mk_jobs.specs.Jobs.{Jobs, IsRaceFree, IsValid, node_count}
@@ -79,8 +79,8 @@ many_stay jobs edges rising many = record {
 pub many_of : (jobs new : Jobs) (edges : List (ℕ × ℕ)) (halt : Halt) → IsFix jobs edges → new ≡ with_edges jobs edges
     → HaltsAmong {Y = ℕ} halt (λ answer. (answer ≡ Err too_many) × HasManyPairs new) → HaltsAmong {Y = TaskFixing} halt (IsFixingOf jobs)
 many_of jobs new edges halts.Memory fix added many = tt
-many_of jobs new edges (halts.Fault told) fix added many = (
-  (let e : ◌≡◌ {A = Result ℕ Told} (Err told) (Err too_many) = many.0 in cc),
+many_of jobs new edges (halts.Fault reported) fix added many = (
+  (let e : ◌≡◌ {A = Result ℕ Reported} (Err reported) (Err too_many) = many.0 in cc),
   many_stay jobs edges (to_live fix) (subst HasManyPairs added many.1),
 )
 

@@ -2,7 +2,7 @@
 use Rattle.std.proofs.Common.{suc, ◌<◌, ◌≤◌, length, get_or, arith, take-append-drop, drop-cons, append-nil, append_assoc, ◌≡◌, ◌∙◌, ℕ, ◌+◌, List, [], ◌∷◌, ◌++◌, take, drop, Ok, Err, ap, sym, refl, map, Result}
 use Rattle.std.specs.List.{enumerate_from}
 use Rattle.mk_name.specs.Names.{Name}
-use Rattle.mk_name.specs.Told.{Told}
+use Rattle.mk_name.specs.Reported.{Reported}
 use Rattle.mk_name.specs.Gives.{Halts}
 use Rattle.mk_name.specs.declared.fault.Halt.{Halt}
 use Rattle.mk_name.specs.declared.fault.Halt.TheVariants as halts
@@ -10,35 +10,35 @@ use Rattle.std.specs.Borrow.{Bor}
 use Rattle.std.proofs.lemmas.List.{length-take-le, take_more}
 use Rattle.mk_race.specs.Settings.{all_or_fault, goals_at, in_front}
 
-same_Ok : (x y : List Name) → ◌≡◌ {A = Result (List Name) Told} (Ok x) (Ok y) → x ≡ y
+same_Ok : (x y : List Name) → ◌≡◌ {A = Result (List Name) Reported} (Ok x) (Ok y) → x ≡ y
 same_Ok x y e = cc
 
 -- behind values there is no fault but the next one
-behind : (xs : List (Result (List Name) Told)) (r : Result (List Name) Told) (rest : List (Result (List Name) Told)) (names : List Name) (told : Told)
-    → all_or_fault xs ≡ Ok names → r ≡ Err told → all_or_fault (xs ++ r ∷ rest) ≡ Err told
-behind [] r rest names told e f = rw f refl
-behind (Ok x ∷ xs) r rest names told e f = go (all_or_fault xs) (λ ys is. behind xs r rest ys told is f) refl e
+behind : (xs : List (Result (List Name) Reported)) (r : Result (List Name) Reported) (rest : List (Result (List Name) Reported)) (names : List Name) (reported : Reported)
+    → all_or_fault xs ≡ Ok names → r ≡ Err reported → all_or_fault (xs ++ r ∷ rest) ≡ Err reported
+behind [] r rest names reported e f = rw f refl
+behind (Ok x ∷ xs) r rest names reported e f = go (all_or_fault xs) (λ ys is. behind xs r rest ys reported is f) refl e
   where
-    go : (o : Result (List Name) Told) → ((ys : List Name) → all_or_fault xs ≡ Ok ys → all_or_fault (xs ++ r ∷ rest) ≡ Err told)
-        → all_or_fault xs ≡ o → in_front x o ≡ Ok names → in_front x (all_or_fault (xs ++ r ∷ rest)) ≡ Err told
+    go : (o : Result (List Name) Reported) → ((ys : List Name) → all_or_fault xs ≡ Ok ys → all_or_fault (xs ++ r ∷ rest) ≡ Err reported)
+        → all_or_fault xs ≡ o → in_front x o ≡ Ok names → in_front x (all_or_fault (xs ++ r ∷ rest)) ≡ Err reported
     go (Ok ys) more is e = ap (in_front x) (more ys is)
     go (Err t) more is e = cc
-behind (Err t ∷ xs) r rest names told e f = cc
+behind (Err t ∷ xs) r rest names reported e f = cc
 
 -- some values more
-some_more : (xs : List (Result (List Name) Told)) (r : Result (List Name) Told) (names others : List Name)
+some_more : (xs : List (Result (List Name) Reported)) (r : Result (List Name) Reported) (names others : List Name)
     → all_or_fault xs ≡ Ok names → r ≡ Ok others → all_or_fault (xs ++ r ∷ []) ≡ Ok (names ++ others)
 some_more [] r names others e f = rw f (ap Ok (append-nil others ∙ ap (λ l. l ++ others) (same_Ok [] names e)))
 some_more (Ok x ∷ xs) r names others e f = go (all_or_fault xs) (λ ys is. some_more xs r ys others is f) refl e
   where
-    go : (o : Result (List Name) Told) → ((ys : List Name) → all_or_fault xs ≡ Ok ys → all_or_fault (xs ++ r ∷ []) ≡ Ok (ys ++ others))
+    go : (o : Result (List Name) Reported) → ((ys : List Name) → all_or_fault xs ≡ Ok ys → all_or_fault (xs ++ r ∷ []) ≡ Ok (ys ++ others))
         → all_or_fault xs ≡ o → in_front x o ≡ Ok names → in_front x (all_or_fault (xs ++ r ∷ [])) ≡ Ok (names ++ others)
     go (Ok ys) more is e = ap (in_front x) (more ys is) ∙ ap Ok (sym (append_assoc x ys others) ∙ ap (λ l. l ++ others) (same_Ok (x ++ ys) names e))
     go (Err t) more is e = cc
 some_more (Err t ∷ xs) r names others e f = cc
 
 -- what the operands give, the first of which has this place
-abbrev given : Name → ℕ → List (Bor Name) → List (Result (List Name) Told)
+abbrev given : Name → ℕ → List (Bor Name) → List (Result (List Name) Reported)
 given root place operands = map (goals_at root) (enumerate_from place (map (λ (operand : Bor Name). operand.now) operands))
 
 given-append : (root : Name) (place : ℕ) (xs ys : List (Bor Name)) → given root place (xs ++ ys) ≡ given root place xs ++ given root (place + length xs) ys
@@ -61,20 +61,20 @@ goals_more root operands i d names others within so_far next =
     ∙ some_more (given root 1 (take i operands)) (goals_at root (i + 1, x.now)) names others so_far next
 
 -- the fault of the first operand that has one
-pub goals_fault : (root : Name) (operands : List (Bor Name)) (i : ℕ) (d : Bor Name) (names : List Name) (told : Told) → i < length operands
-    → all_or_fault (given root 1 (take i operands)) ≡ Ok names → goals_at root (i + 1, (get_or operands i d).now) ≡ Err told
-    → all_or_fault (given root 1 operands) ≡ Err told
-goals_fault root operands i d names told within so_far next =
+pub goals_fault : (root : Name) (operands : List (Bor Name)) (i : ℕ) (d : Bor Name) (names : List Name) (reported : Reported) → i < length operands
+    → all_or_fault (given root 1 (take i operands)) ≡ Ok names → goals_at root (i + 1, (get_or operands i d).now) ≡ Err reported
+    → all_or_fault (given root 1 operands) ≡ Err reported
+goals_fault root operands i d names reported within so_far next =
     let x = get_or operands i d in
     let rest = drop (suc i) operands in
     let whole : operands ≡ take i operands ++ x ∷ rest = sym (take-append-drop i operands) ∙ ap (λ l. take i operands ++ l) (drop-cons operands i d within) in
     ap (λ (l : List (Bor Name)). all_or_fault (given root 1 l)) whole
     ∙ ap all_or_fault (given-append root 1 (take i operands) (x ∷ rest)
     ∙ ap (λ n. given root 1 (take i operands) ++ goals_at root (n, x.now) ∷ given root (1 + length (take i operands) + 1) rest) (place_is operands i within))
-    ∙ behind (given root 1 (take i operands)) (goals_at root (i + 1, x.now)) (given root (1 + length (take i operands) + 1) rest) names told so_far next
+    ∙ behind (given root 1 (take i operands)) (goals_at root (i + 1, x.now)) (given root (1 + length (take i operands) + 1) rest) names reported so_far next
 
 -- a halt for one answer is one for another with the same faults
-pub Halts-along : {X Y : Type 0} (halt : Halt) (small : Result X Told) (big : Result Y Told) → ((told : Told) → small ≡ Err told → big ≡ Err told)
+pub Halts-along : {X Y : Type 0} (halt : Halt) (small : Result X Reported) (big : Result Y Reported) → ((reported : Reported) → small ≡ Err reported → big ≡ Err reported)
     → Halts halt small → Halts halt big
 Halts-along halts.Memory small big same h = tt
 Halts-along (halts.Fault fault) small big same h = same fault h

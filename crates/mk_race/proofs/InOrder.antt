@@ -48,7 +48,7 @@ replayed_log jobs listed tie limit inside log store files complete same copied r
 pub order_unread : (prepared : Prepared) (log : List ℕ) (limit : ℕ) (tie : Bool) (halt : Halt)
     → HaltsAmong halt (IsRead prepared.jobs prepared.root log) → HaltsAmong halt (IsOrderOn prepared log limit tie)
 order_unread prepared log limit tie halts.Memory h = tt
-order_unread prepared log limit tie (halts.Fault told) h = (Err told, h, refl)
+order_unread prepared log limit tie (halts.Fault reported) h = (Err reported, h, refl)
 
 -- what comes of the log is what comes of its text
 pub order_on : (prepared : Prepared) (log : List ℕ) (limit : ℕ) (tie : Bool) (read : Log) (result : Result Ordered Halt)
@@ -56,4 +56,4 @@ pub order_on : (prepared : Prepared) (log : List ℕ) (limit : ℕ) (tie : Bool)
     → Answers result (IsOrderOn prepared log limit tie)
 order_on prepared log limit tie read (Ok order) is h = (Ok read, is, h)
 order_on prepared log limit tie read (Err halts.Memory) is h = tt
-order_on prepared log limit tie read (Err (halts.Fault told)) is h = (Ok read, is, h)
+order_on prepared log limit tie read (Err (halts.Fault reported)) is h = (Ok read, is, h)

@@ -3,7 +3,7 @@ use Rattle.std.proofs.Common.{◌≡◌, ◌<◌, ℕ, List, [], ◌∷◌, Ok, 
 use Rattle.std.specs.Option.{option_map_or}
 use Rattle.std.proofs.lemmas.Option.{unwrap_or-slice_get}
 use Rattle.mk_name.specs.Names.{Name, has, same_name}
-use Rattle.mk_name.specs.Told.{Told}
+use Rattle.mk_name.specs.Reported.{Reported}
 use Rattle.mk_text.specs.Listing.{listing_of}
 use Rattle.mk_text.specs.Spelling.{root_of}
 use Rattle.mk_include.specs.Includes.{includes_of}
@@ -22,23 +22,23 @@ use Rattle.mk_race.specs.declared.planning.Planned.{Planned}
 use Rattle.mk_race.specs.declared.preparing.Prepared.{Prepared}
 
 -- the value of a stage behind which there is one
-then_ok : {X Y : Type 0} (stage : Result X Told) (next : X → Result Y Told → Type 0) (y : Y) → Then stage next (Ok y) → (x : X) × next x (Ok y)
+then_ok : {X Y : Type 0} (stage : Result X Reported) (next : X → Result Y Reported → Type 0) (y : Y) → Then stage next (Ok y) → (x : X) × next x (Ok y)
 then_ok (Ok x) next y h = (x, h)
-then_ok (Err told) next y h = absurd (cc h)
+then_ok (Err reported) next y h = absurd (cc h)
 
-any_ok : {X Y : Type 0} (stage : Result X Told → Type 0) (next : X → Result Y Told → Type 0) (y : Y) → ThenAny stage next (Ok y)
+any_ok : {X Y : Type 0} (stage : Result X Reported → Type 0) (next : X → Result Y Reported → Type 0) (y : Y) → ThenAny stage next (Ok y)
     → (x : X) × stage (Ok x) × next x (Ok y)
 any_ok stage next y (Ok x, s, h) = (x, s, h)
-any_ok stage next y (Err told, s, h) = absurd (cc h)
+any_ok stage next y (Err reported, s, h) = absurd (cc h)
 
-same_Ok : {X : Type 0} (x y : X) → ◌≡◌ {A = Result X Told} (Ok x) (Ok y) → x ≡ y
+same_Ok : {X : Type 0} (x y : X) → ◌≡◌ {A = Result X Reported} (Ok x) (Ok y) → x ≡ y
 same_Ok x y e = cc
 
 -- each node of a plan is listed where the listing has its name
 abbrev AreListed : List Name → Plan → Type 0
 AreListed listed plan = (n : ℕ) → n < length plan.nodes → (get_or plan.nodes n nobody).listed ≡ has same_name listed (get_or plan.nodes n nobody).name
 
-plan_listed : (book : Book) (listed goals : List Name) (plan : Plan) (answer : Result Plan Told) → Comes book listed goals answer → answer ≡ Ok plan → AreListed listed plan
+plan_listed : (book : Book) (listed goals : List Name) (plan : Plan) (answer : Result Plan Reported) → Comes book listed goals answer → answer ≡ Ok plan → AreListed listed plan
 plan_listed book listed goals plan answer (too_large t) e = absurd (cc e)
 plan_listed book listed goals plan answer (no_rule name t l) e = absurd (cc e)
 plan_listed book listed goals plan answer (cycle names t a c) e = absurd (cc e)
@@ -66,9 +66,9 @@ planned_listed texts given is =
     (subst (λ (g : Graphed). AreListed listing.0 g.plan) (sym made) (answer_listed book.0 listing.0 _ plan.0 plan.1))
 
 -- jobs stand on the plan that they are made of
-on_plan : (fault : Option Told) (plan : Plan) (read : Footprints) (jobs : Jobs) → Ok jobs ≡ option_map_or (λ f. Err f) fault (Ok (jobs_with read plan)) → jobs.plan ≡ plan
+on_plan : (fault : Option Reported) (plan : Plan) (read : Footprints) (jobs : Jobs) → Ok jobs ≡ option_map_or (λ f. Err f) fault (Ok (jobs_with read plan)) → jobs.plan ≡ plan
 on_plan None plan read jobs e = ap (λ (j : Jobs). j.plan) (same_Ok _ _ e)
-on_plan (Some told) plan read jobs e = absurd (cc e)
+on_plan (Some reported) plan read jobs e = absurd (cc e)
 
 at_number : (listed : List Name) (jobs : Jobs) (n : ℕ) → AreListed listed jobs.plan → n < node_count jobs → is_listed jobs n ≡ has same_name listed (name_of jobs n)
 unfolding is_listed name_of node_count

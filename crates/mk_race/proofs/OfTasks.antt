@@ -2,7 +2,7 @@
 use Rattle.std.proofs.Common.{ℕ, ◌≡◌, Bool, List, Ok, Err, IfOk, Result, subst}
 use Rattle.std.specs.Prelude.{IsTrue}
 use Rattle.mk_name.specs.Gives.{Answers}
-use Rattle.mk_name.specs.Told.{Told}
+use Rattle.mk_name.specs.Reported.{Reported}
 use Rattle.mk_name.specs.declared.fault.Halt.{Halt}
 use Rattle.mk_jobs.specs.Jobs.{Jobs}
 use Rattle.mk_report.specs.declared.answer.Answer.{Answer}
@@ -15,13 +15,13 @@ use Rattle.mk_race.specs.Judged.{IsSafe}
 use Rattle.mk_race.specs.Tasked.{EachStarts, NoScheduleShows, ProofShows, RunsAlike, below, tasked}
 use Rattle.mk_race.specs.Verified.{IsVerifiedOn}
 
-made_of : (root : List ℕ) (read : Result (List Task) Told) (jobs : Jobs) → made root read ≡ Ok jobs → AreTasks jobs
-made_of root (Ok tasks) jobs is = subst AreTasks (let e : ◌≡◌ {A = Result Jobs Told} (Ok (jobs_of root tasks)) (Ok jobs) = is in cc) (jobs_are_tasks root tasks)
-made_of root (Err fault) jobs is = absurd (let e : ◌≡◌ {A = Result Jobs Told} (Err fault) (Ok jobs) = is in cc)
+made_of : (root : List ℕ) (read : Result (List Task) Reported) (jobs : Jobs) → made root read ≡ Ok jobs → AreTasks jobs
+made_of root (Ok tasks) jobs is = subst AreTasks (let e : ◌≡◌ {A = Result Jobs Reported} (Ok (jobs_of root tasks)) (Ok jobs) = is in cc) (jobs_are_tasks root tasks)
+made_of root (Err fault) jobs is = absurd (let e : ◌≡◌ {A = Result Jobs Reported} (Err fault) (Ok jobs) = is in cc)
 
-below_of : (text : List ℕ) (root : Result (List ℕ) Told) (jobs : Jobs) → below text root ≡ Ok jobs → AreTasks jobs
+below_of : (text : List ℕ) (root : Result (List ℕ) Reported) (jobs : Jobs) → below text root ≡ Ok jobs → AreTasks jobs
 below_of text (Ok root) jobs is = made_of root (tasks_of root text) jobs is
-below_of text (Err fault) jobs is = absurd (let e : ◌≡◌ {A = Result Jobs Told} (Err fault) (Ok jobs) = is in cc)
+below_of text (Err fault) jobs is = absurd (let e : ◌≡◌ {A = Result Jobs Reported} (Err fault) (Ok jobs) = is in cc)
 
 -- the jobs of a text are those of tasks
 pub text_of_tasks : (root text : List ℕ) (jobs : Jobs) → tasked root text ≡ Ok jobs → AreTasks jobs
@@ -53,7 +53,7 @@ shows_on root text proof_text jobs accepted given (Ok proof, read, judged) holds
   read = read;
   shown = judged.shown holds;
 }
-shows_on root text proof_text jobs accepted given (Err told, read, same) holds = cc
+shows_on root text proof_text jobs accepted given (Err reported, read, same) holds = cc
 
 -- what the proof of an accepted text shows is so
 pub answer_shows : (root text proof_text : List ℕ) (jobs : Jobs) (result : Result Bool Halt) → tasked root text ≡ Ok jobs

@@ -18,7 +18,7 @@ use Rattle.mk_race.proofs.OneBuild.{build_is_one}
 -- a halt of the proof is one of the whole
 pub proof_unread : (jobs : Jobs) (text : List ℕ) (halt : Halt) → HaltsAmong halt (IsRead text) → HaltsAmong halt (IsVerifiedOn jobs text)
 proof_unread jobs text halts.Memory h = tt
-proof_unread jobs text (halts.Fault told) h = (Err told, h, refl)
+proof_unread jobs text (halts.Fault reported) h = (Err reported, h, refl)
 
 -- what the jobs say of a proof is what they say of its text
 pub verified_on : (jobs : Jobs) (text : List ℕ) (proof : Proof) (accepted : Bool) → IsRead text (Ok proof)
@@ -43,7 +43,7 @@ shows_on texts footprints text prepared accepted build (Ok proof, read, judged) 
   read = read;
   shown = judged.shown holds;
 }
-shows_on texts footprints text prepared accepted build (Err told, read, same) holds = cc
+shows_on texts footprints text prepared accepted build (Err reported, read, same) holds = cc
 
 -- so it is where the jobs answer
 pub answer_shows : (texts : Texts) (footprints text : List ℕ) (prepared : Prepared) (result : Result Bool Halt) → IsPrepared texts footprints (Ok prepared)

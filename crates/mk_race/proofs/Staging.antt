@@ -1,7 +1,7 @@
 -- One stage after another.
 use Rattle.std.proofs.Common.{◌≡◌, ℕ, Bool, List, Ok, Err, Result, refl, subst}
 use Rattle.mk_name.specs.Names.{Name}
-use Rattle.mk_name.specs.Told.{Told}
+use Rattle.mk_name.specs.Reported.{Reported}
 use Rattle.mk_name.specs.Gives.{Answers, HaltsAmong}
 use Rattle.mk_name.specs.declared.fault.Halt.{Halt}
 use Rattle.mk_name.specs.declared.fault.Halt.TheVariants as halts
@@ -26,41 +26,41 @@ pub not_planned : (texts : Texts) (root : List ℕ) (goals : List Name) (include
     → IsBookOf texts root included macros (Ok book) → HaltsAmong halt (IsAnswer book listed (goals_or_default book goals))
     → HaltsAmong halt (IsGraphed texts root goals included macros listed)
 not_planned texts root goals included macros listed book halts.Memory is h = tt
-not_planned texts root goals included macros listed book (halts.Fault told) is h = (Ok book, is, (Err told, h, refl))
+not_planned texts root goals included macros listed book (halts.Fault reported) is h = (Ok book, is, (Err reported, h, refl))
 
 -- and so is one of the book
 pub no_book : (texts : Texts) (root : List ℕ) (goals : List Name) (included : Included) (macros : Macros) (listed : List Name) (halt : Halt)
     → HaltsAmong halt (IsBookOf texts root included macros) → HaltsAmong halt (IsGraphed texts root goals included macros listed)
 no_book texts root goals included macros listed halts.Memory h = tt
-no_book texts root goals included macros listed (halts.Fault told) h = (Err told, h, refl)
+no_book texts root goals included macros listed (halts.Fault reported) h = (Err reported, h, refl)
 
 module _ (root : List ℕ) (book : Book) (plan : Plan) (footprints : List ℕ) where
   -- a halt of the footprints is one of the jobs
   pub unread : (halt : Halt) → HaltsAmong halt (IsRead root footprints) → HaltsAmong halt (IsJobs root book plan footprints)
   unread halts.Memory h = tt
-  unread (halts.Fault told) h = (Err told, h, refl)
+  unread (halts.Fault reported) h = (Err reported, h, refl)
 
   -- what comes of a plan and footprints is what comes of both texts
   pub joined : (read : Footprints) (result : Result Jobs Halt) → IsRead root footprints (Ok read)
       → Answers result (AreJobs plan book read) → Answers result (IsJobs root book plan footprints)
   joined read (Ok jobs) r h = (Ok read, r, h)
   joined read (Err halts.Memory) r h = tt
-  joined read (Err (halts.Fault told)) r h = (Ok read, r, h)
+  joined read (Err (halts.Fault reported)) r h = (Ok read, r, h)
 
 -- a halt of the jobs is one of the whole
 pub not_prepared : (texts : Texts) (footprints : List ℕ) (planned : Planned) (halt : Halt) → IsPlanned texts (Ok planned)
     → HaltsAmong halt (IsJobs planned.root planned.book planned.plan footprints) → HaltsAmong halt (IsPrepared texts footprints)
 not_prepared texts footprints planned halts.Memory is h = tt
-not_prepared texts footprints planned (halts.Fault told) is h = (Ok planned, is, (Err told, h, refl))
+not_prepared texts footprints planned (halts.Fault reported) is h = (Ok planned, is, (Err reported, h, refl))
 
 module _ (prepared : Prepared) (log : List ℕ) (limit : ℕ) (tie : Bool) where
   -- a halt of the log is one of the whole
   pub log_unread : (halt : Halt) → HaltsAmong halt (IsReadLog prepared.jobs prepared.root log) → HaltsAmong halt (IsPlayedOn prepared log limit tie)
   log_unread halts.Memory h = tt
-  log_unread (halts.Fault told) h = (Err told, h, refl)
+  log_unread (halts.Fault reported) h = (Err reported, h, refl)
 
   -- what the events come to is what comes of the whole
-  pub played : (inside read : Log) (answer : Result Played Told) → inside ≡ read → IsReadLog prepared.jobs prepared.root log (Ok read)
+  pub played : (inside read : Log) (answer : Result Played Reported) → inside ≡ read → IsReadLog prepared.jobs prepared.root log (Ok read)
       → IsOutcome prepared.jobs prepared.listing limit tie inside answer → IsPlayedOn prepared log limit tie answer
   played inside read answer same r h =
       (Ok read, r, subst (λ (l : Log). IsOutcome prepared.jobs prepared.listing limit tie l answer) same h)

@@ -1,7 +1,7 @@
 -- The fix of a build: lines behind its makefile.
 use Rattle.std.specs.Prelude.{ℕ, ◌≡◌, ◌++◌, List, Option, Some, None, Result, Ok, Err, false}
 use Rattle.std.specs.List.{list_all}
-use Rattle.mk_name.specs.Told.{Told}
+use Rattle.mk_name.specs.Reported.{Reported}
 use Rattle.mk_jobs.specs.Jobs.{Jobs}
 use Rattle.mk_decide.specs.Pairs.{HasManyPairs, too_many}
 use Rattle.mk_fix.specs.Again.{HaveAll}
@@ -31,30 +31,30 @@ pub record IsFixedBy (texts : Texts) (footprints : List ℕ) (jobs : Jobs) (line
 abbrev pub IsNoFix : Jobs → List (ℕ × ℕ) → Answer → Type 0
 IsNoFix jobs edges (answers.Safe new chains) = HaveAll jobs edges new → ⊥
 IsNoFix jobs edges (answers.Race new trace) = Unit {0}
-IsNoFix jobs edges (answers.Refused told) = Unit {0}
+IsNoFix jobs edges (answers.Refused reported) = Unit {0}
 
 -- why the texts are refused with which this is the answer
-abbrev pub refusal_of : Answer → Option Told
+abbrev pub refusal_of : Answer → Option Reported
 refusal_of (answers.Safe new chains) = None
 refusal_of (answers.Race new trace) = None
-refusal_of (answers.Refused told) = Some told
+refusal_of (answers.Refused reported) = Some reported
 
 -- why no lines fix a build: a name that they need is no word; no text has room for them; or the answer with them does not fix it
-pub data IsUnfixed (texts : Texts) (footprints : List ℕ) (jobs : Jobs) (edges : List (ℕ × ℕ)) : Option Told → Type 0 where
+pub data IsUnfixed (texts : Texts) (footprints : List ℕ) (jobs : Jobs) (edges : List (ℕ × ℕ)) : Option Reported → Type 0 where
   no_word : list_all (has_words jobs) edges ≡ false → IsUnfixed texts footprints jobs edges None
   no_room : HasNoRoom texts.makefile jobs edges → IsUnfixed texts footprints jobs edges None
   tried : (lines : List ℕ) (answer : Answer) → IsFixText texts.makefile jobs edges lines
       → IsAnswered (with_lines texts lines) footprints answer → IsNoFix jobs edges answer → IsUnfixed texts footprints jobs edges (refusal_of answer)
 
 -- what comes of the jobs of a build: lines that fix it; or the edges that it needs, and that no lines give them; or too many pairs clash
-abbrev pub IsFixingOf : Texts → List ℕ → Jobs → Result Fixing Told → Type 0
+abbrev pub IsFixingOf : Texts → List ℕ → Jobs → Result Fixing Reported → Type 0
 IsFixingOf texts footprints jobs (Ok (Fixed lines new certificate)) = IsFixedBy texts footprints jobs lines.items new certificate
 IsFixingOf texts footprints jobs (Ok (NotFixed given edges refusal)) =
     (given ≡ jobs) × IsFix jobs edges.items × IsUnfixed texts footprints jobs edges.items refusal
-IsFixingOf texts footprints jobs (Err told) = (told ≡ too_many) × HasManyPairs jobs
+IsFixingOf texts footprints jobs (Err reported) = (reported ≡ too_many) × HasManyPairs jobs
 
 -- the jobs of a build, and what comes of them
-abbrev pub IsFixing : Texts → List ℕ → Result Fixing Told → Type 0
+abbrev pub IsFixing : Texts → List ℕ → Result Fixing Reported → Type 0
 IsFixing texts footprints = ThenAny (IsPrepared texts footprints) (λ prepared. IsFixingOf texts footprints prepared.jobs)
 
 -- where lines fix a build, no schedule of it shows in its files, with the lines behind its makefile

@@ -1,7 +1,7 @@
 -- The answer of a build, and what it says of the build's runs where it is that the build is safe.
 use Rattle.std.specs.Prelude.{ℕ, ◌≡◌, Bool, List, Result, Ok, Err}
 use Rattle.mk_name.specs.Names.{has, same_name}
-use Rattle.mk_name.specs.Told.{Told}
+use Rattle.mk_name.specs.Reported.{Reported}
 use Rattle.mk_jobs.specs.Jobs.{Jobs}
 use Rattle.mk_sched.specs.Events.{Event}
 use Rattle.mk_sched.specs.Laws.{IsDeterminate, SameOutcome}
@@ -21,34 +21,34 @@ use Rattle.mk_race.specs.declared.preparing.Prepared.{Prepared}
 abbrev pub IsDecided : Jobs → Answer → Type 0
 IsDecided jobs (Safe given chains) = (given ≡ jobs) × HasFewPairs jobs × IsVerdict jobs (verdicts.Safe chains)
 IsDecided jobs (Race given trace) = (given ≡ jobs) × HasFewPairs jobs × IsVerdict jobs (verdicts.Race trace)
-IsDecided jobs (Refused told) = (told ≡ too_many) × HasManyPairs jobs
+IsDecided jobs (Refused reported) = (reported ≡ too_many) × HasManyPairs jobs
 
 -- a build is refused with its fault; without one its jobs are decided
-abbrev pub IsAnswerTo : Result Prepared Told → Answer → Type 0
+abbrev pub IsAnswerTo : Result Prepared Reported → Answer → Type 0
 IsAnswerTo (Ok prepared) answer = IsDecided prepared.jobs answer
-IsAnswerTo (Err told) answer = answer ≡ Refused told
+IsAnswerTo (Err reported) answer = answer ≡ Refused reported
 
 -- the answer of a build: the stages give its jobs or their first fault, and then it is answered
 abbrev pub IsAnswered : Texts → List ℕ → Answer → Type 0
-IsAnswered texts footprints answer = (given : Result Prepared Told) × IsPrepared texts footprints given × IsAnswerTo given answer
+IsAnswered texts footprints answer = (given : Result Prepared Reported) × IsPrepared texts footprints given × IsAnswerTo given answer
 
 -- the answer is that the build is safe
 abbrev pub IsSafe : Answer → Type 0
 IsSafe (Safe jobs chains) = Unit {0}
 IsSafe (Race jobs trace) = ⊥
-IsSafe (Refused told) = ⊥
+IsSafe (Refused reported) = ⊥
 
 -- the jobs that are handed out as safe are determinate
 abbrev pub HoldsOfSafe : Answer → Type 0
 HoldsOfSafe (Safe jobs chains) = IsDeterminate jobs
 HoldsOfSafe (Race jobs trace) = Unit {0}
-HoldsOfSafe (Refused told) = Unit {0}
+HoldsOfSafe (Refused reported) = Unit {0}
 
 -- the trace of a race holds of its jobs
 abbrev pub HoldsOfRace : Answer → Type 0
 HoldsOfRace (Safe jobs chains) = Unit {0}
 HoldsOfRace (Race jobs trace) = TraceHolds jobs trace
-HoldsOfRace (Refused told) = Unit {0}
+HoldsOfRace (Refused reported) = Unit {0}
 
 -- any two complete runs of the jobs whose recipes agree, from one store that has the files of the listing and no other, have
 -- the same outcome

@@ -1,7 +1,7 @@
 -- Laws of builds: texts mean one build, and what the listing says, and what the jobs say of it.
 use Rattle.std.specs.Prelude.{ℕ, ◌≡◌, ◌<◌, List, Result, Ok}
 use Rattle.mk_name.specs.Names.{has, same_name}
-use Rattle.mk_name.specs.Told.{Told}
+use Rattle.mk_name.specs.Reported.{Reported}
 use Rattle.mk_graph.specs.Once.{Agree}
 use Rattle.mk_jobs.specs.Jobs.{is_listed, name_of, node_count}
 use Rattle.mk_sched.specs.Stores.{AgreesWith, AgreesWithListing, Store}
@@ -31,5 +31,5 @@ BuildIsOne =
 -- no texts mean both a build and a fault, and they have one first fault, except for the choice among several cycles
 abbrev pub FirstFaultIsOne : Type 0
 FirstFaultIsOne =
-    (texts : Texts) (footprints : List ℕ) (one other : Result Prepared Told)
+    (texts : Texts) (footprints : List ℕ) (one other : Result Prepared Reported)
     → IsPrepared texts footprints one → IsPrepared texts footprints other → Agree one other

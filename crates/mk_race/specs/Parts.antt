@@ -1,7 +1,7 @@
 -- The answer of a build whose listing and footprints were read ahead, each as its fault or what it says.
 use Rattle.std.specs.Prelude.{ℕ, ◌≡◌, List, map, Result, Ok}
 use Rattle.mk_name.specs.Names.{Name}
-use Rattle.mk_name.specs.Told.{Told}
+use Rattle.mk_name.specs.Reported.{Reported}
 use Rattle.mk_text.specs.Listing.{listing_of}
 use Rattle.mk_text.specs.Spelling.{root_of}
 use Rattle.mk_include.specs.Includes.{includes_of}
@@ -25,20 +25,20 @@ texts_with settings base makefile listing = record {
 }
 
 -- what was read ahead is what these texts say below the root
-pub record AreReadFrom (texts : Texts) (lines : List ℕ) (listed : Result (List Name) Told) (read : Result Footprints Told) : Type 0 where
+pub record AreReadFrom (texts : Texts) (lines : List ℕ) (listed : Result (List Name) Reported) (read : Result Footprints Reported) : Type 0 where
   pub listing : (root : List ℕ) → root_of texts.root ≡ Ok root → listing_of root texts.listing ≡ listed
   pub footprints : (root : List ℕ) → root_of texts.root ≡ Ok root → IsRead root lines read
 
 -- the root, the operands, the paths of the texts for include lines, the listing that was read, and then the book and the plan
-abbrev pub IsGraphedWith : Texts → Result (List Name) Told → Result Graphed Told → Type 0
+abbrev pub IsGraphedWith : Texts → Result (List Name) Reported → Result Graphed Reported → Type 0
 IsGraphedWith texts listed =
     Then (root_of texts.root) (λ root. Then (goals_of root texts.operands) (λ goals. Then (operand_macros texts.operands) (λ macros.
     Then (includes_of root texts.includes) (λ included. Then listed (λ names. IsGraphed texts root goals included macros names)))))
 
 -- the footprints that were read, and then the jobs of them and a plan
-abbrev pub IsAttached : Graphed → Result Footprints Told → Result Jobs Told → Type 0
+abbrev pub IsAttached : Graphed → Result Footprints Reported → Result Jobs Reported → Type 0
 IsAttached graphed read = Then read (AreJobs graphed.plan graphed.book)
 
 -- the plan, and then the jobs
-abbrev pub AreJobsWith : Texts → Result (List Name) Told → Result Footprints Told → Result Jobs Told → Type 0
+abbrev pub AreJobsWith : Texts → Result (List Name) Reported → Result Footprints Reported → Result Jobs Reported → Type 0
 AreJobsWith texts listed read = ThenAny (IsGraphedWith texts listed) (λ graphed. IsAttached graphed read)

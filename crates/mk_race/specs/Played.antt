@@ -1,7 +1,7 @@
 -- What a log is to a build: whether its events are a run of the build's jobs, and what they leave.
 use Rattle.std.specs.Prelude.{ℕ, Bool, List, Result, Ok, Err, ◌⊎◌}
 use Rattle.mk_name.specs.Names.{Name, has, same_name}
-use Rattle.mk_name.specs.Told.{Told}
+use Rattle.mk_name.specs.Reported.{Reported}
 use Rattle.mk_jobs.specs.Jobs.{Jobs}
 use Rattle.mk_sched.specs.Replayed.{IsEventRefused, IsReplayed, IsStoreRefused}
 use Rattle.mk_sched.specs.Stored.{Files}
@@ -20,17 +20,17 @@ IsNotAllowed jobs listed limit tie log place refusal = (files : Files) ×
     ⊎ IsEventRefused jobs (has same_name listed) tie limit log.store log.events files place refusal)
 
 -- what the events of a log come to, from its files: a run, with what it leaves; or a refusal
-abbrev pub IsOutcome : Jobs → List Name → ℕ → Bool → Log → Result Played Told → Type 0
+abbrev pub IsOutcome : Jobs → List Name → ℕ → Bool → Log → Result Played Reported → Type 0
 IsOutcome jobs listed limit tie log (Ok (Allowed replayed)) =
     IsReplayed jobs (has same_name listed) tie limit log.store log.events replayed.store replayed.complete
 IsOutcome jobs listed limit tie log (Ok (NotAllowed place refusal)) = IsNotAllowed jobs listed limit tie log place refusal
-IsOutcome jobs listed limit tie log (Err told) = ⊥
+IsOutcome jobs listed limit tie log (Err reported) = ⊥
 
 -- the log below the root, and then what its events come to
-abbrev pub IsPlayedOn : Prepared → List ℕ → ℕ → Bool → Result Played Told → Type 0
+abbrev pub IsPlayedOn : Prepared → List ℕ → ℕ → Bool → Result Played Reported → Type 0
 IsPlayedOn prepared log limit tie =
     ThenAny (IsRead prepared.jobs prepared.root log) (λ read. IsOutcome prepared.jobs prepared.listing limit tie read)
 
 -- the jobs, and then the log on them
-abbrev pub IsPlayed : Texts → List ℕ → List ℕ → ℕ → Bool → Result Played Told → Type 0
+abbrev pub IsPlayed : Texts → List ℕ → List ℕ → ℕ → Bool → Result Played Reported → Type 0
 IsPlayed texts footprints log limit tie = ThenAny (IsPrepared texts footprints) (λ prepared. IsPlayedOn prepared log limit tie)

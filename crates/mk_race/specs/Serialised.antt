@@ -1,7 +1,7 @@
 -- What comes of a log that is to be put in serial order.
 use Rattle.std.specs.Prelude.{ℕ, ◌≡◌, Bool, List, length, Result, Ok, Err}
 use Rattle.mk_name.specs.Names.{Name, has, same_name}
-use Rattle.mk_name.specs.Told.{Told}
+use Rattle.mk_name.specs.Reported.{Reported}
 use Rattle.mk_jobs.specs.Jobs.{IsRaceFree, Jobs, node_count}
 use Rattle.mk_sched.specs.Runs.{IsComplete, IsRun}
 use Rattle.mk_sched.specs.Serial.{SerialisedAs, serial}
@@ -49,21 +49,21 @@ pub record IsPutInOrder (jobs : Jobs) (listed : List Name) (limit : ℕ) (tie : 
 
 -- what comes of a log: it has to be a run, that has to be complete, not too many pairs may clash, the jobs have to be race-free,
 -- and there has to be room
-abbrev pub IsOrder : Jobs → List Name → ℕ → Bool → Log → Result Ordered Told → Type 0
+abbrev pub IsOrder : Jobs → List Name → ℕ → Bool → Log → Result Ordered Reported → Type 0
 IsOrder jobs listed limit tie log (Ok (NotAllowed place refusal)) = IsNotAllowed jobs listed limit tie log place refusal
 IsOrder jobs listed limit tie log (Ok NotComplete) = IsRunOf jobs listed limit tie log × (IsComplete jobs (past_of log.events) → ⊥)
-IsOrder jobs listed limit tie log (Err told) = IsWhole jobs listed limit tie log × (told ≡ too_many) × HasManyPairs jobs
+IsOrder jobs listed limit tie log (Err reported) = IsWhole jobs listed limit tie log × (reported ≡ too_many) × HasManyPairs jobs
 IsOrder jobs listed limit tie log (Ok (Race trace)) = IsWhole jobs listed limit tie log × HasFewPairs jobs × IsOfLeastRace jobs trace
 IsOrder jobs listed limit tie log (Ok NoRoom) = IsWhole jobs listed limit tie log × HasFewPairs jobs × IsRaceFree jobs × (HasTimes log → ⊥)
 IsOrder jobs listed limit tie log (Ok (Serial list)) = IsPutInOrder jobs listed limit tie log list
 
 -- the log below the root, and then what comes of it
-abbrev pub IsOrderOn : Prepared → List ℕ → ℕ → Bool → Result Ordered Told → Type 0
+abbrev pub IsOrderOn : Prepared → List ℕ → ℕ → Bool → Result Ordered Reported → Type 0
 IsOrderOn prepared log limit tie =
     ThenAny (IsRead prepared.jobs prepared.root log) (λ read. IsOrder prepared.jobs prepared.listing limit tie read)
 
 -- the jobs, and then the log on them
-abbrev pub IsSerialised : Texts → List ℕ → List ℕ → ℕ → Bool → Result Serialised Told → Type 0
+abbrev pub IsSerialised : Texts → List ℕ → List ℕ → ℕ → Bool → Result Serialised Reported → Type 0
 IsSerialised texts footprints log limit tie =
     ThenAny (IsPrepared texts footprints) (λ prepared. ThenAny (IsOrderOn prepared log limit tie) (λ order answer.
     answer ≡ Ok (record { jobs = prepared.jobs; order = order })))

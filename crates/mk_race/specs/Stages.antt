@@ -1,7 +1,7 @@
 -- What comes of the texts of a build: the first fault of their stages, or what the graph gives.
 use Rattle.std.specs.Prelude.{◌≡◌, ℕ, List, map, Result, Ok, Err}
 use Rattle.mk_name.specs.Names.{Name}
-use Rattle.mk_name.specs.Told.{Told}
+use Rattle.mk_name.specs.Reported.{Reported}
 use Rattle.mk_name.specs.declared.fault.Source.{Source}
 use Rattle.mk_name.specs.declared.fault.Source.TheVariants as sources
 use Rattle.mk_text.specs.Listing.{listing_of}
@@ -27,21 +27,21 @@ use Rattle.mk_race.specs.declared.planning.Planned.{Planned}
 use Rattle.mk_race.specs.declared.preparing.Prepared.{Prepared}
 
 -- a fault ends the stages; a value goes on to the next
-abbrev pub Then : {X Y : Type 0} → Result X Told → (X → Result Y Told → Type 0) → Result Y Told → Type 0
+abbrev pub Then : {X Y : Type 0} → Result X Reported → (X → Result Y Reported → Type 0) → Result Y Reported → Type 0
 Then (Ok value) next answer = next value answer
-Then (Err told) next answer = answer ≡ Err told
+Then (Err reported) next answer = answer ≡ Err reported
 
 -- the same where a stage may have several answers
-abbrev pub ThenAny : {X Y : Type 0} → (Result X Told → Type 0) → (X → Result Y Told → Type 0) → Result Y Told → Type 0
-ThenAny {X} stage next answer = (given : Result X Told) × stage given × Then given next answer
+abbrev pub ThenAny : {X Y : Type 0} → (Result X Reported → Type 0) → (X → Result Y Reported → Type 0) → Result Y Reported → Type 0
+ThenAny {X} stage next answer = (given : Result X Reported) × stage given × Then given next answer
 
 -- the lines of a text, whose faults are told in this source
-abbrev pub told_in : Source → Result (List LogicalLine) Told → Result (List LogicalLine) Told
-told_in source (Ok lines) = Ok lines
-told_in source (Err told) = Err (record told { source = source })
+abbrev pub reported_in : Source → Result (List LogicalLine) Reported → Result (List LogicalLine) Reported
+reported_in source (Ok lines) = Ok lines
+reported_in source (Err reported) = Err (record reported { source = source })
 
 -- the book that the lines of the base and of the makefile say, with these texts for their include lines and these macros before them
-abbrev pub IsBook : List ℕ → Included → Macros → List LogicalLine → List LogicalLine → Result Book Told → Type 0
+abbrev pub IsBook : List ℕ → Included → Macros → List LogicalLine → List LogicalLine → Result Book Reported → Type 0
 IsBook root included macros base makefile answer = (after : Macros) × MakefilesSay root included macros (all_lines base makefile) answer after
 
 -- the texts that a build is planned from
@@ -64,13 +64,13 @@ texts_of input = record {
 }
 
 -- the book of the base and of the makefile, with these texts for their include lines and these macros before them
-abbrev pub IsBookOf : Texts → List ℕ → Included → Macros → Result Book Told → Type 0
+abbrev pub IsBookOf : Texts → List ℕ → Included → Macros → Result Book Reported → Type 0
 IsBookOf texts root included macros =
-    Then (told_in sources.Base (logical_lines texts.base)) (λ base.
-    Then (told_in sources.Makefile (logical_lines texts.makefile)) (λ makefile. IsBook root included macros base makefile))
+    Then (reported_in sources.Base (logical_lines texts.base)) (λ base.
+    Then (reported_in sources.Makefile (logical_lines texts.makefile)) (λ makefile. IsBook root included macros base makefile))
 
 -- the book, and then the plan of what the goals need
-abbrev pub IsGraphed : Texts → List ℕ → List Name → Included → Macros → List Name → Result Graphed Told → Type 0
+abbrev pub IsGraphed : Texts → List ℕ → List Name → Included → Macros → List Name → Result Graphed Reported → Type 0
 IsGraphed texts root goals included macros listed =
     ThenAny (IsBookOf texts root included macros) (λ book. ThenAny (IsAnswer book listed (goals_or_default book goals)) (λ plan answer.
     answer ≡ Ok (record { book = book; plan = plan })))
@@ -80,18 +80,18 @@ abbrev pub with_graph : List ℕ → List Name → Graphed → Planned
 with_graph root listed graphed = record { root = root; listing = listed; book = graphed.book; plan = graphed.plan }
 
 -- the root, the operands, the paths of the texts for include lines, the listing, and then the book and the plan
-abbrev pub IsPlanned : Texts → Result Planned Told → Type 0
+abbrev pub IsPlanned : Texts → Result Planned Reported → Type 0
 IsPlanned texts =
     Then (root_of texts.root) (λ root. Then (goals_of root texts.operands) (λ goals. Then (operand_macros texts.operands) (λ macros.
     Then (includes_of root texts.includes) (λ included. Then (listing_of root texts.listing) (λ listed.
     ThenAny (IsGraphed texts root goals included macros listed) (λ graphed answer. answer ≡ Ok (with_graph root listed graphed)))))))
 
 -- the jobs of a plan, whose book this is, and of footprints
-abbrev pub AreJobs : Plan → Book → Footprints → Result Jobs Told → Type 0
+abbrev pub AreJobs : Plan → Book → Footprints → Result Jobs Reported → Type 0
 AreJobs plan book read answer = answer ≡ attached plan (targets_of book.rules) read
 
 -- the footprints, and then the jobs of them and a plan
-abbrev pub IsJobs : List ℕ → Book → Plan → List ℕ → Result Jobs Told → Type 0
+abbrev pub IsJobs : List ℕ → Book → Plan → List ℕ → Result Jobs Reported → Type 0
 IsJobs root book plan footprints = ThenAny (IsRead root footprints) (AreJobs plan book)
 
 -- with the jobs go the root and the listing
@@ -99,7 +99,7 @@ abbrev pub with_jobs : Planned → Jobs → Prepared
 with_jobs planned jobs = record { root = planned.root; listing = planned.listing; jobs = jobs }
 
 -- the plan, and then the jobs
-abbrev pub IsPrepared : Texts → List ℕ → Result Prepared Told → Type 0
+abbrev pub IsPrepared : Texts → List ℕ → Result Prepared Reported → Type 0
 IsPrepared texts footprints =
     ThenAny (IsPlanned texts) (λ planned. ThenAny (IsJobs planned.root planned.book planned.plan footprints) (λ jobs answer.
     answer ≡ Ok (with_jobs planned jobs)))

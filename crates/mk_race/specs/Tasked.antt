@@ -1,6 +1,6 @@
 -- The answers of a text of tasks, and what they say of its runs where the tasks are safe.
 use Rattle.std.specs.Prelude.{ℕ, ◌≡◌, ◌<◌, Bool, true, List, Result, Ok, Err}
-use Rattle.mk_name.specs.Told.{Told}
+use Rattle.mk_name.specs.Reported.{Reported}
 use Rattle.mk_jobs.specs.Jobs.{Jobs, node_count}
 use Rattle.mk_proof.specs.ProofText.{IsRead}
 use Rattle.mk_proof.specs.declared.proof.Proof.{Proof}
@@ -20,18 +20,18 @@ use Rattle.mk_race.specs.Verified.{IsVerifiedOn, Shows}
 use Rattle.mk_race.specs.declared.listing.RaceList.{RaceList}
 
 -- the jobs that a text of tasks means below the root of a path
-abbrev pub below : List ℕ → Result (List ℕ) Told → Result Jobs Told
+abbrev pub below : List ℕ → Result (List ℕ) Reported → Result Jobs Reported
 below text (Ok root) = jobs_in root text
 below text (Err fault) = Err fault
 
 -- what a path of the root and a text of tasks mean: jobs, or the fault of the root, or that of the first line that has one
-abbrev pub tasked : List ℕ → List ℕ → Result Jobs Told
+abbrev pub tasked : List ℕ → List ℕ → Result Jobs Reported
 tasked root text = below text (root_of root)
 
 -- tasks are refused with their fault; without one their jobs are decided
-abbrev pub IsAnswerTo : Result Jobs Told → Answer → Type 0
+abbrev pub IsAnswerTo : Result Jobs Reported → Answer → Type 0
 IsAnswerTo (Ok jobs) answer = IsDecided jobs answer
-IsAnswerTo (Err told) answer = answer ≡ Refused told
+IsAnswerTo (Err reported) answer = answer ≡ Refused reported
 
 -- any two complete runs of the jobs whose recipes agree, from one store that has no task's own name, have the same outcome
 abbrev pub RunsAlike : Jobs → Type 0
@@ -54,7 +54,7 @@ pub record NoScheduleShows (root text : List ℕ) : Type 0 where
   pub alike : RunsAlike jobs
 
 -- the jobs of tasks, and then a proof on them
-abbrev pub IsVerifiedOf : List ℕ → List ℕ → List ℕ → Result Bool Told → Type 0
+abbrev pub IsVerifiedOf : List ℕ → List ℕ → List ℕ → Result Bool Reported → Type 0
 IsVerifiedOf root text proof = Then (tasked root text) (λ jobs. IsVerifiedOn jobs proof)
 
 -- the text of tasks means jobs, that of a proof means a proof, and what this shows is so of these jobs
@@ -66,5 +66,5 @@ pub record ProofShows (root text proof_text : List ℕ) : Type 0 where
   pub shown : Shows jobs proof
 
 -- the jobs of tasks, and then all their races
-abbrev pub IsListedBelow : List ℕ → List ℕ → Result RaceList Told → Type 0
+abbrev pub IsListedBelow : List ℕ → List ℕ → Result RaceList Reported → Type 0
 IsListedBelow root text = Then (tasked root text) (λ jobs. IsListedOf jobs)

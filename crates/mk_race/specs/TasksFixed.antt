@@ -1,6 +1,6 @@
 -- The fix of a text of tasks: the edges that its jobs need, and these jobs with them.
 use Rattle.std.specs.Prelude.{ℕ, ◌≡◌, ◌<◌, List, Result, Ok, Err}
-use Rattle.mk_name.specs.Told.{Told}
+use Rattle.mk_name.specs.Reported.{Reported}
 use Rattle.mk_jobs.specs.Jobs.{Jobs, IsRaceFree}
 use Rattle.mk_jobs.specs.Plan.{edge_count, edge_limit}
 use Rattle.mk_decide.specs.Decisions.{AreSafeBy}
@@ -31,13 +31,13 @@ pub record AreNotFixed (jobs : Jobs) (text : List ℕ) : Type 0 where
   pub says : text ≡ needs_text Tasks jobs edges
 
 -- what comes of the jobs of tasks: lines that fix them; or the edges that they need, which are too many; or too many pairs clash
-abbrev pub IsFixingOf : Jobs → Result TaskFixing Told → Type 0
+abbrev pub IsFixingOf : Jobs → Result TaskFixing Reported → Type 0
 IsFixingOf jobs (Ok (Fixed lines new certificate)) = AreFixedBy jobs lines.items new certificate
 IsFixingOf jobs (Ok (NotFixed text)) = AreNotFixed jobs text.items
-IsFixingOf jobs (Err told) = (told ≡ too_many) × HasManyPairs jobs
+IsFixingOf jobs (Err reported) = (reported ≡ too_many) × HasManyPairs jobs
 
 -- the jobs of tasks, and what comes of them
-abbrev pub IsFixing : List ℕ → List ℕ → Result TaskFixing Told → Type 0
+abbrev pub IsFixing : List ℕ → List ℕ → Result TaskFixing Reported → Type 0
 IsFixing root text = Then (tasked root text) IsFixingOf
 
 -- the text of tasks means jobs; with their fix these are race-free and determinate, each task starts in every complete run, and

@@ -1,6 +1,6 @@
 -- What a proof is to a build: whether its jobs accept it, and what it shows of them then.
 use Rattle.std.specs.Prelude.{◌≡◌, ◌↔◌, ℕ, Bool, List, Result, Ok, Err, IsTrue}
-use Rattle.mk_name.specs.Told.{Told}
+use Rattle.mk_name.specs.Reported.{Reported}
 use Rattle.mk_jobs.specs.Jobs.{Jobs}
 use Rattle.mk_proof.specs.ProofText.{IsRead}
 use Rattle.mk_proof.specs.declared.proof.Proof.{Proof}
@@ -28,16 +28,16 @@ pub record IsJudged (jobs : Jobs) (proof : Proof) (accepted : Bool) : Type 0 whe
   pub shown : IsTrue accepted → Shows jobs proof
 
 -- no proof that was read is a fault
-abbrev pub IsVerdict : Jobs → Proof → Result Bool Told → Type 0
+abbrev pub IsVerdict : Jobs → Proof → Result Bool Reported → Type 0
 IsVerdict jobs proof (Ok accepted) = IsJudged jobs proof accepted
-IsVerdict jobs proof (Err told) = ⊥
+IsVerdict jobs proof (Err reported) = ⊥
 
 -- the text of a proof, and then whether these jobs accept it
-abbrev pub IsVerifiedOn : Jobs → List ℕ → Result Bool Told → Type 0
+abbrev pub IsVerifiedOn : Jobs → List ℕ → Result Bool Reported → Type 0
 IsVerifiedOn jobs text = ThenAny (IsRead text) (λ proof. IsVerdict jobs proof)
 
 -- the jobs of a build, and then a proof on them
-abbrev pub IsVerified : Texts → List ℕ → List ℕ → Result Bool Told → Type 0
+abbrev pub IsVerified : Texts → List ℕ → List ℕ → Result Bool Reported → Type 0
 IsVerified texts footprints proof = ThenAny (IsPrepared texts footprints) (λ prepared. IsVerifiedOn prepared.jobs proof)
 
 -- the texts of a build mean jobs, and no others, the text of a proof means a proof, and what that shows is so of these jobs

@@ -1,6 +1,6 @@
 //! From the texts of a build to the answer whether it may run its recipes side by side.
 ghost use Rattle.std.specs.Prelude.{◌≡◌, IfOk};
-ghost use Rattle.mk_name.specs.Told.{Told};
+ghost use Rattle.mk_name.specs.Reported.{Reported};
 ghost use Rattle.mk_name.specs.declared.fault.Halt.TheVariants as halts;
 ghost use Rattle.mk_report.specs.declared.answer.Answer.TheVariants as answers;
 ghost use Rattle.mk_sched.specs.Laws.{IsDeterminate};
@@ -52,8 +52,8 @@ pub(crate) fn decided(alloc: Global, jobs: Jobs) -> Result<Answer, AllocError>
 
 /// What is refused with a fault; want of memory is no answer.
 pub(crate) fn refused(halt: Halt) -> Result<Answer, AllocError>
-    ensures { IfOk result (λ answer. (told : Told) × (halt ≡ halts.Fault told)
-        × (answer ≡ answers.Refused told)) }
+    ensures { IfOk result (λ answer. (reported : Reported) × (halt ≡ halts.Fault reported)
+        × (answer ≡ answers.Refused reported)) }
 {
     match halt {
         Halt::Fault(fault) => Ok(Answer::Refused(fault)),

@@ -5,7 +5,7 @@ ghost use Rattle.mk_macro.specs.Macros.{macros_of};
 ghost use Rattle.mk_name.specs.Gives.{Answers};
 ghost use Rattle.mk_text.specs.GivesLines.{GivesLines};
 ghost use Rattle.mk_text.specs.LogicalLines.{logical_lines};
-ghost use Rattle.mk_race.specs.Stages.{IsBookOf, IsGraphed, IsPlanned, texts_of, told_in};
+ghost use Rattle.mk_race.specs.Stages.{IsBookOf, IsGraphed, IsPlanned, texts_of, reported_in};
 
 use crate::input::Input;
 use crate::settings::goals_of;
@@ -103,7 +103,7 @@ fn book_of(
 
 /// The logical lines of a text, whose faults are told in this source.
 fn lines_in<'a>(alloc: Global, source: Source, text: &'a [u8]) -> Result<Vec<Line<'a>>, Halt>
-    ensures { GivesLines result (told_in source (logical_lines text.now)) }
+    ensures { GivesLines result (reported_in source (logical_lines text.now)) }
 {
     match lines(alloc, text) {
         Err(Halt::Fault(fault)) => {

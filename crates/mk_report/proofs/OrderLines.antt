@@ -20,10 +20,10 @@ lines_more jobs (first ∷ chains) text chain own are is = (
 )
 
 -- what is told of a chain whose ends clash, least on this path
-pub told_of : (jobs : Jobs) (chain text : List ℕ) (path : Path) → EndsClash jobs chain → IsLeastOfChain jobs chain path
+pub reported_of : (jobs : Jobs) (chain text : List ℕ) (path : Path) → EndsClash jobs chain → IsLeastOfChain jobs chain path
     → text ≡ order_line jobs path chain → IsOrderText jobs chain text
-told_of jobs chain text path clash least is = record { told = λ _. (path, least, is); untold = λ no. absurd (no clash) }
+reported_of jobs chain text path clash least is = record { reported = λ _. (path, least, is); unreported = λ no. absurd (no clash) }
 
 -- and of one whose ends do not
-pub untold_of : (jobs : Jobs) (chain text : List ℕ) → (EndsClash jobs chain → ⊥) → text ≡ [] → IsOrderText jobs chain text
-untold_of jobs chain text apart is = record { told = λ clash. absurd (apart clash); untold = λ _. is }
+pub unreported_of : (jobs : Jobs) (chain text : List ℕ) → (EndsClash jobs chain → ⊥) → text ≡ [] → IsOrderText jobs chain text
+unreported_of jobs chain text apart is = record { reported = λ clash. absurd (apart clash); unreported = λ _. is }

@@ -3,7 +3,7 @@ use Rattle.std.specs.Prelude.{ℕ, ◌≡◌, ◌-◌, ◌<◌, ◌==◌, ◌&&�
 use Rattle.std.specs.List.{flat_map, list_all}
 use Rattle.mk_name.specs.Names.{Name}
 use Rattle.mk_name.specs.Shown.{kind_line, line, name_line, place_line, shown}
-use Rattle.mk_name.specs.Told.{Told}
+use Rattle.mk_name.specs.Reported.{Reported}
 use Rattle.mk_path.specs.declared.path.Path.{Path}
 use Rattle.mk_path.specs.Texts.{text_of}
 use Rattle.mk_path.specs.Uses.{IsLeastOverlap}
@@ -152,19 +152,19 @@ abbrev pub behind_sign : List ℕ → List ℕ
 behind_sign text = codes "# " ++ text
 
 -- the line of a name of a fault
-abbrev pub told_name : Name → List ℕ
-told_name name = behind_sign (name_line name)
+abbrev pub reported_name : Name → List ℕ
+reported_name name = behind_sign (name_line name)
 
 -- why the lines were refused
-abbrev pub told_text : Told → List ℕ
-told_text told =
-    behind_sign (line (codes "refused")) ++ behind_sign (kind_line told.kind) ++ behind_sign (place_line told.source told.place)
-    ++ flat_map told_name told.names
+abbrev pub reported_text : Reported → List ℕ
+reported_text reported =
+    behind_sign (line (codes "refused")) ++ behind_sign (kind_line reported.kind) ++ behind_sign (place_line reported.source reported.place)
+    ++ flat_map reported_name reported.names
 
-abbrev pub refusal_text : Option Told → List ℕ
+abbrev pub refusal_text : Option Reported → List ℕ
 refusal_text None = []
-refusal_text (Some told) = told_text told
+refusal_text (Some reported) = reported_text reported
 
 -- the text where the edges are needed, and no lines can add just them
-abbrev pub not_fixed_text : Jobs → List (ℕ × ℕ) → Option Told → List ℕ
+abbrev pub not_fixed_text : Jobs → List (ℕ × ℕ) → Option Reported → List ℕ
 not_fixed_text jobs edges refusal = needs_text Makefile jobs edges ++ refusal_text refusal

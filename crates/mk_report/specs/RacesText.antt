@@ -18,7 +18,7 @@ race_line jobs path race = line (codes "race " ++ shown (text_of path) ++ codes 
 
 -- what is reported of two nodes: the line of the least path on which they clash; and nothing where they do not clash
 pub record IsRaceLine (jobs : Jobs) (race : ℕ × ℕ) (text : List ℕ) : Type 0 where
-  pub reported : Clash jobs race.0 race.1 → (path : Path) × IsLeastOverlap (uses_of jobs) race.0 race.1 path × (text ≡ race_line jobs path race)
+  pub listed : Clash jobs race.0 race.1 → (path : Path) × IsLeastOverlap (uses_of jobs) race.0 race.1 path × (text ≡ race_line jobs path race)
   pub left_out : (Clash jobs race.0 race.1 → ⊥) → text ≡ []
 
 -- what is reported of the races, in their order

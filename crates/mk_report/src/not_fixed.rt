@@ -120,7 +120,7 @@ fn obstacle(jobs: &Jobs, second: u32, words: bool) -> &'static str
 
 /// Puts the lines of a refusal at the end, each behind a sign. The only error is out of memory.
 fn push_refusal(out: &mut Vec<u8>, alloc: Global, fault: &Fault) -> Result<(), AllocError>
-    ensures { OnOk result (out.new.items ≡ out.old.items ++ spec.told_text fault.now) }
+    ensures { OnOk result (out.new.items ≡ out.old.items ++ spec.reported_text fault.now) }
 {
     out.extend_from_slice(b"# refused\n")?;
     push_kind(out, alloc, fault.kind())?;
@@ -155,7 +155,7 @@ fn push_place(
 
 /// Puts the lines of names at the end, each behind a sign. The only error is out of memory.
 fn push_names(out: &mut Vec<u8>, names: &[Name]) -> Result<(), AllocError>
-    ensures { OnOk result (out.new.items ≡ out.old.items ++ flat_map spec.told_name names.now) }
+    ensures { OnOk result (out.new.items ≡ out.old.items ++ flat_map spec.reported_name names.now) }
 {
     for name in names {
         out.extend_from_slice(b"# name ")?;

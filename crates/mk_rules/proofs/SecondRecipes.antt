@@ -32,10 +32,10 @@ unfolding found_in
 second_within rules place name h = let below : place < 0 + length rules = found_within rules 0 rules (place, name) (sym h) in omega arith
 
 -- where it stands, and what it is told by
-pub recipe_told : (book : Book) (place : ℕ) (name : Name) (source : Source) (line : ℕ) → Some (place, name) ≡ second_recipe book.rules
+pub recipe_reported : (book : Book) (place : ℕ) (name : Name) (source : Source) (line : ℕ) → Some (place, name) ≡ second_recipe book.rules
     → slice_get (map (λ e. e.source) book.rules) place ≡ Some source → slice_get (map (λ e. e.line) book.rules) place ≡ Some line
     → BookSays book (Err (record { kind = TwoRecipes; source = source; place = line; names = name ∷ [] }))
-recipe_told book place name source line h at_source at_line =
+recipe_reported book place name source line h at_source at_line =
     subst (λ (o : Option (ℕ × Name)). BookSaysBy o book (Err (record { kind = TwoRecipes; source = source; place = line; names = name ∷ [] }))) h
     (by (slice_get book.rules place) refl (sym (slice_get-map (λ e. e.source) book.rules place) ∙ at_source) (sym (slice_get-map (λ e. e.line) book.rules place) ∙ at_line))
   where

@@ -5,7 +5,7 @@ use Rattle.std.proofs.lemmas.List.Folds.{find-append}
 use Rattle.std.specs.Option.{option_map_or, option_or}
 use Rattle.mk_name.specs.Gives.{Halts}
 use Rattle.mk_name.specs.Names.{Name}
-use Rattle.mk_name.specs.Told.{Told}
+use Rattle.mk_name.specs.Reported.{Reported}
 use Rattle.mk_name.specs.declared.fault.Halt.{Halt}
 use Rattle.mk_name.specs.declared.fault.Halt.TheVariants as halts
 use Rattle.mk_name.specs.declared.fault.Source.TheVariants.{Makefile}
@@ -13,11 +13,11 @@ use Rattle.mk_text.specs.Spelling.{bad_name, is_word, plain_name, word_name}
 use Rattle.mk_rules.specs.Words.{refused_word, spelled_names}
 
 -- a word that spells a name, and one that spells none
-spells : (b : Bool) (name out : List ℕ) (bad : Told) → (if b then Ok name else Err bad) ≡ Ok out → (b ≡ true) × (out ≡ name)
+spells : (b : Bool) (name out : List ℕ) (bad : Reported) → (if b then Ok name else Err bad) ≡ Ok out → (b ≡ true) × (out ≡ name)
 spells true name out bad h = (refl, (cc))
 spells false name out bad h = absurd cc
 
-spells_none : (b : Bool) (name : List ℕ) (bad problem : Told) → (if b then Ok name else Err bad) ≡ Err problem → (b ≡ false) × (problem ≡ bad)
+spells_none : (b : Bool) (name : List ℕ) (bad problem : Reported) → (if b then Ok name else Err bad) ≡ Err problem → (b ≡ false) × (problem ≡ bad)
 spells_none true name bad problem h = absurd cc
 spells_none false name bad problem h = (refl, (cc))
 

@@ -1,6 +1,6 @@
 -- The lines of the makefiles, each with the text where it stands ("Makefile Syntax").
 use Rattle.std.specs.Prelude.{◌≡◌, Bool, true, false, List, [], ◌∷◌, ◌++◌}
-use Rattle.mk_name.specs.Told.{Told}
+use Rattle.mk_name.specs.Reported.{Reported}
 use Rattle.mk_name.specs.declared.fault.Halt.{Halt}
 use Rattle.mk_name.specs.declared.fault.Halt.TheVariants as halts
 use Rattle.mk_name.specs.declared.fault.Source.{Source}
@@ -34,10 +34,10 @@ abbrev pub all_lines : List LogicalLine → List LogicalLine → List Placed
 all_lines base makefile = placed Base base ++ placed Makefile makefile
 
 -- a fault of a line is told at its first physical line, in its text
-abbrev pub told_at : Placed → Told → Told
-told_at p fault = record fault { source = p.source; place = p.line.first_line }
+abbrev pub reported_at : Placed → Reported → Reported
+reported_at p fault = record fault { source = p.source; place = p.line.first_line }
 
 -- the same halt, where a fault is told at a line, or want of memory
-abbrev pub IsToldAt : Placed → Halt → Halt → Type 0
-IsToldAt p halt halts.Memory = Unit {0}
-IsToldAt p halt (halts.Fault told) = (fault : Told) × (halt ≡ halts.Fault fault) × (told ≡ told_at p fault)
+abbrev pub IsReportedAt : Placed → Halt → Halt → Type 0
+IsReportedAt p halt halts.Memory = Unit {0}
+IsReportedAt p halt (halts.Fault reported) = (fault : Reported) × (halt ≡ halts.Fault fault) × (reported ≡ reported_at p fault)

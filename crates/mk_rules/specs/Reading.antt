@@ -4,7 +4,7 @@ use Rattle.std.specs.Global.{Global}
 use Rattle.std.specs.Result.{result_map_both}
 use Rattle.mk_name.specs.Gives.{Answers}
 use Rattle.mk_name.specs.Names.{Name}
-use Rattle.mk_name.specs.Told.{Told}
+use Rattle.mk_name.specs.Reported.{Reported}
 use Rattle.mk_name.specs.declared.fault.Halt.{Halt}
 use Rattle.mk_name.specs.declared.fault.Halt.TheVariants as halts
 use Rattle.mk_name.specs.declared.fault.Kind.TheVariants.{TwoRecipes}
@@ -16,11 +16,11 @@ use Rattle.mk_text.specs.declared.parts.Parts.TheVariants.{Assign, Entry, Recipe
 use Rattle.mk_macro.specs.Macros.{Entries, Macros, macros_of}
 use Rattle.mk_macro.specs.Assignments.{IsAssignment}
 use Rattle.mk_macro.specs.Expansion.{IsExpansion}
-use Rattle.mk_include.specs.Includes.{Cut, Texts, told_in}
+use Rattle.mk_include.specs.Includes.{Cut, Texts, reported_in}
 use Rattle.mk_include.specs.Words.{word_text, words_of}
 use Rattle.mk_rules.specs.Book as books
 use Rattle.mk_rules.specs.Entries.{EntrySays}
-use Rattle.mk_rules.specs.Placed.{Placed, placed, told_at}
+use Rattle.mk_rules.specs.Placed.{Placed, placed, reported_at}
 
 -- how far a reading has come: the entries so far, the macros now, and how many texts were taken in
 pub record Point : Type 0 where
@@ -30,7 +30,7 @@ pub record Point : Type 0 where
 
 -- what ends a reading: a fault, and the macros that it leaves
 pub record Ended : Type 0 where
-  pub fault : Told
+  pub fault : Reported
   pub macros : Macros
 
 -- where a part of a reading leads: to another point, or to the end
@@ -38,8 +38,8 @@ abbrev pub Outcome : Type 0
 Outcome = Result Point Ended
 
 -- a fault of the line p, which leaves these macros
-abbrev pub ended_at : Placed → Macros → Told → Ended
-ended_at p macros fault = record { fault = told_at p fault; macros = macros }
+abbrev pub ended_at : Placed → Macros → Reported → Ended
+ended_at p macros fault = record { fault = reported_at p fault; macros = macros }
 
 -- what comes behind a step: nothing more behind the end, and else the rest from the next point on
 abbrev pub Follows : (Point → Outcome → Type 0) → Outcome → Outcome → Type 0
@@ -54,13 +54,13 @@ Steps step at (x ∷ xs) answer = (said : Outcome) × step at x said × Follows 
 -- what an assignment leads to: its fault leaves the macros before it
 abbrev pub AssignmentSays : Point → Placed → Outcome → Type 0
 AssignmentSays at p answer =
-    (behind : Result Macros Told) × IsAssignment at.macros p.line behind
+    (behind : Result Macros Reported) × IsAssignment at.macros p.line behind
     × (answer ≡ result_map_both (λ macros. record at { macros = macros }) (ended_at p at.macros) behind)
 
 -- what an entry of these parts leads to
 abbrev pub EntryLineSays : List ℕ → EntryParts → Point → Placed → Outcome → Type 0
 EntryLineSays root parts at p answer =
-    (entry : Result books.Entry Told) × EntrySays root at.macros p parts entry
+    (entry : Result books.Entry Reported) × EntrySays root at.macros p parts entry
     × (answer ≡ result_map_both (λ e. record at { entries = at.entries ++ e ∷ [] }) (ended_at p at.macros) entry)
 
 -- what the text of this name leads to, each of whose lines says this: its own fault leaves the macros before it
@@ -70,23 +70,23 @@ TextSays inner at name (Ok lines) answer = Steps inner at (placed (sources.Inclu
 
 -- what a word of the include line p leads to, by the text that it names: the word's own fault leaves the macros before
 -- the line, and so takes back what the texts of earlier words assigned
-abbrev pub WordSaysBy : (Point → Placed → Outcome → Type 0) → Placed → Macros → Point → Result (Option (Name × Cut)) Told → Outcome → Type 0
+abbrev pub WordSaysBy : (Point → Placed → Outcome → Type 0) → Placed → Macros → Point → Result (Option (Name × Cut)) Reported → Outcome → Type 0
 WordSaysBy inner p before at (Err fault) answer = answer ≡ Err (ended_at p before fault)
 WordSaysBy inner p before at (Ok None) answer = answer ≡ Ok at
-WordSaysBy inner p before at (Ok (Some text)) answer = TextSays inner (record at { taken = at.taken + 1 }) text.0 (told_in text.0 text.1) answer
+WordSaysBy inner p before at (Ok (Some text)) answer = TextSays inner (record at { taken = at.taken + 1 }) text.0 (reported_in text.0 text.1) answer
 
 abbrev pub WordSays : List ℕ → Texts → Bool → ℕ → (Point → Placed → Outcome → Type 0) → Placed → Macros → Point → List ℕ → Outcome → Type 0
 WordSays root texts hyphen room inner p before at word answer = WordSaysBy inner p before at (word_text root texts hyphen room at.taken word) answer
 
 -- what an include line leads to whose rest expands to this
-abbrev pub RestSays : List ℕ → Texts → Bool → ℕ → (Point → Placed → Outcome → Type 0) → Point → Placed → Result (List ℕ) Told → Outcome → Type 0
+abbrev pub RestSays : List ℕ → Texts → Bool → ℕ → (Point → Placed → Outcome → Type 0) → Point → Placed → Result (List ℕ) Reported → Outcome → Type 0
 RestSays root texts hyphen room inner at p (Err fault) answer = answer ≡ Err (ended_at p at.macros fault)
 RestSays root texts hyphen room inner at p (Ok text) answer = Steps (WordSays root texts hyphen room inner p at.macros) at (words_of text) answer
 
 -- what an include line of these parts leads to: its rest is expanded once, with the macros before the line
 abbrev pub IncludeSays : List ℕ → Texts → ℕ → (Point → Placed → Outcome → Type 0) → IncludeParts → Point → Placed → Outcome → Type 0
 IncludeSays root texts room inner parts at p answer =
-    (text : Result (List ℕ) Told) × IsExpansion at.macros parts.rest text × RestSays root texts parts.hyphen room inner at p text answer
+    (text : Result (List ℕ) Reported) × IsExpansion at.macros parts.rest text × RestSays root texts parts.hyphen room inner at p text answer
 
 -- what a line of these parts leads to, inside which so many texts may open, each of whose lines says this
 abbrev pub SaysBy : Parts → List ℕ → Texts → ℕ → (Point → Placed → Outcome → Type 0) → Point → Placed → Outcome → Type 0
@@ -113,31 +113,31 @@ abbrev pub depth_limit : ℕ
 depth_limit = 16
 
 -- what the lines say: their entries, with the macros behind them, or the first fault, with the macros that it leaves
-abbrev pub LinesSay : List ℕ → Texts → Macros → List Placed → Result (List books.Entry) Told → Macros → Type 0
+abbrev pub LinesSay : List ℕ → Texts → Macros → List Placed → Result (List books.Entry) Reported → Macros → Type 0
 LinesSay root texts macros lines (Ok entries) after =
     (taken : ℕ) × Steps (line_says root texts (suc depth_limit)) (start macros) lines (Ok (record { entries = entries; macros = after; taken = taken }))
 LinesSay root texts macros lines (Err fault) after =
     Steps (line_says root texts (suc depth_limit)) (start macros) lines (Err (record { fault = fault; macros = after }))
 
 -- what a book answers: itself, unless a target gets commands a second time, from the rule at this place
-abbrev pub BookSaysBy : Option (ℕ × Name) → books.Book → Result books.Book Told → Type 0
+abbrev pub BookSaysBy : Option (ℕ × Name) → books.Book → Result books.Book Reported → Type 0
 BookSaysBy None book answer = answer ≡ Ok book
 BookSaysBy (Some second) book answer =
     (rule : books.Entry) × (slice_get book.rules second.0 ≡ Some rule)
     × (answer ≡ Err (record { kind = TwoRecipes; source = rule.source; place = rule.line; names = second.1 ∷ [] }))
 
-abbrev pub BookSays : books.Book → Result books.Book Told → Type 0
+abbrev pub BookSays : books.Book → Result books.Book Reported → Type 0
 BookSays book answer = BookSaysBy (books.second_recipe book.rules) book answer
 
 -- the book of the entries, or a fault before
-abbrev pub EntriesSay : Result (List books.Entry) Told → Result books.Book Told → Type 0
+abbrev pub EntriesSay : Result (List books.Entry) Reported → Result books.Book Reported → Type 0
 EntriesSay (Ok entries) answer = BookSays (books.book_of entries) answer
 EntriesSay (Err fault) answer = answer ≡ Err fault
 
 -- what makefiles of these lines say, with these texts for their include lines, these macros before them and those after
-abbrev pub MakefilesSay : List ℕ → Texts → Macros → List Placed → Result books.Book Told → Macros → Type 0
+abbrev pub MakefilesSay : List ℕ → Texts → Macros → List Placed → Result books.Book Reported → Macros → Type 0
 MakefilesSay root texts macros lines answer after =
-    (entries : Result (List books.Entry) Told) × LinesSay root texts macros lines entries after × EntriesSay entries answer
+    (entries : Result (List books.Entry) Reported) × LinesSay root texts macros lines entries after × EntriesSay entries answer
 
 -- a call ends the reading by its halt, leaving these macros, unless memory ran out
 abbrev pub EndsAt : Halt → Macros → (Outcome → Type 0) → Type 0
@@ -150,5 +150,5 @@ Leads (Ok y) at says = says (Ok at)
 Leads (Err halt) at says = EndsAt halt at.macros says
 
 -- a call gives entries or a fault, unless memory ran out
-abbrev pub AnswersEntries : Result (Vec books.Entry Global) Halt → (Result (List books.Entry) Told → Type 0) → Type 0
+abbrev pub AnswersEntries : Result (Vec books.Entry Global) Halt → (Result (List books.Entry) Reported → Type 0) → Type 0
 AnswersEntries result answers = Answers (result_map_both (λ entries. entries.items) (λ halt. halt) result) answers

@@ -6,7 +6,7 @@ ghost use Rattle.std.specs.Prelude.{◌≡◌, ◌<◌, ◌+◌, map, suc, OnOk}
 ghost use Rattle.mk_macro.specs.Macros as specs;
 ghost use Rattle.mk_macro.specs.Macros.{macros_of};
 ghost use Rattle.mk_text.specs.LogicalLine.{parts_of};
-ghost use Rattle.mk_include.specs.Includes.{texts_of, told_in};
+ghost use Rattle.mk_include.specs.Includes.{texts_of, reported_in};
 ghost use Rattle.mk_include.specs.Words.{text_limit};
 ghost use Rattle.mk_rules.specs.Before.{IsBefore};
 ghost use Rattle.mk_rules.specs.Placed.{placed};
@@ -61,7 +61,7 @@ impl<'r, 't> Reader<'r, 't> {
     {
         match macros.assign(self.alloc, placed.line) {
             Ok(()) => Ok(()),
-            Err(halt) => Err(placed.tell(self.alloc, halt)),
+            Err(halt) => Err(placed.reports(self.alloc, halt)),
         }
     }
 
@@ -82,7 +82,7 @@ impl<'r, 't> Reader<'r, 't> {
                 so_far.rules.push(rule)?;
                 Ok(())
             }
-            Err(halt) => Err(placed.tell(self.alloc, halt)),
+            Err(halt) => Err(placed.reports(self.alloc, halt)),
         }
     }
 
@@ -100,7 +100,7 @@ impl<'r, 't> Reader<'r, 't> {
         requires taken { so_far.old.taken < text_limit }
         ensures { Leads result (point so_far.new.rules.items so_far.new.taken macros.new)
             (TextSays (line_says self.now.root.now (texts_of self.now.includes.now) room)
-            (point so_far.old.rules.items (so_far.old.taken + 1) macros.old) name (told_in name cut.now)) }
+            (point so_far.old.rules.items (so_far.old.taken + 1) macros.old) name (reported_in name cut.now)) }
     {
         so_far.taken += 1;
         let lines = cut.lines(self.alloc, &name)?;
@@ -136,7 +136,7 @@ impl<'r, 't> Reader<'r, 't> {
                 self.read_text(room, name, cut, macros, so_far)
             }
             Err(halt) => match before.take_back(macros) {
-                None => Err(placed.tell(alloc, halt)),
+                None => Err(placed.reports(alloc, halt)),
                 Some(begun) => {
                     so_far.again = Some(begun);
                     Err(Halt::Memory)
@@ -192,7 +192,7 @@ impl<'r, 't> Reader<'r, 't> {
                 let words = words(self.alloc, &text)?;
                 self.read_words(room, placed, parts.has_hyphen(), &words, macros, so_far)
             }
-            Err(halt) => Err(placed.tell(self.alloc, halt)),
+            Err(halt) => Err(placed.reports(self.alloc, halt)),
         }
     }
 

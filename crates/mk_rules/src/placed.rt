@@ -1,6 +1,6 @@
 //! A logical line, and the text where it stands.
 ghost use Rattle.std.specs.Prelude.{◌≡◌};
-ghost use Rattle.mk_rules.specs.Placed.{IsToldAt, begins_with_command};
+ghost use Rattle.mk_rules.specs.Placed.{IsReportedAt, begins_with_command};
 
 use mk_name::fault::{Halt, Source};
 use mk_text::line::{Line, LineKind};
@@ -39,8 +39,8 @@ pub(crate) fn begins_with_command(lines: &[Line]) -> bool
 
 impl<'a, 'text> Placed<'a, 'text> {
     /// The halt, where a fault is reported at the line.
-    pub(crate) fn tell(&self, alloc: Global, halt: Halt) -> Halt
-        ensures { IsToldAt self.now halt result }
+    pub(crate) fn reports(&self, alloc: Global, halt: Halt) -> Halt
+        ensures { IsReportedAt self.now halt result }
     {
         match self.source.copy(alloc) {
             Ok(source) => halt.at(source, self.line.first_line()),

@@ -2,7 +2,7 @@
 use Rattle.std.specs.Prelude.{◌≡◌, ◌⊎◌, ℕ, Bool, true, false, List, Option, Result, Ok}
 use Rattle.std.specs.Io.KnownBytes.{Consumes, IsAtEnd}
 use Rattle.mk_name.specs.Names.{Name}
-use Rattle.mk_name.specs.Told.{Told}
+use Rattle.mk_name.specs.Reported.{Reported}
 use Rattle.mk_name.specs.declared.fault.Source.{Source}
 use Rattle.mk_name.specs.declared.fault.Source.TheVariants as sources
 use Rattle.mk_text.specs.Listing.{listing_of}
@@ -68,13 +68,13 @@ HasStopped Memory failed = failed ≡ none_failed
 abbrev pub outcome_of : Answer → Outcome
 outcome_of (answers.Safe jobs chains) = Safe
 outcome_of (answers.Race jobs trace) = Race
-outcome_of (answers.Refused told) = Refused
+outcome_of (answers.Refused reported) = Refused
 
 -- what was read of a text that says this below the root, if the root is good
-abbrev pub IsListed : List ℕ → List ℕ → Result (List Name) Told → Type 0
+abbrev pub IsListed : List ℕ → List ℕ → Result (List Name) Reported → Type 0
 IsListed root text listed = (below : List ℕ) → root_of root ≡ Ok below → listing_of below text ≡ listed
 
-abbrev pub IsFootprinted : List ℕ → List ℕ → Result Footprints Told → Type 0
+abbrev pub IsFootprinted : List ℕ → List ℕ → Result Footprints Reported → Type 0
 IsFootprinted root text read = (below : List ℕ) → root_of root ≡ Ok below → IsRead below text read
 
 -- the bytes that the devices gave
@@ -90,7 +90,7 @@ texts_given settings given = texts_with settings given.base given.makefile given
 
 -- a text tells of these bytes: it is the report of an answer to them, of this kind; where that is that the build is safe, no
 -- schedule of the build shows in its files, and its jobs are determinate; where it is a race, its trace holds
-pub record Tells (settings : Settings) (given : Given) (outcome : Outcome) (text : List ℕ) : Type 0 where
+pub record IsReported (settings : Settings) (given : Given) (outcome : Outcome) (text : List ℕ) : Type 0 where
   pub answer : Answer
   pub answered : IsAnswered (texts_given settings given) given.footprints answer
   pub outcome_is : outcome ≡ outcome_of answer

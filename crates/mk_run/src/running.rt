@@ -17,7 +17,7 @@ use std::alloc::{AllocError, Global};
 
 /// What is reported of a build: the kind of its answer, and the report.
 #[derive(Debug, Drop)]
-struct Told {
+struct Reported {
     outcome: Outcome,
     text: Vec<u8>,
 }
@@ -48,12 +48,12 @@ pub fn run<B: Intake, M: Intake, L: Intake, F: Intake, O: Outlet>(
     requires footprints_work { F.has_failed footprints.old ≡ false }
     requires out_works { O.has_failed out.old ≡ false }
     // Each device was read to its end, and what was written is the report of an answer to what they gave.
-    ensures told { IfOk result (λ outcome. (given : Given)
+    ensures reported { IfOk result (λ outcome. (given : Given)
         × GaveAll (B.left base.old) (B.left base.new) given.base
         × GaveAll (M.left makefile.old) (M.left makefile.new) given.makefile
         × GaveAll (L.left listing.old) (L.left listing.new) given.listing
         × GaveAll (F.left footprints.old) (F.left footprints.new) given.footprints
-        × (text : List ℕ) × spec.Tells settings.now given outcome text
+        × (text : List ℕ) × spec.IsReported settings.now given outcome text
         × Appends (O.written out.old) (O.written out.new) text) }
     // The headline: where the devices tell their bytes and the build is safe, no schedule of it shows in its files.
     ensures headline { result ≡ Ok Outcome.Safe → (given : Given)
@@ -88,35 +88,35 @@ pub fn run<B: Intake, M: Intake, L: Intake, F: Intake, O: Outlet>(
         × GaveAll (M.left makefile.old) (M.left makefile.new) given.makefile
         × GaveAll (L.left listing.old) (L.left listing.new) given.listing
         × GaveAll (F.left footprints.old) (F.left footprints.new) given.footprints
-        × (outcome : Outcome) × (text : List ℕ) × spec.Tells settings.now given outcome text
+        × (outcome : Outcome) × (text : List ℕ) × spec.IsReported settings.now given outcome text
         × AppendsBeginning (O.written out.old) (O.written out.new) text }
 {
-    let told = told_of(alloc, base, makefile, listing, footprints, settings)?;
-    match write_all(out, told.text.as_slice()) {
-        Ok(()) => Ok(told.outcome),
+    let reported = reported_of(alloc, base, makefile, listing, footprints, settings)?;
+    match write_all(out, reported.text.as_slice()) {
+        Ok(()) => Ok(reported.outcome),
         Err(_) => Err(IoStop::Write),
     }
 }
 
 /// What is reported of the build that four devices give.
-fn told_of<B: Intake, M: Intake, L: Intake, F: Intake>(
+fn reported_of<B: Intake, M: Intake, L: Intake, F: Intake>(
     alloc: Global,
     base: &mut B,
     makefile: &mut M,
     listing: &mut L,
     footprints: &mut F,
     settings: &Settings<'_>,
-) -> Result<Told, IoStop>
+) -> Result<Reported, IoStop>
     requires base_works { B.has_failed base.old ≡ false }
     requires makefile_works { M.has_failed makefile.old ≡ false }
     requires listing_works { L.has_failed listing.old ≡ false }
     requires footprints_work { F.has_failed footprints.old ≡ false }
-    ensures told { IfOk result (λ told. (given : Given)
+    ensures reported { IfOk result (λ reported. (given : Given)
         × GaveAll (B.left base.old) (B.left base.new) given.base
         × GaveAll (M.left makefile.old) (M.left makefile.new) given.makefile
         × GaveAll (L.left listing.old) (L.left listing.new) given.listing
         × GaveAll (F.left footprints.old) (F.left footprints.new) given.footprints
-        × spec.Tells settings.now given told.outcome told.text.items) }
+        × spec.IsReported settings.now given reported.outcome reported.text.items) }
     ensures works { OnOk result (none_failed ≡ record none_failed {
       base = B.has_failed base.new;
       makefile = M.has_failed makefile.new;
@@ -136,29 +136,29 @@ fn told_of<B: Intake, M: Intake, L: Intake, F: Intake>(
     ensures listing_next { L.has_failed listing.new ≡ true → footprints.new ≡ footprints.old }
 {
     let makefiles = read_makefiles(alloc, base, makefile)?;
-    told_with(alloc, &makefiles, listing, footprints, settings)
+    reported_with(alloc, &makefiles, listing, footprints, settings)
 }
 
 /// What is reported of the build of these makefiles, and of what two devices give.
-fn told_with<L: Intake, F: Intake>(
+fn reported_with<L: Intake, F: Intake>(
     alloc: Global,
     makefiles: &Makefiles,
     listing: &mut L,
     footprints: &mut F,
     settings: &Settings<'_>,
-) -> Result<Told, IoStop>
+) -> Result<Reported, IoStop>
     requires listing_works { L.has_failed listing.old ≡ false }
     requires footprints_work { F.has_failed footprints.old ≡ false }
-    ensures told { IfOk result (λ told. (listed lines : List ℕ)
+    ensures reported { IfOk result (λ reported. (listed lines : List ℕ)
         × GaveAll (L.left listing.old) (L.left listing.new) listed
         × GaveAll (F.left footprints.old) (F.left footprints.new) lines
-        × spec.Tells settings.now (record {
+        × spec.IsReported settings.now (record {
           base = makefiles.now.base.items;
           makefile = makefiles.now.makefile.items;
           listing = listed;
           footprints = lines;
         })
-        told.outcome told.text.items) }
+        reported.outcome reported.text.items) }
     ensures works { OnOk result (none_failed ≡ record none_failed {
       listing = L.has_failed listing.new;
       footprints = F.has_failed footprints.new;
@@ -171,7 +171,7 @@ fn told_with<L: Intake, F: Intake>(
 {
     let lists = read_lists(alloc, settings.root, listing, footprints)?;
     match judged(alloc, makefiles, lists, settings) {
-        Ok(told) => Ok(told),
+        Ok(reported) => Ok(reported),
         Err(_) => Err(IoStop::Memory),
     }
 }
@@ -182,17 +182,17 @@ fn judged(
     makefiles: &Makefiles,
     lists: Lists,
     settings: &Settings<'_>,
-) -> Result<Told, AllocError>
-    ensures { IfOk result (λ told. (listed lines : List ℕ)
+) -> Result<Reported, AllocError>
+    ensures { IfOk result (λ reported. (listed lines : List ℕ)
         → spec.IsListed settings.now.root.now listed lists.listing
         → spec.IsFootprinted settings.now.root.now lines lists.footprints
-        → spec.Tells settings.now (record {
+        → spec.IsReported settings.now (record {
           base = makefiles.now.base.items;
           makefile = makefiles.now.makefile.items;
           listing = listed;
           footprints = lines;
         })
-        told.outcome told.text.items) }
+        reported.outcome reported.text.items) }
 {
     let Lists {
         listing,
@@ -201,15 +201,15 @@ fn judged(
     let base = makefiles.base.as_slice();
     let makefile = makefiles.makefile.as_slice();
     let answer = judge_parts(alloc, settings, base, makefile, listing, footprints)?;
-    tell(alloc, &answer, settings.proof)
+    reports(alloc, &answer, settings.proof)
 }
 
 /// What is reported of an answer.
-fn tell(alloc: Global, answer: &Answer, proof: bool) -> Result<Told, AllocError>
-    ensures { IfOk result (λ told. (told.outcome ≡ spec.outcome_of answer.now)
-        × IsReport answer.now proof told.text.items) }
+fn reports(alloc: Global, answer: &Answer, proof: bool) -> Result<Reported, AllocError>
+    ensures { IfOk result (λ reported. (reported.outcome ≡ spec.outcome_of answer.now)
+        × IsReport answer.now proof reported.text.items) }
 {
-    Ok(Told {
+    Ok(Reported {
         outcome: outcome_of(answer),
         text: report(alloc, answer, proof)?,
     })

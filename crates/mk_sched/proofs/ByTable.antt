@@ -8,7 +8,7 @@ use Rattle.mk_jobs.specs.Jobs.{Jobs, has_recipe}
 use Rattle.mk_sched.specs.Stores.{Store}
 use Rattle.mk_sched.specs.Events.{Act, Skip, Start, Look, Put, Erase, Finish, Event, Phase, Waiting, Running, Skipped, Ran, phase, is_passed, is_running, written}
 use Rattle.mk_sched.specs.Runs.{May, IsRun}
-use Rattle.mk_sched.specs.Table.{State, start_from, changed, IsAllowed, AllowedInTurn, state_after, told_by, StateIsTold, MayIsTable, RunsByTable}
+use Rattle.mk_sched.specs.Table.{State, start_from, changed, IsAllowed, AllowedInTurn, state_after, reported_by, StateIsReported, MayIsTable, RunsByTable}
 use Rattle.mk_sched.specs.InTime.{GoesOn, InTime, BeginningIsRun}
 use Rattle.mk_sched.proofs.Basics.{split}
 
@@ -45,7 +45,7 @@ stored s n Finish x = refl
 
 module _ (jobs : Jobs) (tie : Bool) (limit : ℕ) (opening : Store) where
   -- what an act does to the two sets, it does to the phases of its node
-  passed_by : (past : List Event) (m k : ℕ) (a : Act) → May jobs tie limit opening past m a → (changed (told_by opening past) m a).passed k ≡ is_passed (phase (record { node = m; act = a } ∷ past) k)
+  passed_by : (past : List Event) (m k : ℕ) (a : Act) → May jobs tie limit opening past m a → (changed (reported_by opening past) m a).passed k ≡ is_passed (phase (record { node = m; act = a } ∷ past) k)
   passed_by past m k Skip may = split (m == k) (λ own. rw own refl) (λ other. rw other refl)
   passed_by past m k Start may = split (m == k) (λ own. rw own (ap (λ n. is_passed (phase past n)) (sym (eqb-true m k own)) ∙ ap is_passed may.ready.waits)) (λ other. rw other refl)
   passed_by past m k (Look path seen) may = split (m == k) (λ own. rw own refl) (λ other. rw other refl)
@@ -53,7 +53,7 @@ module _ (jobs : Jobs) (tie : Bool) (limit : ℕ) (opening : Store) where
   passed_by past m k (Erase path) may = split (m == k) (λ own. rw own refl) (λ other. rw other refl)
   passed_by past m k Finish may = split (m == k) (λ own. rw own refl) (λ other. rw other refl)
 
-  running_by : (past : List Event) (m k : ℕ) (a : Act) → May jobs tie limit opening past m a → (changed (told_by opening past) m a).running k ≡ is_running (phase (record { node = m; act = a } ∷ past) k)
+  running_by : (past : List Event) (m k : ℕ) (a : Act) → May jobs tie limit opening past m a → (changed (reported_by opening past) m a).running k ≡ is_running (phase (record { node = m; act = a } ∷ past) k)
   running_by past m k Skip may = split (m == k) (λ own. rw own (ap (λ n. is_running (phase past n)) (sym (eqb-true m k own)) ∙ ap is_running may.ready.waits)) (λ other. rw other refl)
   running_by past m k Start may = split (m == k) (λ own. rw own refl) (λ other. rw other refl)
   running_by past m k (Look path seen) may = split (m == k) (λ own. rw own refl) (λ other. rw other refl)
@@ -62,27 +62,27 @@ module _ (jobs : Jobs) (tie : Bool) (limit : ℕ) (opening : Store) where
   running_by past m k Finish may = split (m == k) (λ own. rw own refl) (λ other. rw other refl)
 
   -- a run leaves the state that it tells of
-  pub state_is_told : (past : List Event) → IsRun jobs tie limit opening past → state_after opening past ≡ told_by opening past
-  state_is_told [] run = refl
-  state_is_told (e ∷ past) run =
-      let earlier = ap (λ s. changed s e.node e.act) (state_is_told past run.0) in
-      let store = fun_ext (λ x. stored (told_by opening past) e.node e.act x) in
+  pub state_is_reported : (past : List Event) → IsRun jobs tie limit opening past → state_after opening past ≡ reported_by opening past
+  state_is_reported [] run = refl
+  state_is_reported (e ∷ past) run =
+      let earlier = ap (λ s. changed s e.node e.act) (state_is_reported past run.0) in
+      let store = fun_ext (λ x. stored (reported_by opening past) e.node e.act x) in
       let passed = fun_ext (λ k. passed_by past e.node k e.act run.1) in
       let running = fun_ext (λ k. running_by past e.node k e.act run.1) in
       earlier ∙ (λ i. record { store = store i; passed = passed i; running = running i })
 
   -- what is allowed after a past is what the table allows in the state that it tells of
-  to_table : (past : List Event) (n : ℕ) (a : Act) → May jobs tie limit opening past n a → IsAllowed jobs tie limit (told_by opening past) n a
+  to_table : (past : List Event) (n : ℕ) (a : Act) → May jobs tie limit opening past n a → IsAllowed jobs tie limit (reported_by opening past) n a
   to_table past n Skip may = (record { in_jobs = may.ready.in_jobs; not_passed = ap is_passed may.ready.waits; not_running = ap is_running may.ready.waits; prerequisites = may.ready.prerequisites }, and_fails _ _ may.fresh)
   to_table past n Start may =
       let both = and_parts _ _ may.stale in
       (record { in_jobs = may.ready.in_jobs; not_passed = ap is_passed may.ready.waits; not_running = ap is_running may.ready.waits; prerequisites = may.ready.prerequisites }, both.0, both.1, may.room)
-  to_table past n (Look path seen) may = (ap is_running may.runs, may.reads, may.tells)
+  to_table past n (Look path seen) may = (ap is_running may.runs, may.reads, may.reports)
   to_table past n (Put path bytes time) may = (ap is_running may.runs, may.writes, may.newer)
   to_table past n (Erase path) may = (ap is_running may.runs, may.writes)
   to_table past n Finish may = ap is_running may
 
-  from_table : (past : List Event) (n : ℕ) (a : Act) → IsAllowed jobs tie limit (told_by opening past) n a → May jobs tie limit opening past n a
+  from_table : (past : List Event) (n : ℕ) (a : Act) → IsAllowed jobs tie limit (reported_by opening past) n a → May jobs tie limit opening past n a
   from_table past n Skip allowed = record {
     ready = record { in_jobs = allowed.0.in_jobs; waits = waits_if _ allowed.0.not_passed allowed.0.not_running; prerequisites = allowed.0.prerequisites };
     fresh = fails_and (has_recipe jobs n) _ allowed.1;
@@ -92,16 +92,16 @@ module _ (jobs : Jobs) (tie : Bool) (limit : ℕ) (opening : Store) where
     stale = rw (allowed.1, allowed.2) refl;
     room = allowed.3;
   }
-  from_table past n (Look path seen) allowed = record { runs = runs_if _ allowed.0; reads = allowed.1; tells = allowed.2 }
+  from_table past n (Look path seen) allowed = record { runs = runs_if _ allowed.0; reads = allowed.1; reports = allowed.2 }
   from_table past n (Put path bytes time) allowed = record { runs = runs_if _ allowed.0; writes = allowed.1; newer = allowed.2 }
   from_table past n (Erase path) allowed = record { runs = runs_if _ allowed.0; writes = allowed.1 }
   from_table past n Finish allowed = runs_if _ allowed
 
   pub may_to_table : (past : List Event) (n : ℕ) (a : Act) → IsRun jobs tie limit opening past → May jobs tie limit opening past n a → IsAllowed jobs tie limit (state_after opening past) n a
-  may_to_table past n a run may = subst (λ s. IsAllowed jobs tie limit s n a) (sym (state_is_told past run)) (to_table past n a may)
+  may_to_table past n a run may = subst (λ s. IsAllowed jobs tie limit s n a) (sym (state_is_reported past run)) (to_table past n a may)
 
   pub table_to_may : (past : List Event) (n : ℕ) (a : Act) → IsRun jobs tie limit opening past → IsAllowed jobs tie limit (state_after opening past) n a → May jobs tie limit opening past n a
-  table_to_may past n a run allowed = from_table past n a (subst (λ s. IsAllowed jobs tie limit s n a) (state_is_told past run) allowed)
+  table_to_may past n a run allowed = from_table past n a (subst (λ s. IsAllowed jobs tie limit s n a) (state_is_reported past run) allowed)
 
   -- in the order of time
   pub goes_on : (past events : List Event) → IsRun jobs tie limit opening (reverse_aux events past) → IsRun jobs tie limit opening past × GoesOn jobs tie limit opening past events
@@ -129,8 +129,8 @@ module _ (jobs : Jobs) (tie : Bool) (limit : ℕ) (opening : Store) where
   beginning [] past run = run
   beginning (e ∷ newer) past run = beginning newer past run.0
 
-pub state_told : StateIsTold
-state_told jobs tie limit opening = state_is_told jobs tie limit opening
+pub state_reported : StateIsReported
+state_reported jobs tie limit opening = state_is_reported jobs tie limit opening
 
 pub may_is_table : MayIsTable
 may_is_table jobs tie limit opening past n a run = (may_to_table jobs tie limit opening past n a run, table_to_may jobs tie limit opening past n a run)

@@ -25,8 +25,8 @@ look_among [] [] x seen older is = cc
 look_among [] (b ∷ newer) x seen older is = cc
 look_among (Skip ∷ acts) newer x seen older is = look_later Skip acts x seen older (look_among acts newer x seen older is)
 look_among (Start ∷ acts) newer x seen older is = look_later Start acts x seen older (look_among acts newer x seen older is)
-look_among (Look path told ∷ acts) [] x seen older is = ([], acts, cc, cc)
-look_among (Look path told ∷ acts) (b ∷ newer) x seen older is = look_later (Look path told) acts x seen older (look_among acts newer x seen older (cc))
+look_among (Look path reported ∷ acts) [] x seen older is = ([], acts, cc, cc)
+look_among (Look path reported ∷ acts) (b ∷ newer) x seen older is = look_later (Look path reported) acts x seen older (look_among acts newer x seen older (cc))
 look_among (Put path bytes time ∷ acts) [] x seen older is = cc
 look_among (Put path bytes time ∷ acts) (b ∷ newer) x seen older is = look_later (Put path bytes time) acts x seen older (look_among acts newer x seen older (cc))
 look_among (Erase path ∷ acts) [] x seen older is = cc
@@ -47,10 +47,10 @@ module _ (jobs : Jobs) (opening : Store) (tie : Bool) (limit other : ℕ) (valid
       let in_a = ap entries (ma.final m (chain_passed jobs tie limit opening ma.earlier m n ma.run before (ap is_begun ma.may.runs))) in
       let in_b = ap entries (mb.final m (chain_passed jobs tie other opening mb.earlier m n mb.run before (ap is_begun mb.may.runs))) in
       sym in_a ∙ (known m before ∙ in_b) in
-      ma.may.tells
+      ma.may.reports
       ∙ (look_alike jobs opening tie tie limit other ma.earlier mb.earlier n x valid free ma.run mb.run ma.may.runs mb.may.runs
       ((ap entries ma.acts ∙ la.3) ∙ sym (ap entries mb.acts ∙ lb.3)) earlier ma.may.reads
-      ∙ sym mb.may.tells)
+      ∙ sym mb.may.reports)
 
   -- the next steps after equal histories are equal, if they are alike
   step_alike : (n : ℕ) (e f : Entry) (older xs ys : List Entry) → ((m : ℕ) → Before jobs m n → history a m ≡ history b m)

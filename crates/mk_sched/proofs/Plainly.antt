@@ -68,13 +68,13 @@ answers_alike : (request : Option Request) (e f : Option Entry) → IsAnswer req
 answers_alike None None None one other = tt
 answers_alike None None (Some f) one other = other
 answers_alike None (Some e) f one other = absurd one
-answers_alike (Some (ToLook path)) (Some (Looked x seen)) (Some (Looked y told)) one other = sym one ∙ other
+answers_alike (Some (ToLook path)) (Some (Looked x seen)) (Some (Looked y reported)) one other = sym one ∙ other
 answers_alike (Some (ToLook path)) (Some (Looked x seen)) (Some (Wrote y kept)) one other = absurd other
 answers_alike (Some (ToLook path)) (Some (Looked x seen)) None one other = other
 answers_alike (Some (ToLook path)) (Some (Wrote x kept)) f one other = absurd one
 answers_alike (Some (ToLook path)) None f one other = absurd one
 answers_alike (Some (ToWrite path left)) (Some (Wrote x mine)) (Some (Wrote y kept)) one other = (sym one.0 ∙ other.0, sym one.1 ∙ other.1)
-answers_alike (Some (ToWrite path left)) (Some (Wrote x mine)) (Some (Looked y told)) one other = absurd other
+answers_alike (Some (ToWrite path left)) (Some (Wrote x mine)) (Some (Looked y reported)) one other = absurd other
 answers_alike (Some (ToWrite path left)) (Some (Wrote x mine)) None one other = other
 answers_alike (Some (ToWrite path left)) (Some (Looked x seen)) f one other = absurd one
 answers_alike (Some (ToWrite path left)) None f one other = absurd one

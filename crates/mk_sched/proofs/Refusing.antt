@@ -14,9 +14,9 @@ use Rattle.mk_sched.specs.declared.refusal.Refusal.{Refusal}
 use Rattle.mk_sched.specs.declared.refusal.Refusal.TheVariants.{NotReady, NotStale, Stale, NoRecipe, TwicePassed, NotRunning, OutsideFootprint, WrongBytes, NotNewer, TooManyJobs, NoNode}
 use Rattle.mk_sched.specs.Events.{Phase, Waiting, Running, Skipped, Ran, phase, is_running}
 use Rattle.mk_sched.specs.Refused.{AllowedUnlessRefused}
-use Rattle.mk_sched.specs.Table.{told_by}
+use Rattle.mk_sched.specs.Table.{reported_by}
 use Rattle.mk_sched.proofs.Basics.{split, same_name-true, same_name-refl, is_begun}
-use Rattle.mk_sched.proofs.ByTable.{state_told, may_is_table}
+use Rattle.mk_sched.proofs.ByTable.{state_reported, may_is_table}
 use Rattle.mk_sched.proofs.Moving.{in_jobs}
 
 none_some : {X A : Type 0} (x : X) → None ≡ Some x → A
@@ -179,8 +179,8 @@ is_begun_running Ran h = refl
 
 pub allowed_unless_refused : AllowedUnlessRefused
 allowed_unless_refused jobs tie limit opening past n a run = (
-  (λ may. none_holds jobs tie limit (told_by opening past) n a (λ runs. in_jobs jobs tie limit opening past n run (is_begun_running (phase past n) runs))
-      (subst (λ (s : State). IsAllowed jobs tie limit s n a) (state_told jobs tie limit opening past run) ((may_is_table jobs tie limit opening past n a run).0 may))),
+  (λ may. none_holds jobs tie limit (reported_by opening past) n a (λ runs. in_jobs jobs tie limit opening past n run (is_begun_running (phase past n) runs))
+      (subst (λ (s : State). IsAllowed jobs tie limit s n a) (state_reported jobs tie limit opening past run) ((may_is_table jobs tie limit opening past n a run).0 may))),
   (λ none. (may_is_table jobs tie limit opening past n a run).1
-      (subst (λ (s : State). IsAllowed jobs tie limit s n a) (sym (state_told jobs tie limit opening past run)) (allowed jobs tie limit (told_by opening past) n a none))),
+      (subst (λ (s : State). IsAllowed jobs tie limit s n a) (sym (state_reported jobs tie limit opening past run)) (allowed jobs tie limit (reported_by opening past) n a none))),
 )

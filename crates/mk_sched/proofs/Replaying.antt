@@ -11,10 +11,10 @@ use Rattle.mk_sched.specs.Standing.{state_of, CanMove}
 use Rattle.mk_sched.specs.Steps.{step_of, past_of}
 use Rattle.mk_sched.specs.Stored.{Files}
 use Rattle.mk_sched.specs.Stores.{Store}
-use Rattle.mk_sched.specs.Table.{State, IsAllowed, changed, told_by}
-use Rattle.mk_sched.specs.declared.event.Event.{Event as Told}
+use Rattle.mk_sched.specs.Table.{State, IsAllowed, changed, reported_by}
+use Rattle.mk_sched.specs.declared.event.Event.{Event as Reported}
 use Rattle.mk_sched.specs.declared.stage.Stage.{Stage}
-use Rattle.mk_sched.proofs.ByTable.{state_told}
+use Rattle.mk_sched.proofs.ByTable.{state_reported}
 use Rattle.mk_sched.proofs.Moving.{counter_moves}
 use Rattle.mk_sched.specs.declared.refusal.Refusal.{Refusal}
 use Rattle.mk_sched.proofs.Basics.{split}
@@ -23,7 +23,7 @@ use Rattle.mk_sched.proofs.Refusing.{allowed_unless_refused, allowed, one_answer
 -- where a replay has come to
 pub record IsAt (jobs : Jobs) (tie : Bool) (limit : ℕ) (opening : Store) (past : List Event) (files : Files) (stages : List Stage) (running : ℕ) : Type 0 where
   pub run : IsRun jobs tie limit opening past
-  pub state : state_of files stages ≡ told_by opening past
+  pub state : state_of files stages ≡ reported_by opening past
   pub long : length stages ≡ node_count jobs
   pub counted : running ≡ running_below past (node_count jobs)
   pub few : node_count jobs < 2 ^ 32
@@ -37,12 +37,12 @@ count_to-le test zero = omega arith
 count_to-le test (suc n) = let rest = count_to-le test n in split (test n) (λ yes. rw yes (omega (arith, rest))) (λ no. rw no (omega (arith, rest)))
 
 -- one more event
-pub past_more : (events : List Told) (k : ℕ) (e : Told) → k < length events → e ≡ get_or events k e → past_of (take (k + 1) events) ≡ step_of e ∷ past_of (take k events)
+pub past_more : (events : List Reported) (k : ℕ) (e : Reported) → k < length events → e ≡ get_or events k e → past_of (take (k + 1) events) ≡ step_of e ∷ past_of (take k events)
 past_more events k e inside is =
     ap past_of (take_more events k e inside)
     ∙ ap reverse (map-append step_of (take k events) (get_or events k e ∷ []))
     ∙ reverse-append (map step_of (take k events)) (step_of (get_or events k e) ∷ [])
-    ∙ ap (λ (x : Told). step_of x ∷ past_of (take k events)) (sym is)
+    ∙ ap (λ (x : Reported). step_of x ∷ past_of (take k events)) (sym is)
 
 -- the counters of a state
 pub counts : (jobs : Jobs) (tie : Bool) (limit : ℕ) (opening : Store) (past : List Event) (files : Files) (stages : List Stage) (running : ℕ)
@@ -67,16 +67,16 @@ can_move jobs tie limit s n Finish h = tt
 
 module _ (jobs : Jobs) (tie : Bool) (limit : ℕ) (opening : Store) (past : List Event) (files : Files) (stages : List Stage) (running : ℕ) (at : IsAt jobs tie limit opening past files stages running) (e : Event) where
   -- the refusals that a state finds are those of the past
-  pub finds_told : (found : Option Refusal) → Finds (Holds jobs tie limit (state_of files stages) e.node e.act) (asked e.act) found → Finds (Holds jobs tie limit (told_by opening past) e.node e.act) (asked e.act) found
-  finds_told found finds = subst (λ (s : State). Finds (Holds jobs tie limit s e.node e.act) (asked e.act) found) at.state finds
+  pub finds_reported : (found : Option Refusal) → Finds (Holds jobs tie limit (state_of files stages) e.node e.act) (asked e.act) found → Finds (Holds jobs tie limit (reported_by opening past) e.node e.act) (asked e.act) found
+  finds_reported found finds = subst (λ (s : State). Finds (Holds jobs tie limit s e.node e.act) (asked e.act) found) at.state finds
 
   -- an event that is refused is not allowed
   pub not_allowed : (r : Refusal) → Finds (Holds jobs tie limit (state_of files stages) e.node e.act) (asked e.act) (Some r) → May jobs tie limit opening past e.node e.act → ⊥
-  not_allowed r some allows = one_answer (Holds jobs tie limit (told_by opening past) e.node e.act) (asked e.act) r ((allowed_unless_refused jobs tie limit opening past e.node e.act at.run).0 allows) (finds_told (Some r) some)
+  not_allowed r some allows = one_answer (Holds jobs tie limit (reported_by opening past) e.node e.act) (asked e.act) r ((allowed_unless_refused jobs tie limit opening past e.node e.act at.run).0 allows) (finds_reported (Some r) some)
 
   module _ (none : Finds (Holds jobs tie limit (state_of files stages) e.node e.act) (asked e.act) None) where
     pub may : May jobs tie limit opening past e.node e.act
-    may = (allowed_unless_refused jobs tie limit opening past e.node e.act at.run).1 (finds_told None none)
+    may = (allowed_unless_refused jobs tie limit opening past e.node e.act at.run).1 (finds_reported None none)
 
     pub node_in : e.node < length stages
     node_in = omega (arith, at.long, node_asked jobs tie limit (state_of files stages) e.node e.act none)
@@ -95,19 +95,19 @@ module _ (jobs : Jobs) (tie : Bool) (limit : ℕ) (opening : Store) (past : List
         → IsAt jobs tie limit opening (e ∷ past) later set now
     next later set now made long moved = record {
       run = (at.run, may);
-      state = made ∙ ap (λ (s : State). changed s e.node e.act) (at.state ∙ sym (state_told jobs tie limit opening past at.run)) ∙ state_told jobs tie limit opening (e ∷ past) (at.run, may);
+      state = made ∙ ap (λ (s : State). changed s e.node e.act) (at.state ∙ sym (state_reported jobs tie limit opening past at.run)) ∙ state_reported jobs tie limit opening (e ∷ past) (at.run, may);
       long = long ∙ at.long;
       counted = moves_once e.act running now _ moved moves;
       few = at.few;
     }
 
 -- before any event
-pub begun_at : (jobs : Jobs) (tie : Bool) (limit : ℕ) (opening : Store) (files : Files) (stages : List Stage) → state_of files stages ≡ told_by opening [] → length stages ≡ node_count jobs → node_count jobs < 2 ^ 32
+pub begun_at : (jobs : Jobs) (tie : Bool) (limit : ℕ) (opening : Store) (files : Files) (stages : List Stage) → state_of files stages ≡ reported_by opening [] → length stages ≡ node_count jobs → node_count jobs < 2 ^ 32
     → IsAt jobs tie limit opening [] files stages 0
 begun_at jobs tie limit opening files stages state long few = record { run = tt; state = state; long = long; counted = sym (count_none (node_count jobs)); few = few }
 
 -- what a replay leaves
-pub leaves : (jobs : Jobs) (tie : Bool) (limit : ℕ) (opening : Store) (events : List Told) (files : Files) (stages : List Stage) (running : ℕ)
+pub leaves : (jobs : Jobs) (tie : Bool) (limit : ℕ) (opening : Store) (events : List Reported) (files : Files) (stages : List Stage) (running : ℕ)
     → IsAt jobs tie limit opening (past_of events) files stages running → IsLeft opening events files
 leaves jobs tie limit opening events files stages running at x = ap (λ (s : State). s.store x) at.state
 
@@ -116,11 +116,11 @@ pub whole : (jobs : Jobs) (tie : Bool) (limit : ℕ) (opening : Store) (past : L
     → IsAt jobs tie limit opening past files stages running
     → IsTrue complete ↔ ((n : ℕ) → n < length stages → (state_of files stages).passed n ≡ true)
     → IsTrue complete ↔ IsComplete jobs past
-whole jobs tie limit opening past files stages running complete at tells = (
-  (λ yes n inside. sym (ap (λ (s : State). s.passed n) at.state) ∙ tells.0 yes n (omega (arith, inside, at.long))),
-  (λ all. tells.1 (λ n inside. ap (λ (s : State). s.passed n) at.state ∙ all n (omega (arith, inside, at.long)))),
+whole jobs tie limit opening past files stages running complete at reports = (
+  (λ yes n inside. sym (ap (λ (s : State). s.passed n) at.state) ∙ reports.0 yes n (omega (arith, inside, at.long))),
+  (λ all. reports.1 (λ n inside. ap (λ (s : State). s.passed n) at.state ∙ all n (omega (arith, inside, at.long)))),
 )
 
 -- the events before a place, the one there, and the rest
-pub cut : (events : List Told) (k : ℕ) (e : Told) → k < length events → e ≡ get_or events k e → events ≡ take k events ++ e ∷ drop (k + 1) events
-cut events k e inside is = sym (take-append-drop k events) ∙ ap (λ (rest : List Told). take k events ++ rest) (drop_more events k e inside ∙ ap (λ (x : Told). x ∷ drop (k + 1) events) (sym is))
+pub cut : (events : List Reported) (k : ℕ) (e : Reported) → k < length events → e ≡ get_or events k e → events ≡ take k events ++ e ∷ drop (k + 1) events
+cut events k e inside is = sym (take-append-drop k events) ∙ ap (λ (rest : List Reported). take k events ++ rest) (drop_more events k e inside ∙ ap (λ (x : Reported). x ∷ drop (k + 1) events) (sym is))

@@ -16,5 +16,5 @@ abbrev pub controls : List Event → List Event
 controls past = filter (λ e. is_control e.act) past
 
 -- by these alone each node is in the phase that it is in by all events
-abbrev pub ControlsTell : Type 0
-ControlsTell = (past : List Event) (n : ℕ) → phase (controls past) n ≡ phase past n
+abbrev pub ControlsReport : Type 0
+ControlsReport = (past : List Event) (n : ℕ) → phase (controls past) n ≡ phase past n

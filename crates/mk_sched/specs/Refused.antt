@@ -5,11 +5,11 @@ use Rattle.mk_sched.specs.Stores.{Store}
 use Rattle.mk_sched.specs.Events.{Act, Event}
 use Rattle.mk_sched.specs.Runs.{IsRun, May}
 use Rattle.mk_sched.specs.Refusals.{Finds, Holds, asked}
-use Rattle.mk_sched.specs.Table.{told_by}
+use Rattle.mk_sched.specs.Table.{reported_by}
 
 -- after a run an act is allowed exactly where none of the refusals that are asked of it holds
 abbrev pub AllowedUnlessRefused : Type 0
 AllowedUnlessRefused =
     (jobs : Jobs) (tie : Bool) (limit : ℕ) (opening : Store) (past : List Event) (n : ℕ) (a : Act)
     → IsRun jobs tie limit opening past
-    → May jobs tie limit opening past n a ↔ Finds (Holds jobs tie limit (told_by opening past) n a) (asked a) None
+    → May jobs tie limit opening past n a ↔ Finds (Holds jobs tie limit (reported_by opening past) n a) (asked a) None

@@ -8,18 +8,18 @@ use Rattle.mk_sched.specs.Events.{store_after}
 use Rattle.mk_sched.specs.Runs.{IsRun, IsComplete, May}
 use Rattle.mk_sched.specs.Refusals.{Finds, Holds, asked}
 use Rattle.mk_sched.specs.Steps.{step_of, past_of}
-use Rattle.mk_sched.specs.Table.{told_by}
-use Rattle.mk_sched.specs.declared.event.Event.{Event as Told}
+use Rattle.mk_sched.specs.Table.{reported_by}
+use Rattle.mk_sched.specs.declared.event.Event.{Event as Reported}
 use Rattle.mk_sched.specs.declared.refusal.Refusal.{Refusal}
 use Rattle.mk_sched.specs.declared.refusal.Refusal.TheVariants.{StoreNotListing}
 
 -- the files are what these events leave
-abbrev pub IsLeft : Store → List Told → Files → Type 0
+abbrev pub IsLeft : Store → List Reported → Files → Type 0
 IsLeft opening events files = (x : Name) → store_of files x ≡ store_after opening (past_of events) x
 
 -- replayed: the store agrees with the listing, the events are a run, these files are what they leave, and whether the run
 -- is complete
-pub record IsReplayed (jobs : Jobs) (listed : Name → Bool) (tie : Bool) (limit : ℕ) (opening : Files) (events : List Told) (files : Files) (complete : Bool) : Type 0 where
+pub record IsReplayed (jobs : Jobs) (listed : Name → Bool) (tie : Bool) (limit : ℕ) (opening : Files) (events : List Reported) (files : Files) (complete : Bool) : Type 0 where
   pub agrees : AgreesWithListing listed (store_of opening)
   pub run : IsRun jobs tie limit (store_of opening) (past_of events)
   pub left : IsLeft (store_of opening) events files
@@ -28,20 +28,20 @@ pub record IsReplayed (jobs : Jobs) (listed : Name → Bool) (tie : Bool) (limit
 -- the store is refused: it does not agree with the listing, and comes back as it was
 pub record IsStoreRefused (listed : Name → Bool) (opening files : Files) (place : ℕ) (refusal : Refusal) : Type 0 where
   pub first : place ≡ 0
-  pub told : refusal ≡ StoreNotListing
+  pub reported : refusal ≡ StoreNotListing
   pub differs : AgreesWithListing listed (store_of opening) → ⊥
   pub same : files ≡ opening
 
 -- an event is refused, and told by its place from 1: the store has the listed files, what stands before the event is a run
 -- that leaves these files, the event is not allowed, and of the refusals that are asked of it this one holds first
-pub record IsEventRefused (jobs : Jobs) (listed : Name → Bool) (tie : Bool) (limit : ℕ) (opening : Files) (events : List Told) (files : Files) (place : ℕ) (refusal : Refusal) : Type 0 where
+pub record IsEventRefused (jobs : Jobs) (listed : Name → Bool) (tie : Bool) (limit : ℕ) (opening : Files) (events : List Reported) (files : Files) (place : ℕ) (refusal : Refusal) : Type 0 where
   pub agrees : AgreesWithListing listed (store_of opening)
-  pub before : List Told
-  pub event : Told
-  pub rest : List Told
+  pub before : List Reported
+  pub event : Reported
+  pub rest : List Reported
   pub cut : events ≡ before ++ event ∷ rest
   pub placed : place ≡ length before + 1
   pub run : IsRun jobs tie limit (store_of opening) (past_of before)
   pub left : IsLeft (store_of opening) before files
   pub not_allowed : May jobs tie limit (store_of opening) (past_of before) (step_of event).node (step_of event).act → ⊥
-  pub first : Finds (Holds jobs tie limit (told_by (store_of opening) (past_of before)) (step_of event).node (step_of event).act) (asked (step_of event).act) (Some refusal)
+  pub first : Finds (Holds jobs tie limit (reported_by (store_of opening) (past_of before)) (step_of event).node (step_of event).act) (asked (step_of event).act) (Some refusal)

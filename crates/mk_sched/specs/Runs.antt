@@ -26,7 +26,7 @@ pub record MayStart (jobs : Jobs) (tie : Bool) (limit : ℕ) (opening : Store) (
 pub record MayLook (jobs : Jobs) (opening : Store) (past : List Event) (n : ℕ) (path : Name) (seen : Option Bytes) : Type 0 where
   pub runs : phase past n ≡ Running
   pub reads : may_read jobs n path ≡ true
-  pub tells : seen ≡ bytes_of (store_after opening past path)
+  pub reports : seen ≡ bytes_of (store_after opening past path)
 
 -- n may put a file: it runs, it may write the name, and the time is above every time in the store
 pub record MayPut (jobs : Jobs) (opening : Store) (past : List Event) (n : ℕ) (path : Name) (time : ℕ) : Type 0 where
@@ -59,10 +59,10 @@ IsComplete jobs past = (n : ℕ) → n < node_count jobs → is_passed (phase pa
 
 -- the same step, but for what a look tells
 abbrev pub AlikeSteps : Entry → Entry → Type 0
-AlikeSteps (Looked x seen) (Looked y told) = x ≡ y
+AlikeSteps (Looked x seen) (Looked y reported) = x ≡ y
 AlikeSteps (Wrote x left) (Wrote y kept) = (x ≡ y) × (left ≡ kept)
 AlikeSteps (Looked x seen) (Wrote y kept) = ⊥
-AlikeSteps (Wrote x left) (Looked y told) = ⊥
+AlikeSteps (Wrote x left) (Looked y reported) = ⊥
 
 -- after equal beginnings the next steps are alike, or both lists end; the oldest entry first
 abbrev pub Agree : List Entry → List Entry → Type 0

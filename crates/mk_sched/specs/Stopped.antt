@@ -4,12 +4,12 @@ use Rattle.mk_name.specs.Names.{Name}
 use Rattle.mk_jobs.specs.Jobs.{Jobs}
 use Rattle.mk_sched.specs.Stored.{Files}
 use Rattle.mk_sched.specs.Replayed.{IsStoreRefused, IsEventRefused}
-use Rattle.mk_sched.specs.declared.event.Event.{Event as Told}
+use Rattle.mk_sched.specs.declared.event.Event.{Event as Reported}
 use Rattle.mk_sched.specs.declared.replay.Stopped.{Stopped}
 use Rattle.mk_sched.specs.declared.replay.Stopped.TheVariants as stops
 
 -- want of memory may stop any replay; else the store or an event is refused
-abbrev pub IsStopped : Jobs → (Name → Bool) → Bool → ℕ → Files → List Told → Stopped → Type 0
+abbrev pub IsStopped : Jobs → (Name → Bool) → Bool → ℕ → Files → List Reported → Stopped → Type 0
 IsStopped jobs listed tie limit opening events stops.Memory = Unit {0}
 IsStopped jobs listed tie limit opening events (stops.Refused files place refusal) =
     IsStoreRefused listed opening files place refusal

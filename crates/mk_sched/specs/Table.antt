@@ -75,15 +75,15 @@ state_after opening [] = start_from opening
 state_after opening (e ∷ past) = changed (state_after opening past) e.node e.act
 
 -- the state that a past tells of: the store that it leaves, and who has passed or runs by its own acts
-abbrev pub told_by : Store → List Event → State
-told_by opening past =
+abbrev pub reported_by : Store → List Event → State
+reported_by opening past =
     record { store = store_after opening past; passed = λ n. is_passed (phase past n); running = λ n. is_running (phase past n) }
 
 -- a run leaves the state that it tells of
-abbrev pub StateIsTold : Type 0
-StateIsTold =
+abbrev pub StateIsReported : Type 0
+StateIsReported =
     (jobs : Jobs) (tie : Bool) (limit : ℕ) (opening : Store) (past : List Event)
-    → IsRun jobs tie limit opening past → state_after opening past ≡ told_by opening past
+    → IsRun jobs tie limit opening past → state_after opening past ≡ reported_by opening past
 
 -- after a run the acts that are allowed are those that the table allows
 abbrev pub MayIsTable : Type 0

@@ -50,7 +50,7 @@ fn has_begun(state: &State, n: u32) -> bool
 }
 
 /// Whether a look tells what a file holds, or that there is none.
-fn is_told(seen: &Option<Contents>, file: Option<&File>) -> bool
+fn has_report(seen: &Option<Contents>, file: Option<&File>) -> bool
     ensures { IsTrue result ↔ (seen.now ≡ bytes_of (option_map (λ file. file.now) file.entry)) }
 {
     match (seen, file) {
@@ -124,7 +124,7 @@ fn look_refusal(
     if !jobs.may_read(n, path) {
         return Some(Refusal::OutsideFootprint);
     }
-    if !is_told(seen, state.store.file(path)) {
+    if !has_report(seen, state.store.file(path)) {
         return Some(Refusal::WrongBytes);
     }
     None

@@ -4,9 +4,9 @@ ghost use Rattle.mk_sched.specs.Serial.{Serialised, EqualsSerialRun, KeepsActs, 
 ghost use Rattle.mk_sched.specs.Sure.{SurelyStale};
 ghost use Rattle.mk_sched.specs.Plain.{AgreeMeans, IdleIsFresh, IdleNeverStarts, ListingAgrees};
 ghost use Rattle.mk_sched.specs.Programs.{ProgramsAgree};
-ghost use Rattle.mk_sched.specs.Table.{StateIsTold, MayIsTable, RunsByTable};
+ghost use Rattle.mk_sched.specs.Table.{StateIsReported, MayIsTable, RunsByTable};
 ghost use Rattle.mk_sched.specs.InTime.{InTime, BeginningIsRun};
-ghost use Rattle.mk_sched.specs.Controls.{ControlsTell};
+ghost use Rattle.mk_sched.specs.Controls.{ControlsReport};
 ghost use Rattle.mk_sched.specs.Counter.{CounterMoves};
 ghost use Rattle.mk_sched.specs.Refused.{AllowedUnlessRefused};
 
@@ -92,8 +92,8 @@ pub fn in_time()
 {}
 
 /// The sets of passed and of running nodes are what the events of a run say.
-pub fn state_is_told()
-    ensures { StateIsTold }
+pub fn state_is_reported()
+    ensures { StateIsReported }
 {}
 
 /// What is allowed after a run is what the table of events allows in its state.
@@ -107,8 +107,8 @@ pub fn runs_by_table()
 {}
 
 /// Skips, starts and finishes alone say who has passed and who runs.
-pub fn controls_tell()
-    ensures { ControlsTell }
+pub fn controls_report()
+    ensures { ControlsReport }
 {}
 
 /// The number of running nodes moves by one at a start and at a finish.

@@ -14,7 +14,7 @@ use Rattle.mk_jobs.proofs.Numberings.{number_has, number_none}
 use Rattle.mk_foot.specs.Footprints.{path_limit}
 use Rattle.mk_task.specs.Good.{IsTally, Tally}
 use Rattle.mk_task.specs.Lines.{Line}
-use Rattle.mk_task.specs.Tasks.{Task, edge_count, labels_of, limit_passed, needs_from, path_count, told, unless_passed, with_line, with_needs, within}
+use Rattle.mk_task.specs.Tasks.{Task, edge_count, labels_of, limit_passed, needs_from, path_count, reported, unless_passed, with_line, with_needs, within}
 
 -- a name has a number where it is there
 pub number_there : (names : List Name) (x : Name) → is_some (number_of names x) ≡ has same_name names x
@@ -26,7 +26,7 @@ number_there names x = by (number_of names x) refl
 
 -- a label that stands there already is the line's fault
 pub line_twice : (place : ℕ) (earlier : List Task) (line : Line) → has same_name (labels_of earlier) line.label ≡ true
-    → with_line place earlier line ≡ Err (told TaskTwice place (line.label ∷ []))
+    → with_line place earlier line ≡ Err (reported TaskTwice place (line.label ∷ []))
 line_twice place earlier line here = cond-true (has same_name (labels_of earlier) line.label) _ _ here
 
 -- with a new label it hangs on what the task stands behind
@@ -125,4 +125,4 @@ within_is place given tasks is = by (limit_passed (length given) (edge_count giv
     by None e f =
         let few = few_of (length given) (edge_count given) (path_count given) e in
         record { same = (let g : ◌≡◌ {A = Result (List Task) _} (Ok given) (Ok tasks) = f in cc); few = few.few; few_edges = few.few_edges }
-    by (Some kind) e f = absurd (let g : ◌≡◌ {A = Result (List Task) _} (Err (told kind place [])) (Ok tasks) = f in cc)
+    by (Some kind) e f = absurd (let g : ◌≡◌ {A = Result (List Task) _} (Err (reported kind place [])) (Ok tasks) = f in cc)

@@ -8,7 +8,7 @@ use Rattle.std.proofs.lemmas.List.{get_or_append_left, length-map, map_push}
 use Rattle.std.proofs.lemmas.List.Elements.{All-head, All-nil, All-push, All-tail}
 use Rattle.std.proofs.lemmas.Map.Views.{All-insert_key}
 use Rattle.mk_name.specs.Names.{IsDistinct, Name, has, same_name}
-use Rattle.mk_name.specs.Told.{Told}
+use Rattle.mk_name.specs.Reported.{Reported}
 use Rattle.mk_name.specs.declared.fault.Kind.TheVariants.{TaskTwice, UnknownTask}
 use Rattle.mk_name.proofs.Names.{distinct_push, name_is_exact, nat_is_exact}
 use Rattle.mk_text.specs.Listing.{lines, next_place}
@@ -17,13 +17,13 @@ use Rattle.mk_jobs.proofs.Numberings.{number_some}
 use Rattle.mk_foot.specs.Json.{is_blank}
 use Rattle.mk_task.specs.Good.{AreGood, IsPlain}
 use Rattle.mk_task.specs.Lines.{Line, line_of}
-use Rattle.mk_task.specs.Tasks.{Task, labels_of, and_then, needs_from, on_number, task_of, tasks_from, tasks_of, told, with_line, with_needs, with_said, with_text}
+use Rattle.mk_task.specs.Tasks.{Task, labels_of, and_then, needs_from, on_number, task_of, tasks_from, tasks_of, reported, with_line, with_needs, with_said, with_text}
 use Rattle.mk_task.proofs.Adding.{AreWithin, within_is}
 use Rattle.mk_task.proofs.Apart.{IsPlainLine, line_plain}
 
 module _ {X : Type 0} where
-  go_on : (t : Told) (r : Result X Told) (y : X) (b : Bool) → cond b (Err t) r ≡ Ok y → (b ≡ false) × (r ≡ Ok y)
-  go_on t r y true is = absurd (let e : ◌≡◌ {A = Result X Told} (Err t) (Ok y) = is in cc)
+  go_on : (t : Reported) (r : Result X Reported) (y : X) (b : Bool) → cond b (Err t) r ≡ Ok y → (b ≡ false) × (r ≡ Ok y)
+  go_on t r y true is = absurd (let e : ◌≡◌ {A = Result X Reported} (Err t) (Ok y) = is in cc)
   go_on t r y false is = (refl, is)
 
 -- a line that is read behind earlier tasks: its label is new, its numbers are found, and all are within the limits
@@ -33,14 +33,14 @@ record IsRead (place : ℕ) (earlier : List Task) (line : Line) (tasks : List Ta
   found : needs_from place (labels_of earlier) [] line.after ≡ Ok needs
   limits : AreWithin tasks (earlier ++ task_of line needs ∷ [])
 
-needs_read : (place : ℕ) (earlier : List Task) (line : Line) (tasks : List Task) (r : Result (List ℕ) Told) → has same_name (labels_of earlier) line.label ≡ false
+needs_read : (place : ℕ) (earlier : List Task) (line : Line) (tasks : List Task) (r : Result (List ℕ) Reported) → has same_name (labels_of earlier) line.label ≡ false
     → needs_from place (labels_of earlier) [] line.after ≡ r → with_needs place earlier line r ≡ Ok tasks → IsRead place earlier line tasks
 needs_read place earlier line tasks (Ok needs) new found is = record { needs = needs; new = new; found = found; limits = within_is place (earlier ++ task_of line needs ∷ []) tasks is }
-needs_read place earlier line tasks (Err t) new found is = absurd (let e : ◌≡◌ {A = Result (List Task) Told} (Err t) (Ok tasks) = is in cc)
+needs_read place earlier line tasks (Err t) new found is = absurd (let e : ◌≡◌ {A = Result (List Task) Reported} (Err t) (Ok tasks) = is in cc)
 
 line_read : (place : ℕ) (earlier : List Task) (line : Line) (tasks : List Task) → with_line place earlier line ≡ Ok tasks → IsRead place earlier line tasks
 line_read place earlier line tasks is =
-    let first = go_on (told TaskTwice place (line.label ∷ [])) _ tasks (has same_name (labels_of earlier) line.label) is in
+    let first = go_on (reported TaskTwice place (line.label ∷ [])) _ tasks (has same_name (labels_of earlier) line.label) is in
     needs_read place earlier line tasks _ first.0 refl first.1
 
 IsBelow : ℕ → ℕ → Type 0
@@ -48,17 +48,17 @@ IsBelow bound n = n < bound
 
 on_below : (place : ℕ) (labels : List Name) (numbers : List ℕ) (x : Name) (after : List Name) (needs : List ℕ)
     → ((more : List ℕ) → needs_from place labels more after ≡ Ok needs → All (IsBelow (length labels)) more → All (IsBelow (length labels)) needs)
-    → (o : Option ℕ) → number_of labels x ≡ o → on_number (told UnknownTask place (x ∷ [])) (λ n. needs_from place labels (insert_key nat_cmp numbers n) after) o ≡ Ok needs
+    → (o : Option ℕ) → number_of labels x ≡ o → on_number (reported UnknownTask place (x ∷ [])) (λ n. needs_from place labels (insert_key nat_cmp numbers n) after) o ≡ Ok needs
     → All (IsBelow (length labels)) numbers → All (IsBelow (length labels)) needs
 unfolding IsBelow
-on_below place labels numbers x after needs further None e is below = absurd (let g : ◌≡◌ {A = Result (List ℕ) Told} (Err (told UnknownTask place (x ∷ []))) (Ok needs) = is in cc)
+on_below place labels numbers x after needs further None e is below = absurd (let g : ◌≡◌ {A = Result (List ℕ) Reported} (Err (reported UnknownTask place (x ∷ []))) (Ok needs) = is in cc)
 on_below place labels numbers x after needs further (Some n) e is below =
     further (insert_key nat_cmp numbers n) is (All-insert_key nat_cmp n (IsBelow (length labels)) numbers below (number_some labels x n e).0)
 
 needs_below : (place : ℕ) (labels : List Name) (numbers : List ℕ) (after : List Name) (needs : List ℕ) → needs_from place labels numbers after ≡ Ok needs
     → All (IsBelow (length labels)) numbers → All (IsBelow (length labels)) needs
 unfolding IsBelow
-needs_below place labels numbers [] needs is below = let e : ◌≡◌ {A = Result (List ℕ) Told} (Ok numbers) (Ok needs) = is in let same : numbers ≡ needs = cc in subst (All (IsBelow (length labels))) same below
+needs_below place labels numbers [] needs is below = let e : ◌≡◌ {A = Result (List ℕ) Reported} (Ok numbers) (Ok needs) = is in let same : numbers ≡ needs = cc in subst (All (IsBelow (length labels))) same below
 needs_below place labels numbers (x ∷ after) needs is below = on_below place labels numbers x after needs (λ more. needs_below place labels more after needs) (number_of labels x) refl is below
 
 all_has : (bound : ℕ) (xs : List ℕ) (p : ℕ) → All (IsBelow bound) xs → IsTrue (has nat_eq xs p) → p < bound
@@ -100,24 +100,24 @@ good_more root place earlier line tasks good plain is =
 
 said_good : (root text : List ℕ) (place : ℕ) (earlier tasks : List Task) (o : Option Line) → AreGood root earlier → line_of root text ≡ o
     → with_said place earlier o ≡ Ok tasks → AreGood root tasks
-said_good root text place earlier tasks None good said is = absurd (let e : ◌≡◌ {A = Result (List Task) Told} (Err _) (Ok tasks) = is in cc)
+said_good root text place earlier tasks None good said is = absurd (let e : ◌≡◌ {A = Result (List Task) Reported} (Err _) (Ok tasks) = is in cc)
 said_good root text place earlier tasks (Some line) good said is = good_more root place earlier line tasks good (line_plain root text line said) is
 
 text_good : (root text : List ℕ) (place : ℕ) (earlier tasks : List Task) → AreGood root earlier → with_text root place earlier text ≡ Ok tasks → AreGood root tasks
 text_good root text place earlier tasks good is = by (is_blank text) is
   where
     by : (b : Bool) → cond b (Ok earlier) (with_said place earlier (line_of root text)) ≡ Ok tasks → AreGood root tasks
-    by true e = let f : ◌≡◌ {A = Result (List Task) Told} (Ok earlier) (Ok tasks) = e in let same : earlier ≡ tasks = cc in subst (AreGood root) same good
+    by true e = let f : ◌≡◌ {A = Result (List Task) Reported} (Ok earlier) (Ok tasks) = e in let same : earlier ≡ tasks = cc in subst (AreGood root) same good
     by false e = said_good root text place earlier tasks (line_of root text) good refl e
 
-on_good : (root text : List ℕ) (place : ℕ) (earlier tasks : List Task) (next : List Task → Result (List Task) Told) (r : Result (List Task) Told) → AreGood root earlier
+on_good : (root text : List ℕ) (place : ℕ) (earlier tasks : List Task) (next : List Task → Result (List Task) Reported) (r : Result (List Task) Reported) → AreGood root earlier
     → ((given : List Task) → AreGood root given → next given ≡ Ok tasks → AreGood root tasks)
     → with_text root place earlier text ≡ r → and_then next r ≡ Ok tasks → AreGood root tasks
 on_good root text place earlier tasks next (Ok given) good rest here is = rest given (text_good root text place earlier given good here) is
-on_good root text place earlier tasks next (Err t) good rest here is = absurd (let e : ◌≡◌ {A = Result (List Task) Told} (Err t) (Ok tasks) = is in cc)
+on_good root text place earlier tasks next (Err t) good rest here is = absurd (let e : ◌≡◌ {A = Result (List Task) Reported} (Err t) (Ok tasks) = is in cc)
 
 lines_good : (root : List ℕ) (texts : List (List ℕ)) (place : ℕ) (earlier tasks : List Task) → AreGood root earlier → tasks_from root place earlier texts ≡ Ok tasks → AreGood root tasks
-lines_good root [] place earlier tasks good is = let f : ◌≡◌ {A = Result (List Task) Told} (Ok earlier) (Ok tasks) = is in let same : earlier ≡ tasks = cc in subst (AreGood root) same good
+lines_good root [] place earlier tasks good is = let f : ◌≡◌ {A = Result (List Task) Reported} (Ok earlier) (Ok tasks) = is in let same : earlier ≡ tasks = cc in subst (AreGood root) same good
 lines_good root (text ∷ more) place earlier tasks good is =
     on_good root text place earlier tasks (λ given. tasks_from root (next_place place) given more) (with_text root place earlier text) good
     (λ given. lines_good root more (next_place place) given tasks) refl is

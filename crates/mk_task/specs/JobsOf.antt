@@ -1,7 +1,7 @@
 -- The jobs of tasks.
 use Rattle.std.specs.Prelude.{ℕ, true, false, List, ◌∷◌, Result, Ok, Err, map}
 use Rattle.mk_name.specs.Names.{Name}
-use Rattle.mk_name.specs.Told.{Told}
+use Rattle.mk_name.specs.Reported.{Reported}
 use Rattle.mk_jobs.specs.Jobs.{Jobs}
 use Rattle.mk_jobs.specs.Plan.{Node}
 use Rattle.mk_jobs.specs.declared.maker.Maker.TheVariants.{Rule}
@@ -32,10 +32,10 @@ jobs_of root tasks = record {
 }
 
 -- the jobs of tasks, or their fault
-abbrev pub made : List ℕ → Result (List Task) Told → Result Jobs Told
+abbrev pub made : List ℕ → Result (List Task) Reported → Result Jobs Reported
 made root (Ok tasks) = Ok (jobs_of root tasks)
 made root (Err fault) = Err fault
 
 -- what `read_tasks` answers: the jobs of the tasks of a text below a root, or the first line's fault
-abbrev pub jobs_in : List ℕ → List ℕ → Result Jobs Told
+abbrev pub jobs_in : List ℕ → List ℕ → Result Jobs Reported
 jobs_in root text = made root (tasks_of root text)

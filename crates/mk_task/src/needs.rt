@@ -47,7 +47,7 @@ fn in_order(alloc: Global, numbers: &BTreeSet<u32>) -> Result<Vec<u32>, AllocErr
 /// The fault of the line at a place, with a label that is no task's. The only error is out of memory.
 fn unknown(alloc: Global, label: &Name, place: u64) -> Result<Halt, AllocError>
     ensures { IfOk result (λ halt. halt
-        ≡ halts.Fault (spec.told Kind.UnknownTask place (label.now ∷ []))) }
+        ≡ halts.Fault (spec.reported Kind.UnknownTask place (label.now ∷ []))) }
 {
     let name = label.copy(alloc)?;
     Ok(Halt::Fault(Fault::naming(alloc, Kind::UnknownTask, Source::Tasks, place, name)?))

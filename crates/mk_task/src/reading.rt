@@ -78,7 +78,7 @@ fn add_text(
 
 /// The fault of a bad line at a place.
 fn bad(alloc: Global, place: u64) -> Halt
-    ensures { result ≡ halts.Fault (spec.told Kind.BadTask place []) }
+    ensures { result ≡ halts.Fault (spec.reported Kind.BadTask place []) }
 {
     Halt::Fault(Fault::unnamed(alloc, Kind::BadTask, Source::Tasks, place))
 }

@@ -7,7 +7,7 @@ use Rattle.std.specs.Ordering.{nat_cmp}
 use Rattle.std.proofs.lemmas.Bool.{cases_Bool, cases_lt, cond-true, cond-false, false≢true, lt-leb}
 use Rattle.std.proofs.lemmas.List.{append-nil, length-take, take-append-le, take_all}
 use Rattle.std.proofs.lemmas.List.Sums.{fold-append}
-use Rattle.mk_name.specs.Told.{Told}
+use Rattle.mk_name.specs.Reported.{Reported}
 use Rattle.mk_text.specs.Blocks.{physical_lines}
 use Rattle.mk_text.specs.Fed.{IsCut}
 use Rattle.mk_text.specs.Listing.{at_line, both, line_names, names_from, next_place, with_names}
@@ -19,18 +19,18 @@ use Rattle.mk_text.proofs.FedLines.{joined, joined_open, lines_joined}
 
 -- ---- names
 
-both_nil : (a : Result (List (List ℕ)) Told) → both a (Ok []) ≡ a
+both_nil : (a : Result (List (List ℕ)) Reported) → both a (Ok []) ≡ a
 both_nil (Ok names) = ap Ok (append-nil names)
-both_nil (Err told) = refl
+both_nil (Err reported) = refl
 
-nil_both : (a : Result (List (List ℕ)) Told) → a ≡ both (Ok []) a
+nil_both : (a : Result (List (List ℕ)) Reported) → a ≡ both (Ok []) a
 nil_both (Ok names) = refl
-nil_both (Err told) = refl
+nil_both (Err reported) = refl
 
-both_more : (a b c : Result (List (List ℕ)) Told) → both a (both b c) ≡ both (both a b) c
-both_more (Err told) b c = refl
-both_more (Ok xs) (Err told) c = refl
-both_more (Ok xs) (Ok ys) (Err told) = refl
+both_more : (a b c : Result (List (List ℕ)) Reported) → both a (both b c) ≡ both (both a b) c
+both_more (Err reported) b c = refl
+both_more (Ok xs) (Err reported) c = refl
+both_more (Ok xs) (Ok ys) (Err reported) = refl
 both_more (Ok xs) (Ok ys) (Ok zs) = ap Ok (sym (append_assoc xs ys zs))
 
 -- the names of some lines and one more
@@ -45,20 +45,20 @@ place_push : (place : ℕ) (lines : List (List ℕ)) (line : List ℕ) → place
 place_push place [] line = refl
 place_push place (first ∷ lines) line = place_push (next_place place) lines line
 
-with_more : (names more : List (List ℕ)) (b : Result (List (List ℕ)) Told) → with_names names (both (Ok more) b) ≡ with_names (fold (insert_key (slice_cmp nat_cmp)) names more) b
-with_more names more (Err told) = refl
+with_more : (names more : List (List ℕ)) (b : Result (List (List ℕ)) Reported) → with_names names (both (Ok more) b) ≡ with_names (fold (insert_key (slice_cmp nat_cmp)) names more) b
+with_more names more (Err reported) = refl
 with_more names more (Ok others) = ap Ok (fold-append (insert_key (slice_cmp nat_cmp)) names more others)
 
-good_both : (a b : Result (List (List ℕ)) Told) (names : List (List ℕ)) → with_names [] a ≡ Ok names → with_names [] (both a b) ≡ with_names names b
-good_both (Err told) b names is = absurd (let f : ◌≡◌ {A = Result (List (List ℕ)) Told} (Err told) (Ok names) = is in cc)
+good_both : (a b : Result (List (List ℕ)) Reported) (names : List (List ℕ)) → with_names [] a ≡ Ok names → with_names [] (both a b) ≡ with_names names b
+good_both (Err reported) b names is = absurd (let f : ◌≡◌ {A = Result (List (List ℕ)) Reported} (Err reported) (Ok names) = is in cc)
 good_both (Ok more) b names is =
     let same : fold (insert_key (slice_cmp nat_cmp)) [] more ≡ names =
-    (let f : ◌≡◌ {A = Result (List (List ℕ)) Told} (Ok (fold (insert_key (slice_cmp nat_cmp)) [] more)) (Ok names) = is in cc) in
+    (let f : ◌≡◌ {A = Result (List (List ℕ)) Reported} (Ok (fold (insert_key (slice_cmp nat_cmp)) [] more)) (Ok names) = is in cc) in
     with_more [] more b ∙ ap (λ ns. with_names ns b) same
 
-bad_both : (a b : Result (List (List ℕ)) Told) (told : Told) → with_names [] a ≡ Err told → with_names [] (both a b) ≡ Err told
-bad_both (Ok more) b told is = absurd (let f : ◌≡◌ {A = Result (List (List ℕ)) Told} (Ok (fold (insert_key (slice_cmp nat_cmp)) [] more)) (Err told) = is in cc)
-bad_both (Err given) b told is = is
+bad_both : (a b : Result (List (List ℕ)) Reported) (reported : Reported) → with_names [] a ≡ Err reported → with_names [] (both a b) ≡ Err reported
+bad_both (Ok more) b reported is = absurd (let f : ◌≡◌ {A = Result (List (List ℕ)) Reported} (Ok (fold (insert_key (slice_cmp nat_cmp)) [] more)) (Err reported) = is in cc)
+bad_both (Err given) b reported is = is
 
 -- lines that are listed, and one more
 listed_push : (root : List ℕ) (ended : List (List ℕ)) (line : List ℕ) (names : List (List ℕ)) → listed root ended ≡ Ok names
@@ -67,8 +67,8 @@ listed_push root ended line names is =
     ap (with_names []) (names_push root 1 ended line) ∙ good_both (names_from root 1 ended) _ names is
 
 -- a fault stays the first
-pub listed_stays : (root : List ℕ) (ended : List (List ℕ)) (line : List ℕ) (told : Told) → listed root ended ≡ Err told → listed root (ended ++ line ∷ []) ≡ Err told
-listed_stays root ended line told is = ap (with_names []) (names_push root 1 ended line) ∙ bad_both (names_from root 1 ended) _ told is
+pub listed_stays : (root : List ℕ) (ended : List (List ℕ)) (line : List ℕ) (reported : Reported) → listed root ended ≡ Err reported → listed root (ended ++ line ∷ []) ≡ Err reported
+listed_stays root ended line reported is = ap (with_names []) (names_push root 1 ended line) ∙ bad_both (names_from root 1 ended) _ reported is
 
 -- ---- the beginning that is kept of a line
 
@@ -172,22 +172,22 @@ ends_good root ended open_line reader new before names root_is place open_is = r
 }
 
 -- a line that is no path has one fault
-line_bad : (root : List ℕ) (place : ℕ) (line : List ℕ) (told : Told) → line_names root place line ≡ Err told → told ≡ bad_line place
-line_bad root place line told is =
+line_bad : (root : List ℕ) (place : ℕ) (line : List ℕ) (reported : Reported) → line_names root place line ≡ Err reported → reported ≡ bad_line place
+line_bad root place line reported is =
     elim (cases_Bool (length line == 0)) [
-      | inl none ↦ absurd (let f : ◌≡◌ {A = Result (List (List ℕ)) Told} (Ok []) (Err told) = sym (cond-true (length line == 0) (Ok []) _ none) ∙ is in cc)
+      | inl none ↦ absurd (let f : ◌≡◌ {A = Result (List (List ℕ)) Reported} (Ok []) (Err reported) = sym (cond-true (length line == 0) (Ok []) _ none) ∙ is in cc)
       | inr some ↦ elim (cases_Bool (is_path line)) [
-        | inl path ↦ absurd (let f : ◌≡◌ {A = Result (List (List ℕ)) Told} (Ok _) (Err told) =
+        | inl path ↦ absurd (let f : ◌≡◌ {A = Result (List (List ℕ)) Reported} (Ok _) (Err reported) =
             sym (cond-false (length line == 0) _ _ some ∙ ap (at_line place) (cond-true (is_path line) _ _ path)) ∙ is in cc)
-        | inr other ↦ (let f : ◌≡◌ {A = Result (List (List ℕ)) Told} (Err (bad_line place)) (Err told) =
+        | inr other ↦ (let f : ◌≡◌ {A = Result (List (List ℕ)) Reported} (Err (bad_line place)) (Err reported) =
             sym (cond-false (length line == 0) _ _ some ∙ ap (at_line place) (cond-false (is_path line) _ _ other)) ∙ is in cc)
       ]
     ]
 
-pub ends_bad : (root : List ℕ) (ended : List (List ℕ)) (open_line : List ℕ) (reader : Reader) (told : Told) → IsUnderWay root ended open_line reader
-    → line_names reader.root reader.place reader.open_line ≡ Err told → listed root (ended ++ open_line ∷ []) ≡ Err (bad_line reader.place)
-ends_bad root ended open_line reader told before bad =
-    let here = line_bad reader.root reader.place reader.open_line told bad in
+pub ends_bad : (root : List ℕ) (ended : List (List ℕ)) (open_line : List ℕ) (reader : Reader) (reported : Reported) → IsUnderWay root ended open_line reader
+    → line_names reader.root reader.place reader.open_line ≡ Err reported → listed root (ended ++ open_line ∷ []) ≡ Err (bad_line reader.place)
+ends_bad root ended open_line reader reported before bad =
+    let here = line_bad reader.root reader.place reader.open_line reported bad in
     listed_push root ended open_line reader.names before.names
     ∙ ap (with_names reader.names) (sym (said root ended open_line reader before) ∙ bad ∙ ap Err here)
 

@@ -5,7 +5,7 @@ use Rattle.std.proofs.lemmas.Bool.{cases_Bool, cond-true, cond-false, and_right,
 use Rattle.std.proofs.lemmas.List.Splits.{join_with_byte-slice_split, slice_split-cons_yes, slice_split-cons_no}
 use Rattle.mk_text.proofs.Cuts.{some_lines}
 use Rattle.mk_text.specs.Blocks.{tab, newline, space, is_blank, are_blanks, physical_lines}
-use Rattle.mk_text.specs.LogicalLines.{bytes_of, is_empty, line_pieces, pieces_of, sort_of, sort_of_command, sort_of_text}
+use Rattle.mk_text.specs.LogicalLines.{bytes_of, is_empty, line_pieces, pieces_of, kind_of, kind_of_command, kind_of_text}
 
 -- a byte before the first line
 empty-onto : (x : ℕ) (lines : List (List ℕ)) → 0 < length lines → is_empty (onto_first x lines) ≡ (is_blank x && is_empty lines)
@@ -36,19 +36,19 @@ pub whole_bytes : (text : List ℕ) → bytes_of (physical_lines text) ≡ text
 whole_bytes text = join_with_byte-slice_split newline text
 
 module _ (block : List ℕ) where
-  pub sorted_blank : (below : Bool) → are_blanks block ≡ true → sort_of below (physical_lines block) ≡ Ok None
+  pub sorted_blank : (below : Bool) → are_blanks block ≡ true → kind_of below (physical_lines block) ≡ Ok None
   sorted_blank below blank = cond-true (is_empty (physical_lines block)) _ _ (empty_is block ∙ blank)
 
   tab-first : (t : Bool) → (get_or block 0 0 == tab) ≡ t → (get_or (bytes_of (physical_lines block)) 0 0 == tab) ≡ t
   tab-first t is = ap (λ bytes. get_or bytes 0 0 == tab) (whole_bytes block) ∙ is
 
-  pub sorted_command : (below : Bool) → are_blanks block ≡ false → (get_or block 0 0 == tab) ≡ true → sort_of below (physical_lines block) ≡ sort_of_command below block
+  pub sorted_command : (below : Bool) → are_blanks block ≡ false → (get_or block 0 0 == tab) ≡ true → kind_of below (physical_lines block) ≡ kind_of_command below block
   sorted_command below some command =
       cond-false (is_empty (physical_lines block)) _ _ (empty_is block ∙ some)
       ∙ cond-true (get_or (bytes_of (physical_lines block)) 0 0 == tab) _ _ (tab-first true command)
-      ∙ ap (sort_of_command below) (whole_bytes block)
+      ∙ ap (kind_of_command below) (whole_bytes block)
 
-  pub sorted_text : (below : Bool) → are_blanks block ≡ false → (get_or block 0 0 == tab) ≡ false → sort_of below (physical_lines block) ≡ sort_of_text (join_with_byte space (pieces_of (physical_lines block)))
+  pub sorted_text : (below : Bool) → are_blanks block ≡ false → (get_or block 0 0 == tab) ≡ false → kind_of below (physical_lines block) ≡ kind_of_text (join_with_byte space (pieces_of (physical_lines block)))
   sorted_text below some text =
       cond-false (is_empty (physical_lines block)) _ _ (empty_is block ∙ some)
       ∙ cond-false (get_or (bytes_of (physical_lines block)) 0 0 == tab) _ _ (tab-first false text)

@@ -1,6 +1,6 @@
 -- A reader of listings: what it is once it was fed a text, in whatever pieces.
 use Rattle.std.specs.Prelude.{◌≡◌, ℕ, List, [], ◌∷◌, Option, None, Some, Result, Ok, Err, take}
-use Rattle.mk_name.specs.Told.{Told}
+use Rattle.mk_name.specs.Reported.{Reported}
 use Rattle.mk_name.specs.declared.fault.Halt.{Halt}
 use Rattle.mk_name.specs.declared.fault.Halt.TheVariants as halts
 use Rattle.mk_name.specs.declared.fault.Kind.TheVariants.{BadName}
@@ -29,11 +29,11 @@ place_behind place [] = place
 place_behind place (line ∷ more) = place_behind (next_place place) more
 
 -- the names that some lines list, each once, or the first fault
-abbrev pub listed : List ℕ → List (List ℕ) → Result (List (List ℕ)) Told
+abbrev pub listed : List ℕ → List (List ℕ) → Result (List (List ℕ)) Reported
 listed root lines = with_names [] (names_from root 1 lines)
 
 -- the fault of a line that is no path
-abbrev pub bad_line : ℕ → Told
+abbrev pub bad_line : ℕ → Reported
 bad_line place = record { kind = BadName; source = Listing; place = place; names = [] }
 
 -- the reader has the names of the lines that ended, and the beginning of the one that is open

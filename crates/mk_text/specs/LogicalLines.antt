@@ -5,7 +5,7 @@ use Rattle.std.specs.List.{join_with_byte, list_any, list_all, before_first, fil
 use Rattle.std.specs.Option.{option_and_then, option_flatten, option_map, option_map_or, unwrap_or}
 use Rattle.std.specs.Result.{result_err, result_ok}
 use Rattle.std.specs.Str.{bytes_eq}
-use Rattle.mk_name.specs.Told.{Told}
+use Rattle.mk_name.specs.Reported.{Reported}
 use Rattle.mk_name.specs.declared.fault.Kind.{Kind}
 use Rattle.mk_name.specs.declared.fault.Kind.TheVariants.{NoColon, StrayRecipe, DoubleColon, BadAssignment, TextTooLarge}
 use Rattle.mk_name.specs.declared.fault.Source.TheVariants.{Makefile}
@@ -103,8 +103,8 @@ by_sign text None = Err NoColon
 by_sign text (Some at) = if slice_index text at == equals then at_equals text at else at_colon text at
 
 -- what the text of a block is that does not begin with a tab
-abbrev pub sort_of_text : List ℕ → Result (Option LineKind) Kind
-sort_of_text text =
+abbrev pub kind_of_text : List ℕ → Result (Option LineKind) Kind
+kind_of_text text =
     if are_blanks text then Ok None
     else (if is_include text then Ok (Some (include text))
     else by_sign text (place_outside (λ b. b == colon || b == equals) text))
@@ -142,17 +142,17 @@ is_empty (line ∷ []) = are_blanks line
 is_empty (line ∷ next ∷ lines) = false
 
 -- what a block with a tab in front is, unless it is empty: a command line where an entry is open, else a comment or a fault
-abbrev pub sort_of_command : Bool → List ℕ → Result (Option LineKind) Kind
-sort_of_command below bytes =
+abbrev pub kind_of_command : Bool → List ℕ → Result (Option LineKind) Kind
+kind_of_command below bytes =
     if below then Ok (Some Recipe)
     else (if slice_index (past_blanks bytes) 0 == number_sign then Ok None else Err StrayRecipe)
 
 -- what a block is: nothing, a line of this kind, or a fault; it may stand below an entry that is open
-abbrev pub sort_of : Bool → List (List ℕ) → Result (Option LineKind) Kind
-sort_of below block =
+abbrev pub kind_of : Bool → List (List ℕ) → Result (Option LineKind) Kind
+kind_of below block =
     if is_empty block then Ok None
-    else (if slice_index (bytes_of block) 0 == tab then sort_of_command below (bytes_of block)
-    else sort_of_text (join_with_byte space (pieces_of block)))
+    else (if slice_index (bytes_of block) 0 == tab then kind_of_command below (bytes_of block)
+    else kind_of_text (join_with_byte space (pieces_of block)))
 
 -- the pieces of the line that a block is: one that begins with a tab has one, all of it without the tab
 abbrev pub line_pieces : List (List ℕ) → List (List ℕ)
@@ -167,7 +167,7 @@ opening (Include hyphen rest) = Some false
 
 -- the same of a block; only a line that begins with a tab depends on what is open
 abbrev pub block_opening : List (List ℕ) → Option Bool
-block_opening block = option_and_then opening (option_flatten (result_ok (sort_of false block)))
+block_opening block = option_and_then opening (option_flatten (result_ok (kind_of false block)))
 
 -- whether an entry is open below these blocks: the last entry, assignment or include line among them is an entry
 abbrev pub is_open : List (List (List ℕ)) → Bool
@@ -178,18 +178,18 @@ abbrev pub line_below : List (List (List ℕ)) → ℕ
 line_below blocks = sum_by length blocks + 1
 
 -- a fault of a makefile's line
-abbrev pub fault_at : Kind → ℕ → Told
+abbrev pub fault_at : Kind → ℕ → Reported
 fault_at kind place = record { kind = kind; source = Makefile; place = place; names = [] }
 
 -- the line, if any, that a block of this sort is from physical line n on
-abbrev pub line_at : ℕ → List (List ℕ) → Result (Option LineKind) Kind → Result (Option LogicalLine) Told
+abbrev pub line_at : ℕ → List (List ℕ) → Result (Option LineKind) Kind → Result (Option LogicalLine) Reported
 line_at n block (Err kind) = Err (fault_at kind n)
 line_at n block (Ok None) = Ok None
 line_at n block (Ok (Some kind)) = Ok (Some (record { kind = kind; first_line = n; pieces = line_pieces block }))
 
 -- the line, if any, that a block is below these blocks
-abbrev pub line_of : List (List (List ℕ)) → List (List ℕ) → Result (Option LogicalLine) Told
-line_of above block = line_at (line_below above) block (sort_of (is_open above) block)
+abbrev pub line_of : List (List (List ℕ)) → List (List ℕ) → Result (Option LogicalLine) Reported
+line_of above block = line_at (line_below above) block (kind_of (is_open above) block)
 
 -- each block with all that stand above it
 abbrev pub with_above : List (List (List ℕ)) → List (List (List (List ℕ)) × List (List ℕ))
@@ -197,11 +197,11 @@ with_above [] = []
 with_above (block ∷ blocks) = ([], block) ∷ map (λ p. (block ∷ p.0, p.1)) (with_above blocks)
 
 -- what each block gives: a line, nothing or a fault
-abbrev pub answers : List (List (List ℕ)) → List (Result (Option LogicalLine) Told)
+abbrev pub answers : List (List (List ℕ)) → List (Result (Option LogicalLine) Reported)
 answers blocks = map (λ p. line_of p.0 p.1) (with_above blocks)
 
 -- the first fault of all, or else their lines
-abbrev pub lines_or_fault : List (Result (Option LogicalLine) Told) → Result (List LogicalLine) Told
+abbrev pub lines_or_fault : List (Result (Option LogicalLine) Reported) → Result (List LogicalLine) Reported
 lines_or_fault given =
     option_map_or (λ fault. Err fault) (slice_get (filter_map result_err given) 0)
     (Ok (filter_map (λ answer. option_flatten (result_ok answer)) given))
@@ -211,7 +211,7 @@ abbrev pub text_limit : ℕ
 text_limit = 1048576
 
 -- the logical lines of a text, or its fault
-abbrev pub logical_lines : List ℕ → Result (List LogicalLine) Told
+abbrev pub logical_lines : List ℕ → Result (List LogicalLine) Reported
 logical_lines text =
     if nat_lt text_limit (length text) then Err (fault_at TextTooLarge 0)
     else lines_or_fault (answers (blocks_of (physical_lines text)))

@@ -2,7 +2,7 @@
 use Rattle.std.specs.Prelude.{◌≢◌, ℕ, ◌-◌, Bool, false, List, [], ◌∷◌, ◌++◌, length, take, Option, Some, None, Result, Ok, Err, ◌==◌, ◌&&◌, ◌||◌, nat_lt, nat_le, nat_eq, not, fold, codes, if◌then◌else◌}
 use Rattle.std.specs.List.{slice_split, join_with_byte, list_all, list_any}
 use Rattle.std.specs.Cmp.Lexicographic.{pointwise}
-use Rattle.mk_name.specs.Told.{Told}
+use Rattle.mk_name.specs.Reported.{Reported}
 use Rattle.mk_name.specs.declared.fault.Kind.TheVariants.{BadName}
 use Rattle.mk_name.specs.declared.fault.Source.{Source}
 use Rattle.mk_name.specs.declared.fault.Source.TheVariants.{Makefile, Settings}
@@ -96,17 +96,17 @@ abbrev pub is_root : List ℕ → Bool
 is_root text = is_absolute text && is_path text
 
 -- the fault of a text that spells no name, which tells these names
-abbrev pub bad_name : Source → List (List ℕ) → Told
+abbrev pub bad_name : Source → List (List ℕ) → Reported
 bad_name source names = record { kind = BadName; source = source; place = 0; names = names }
 
 -- what `plain_path` answers
-abbrev pub path_name : List ℕ → List ℕ → Result (List ℕ) Told
+abbrev pub path_name : List ℕ → List ℕ → Result (List ℕ) Reported
 path_name root path = if is_path path then Ok (plain_name root path) else Err (bad_name Makefile [])
 
 -- what `plain_word` answers
-abbrev pub word_name : List ℕ → List ℕ → Result (List ℕ) Told
+abbrev pub word_name : List ℕ → List ℕ → Result (List ℕ) Reported
 word_name root word = if is_word word then Ok (plain_name root word) else Err (bad_name Makefile (word ∷ []))
 
 -- what `Root::read` answers
-abbrev pub root_of : List ℕ → Result (List ℕ) Told
+abbrev pub root_of : List ℕ → Result (List ℕ) Reported
 root_of text = if is_root text then Ok text else Err (bad_name Settings (text ∷ []))

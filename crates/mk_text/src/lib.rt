@@ -12,7 +12,7 @@
 //! The modules of faults, names and the report are those of `mk_name`, passed on, and those of devices are `mk_device`'s.
 #![tactic(auto)]
 
-pub use mk_device::{Broken, Intake, Outlet, ReadStop, device, feed, read_all, spout, write_all};
+pub use mk_device::{Broken, Intake, Outlet, ReadStop, device, feed, read_all, sink, write_all};
 pub use mk_name::{fault, name, report};
 
 mod blocks;

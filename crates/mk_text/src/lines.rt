@@ -5,13 +5,13 @@ ghost use Rattle.std.specs.Option.{unwrap_or};
 ghost use Rattle.mk_name.specs.Gives.{Gives};
 ghost use Rattle.mk_text.specs.Blocks.{physical_lines, space, tab};
 ghost use Rattle.mk_text.specs.LogicalLine.{IfLine, LiesIn};
-ghost use Rattle.mk_text.specs.LogicalLines.{fault_at, line_at, line_pieces, logical_lines, opening, pieces_of, sort_of, sort_of_command, sort_of_text};
+ghost use Rattle.mk_text.specs.LogicalLines.{fault_at, line_at, line_pieces, logical_lines, opening, pieces_of, kind_of, kind_of_command, kind_of_text};
 ghost use Rattle.mk_text.specs.GivesLines.{GivesLines};
 ghost use Rattle.mk_text.specs.Slices.{StandIn};
 
 use crate::blocks::{join_pieces, pieces_of, split_block, split_piece};
 use crate::line::{Line, LineKind};
-use crate::sort::sort_of_text;
+use crate::sort::kind_of_text;
 use crate::words::{are_blanks, past_blanks};
 use mk_name::fault::{Fault, Halt, Kind, Source};
 use std::alloc::Global;
@@ -26,8 +26,8 @@ fn begins_with_tab(block: &[u8]) -> bool
 }
 
 /// What a block is that begins with a tab and is not blank.
-fn sort_of_command(below: bool, block: &[u8]) -> Result<Option<LineKind>, Kind>
-    ensures sort { result ≡ sort_of_command below block.now }
+fn kind_of_command(below: bool, block: &[u8]) -> Result<Option<LineKind>, Kind>
+    ensures sort { result ≡ kind_of_command below block.now }
     ensures within { (n : ℕ) → IfLine result (λ kind. LiesIn kind n) }
 {
     if below {
@@ -66,9 +66,9 @@ fn command_line<'a>(
 ) -> Result<Option<Line<'a>>, Halt>
     requires { slice_index block.now 0 ≡ tab }
     ensures { Gives result (line_at number (physical_lines block.now)
-        (sort_of_command below block.now)) }
+        (kind_of_command below block.now)) }
 {
-    match sort_of_command(below, block) {
+    match kind_of_command(below, block) {
         Err(kind) => Err(fault_at(alloc, kind, number)),
         Ok(None) => Ok(None),
         Ok(Some(kind)) => Ok(Some(Line::of_piece(kind, number, &block[1..]))),
@@ -78,9 +78,9 @@ fn command_line<'a>(
 /// The line that a block of one piece is.
 fn line_of_piece<'a>(alloc: Global, number: u64, piece: &'a [u8]) -> Result<Option<Line<'a>>, Halt>
     ensures { (block : List (List ℕ)) → line_pieces block ≡ piece.now ∷ [] →
-        Gives result (line_at number block (sort_of_text piece.now)) }
+        Gives result (line_at number block (kind_of_text piece.now)) }
 {
-    match sort_of_text(piece) {
+    match kind_of_text(piece) {
         Err(kind) => Err(fault_at(alloc, kind, number)),
         Ok(None) => Ok(None),
         Ok(Some(kind)) => Ok(Some(Line::of_piece(kind, number, piece))),
@@ -96,10 +96,10 @@ fn line_of_pieces<'a>(
     ensures { (block : List (List ℕ)) →
         line_pieces block ≡ map (λ piece. piece.now) pieces.entry.items →
         Gives result (line_at number block
-        (sort_of_text (join_with_byte space (map (λ piece. piece.now) pieces.entry.items)))) }
+        (kind_of_text (join_with_byte space (map (λ piece. piece.now) pieces.entry.items)))) }
 {
     let text = join_pieces(alloc, &pieces)?;
-    match sort_of_text(&text) {
+    match kind_of_text(&text) {
         Err(kind) => Err(fault_at(alloc, kind, number)),
         Ok(None) => Ok(None),
         Ok(Some(kind)) => Ok(Some(Line::of_pieces(kind, number, pieces, text))),
@@ -110,7 +110,7 @@ fn line_of_pieces<'a>(
 fn text_line<'a>(alloc: Global, number: u64, block: &'a [u8]) -> Result<Option<Line<'a>>, Halt>
     requires { (slice_index block.now 0 == tab) ≡ false }
     ensures { Gives result (line_at number (physical_lines block.now)
-        (sort_of_text (join_with_byte space (pieces_of (physical_lines block.now))))) }
+        (kind_of_text (join_with_byte space (pieces_of (physical_lines block.now))))) }
 {
     match split_piece(block) {
         (piece, None) => line_of_piece(alloc, number, piece),
@@ -126,7 +126,7 @@ fn line_of_block<'a>(
     block: &'a [u8],
 ) -> Result<Option<Line<'a>>, Halt>
     ensures { Gives result (line_at number (physical_lines block.now)
-        (sort_of below (physical_lines block.now))) }
+        (kind_of below (physical_lines block.now))) }
 {
     if are_blanks(block) {
         return Ok(None);

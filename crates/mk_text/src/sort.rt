@@ -2,7 +2,7 @@
 //! Syntax" and "Macros").
 ghost use Rattle.std.specs.Prelude.{◌≡◌, ◌<◌, ◌≤◌, ◌+◌, ◌==◌, Ok, Some, length, slice_index};
 ghost use Rattle.mk_text.specs.LogicalLine.{IfLine, LiesIn};
-ghost use Rattle.mk_text.specs.LogicalLines.{assignment, at_colon, at_equals, begins_with_operator, entry, equals, include, is_include, sort_of_text};
+ghost use Rattle.mk_text.specs.LogicalLines.{assignment, at_colon, at_equals, begins_with_operator, entry, equals, include, is_include, kind_of_text};
 
 use crate::lexical::is_macro_name;
 use crate::line::{LineKind, Operator};
@@ -118,8 +118,8 @@ fn at_colon(text: &[u8], at: usize) -> Result<Option<LineKind>, Kind>
 }
 
 /// What a text is: nothing, the text of a line of this kind, or a fault.
-pub fn sort_of_text(text: &[u8]) -> Result<Option<LineKind>, Kind>
-    ensures sort { result ≡ sort_of_text text.now }
+pub fn kind_of_text(text: &[u8]) -> Result<Option<LineKind>, Kind>
+    ensures sort { result ≡ kind_of_text text.now }
     ensures within { IfLine result (λ kind. LiesIn kind (length text.now)) }
 {
     if are_blanks(text) {

@@ -33,6 +33,6 @@ not_there books i path end so_far =
 pub written_is : (words : List (Bor (List ℕ))) (files : List ℕ → Option (List ℕ)) (status : Status) (old new : Option (List ℕ)) (items : List ℕ)
     → old ≡ Some [] → Some items ≡ new → WritesAnswer words files status old new → IsAnswerTo words files status items
 written_is words files status old new items empty all writes =
-    let told : Appends (Some []) (Some items) writes.0 =
+    let reported : Appends (Some []) (Some items) writes.0 =
     subst (λ (o : Option (List ℕ)). Appends o (Some items) writes.0) empty (subst (λ (n : Option (List ℕ)). Appends old n writes.0) (sym all) writes.1) in
-    subst (λ (text : List ℕ). IsAnswerTo words files status text) (sym told) writes.2
+    subst (λ (text : List ℕ). IsAnswerTo words files status text) (sym reported) writes.2

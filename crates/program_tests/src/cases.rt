@@ -5,7 +5,7 @@ use crate::tables::{Case, orders, other_runs, refusals, replays, serial_logs};
 use std::alloc::{AllocError, Global};
 
 #[test]
-fn tells_serial_orders(rt: HostRuntime) {
+fn reports_serial_orders(rt: HostRuntime) {
     assert_eq!(rt; first_wrong(rt.alloc(), orders()), "");
 }
 
@@ -25,7 +25,7 @@ fn puts_logs_in_serial_order(rt: HostRuntime) {
 }
 
 #[test]
-fn tells_files_and_the_version(rt: HostRuntime) {
+fn reports_files_and_the_version(rt: HostRuntime) {
     assert_eq!(rt; first_wrong(rt.alloc(), other_runs()), "");
 }
 
@@ -42,7 +42,7 @@ fn first_wrong(alloc: Global, cases: &'static [Case]) -> &'static str {
 /// Whether a case comes out as it says.
 fn ends_so(alloc: Global, case: &Case) -> bool {
     match words_of(alloc, case) {
-        Ok(words) => is_told(&ran(alloc, words.as_slice(), case), case),
+        Ok(words) => has_report(&ran(alloc, words.as_slice(), case), case),
         Err(_) => false,
     }
 }
@@ -70,6 +70,8 @@ fn book<'a>(path: &'a str, text: &'a [u8]) -> Book<'a> {
     }
 }
 
-fn is_told(told: &Outcome, case: &Case) -> bool {
-    told.status == case.status && told.out.as_slice() == case.out && told.err.as_slice() == case.err
+fn has_report(reported: &Outcome, case: &Case) -> bool {
+    reported.status == case.status
+        && reported.out.as_slice() == case.out
+        && reported.err.as_slice() == case.err
 }

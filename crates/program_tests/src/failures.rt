@@ -1,7 +1,7 @@
 //! What no case shows: how a message of wrong words begins, and a standard error that is full.
 use crate::outcomes::{Outcome, run};
 use crate::shelf::{Book, Page, Shelf};
-use mk_device::spout::Spout;
+use mk_device::sink::Sink;
 use mk_program::{Status, race_words};
 use std::alloc::{AllocError, Global};
 use std::io;
@@ -57,11 +57,11 @@ fn words_of(alloc: Global, words: &str) -> Result<Vec<&str>, AllocError> {
 }
 
 /// Whether nothing was answered, and what is wrong with the words was reported.
-fn is_usage(told: &Outcome) -> bool {
-    told.status == Status::Failed
-        && told.out.is_empty()
-        && told.err.as_slice().starts_with(b"error: ")
-        && told
+fn is_usage(reported: &Outcome) -> bool {
+    reported.status == Status::Failed
+        && reported.out.is_empty()
+        && reported.err.as_slice().starts_with(b"error: ")
+        && reported
             .err
             .as_slice()
             .ends_with(b"For more information, try '--help'.\n")
@@ -89,7 +89,7 @@ fn passes_over_a_full_standard_error(rt: HostRuntime) {
 fn ends_as_failed(alloc: Global) -> bool {
     let words = ["race", "order", "--help"];
     let mut shelf = Shelf { books: &BOOKS };
-    let mut out = Spout::new(Full);
-    let mut err = Spout::new(Full);
+    let mut out = Sink::new(Full);
+    let mut err = Sink::new(Full);
     race_words(alloc, &words, &mut shelf, &mut out, &mut err) == Status::Failed
 }

@@ -52,10 +52,10 @@ fn ran(alloc: Global, includes: &str) -> Outcome {
     run(alloc, &words, Shelf { books: &BOOKS })
 }
 
-fn is_order(told: &Outcome, order: &[u8]) -> bool {
-    told.status == Status::Done && told.out.as_slice() == order
+fn is_order(reported: &Outcome, order: &[u8]) -> bool {
+    reported.status == Status::Done && reported.out.as_slice() == order
 }
 
-fn is_failure(told: &Outcome, line: &[u8]) -> bool {
-    told.status == Status::Failed && told.err.as_slice() == line
+fn is_failure(reported: &Outcome, line: &[u8]) -> bool {
+    reported.status == Status::Failed && reported.err.as_slice() == line
 }

@@ -5,7 +5,7 @@ ghost use Rattle.mk_program.specs.CommandLine.{wrong};
 ghost use Rattle.program_tests.specs.Shelf.{text_at};
 
 use crate::shelf::Shelf;
-use mk_device::spout::Spout;
+use mk_device::sink::Sink;
 use mk_program::{Status, race_words};
 use std::alloc::Global;
 
@@ -25,8 +25,8 @@ pub fn run<'a>(alloc: Global, words: &'a [&'a str], shelf: Shelf<'_>) -> Outcome
         → IsAnswerTo words.entry.now (text_at shelf.entry.books.now) result.status result.out.items }
 {
     let mut shelf = shelf;
-    let mut out = Spout::new(Vec::new(alloc));
-    let mut err = Spout::new(Vec::new(alloc));
+    let mut out = Sink::new(Vec::new(alloc));
+    let mut err = Sink::new(Vec::new(alloc));
     let status = race_words(alloc, words, &mut shelf, &mut out, &mut err);
     Outcome {
         status,

@@ -5,8 +5,8 @@ use Rattle.mk_program.specs.declared.failures.Failure.TheVariants as failures
 
 -- the words are wrong, and this text says how
 abbrev pub IsNotText : Failure → List ℕ → Type 0
-IsNotText (failures.Read input) told = ⊥
-IsNotText failures.Write told = ⊥
-IsNotText failures.Memory told = ⊥
-IsNotText failures.NotText told = ⊥
-IsNotText (failures.Usage text) told = string_bytes text ≡ told
+IsNotText (failures.Read input) reported = ⊥
+IsNotText failures.Write reported = ⊥
+IsNotText failures.Memory reported = ⊥
+IsNotText failures.NotText reported = ⊥
+IsNotText (failures.Usage text) reported = string_bytes text ≡ reported

@@ -7,7 +7,7 @@ mod disk;
 
 use arguments::{arguments, texts};
 use disk::Disk;
-use mk_device::spout::Spout;
+use mk_device::sink::Sink;
 use mk_program::{Failure, Status, fail, race_words};
 use std::process::ExitCode;
 
@@ -19,7 +19,7 @@ fn main(rt: HostRuntime) -> ExitCode {
 fn run(rt: &HostRuntime) -> Status {
     match answered(rt) {
         Ok(status) => status,
-        Err(failure) => fail(&failure, &mut Spout::new(rt.stderr())),
+        Err(failure) => fail(&failure, &mut Sink::new(rt.stderr())),
     }
 }
 
@@ -27,8 +27,8 @@ fn run(rt: &HostRuntime) -> Status {
 fn answered(rt: &HostRuntime) -> Result<Status, Failure> {
     let arguments = arguments(rt)?;
     let words = texts(rt.alloc(), arguments.as_slice())?;
-    let mut out = Spout::new(rt.stdout());
-    let mut err = Spout::new(rt.stderr());
+    let mut out = Sink::new(rt.stdout());
+    let mut err = Sink::new(rt.stderr());
     let words = words.as_slice();
     Ok(race_words(rt.alloc(), words, &mut Disk(rt), &mut out, &mut err))
 }

@@ -21,12 +21,12 @@ const REPORT: &str = "safe\nnodes 3\nrecipes 1\nidle 0\nwaits 0\npairs 0\n";
 const TEXTS: [&str; 4] = [BASE, MAKEFILE, LISTING, FOOTPRINTS];
 
 #[test]
-fn a_text_that_is_not_read_is_told(rt: HostRuntime) -> Result<(), AllocError> {
+fn a_text_that_is_not_read_is_reported(rt: HostRuntime) -> Result<(), AllocError> {
     for (device, text) in TEXTS.iter().enumerate() {
         for good in 0..text.len() {
             let mut out = taking(rt.alloc(), usize::MAX);
-            let told = told_of(rt.alloc(), device, good, &mut out);
-            assert_eq!(rt; told, device, "after {good} bytes");
+            let reported = reported_of(rt.alloc(), device, good, &mut out);
+            assert_eq!(rt; reported, device, "after {good} bytes");
             assert!(rt; out.taken.is_empty(), "{device} after {good} bytes");
         }
     }
@@ -34,12 +34,16 @@ fn a_text_that_is_not_read_is_told(rt: HostRuntime) -> Result<(), AllocError> {
 }
 
 #[test]
-fn a_report_that_is_not_written_is_told(rt: HostRuntime) -> Result<(), AllocError> {
+fn a_report_that_is_not_written_is_reported(rt: HostRuntime) -> Result<(), AllocError> {
     for room in 0..REPORT.len() + 1 {
         let mut out = taking(rt.alloc(), room);
-        let told = told_of(rt.alloc(), 4, 0, &mut out);
+        let reported = reported_of(rt.alloc(), 4, 0, &mut out);
         let whole = room == REPORT.len();
-        assert_eq!(rt; told, if whole { 5 } else { 4 }, "room for {room} bytes");
+        assert_eq!(rt;
+            reported,
+            if whole { 5 } else { 4 },
+            "room for {room} bytes"
+        );
         assert_eq!(rt; out.failed, !whole, "room for {room} bytes");
         let written = out.taken.as_slice();
         assert!(rt;
@@ -52,18 +56,18 @@ fn a_report_that_is_not_written_is_told(rt: HostRuntime) -> Result<(), AllocErro
 
 /// Of two devices that fail, the one that is read first is reported.
 #[test]
-fn the_first_that_fails_is_told(rt: HostRuntime) {
+fn the_first_that_fails_is_reported(rt: HostRuntime) {
     for first in 0..3 {
         for second in first + 1..4 {
             let mut out = taking(rt.alloc(), usize::MAX);
-            assert_eq!(rt; told_of_two(rt.alloc(), first, second, &mut out), first);
+            assert_eq!(rt; reported_of_two(rt.alloc(), first, second, &mut out), first);
         }
     }
 }
 
 /// Which device a run tells where one of them fails after some bytes: 0 to 3 one that gives, 4 the one that takes; 5 where none
 /// is reported.
-fn told_of(alloc: Global, broken: usize, good: usize, out: &mut Drip) -> usize
+fn reported_of(alloc: Global, broken: usize, good: usize, out: &mut Drip) -> usize
     requires { out.old.failed ≡ false }
 {
     let good = [
@@ -72,11 +76,11 @@ fn told_of(alloc: Global, broken: usize, good: usize, out: &mut Drip) -> usize
         good_for(2, broken, good),
         good_for(3, broken, good),
     ];
-    told_with(alloc, good, out)
+    reported_with(alloc, good, out)
 }
 
-/// Which device a run tells where two of them fail at once, as `told_of` does.
-fn told_of_two(alloc: Global, first: usize, second: usize, out: &mut Drip) -> usize
+/// Which device a run tells where two of them fail at once, as `reported_of` does.
+fn reported_of_two(alloc: Global, first: usize, second: usize, out: &mut Drip) -> usize
     requires { out.old.failed ≡ false }
 {
     let good = [
@@ -85,11 +89,11 @@ fn told_of_two(alloc: Global, first: usize, second: usize, out: &mut Drip) -> us
         good_of_two(2, first, second),
         good_of_two(3, first, second),
     ];
-    told_with(alloc, good, out)
+    reported_with(alloc, good, out)
 }
 
 /// Which device a run tells where the devices give so many bytes.
-fn told_with(alloc: Global, good: [usize; 4], out: &mut Drip) -> usize
+fn reported_with(alloc: Global, good: [usize; 4], out: &mut Drip) -> usize
     requires { out.old.failed ≡ false }
 {
     let settings = Settings {

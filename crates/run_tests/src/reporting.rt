@@ -116,7 +116,7 @@ const BUILDS: &[Build<'static>] = &[
 #[test]
 fn reports(rt: HostRuntime) -> Result<(), AllocError> {
     for build in BUILDS {
-        let said = told_at_last(rt.alloc(), build)?;
+        let said = reported_at_last(rt.alloc(), build)?;
         assert_eq!(rt;
             said.as_slice(),
             build.report.as_bytes(),
@@ -130,7 +130,7 @@ fn reports(rt: HostRuntime) -> Result<(), AllocError> {
 #[test]
 fn proofs(rt: HostRuntime) -> Result<(), AllocError> {
     for build in BUILDS {
-        let said = told(rt.alloc(), build, true)?;
+        let said = reported(rt.alloc(), build, true)?;
         assert_eq!(rt;
             said.as_slice(),
             build.proof.as_bytes(),
@@ -142,16 +142,16 @@ fn proofs(rt: HostRuntime) -> Result<(), AllocError> {
 }
 
 /// What is written of a build; where memory ran out with nothing written, what a second run writes.
-fn told_at_last(alloc: Global, build: &Build<'_>) -> Result<Vec<u8>, AllocError> {
-    match told(alloc, build, false) {
+fn reported_at_last(alloc: Global, build: &Build<'_>) -> Result<Vec<u8>, AllocError> {
+    match reported(alloc, build, false) {
         Ok(said) => Ok(said),
-        Err(_) => told(alloc, build, false),
+        Err(_) => reported(alloc, build, false),
     }
 }
 
 /// What is written of a build; nothing where the outcome is not the build's, or a device was not read to its end, or memory ran
 /// out when something was written.
-fn told(alloc: Global, build: &Build<'_>, proof: bool) -> Result<Vec<u8>, AllocError> {
+fn reported(alloc: Global, build: &Build<'_>, proof: bool) -> Result<Vec<u8>, AllocError> {
     let settings = Settings {
         root: build.root.as_bytes(),
         operands: &[],

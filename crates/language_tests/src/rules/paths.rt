@@ -14,21 +14,21 @@ fn place_of(halt: &Halt) -> u64 {
 }
 
 /// Where a second path is reported as bad behind one with a blank, and 0 where both are read.
-fn place_told(alloc: Global, root: &Root, path: &[u8]) -> u64 {
+fn place_reported(alloc: Global, root: &Root, path: &[u8]) -> u64 {
     match Includes::read(alloc, &[(b"a b", b"x y"), (path, b"x")], root) {
         Ok(_) => 0,
         Err(halt) => place_of(&halt),
     }
 }
 
-fn are_told(alloc: Global, root: &Root) -> bool {
-    place_told(alloc, root, b"") == 2
-        && place_told(alloc, root, b"\n") == 2
-        && place_told(alloc, root, b"x*") == 0
+fn are_reported(alloc: Global, root: &Root) -> bool {
+    place_reported(alloc, root, b"") == 2
+        && place_reported(alloc, root, b"\n") == 2
+        && place_reported(alloc, root, b"x*") == 0
 }
 
 #[test]
 fn paths_of_includes(rt: HostRuntime) {
     let alloc = rt.alloc();
-    assert!(rt; of_root(alloc, |root| are_told(alloc, root)));
+    assert!(rt; of_root(alloc, |root| are_reported(alloc, root)));
 }

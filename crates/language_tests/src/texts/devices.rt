@@ -3,7 +3,7 @@ ghost use Rattle.std.specs.Prelude.{None, Some, length};
 
 use mk_device::device::{Broken, Intake, Outlet, ReadStop, read_all, write_all};
 use mk_device::feed::Feed;
-use mk_device::spout::Spout;
+use mk_device::sink::Sink;
 use std::alloc::{AllocError, Global};
 use std::io;
 use std::io::{BufWriter, ErrorKind, Read, Write};
@@ -194,11 +194,11 @@ impl Write for Narrow {
 
 /// Whether a writer that takes so many bytes a write gets all three.
 fn takes(width: usize) -> bool {
-    let mut spout = Spout::new(Narrow {
+    let mut sink = Sink::new(Narrow {
         interrupted: false,
         width,
     });
-    write_all(&mut spout, b"abc").is_ok()
+    write_all(&mut sink, b"abc").is_ok()
 }
 
 /// Whether it gets them behind a buffer.
@@ -208,16 +208,16 @@ fn takes_buffered(alloc: Global, width: usize) -> bool {
         width,
     };
     match BufWriter::new(alloc, inner) {
-        Ok(buffer) => write_all(&mut Spout::new(buffer), b"abc").is_ok(),
+        Ok(buffer) => write_all(&mut Sink::new(buffer), b"abc").is_ok(),
         Err(_) => false,
     }
 }
 
 /// Whether two bytes are added to one.
 fn adds(begun: Vec<u8>) -> bool {
-    let mut spout = Spout::new(begun);
-    let done = write_all(&mut spout, b"bc").is_ok();
-    done && spout.into_inner().as_slice() == b"abc".as_slice()
+    let mut sink = Sink::new(begun);
+    let done = write_all(&mut sink, b"bc").is_ok();
+    done && sink.into_inner().as_slice() == b"abc".as_slice()
 }
 
 fn adds_behind(alloc: Global) -> bool {
@@ -232,6 +232,6 @@ fn all_take(alloc: Global) -> bool {
 }
 
 #[test]
-fn spouts_into_a_writer(rt: HostRuntime) {
+fn sinks_into_a_writer(rt: HostRuntime) {
     assert!(rt; adds_behind(rt.alloc()) && all_take(rt.alloc()));
 }

@@ -49,14 +49,14 @@ fn are_neither(alloc: Global, root: &Root) -> bool {
     so
 }
 
-fn are_told_apart(alloc: Global, root: &Root) -> bool {
+fn are_distinct(alloc: Global, root: &Root) -> bool {
     are_no_words(alloc, root) && are_words(alloc, root) && are_neither(alloc, root)
 }
 
 #[test]
 fn bytes_of_words_and_paths(rt: HostRuntime) {
     let alloc = rt.alloc();
-    assert!(rt; of_root(alloc, |root| are_told_apart(alloc, root)));
+    assert!(rt; of_root(alloc, |root| are_distinct(alloc, root)));
 }
 
 fn is_root(alloc: Global, text: &[u8]) -> bool {

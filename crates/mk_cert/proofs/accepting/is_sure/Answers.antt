@@ -2,7 +2,7 @@ use Rattle.std.proofs.Common.{◌≡◌, ◌∙◌, ℕ, List, Option, None, ari
 use Rattle.std.proofs.lemmas.Bool.{false≢true}
 use Rattle.mk_proof.specs.Shapes.{trace_of}
 use Rattle.mk_jobs.specs.Jobs.{is_listed}
-use Rattle.mk_cert.specs.Standing.{Tell, time_in}
+use Rattle.mk_cert.specs.Standing.{HoldsTimes, time_in}
 use Rattle.mk_cert.specs.Sure.{all_pass}
 use Rattle.mk_cert.proofs.Timing.{no_node_timed, nodes_there, sure_by}
 use Rattle.mk_cert.proofs.accepting.is_sure.Goals as goal
@@ -35,8 +35,8 @@ returns c =
     let jobs = c.args.jobs.now in
     let trace = trace_of c.args.nodes.0 c.args.nodes.1 c.args.path.now c.args.times.now c.args.steps.now in
     let table = c.in-Some.table.items in
-    let tell : Tell table c.args.times.now = rw c.in-Some.is at c.in_ok-table.ensures.told in
+    let reports : HoldsTimes table c.args.times.now = rw c.in-Some.is at c.in_ok-table.ensures.reported in
     let listed = subst (λ (ts : List (Option ℕ)). (n : ℕ) → is_some (get_or ts n None) ≡ is_listed jobs n) c.deref.ensures.value
     (c.are_of_listed.ensures.0 c.if-not-are_of_listed.false) in
-    sure_by jobs trace table c.in_ok-sure.sure (c.clash_on.ensures.0 c.if-not-clash_on.false) tell listed
+    sure_by jobs trace table c.in_ok-sure.sure (c.clash_on.ensures.0 c.if-not-clash_on.false) reports listed
     (c.in_ok-sure.ensures ∙ ap (λ (ts : List (Option ℕ)). all_pass jobs (time_in ts) trace.first trace.second [] trace.steps) c.deref-2.ensures.value)

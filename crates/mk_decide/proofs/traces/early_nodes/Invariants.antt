@@ -6,6 +6,6 @@ use Rattle.mk_decide.proofs.traces.early_nodes.Given as goal
 abbrev pub invariant-loop-n : goal.invariant-loop-n
 invariant-loop-n g l = record {
   long : length l.early.items ≡ l.n;
-  tells : (k : ℕ) → k < l.n → (get_or l.early.items k false ≡ true) ↔ (Before l.jobs k l.first ⊎ Before l.jobs k l.second);
+  reports : (k : ℕ) → k < l.n → (get_or l.early.items k false ≡ true) ↔ (Before l.jobs k l.first ⊎ Before l.jobs k l.second);
   same : g.B.Before.jobs l.before ≡ l.jobs;
 }

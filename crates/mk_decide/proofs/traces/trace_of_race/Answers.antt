@@ -29,4 +29,4 @@ returns-clause-race g c =
     subst (λ (table : List Bool). ArePartsOf c.args.jobs.now table c.args.first c.args.second c.in_ok-times.times.items c.in_ok-steps.steps.items) c.deref.ensures.value
     (record { times_are = c.in_ok-times.ensures; steps_are = c.in_ok-steps.ensures }) in
     parts_of_race c.args.jobs.now early c.args.first c.args.second c.in_ok-path.path.items c.in_ok-times.times.items c.in_ok-steps.steps.items c.new.result
-    c.requires.race c.in_ok-path.ensures c.in_ok-early.ensures.tells parts c.new.ensures
+    c.requires.race c.in_ok-path.ensures c.in_ok-early.ensures.reports parts c.new.ensures

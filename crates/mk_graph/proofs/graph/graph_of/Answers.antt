@@ -6,7 +6,7 @@ use Rattle.mk_graph.specs.Makers.{inferred_source, needs}
 use Rattle.mk_jobs.specs.Numbered.{name_at}
 use Rattle.mk_graph.specs.Rows.{row}
 use Rattle.mk_graph.specs.Seen.{firsts_of}
-use Rattle.mk_graph.proofs.Graphs.{distinct_below, graph_is, is_small, many_edges, needs_stand, source_within, source_told, if_none_at}
+use Rattle.mk_graph.proofs.Graphs.{distinct_below, graph_is, is_small, many_edges, needs_stand, source_within, source_reported, if_none_at}
 use Rattle.mk_graph.proofs.graph.graph_of.Goals as goal
 
 pub rows_of-requires-clause-within : goal.rows_of-requires-clause-within
@@ -54,4 +54,4 @@ returns-clause-small c =
 pub makers_of-requires-clause-inferred : goal.makers_of-requires-clause-inferred
 makers_of-requires-clause-inferred c = λ i h.
     let found = subst (λ (os : List (Option ℕ)). Collected c.args.book.now c.args.listing.now c.args.goals.now c.in-Some.found.names c.in-Some.found.entries.items os c.in-Some.found.goals.items (length c.in-Some.found.names)) (sym c.as_slice-sources.ensures.value) (rw c.in-Some.is at c.in_ok-found.ensures.found) in
-    source_told c.in-Some.found.names (get_or c.as_slice-sources.result.now i None) (inferred_source c.args.book.now c.args.listing.now (name_at c.in-Some.found.names i)) (found.sources_stand i h)
+    source_reported c.in-Some.found.names (get_or c.as_slice-sources.result.now i None) (inferred_source c.args.book.now c.args.listing.now (name_at c.in-Some.found.names i)) (found.sources_stand i h)

@@ -21,9 +21,9 @@ returns-in-Some-clause-halt c =
     let names = c.args.graph.now.names in
     let n = c.in-Some.number in
     let p = subst (λ (o : Option ℕ). IsLeastPassing (is_unmade c.args.book.now c.args.listing.now) names (length names) o) c.in-Some.is c.least_unmade.ensures in
-    let told = c.in_ok-push.ensures.items ∙ ap (λ ns. ns ++ c.in_ok-copy.field-0 ∷ []) c.new-names.ensures.items ∙ ap (λ x. x ∷ []) (c.in_ok-copy.ensures ∙ c.name.ensures) in
+    let reported = c.in_ok-push.ensures.items ∙ ap (λ ns. ns ++ c.in_ok-copy.field-0 ∷ []) c.new-names.ensures.items ∙ ap (λ x. x ∷ []) (c.in_ok-copy.ensures ∙ c.name.ensures) in
     subst (λ (h : Halt). HaltsAmong h (Comes c.args.book.now c.args.listing.now c.args.goals.now)) (sym c.graph_fault.ensures)
-    (subst (λ (ns : List Name). Comes c.args.book.now c.args.listing.now c.args.goals.now (Err (graph_fault kinds.NoRule ns))) (sym told)
+    (subst (λ (ns : List Name). Comes c.args.book.now c.args.listing.now c.args.goals.now (Err (graph_fault kinds.NoRule ns))) (sym reported)
     (no_rule (name_at names n) c.requires.small (least_is c.args.book.now c.args.listing.now c.args.goals.now names c.args.graph.now.rows.items c.args.graph.now.goals.items c.requires.graph n p)))
 
 pub serial_order-requires-clause-range : goal.serial_order-requires-clause-range

@@ -1,6 +1,6 @@
 use Rattle.std.proofs.Common.{◌≡◌, ◌+◌, None, Some, List, ℕ, ap, map, subst, ◌∙◌}
 use Rattle.mk_text.specs.Listing.{lines}
-use Rattle.mk_log.specs.Reading.{IsLogOf, entries_of, first_fault, told}
+use Rattle.mk_log.specs.Reading.{IsLogOf, entries_of, first_fault, reported}
 use Rattle.mk_log.proofs.ReadLines.{bad_first, goes_on, reads_all, text_is, text_past, text_within}
 use Rattle.mk_log.proofs.reading.read_log.Goals as goal
 
@@ -11,7 +11,7 @@ returns-then-not-branch c =
     let root = c.args.root.now in
     let texts : List (List ℕ) = map (λ line. line.now) items in
     let all : texts ≡ lines c.args.text.now = ap (map (λ line. line.now)) c.deref-text-items.ensures.value ∙ c.in_ok-lines.ensures in
-    rw c.fault.ensures (subst (λ (ts : List (List ℕ)). first_fault jobs root ts ≡ Some (told (c.loop-number.number + 1))) all
+    rw c.fault.ensures (subst (λ (ts : List (List ℕ)). first_fault jobs root ts ≡ Some (reported (c.loop-number.number + 1))) all
     (bad_first jobs root texts c.loop-number.number _ (text_within items _ c.loop-number-test.true) (text_is items _ _ c.loop-number-test.true)
     c.loop-number.log c.add_line.new.log c.loop-number.invariant c.in_ok-add_line.field-0 c.in_ok-add_line.ensures c.if-not-branch.true))
 

@@ -5,7 +5,7 @@ use Rattle.mk_sched.specs.Stored.{IsInOrder}
 use Rattle.mk_sched.specs.declared.event.Event.{Event}
 use Rattle.mk_log.specs.Logs.{Log}
 use Rattle.mk_log.specs.Reading.{IsRead}
-use Rattle.mk_log.specs.Spelled.{Adds, entries_told, file_entry}
+use Rattle.mk_log.specs.Spelled.{Adds, entries_reported, file_entry}
 use Rattle.mk_log.specs.declared.entry.Entry.{Entry}
 use Rattle.mk_log.specs.declared.entry.Entry.TheVariants.{Happens}
 use Rattle.mk_log.proofs.Lines.{more_added}
@@ -14,7 +14,7 @@ use Rattle.mk_log.proofs.RoundTrip.{log_lines, log_names, read_back}
 use Rattle.mk_log.proofs.writing.write_log.Goals as goal
 
 -- all lines of the log are added to no text
-all_added : (c : goal.In_ok-add_events) → Adds c.args.jobs.now (entries_told c.args.log.now) [] c.add_events.new.text.items
+all_added : (c : goal.In_ok-add_events) → Adds c.args.jobs.now (entries_reported c.args.log.now) [] c.add_events.new.text.items
 all_added c =
     let jobs = c.args.jobs.now in
     let store = c.log.inside.store in
@@ -22,9 +22,9 @@ all_added c =
     let happens : Event → Entry = λ event. Happens event in
     let first = subst (λ (text : List ℕ). Adds jobs (map file_entry store) text c.add_files.new.text.items)
     c.new-text.ensures.items (c.in_ok-add_files.ensures.adds jobs) in
-    let later = subst (λ (told : List Event). Adds jobs (map happens told) c.add_files.new.text.items c.add_events.new.text.items)
+    let later = subst (λ (reported : List Event). Adds jobs (map happens reported) c.add_files.new.text.items c.add_events.new.text.items)
     c.as_slice.ensures.value c.in_ok-add_events.ensures.adds in
-    subst (λ (log : Log). Adds jobs (entries_told log) [] c.add_events.new.text.items) c.log.view_is
+    subst (λ (log : Log). Adds jobs (entries_reported log) [] c.add_events.new.text.items) c.log.view_is
     (more_added jobs (map file_entry store) (map happens events) _ _ _ first later)
 
 pub returns-clause-text : goal.returns-clause-text

@@ -5,7 +5,7 @@ use Rattle.mk_path.specs.declared.path.Path.{Path}
 use Rattle.mk_path.specs.Covering.{tree_at}
 use Rattle.mk_path.specs.Paths.{path_cmp, same_path}
 use Rattle.mk_path.proofs.Between.{bound_from, has_not, miss_from, missed, no_bound, none_longer}
-use Rattle.mk_path.proofs.Halves.{search_tells}
+use Rattle.mk_path.proofs.Halves.{search_reports}
 use Rattle.mk_path.proofs.PathOrder.{path_cmp_total, path_ties}
 use Rattle.mk_path.proofs.covering.find_tree.Goals as goal
 
@@ -13,7 +13,7 @@ pub returns-in-Ok-clause-found : goal.returns-in-Ok-clause-found
 returns-in-Ok-clause-found c =
     let asked = tree_at c.args.name.now in
     let found = c.in-Ok.ensures.position (λ y. path_cmp y asked) (always_returns_same _ _ _ (λ a r f called. search rules)) in
-    sym (search_tells path_cmp path_cmp_total same_path path_ties c.args.paths.now asked (Ok c.in-Ok.field-0) c.requires c.in-Ok.ensures.bound found)
+    sym (search_reports path_cmp path_cmp_total same_path path_ties c.args.paths.now asked (Ok c.in-Ok.field-0) c.requires c.in-Ok.ensures.bound found)
 
 pub returns-in-Err-eq0-clause-missed : goal.returns-in-Err-eq0-clause-missed
 returns-in-Err-eq0-clause-missed c =

@@ -7,7 +7,7 @@ use Rattle.mk_program.specs.Inputs.{AreTexts, Hold, IsInputFailure}
 use Rattle.mk_program.specs.Requests.{inputs_of}
 use Rattle.mk_program.specs.declared.inputs.InputPath.{InputPath}
 use Rattle.mk_program.specs.declared.inputs.InputText.{InputText}
-use Rattle.mk_program.proofs.Told.{err_more}
+use Rattle.mk_program.proofs.Reported.{err_more}
 use Rattle.mk_program.proofs.answers.answer_of.Goals as goal
 
 pub returns-in_err-included-clause-failure : goal.returns-in_err-included-clause-failure
@@ -26,13 +26,13 @@ returns-in_err-texts-clause-failure g c =
 pub returns-clause-answer : goal.returns-clause-answer
 returns-clause-answer g c = IfOk-weaker c.answer_with.result _ _ (λ answer over includes text given hold.
     let same : g.P.Opener.text c.read_includes.new.opener ≡ g.P.Opener.text c.args.opener.now = λ i path. c.read_includes.ensures.same_text path i in
-    let told = c.in_ok-included.ensures.told includes (ap (includes_in (g.P.Opener.text c.args.opener.now)) c.includes_path.ensures ∙ given) in
+    let reported = c.in_ok-included.ensures.reported includes (ap (includes_in (g.P.Opener.text c.args.opener.now)) c.includes_path.ensures ∙ given) in
     let inputs = c.as_slice.ensures.value ∙ c.in_ok-inputs.ensures in
     let held = subst (λ (files : List ℕ → Option (List ℕ)). Hold files c.as_slice.result.now text) (sym same)
     (subst (λ (l : List InputPath). Hold (g.P.Opener.text c.args.opener.now) l text) (sym inputs) hold) in
-    let are = subst (λ (l : List InputText). AreTexts l text) (sym c.as_slice-3.ensures.value) (c.in_ok-texts.ensures.told text held) in
+    let are = subst (λ (l : List InputText). AreTexts l text) (sym c.as_slice-3.ensures.value) (c.in_ok-texts.ensures.reported text held) in
     subst (λ (pairs : List Pair). IsAnswerOver c.args.request.now pairs text answer.status answer.text.items)
-    (ap shown c.as_slice-2.ensures.value ∙ told) (over text are)) c.answer_with.ensures.answer
+    (ap shown c.as_slice-2.ensures.value ∙ reported) (over text are)) c.answer_with.ensures.answer
 
 pub returns-clause-failure : goal.returns-clause-failure
-returns-clause-failure g c = err_more _ _ c.answer_with.result (λ failure untold. inr (inr untold)) c.answer_with.ensures.failure
+returns-clause-failure g c = err_more _ _ c.answer_with.result (λ failure unreported. inr (inr unreported)) c.answer_with.ensures.failure

@@ -1,7 +1,7 @@
 use Rattle.std.proofs.Common.{◌∙◌, ap, map, List, ℕ}
 use Rattle.std.proofs.lemmas.Result.{IfOk-weaker}
 use Rattle.std.specs.Borrow.{Bor}
-use Rattle.mk_program.proofs.Answering.{replay_told}
+use Rattle.mk_program.proofs.Answering.{replay_reported}
 use Rattle.mk_program.proofs.answers.replay_answer.Goals as goal
 
 abbrev texts : List (Bor (List ℕ)) → List (List ℕ)
@@ -10,8 +10,8 @@ texts = map (λ (text : Bor (List ℕ)). text.now)
 pub returns-clause-answer : goal.returns-clause-answer
 returns-clause-answer c =
     let operands = ap texts c.as_slice-2.ensures.value ∙ c.in_ok-operands.ensures ∙ ap texts c.as_slice.ensures.value in
-    let told = c.input_of-input.ensures in
+    let reported = c.input_of-input.ensures in
     let replay = c.args.replay.now in
     IfOk-weaker c.replay_over.result _ _ (λ answer h text are.
-    replay_told _ _ _ _ _ _ replay.limit replay.tie answer.status answer.text.items (told.texts text are operands) (told.footprints text are)
+    replay_reported _ _ _ _ _ _ replay.limit replay.tie answer.status answer.text.items (reported.texts text are operands) (reported.footprints text are)
     (are _ _ c.text_of-log.ensures) h) c.replay_over.ensures.answer

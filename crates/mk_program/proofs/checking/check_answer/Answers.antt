@@ -1,7 +1,7 @@
 use Rattle.std.proofs.Common.{◌∙◌, ap, map, List, ℕ}
 use Rattle.std.proofs.lemmas.Result.{IfOk-weaker}
 use Rattle.std.specs.Borrow.{Bor}
-use Rattle.mk_program.proofs.Judged.{check_told}
+use Rattle.mk_program.proofs.Judged.{check_reported}
 use Rattle.mk_program.proofs.checking.check_answer.Goals as goal
 
 abbrev texts : List (Bor (List ℕ)) → List (List ℕ)
@@ -10,6 +10,6 @@ texts = map (λ (text : Bor (List ℕ)). text.now)
 pub returns-clause-answer : goal.returns-clause-answer
 returns-clause-answer c =
     let operands = ap texts c.as_slice-2.ensures.value ∙ c.in_ok-operands.ensures ∙ ap texts c.as_slice.ensures.value in
-    let told = c.input_of-input.ensures in
+    let reported = c.input_of-input.ensures in
     IfOk-weaker c.check_over.result _ _ (λ answer h text are.
-    check_told _ _ _ _ c.args.check.now.print_proof answer.status answer.text.items (told.texts text are operands) (told.footprints text are) h) c.check_over.ensures.answer
+    check_reported _ _ _ _ c.args.check.now.print_proof answer.status answer.text.items (reported.texts text are operands) (reported.footprints text are) h) c.check_over.ensures.answer

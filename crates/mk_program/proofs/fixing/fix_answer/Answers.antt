@@ -10,6 +10,6 @@ texts = map (λ (text : Bor (List ℕ)). text.now)
 pub returns-clause-answer : goal.returns-clause-answer
 returns-clause-answer c =
     let operands = ap texts c.as_slice-2.ensures.value ∙ c.in_ok-operands.ensures ∙ ap texts c.as_slice.ensures.value in
-    let told = c.input_of-input.ensures in
+    let reported = c.input_of-input.ensures in
     IfOk-weaker c.fix_over.result _ _ (λ answer h text are.
-    fix_read _ _ _ _ _ answer.status answer.text.items (told.texts text are operands) (told.footprints text are) h) c.fix_over.ensures.answer
+    fix_read _ _ _ _ _ answer.status answer.text.items (reported.texts text are operands) (reported.footprints text are) h) c.fix_over.ensures.answer

@@ -7,7 +7,7 @@ use Rattle.mk_program.proofs.includes.read_listed.Given as goal
 -- the texts so far with those of the rest are all of them, and the opener tells what it told at the start
 abbrev pub invariant-lines : goal.invariant-lines
 invariant-lines g l = record {
-  told : (pairs : List Pair) → pairs_of (g.P.Opener.text l.fn.opener) (physical_lines l.fn.listed) ≡ Some pairs
+  reported : (pairs : List Pair) → pairs_of (g.P.Opener.text l.fn.opener) (physical_lines l.fn.listed) ≡ Some pairs
       → (more : List Pair) × (pairs_of (g.P.Opener.text l.fn.opener) (option_map_or (λ rest. physical_lines rest.now) l.rest []) ≡ Some more) × (shown l.texts.items ++ more ≡ pairs);
   same_text : (path : List ℕ) → g.P.Opener.text l.opener path ≡ g.P.Opener.text l.fn.opener path;
   same_opens : (path : List ℕ) → g.P.Opener.opens l.opener path ≡ g.P.Opener.opens l.fn.opener path;

@@ -8,9 +8,9 @@ loop-known-init g c = none_open _ _ _ _ _ _ c.new-files.ensures.items
 
 pub loop-known-preserved : goal.loop-known-preserved
 loop-known-preserved g c =
-    let told = c.in_ok-file.ensures in
+    let reported = c.in_ok-file.ensures in
     one_open _ _ _ _ _ _ _ _ _ _ _ c.in_ok-file.file c.loop-known.known-index _ c.loop-known-test.true c.loop-known.invariant
-    told.input told.works told.whole told.opened c.opened.ensures.same_text c.opened.ensures.same_opens c.in_ok-push.ensures.items
+    reported.input reported.works reported.whole reported.opened c.opened.ensures.same_text c.opened.ensures.same_opens c.in_ok-push.ensures.items
 
 pub returns-in_err-file-clause-failure : goal.returns-in_err-file-clause-failure
 returns-in_err-file-clause-failure g c =
@@ -24,8 +24,8 @@ returns-clause-named g c = all_named _ _ _ _ _ _ _ _ _ c.loop-known.invariant (o
 pub returns-clause-work : goal.returns-clause-work
 returns-clause-work g c = c.loop-known.invariant.work
 
-pub returns-clause-told : goal.returns-clause-told
-returns-clause-told g c = c.loop-known.invariant.told
+pub returns-clause-reported : goal.returns-clause-reported
+returns-clause-reported g c = c.loop-known.invariant.reported
 
 pub returns-clause-opened : goal.returns-clause-opened
 returns-clause-opened g c = λ k d within. c.loop-known.invariant.opened k d (omega arith) (omega (arith, c.loop-known-test.false))

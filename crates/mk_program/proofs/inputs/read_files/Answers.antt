@@ -32,5 +32,5 @@ returns-clause-named g c =
     let none : into_iter_items c.loop-file.file-iterator ≡ [] = nil_from_length _ (sym c.loop-file.file-iterator.rest.ok.0 ∙ c.in-None.ensures.steps.0) in
     all_read _ _ _ _ _ c.loop-file.invariant.2 none
 
-pub returns-clause-told : goal.returns-clause-told
-returns-clause-told g c = λ want holds. (c.loop-file.invariant.2.told want holds).1
+pub returns-clause-reported : goal.returns-clause-reported
+returns-clause-reported g c = λ want holds. (c.loop-file.invariant.2.reported want holds).1

@@ -1,14 +1,14 @@
 use Rattle.std.proofs.Common.{◌∙◌}
 use Rattle.std.proofs.lemmas.Result.{err_from_is_err_and}
 use Rattle.mk_program.proofs.Reading.{open_failure, read_failure, texts_read}
-use Rattle.mk_program.proofs.Told.{both_ok, err_more}
+use Rattle.mk_program.proofs.Reported.{both_ok, err_more}
 use Rattle.mk_program.proofs.inputs.read_inputs.Goals as goal
 
-pub returns-clause-told : goal.returns-clause-told
-returns-clause-told g c =
+pub returns-clause-reported : goal.returns-clause-reported
+returns-clause-reported g c =
     both_ok _ _ _ c.read_files.result (λ texts named each text hold.
-    texts_read _ _ texts.items text (named ∙ c.in_ok-files.ensures.named) (each text (c.in_ok-files.ensures.told text hold.each)) hold)
-    c.read_files.ensures.named c.read_files.ensures.told
+    texts_read _ _ texts.items text (named ∙ c.in_ok-files.ensures.named) (each text (c.in_ok-files.ensures.reported text hold.each)) hold)
+    c.read_files.ensures.named c.read_files.ensures.reported
 
 pub returns-clause-failure : goal.returns-clause-failure
 returns-clause-failure g c =

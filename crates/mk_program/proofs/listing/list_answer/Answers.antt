@@ -10,6 +10,6 @@ texts = map (λ (text : Bor (List ℕ)). text.now)
 pub returns-clause-answer : goal.returns-clause-answer
 returns-clause-answer c =
     let operands = ap texts c.as_slice-2.ensures.value ∙ c.in_ok-operands.ensures ∙ ap texts c.as_slice.ensures.value in
-    let told = c.input_of-input.ensures in
+    let reported = c.input_of-input.ensures in
     IfOk-weaker c.list_over.result _ _ (λ answer h text are.
-    list_read _ _ _ _ answer.status answer.text.items (told.texts text are operands) (told.footprints text are) h) c.list_over.ensures.answer
+    list_read _ _ _ _ answer.status answer.text.items (reported.texts text are operands) (reported.footprints text are) h) c.list_over.ensures.answer

@@ -1,6 +1,6 @@
 use Rattle.std.proofs.lemmas.Result.{IfOk-weaker}
 use Rattle.mk_program.proofs.Failing.{called, input_failure, not_written, not_written_either, right_words, usage_failure}
-use Rattle.mk_program.proofs.Told.{err_more}
+use Rattle.mk_program.proofs.Reported.{err_more}
 use Rattle.mk_program.proofs.running.answer_to.Goals as goal
 
 pub returns-in-Ok-clause-answer : goal.returns-in-Ok-clause-answer

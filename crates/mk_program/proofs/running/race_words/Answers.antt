@@ -5,13 +5,13 @@ use Rattle.mk_program.proofs.Judged.{says_safe}
 use Rattle.mk_program.proofs.Failing.{errors_same}
 use Rattle.mk_program.proofs.running.race_words.Goals as goal
 
-pub returns-in-Err-clause-told : goal.returns-in-Err-clause-told
-returns-in-Err-clause-told g c =
+pub returns-in-Err-clause-reported : goal.returns-in-Err-clause-reported
+returns-in-Err-clause-reported g c =
     let write = c.in-Err.ensures.write in
-    λ is works. (c.in-Err.failure, c.in-Err.ensures.failure, (λ e. write.0 (ap Err e), λ fails. errors_same _ _ (write.1 fails)), c.fail.ensures.told works)
+    λ is works. (c.in-Err.failure, c.in-Err.ensures.failure, (λ e. write.0 (ap Err e), λ fails. errors_same _ _ (write.1 fails)), c.fail.ensures.reported works)
 
 pub returns-in-Ok-clause-safe : goal.returns-in-Ok-clause-safe
 returns-in-Ok-clause-safe g c =
-    λ right check done. let told = c.in-Ok.ensures.answer right in
-    says_safe c.args.words.now (g.P.Opener.text c.args.opener.now) told.0 check
-    (subst (λ (s : Status). IsAnswerTo c.args.words.now (g.P.Opener.text c.args.opener.now) s told.0) done told.2)
+    λ right check done. let reported = c.in-Ok.ensures.answer right in
+    says_safe c.args.words.now (g.P.Opener.text c.args.opener.now) reported.0 check
+    (subst (λ (s : Status). IsAnswerTo c.args.words.now (g.P.Opener.text c.args.opener.now) s reported.0) done reported.2)

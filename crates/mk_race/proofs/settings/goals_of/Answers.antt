@@ -7,7 +7,7 @@ pub returns-in_err-goal-clause-fault : goal.returns-in_err-goal-clause-fault
 returns-in_err-goal-clause-fault c =
     let p = err_from_is_err_and c.from_residual.result c.from_residual.ensures.1 in
     rw (p.1, p.2) (Halts-along c.in_err-goal.field-0.0 _ _
-    (λ told. goals_fault c.args.root.now c.args.operands.now c.loop-number.number _ _ told (omega (arith, c.loop-number-test.true)) c.loop-number.invariant)
+    (λ reported. goals_fault c.args.root.now c.args.operands.now c.loop-number.number _ _ reported (omega (arith, c.loop-number-test.true)) c.loop-number.invariant)
     c.in_err-goal.ensures)
 
 pub loop-number-preserved : goal.loop-number-preserved

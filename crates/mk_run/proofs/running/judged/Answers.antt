@@ -1,11 +1,11 @@
-use Rattle.mk_run.proofs.Telling.{tells}
+use Rattle.mk_run.proofs.Reporting.{reports}
 use Rattle.mk_run.proofs.running.judged.Goals as goal
 
 pub returns : goal.returns
 returns c =
-    tells c.args.settings.now c.args.makefiles.now.base.items c.args.makefiles.now.makefile.items c.args.lists.listing c.args.lists.footprints c.in_ok-answer.answer
-    c.tell.result (λ told. told.outcome) (λ told. told.text.items)
+    reports c.args.settings.now c.args.makefiles.now.base.items c.args.makefiles.now.makefile.items c.args.lists.listing c.args.lists.footprints c.in_ok-answer.answer
+    c.reports.result (λ reported. reported.outcome) (λ reported. reported.text.items)
     (rw (c.as_slice-base.ensures.value, c.as_slice-makefile.ensures.value) at c.in_ok-answer.ensures.answer)
     (rw (c.as_slice-base.ensures.value, c.as_slice-makefile.ensures.value) at c.in_ok-answer.ensures.headline)
     c.in_ok-answer.ensures.determinate c.in_ok-answer.ensures.holds
-    c.tell.ensures
+    c.reports.ensures

@@ -4,8 +4,8 @@ use Rattle.mk_jobs.specs.Jobs.{node_count}
 use Rattle.mk_sched.specs.Events.{Event, running_below}
 use Rattle.mk_sched.specs.Steps.{step_of, past_of}
 use Rattle.mk_sched.specs.Stored.{store_of}
-use Rattle.mk_sched.specs.declared.event.Event.{Event as Told}
-use Rattle.mk_sched.proofs.Replaying.{IsAt, past_more, begun_at, next, moves, room, finds_told, not_allowed, leaves, whole, cut}
+use Rattle.mk_sched.specs.declared.event.Event.{Event as Reported}
+use Rattle.mk_sched.proofs.Replaying.{IsAt, past_more, begun_at, next, moves, room, finds_reported, not_allowed, leaves, whole, cut}
 use Rattle.mk_sched.proofs.replay.replay.Goals as goal
 
 pub loop-event-init : goal.loop-event-init
@@ -32,7 +32,7 @@ returns-in-Some-clause-err c =
       run = at.run;
       left = leaves c.args.jobs.now c.args.tie c.args.limit (store_of c.args.store) (take i c.args.events.now) _ _ _ at;
       not_allowed = not_allowed c.args.jobs.now c.args.tie c.args.limit (store_of c.args.store) past _ _ _ at (step_of e) c.in-Some.refusal c.in-Some.ensures;
-      first = finds_told c.args.jobs.now c.args.tie c.args.limit (store_of c.args.store) past _ _ _ at (step_of e) (Some c.in-Some.refusal) c.in-Some.ensures;
+      first = finds_reported c.args.jobs.now c.args.tie c.args.limit (store_of c.args.store) past _ _ _ at (step_of e) (Some c.in-Some.refusal) c.in-Some.ensures;
     })
 
 pub apply-requires-clause-moves : goal.apply-requires-clause-moves
@@ -62,7 +62,7 @@ loop-event-preserved c =
 pub returns-clause-ok : goal.returns-clause-ok
 returns-clause-ok c =
     let all : take c.loop-event.event-index c.args.events.now ≡ c.args.events.now = take_all c.loop-event.event-index c.args.events.now c.loop-event-test.false in
-    let at = subst (λ (events : List Told). IsAt c.args.jobs.now c.args.tie c.args.limit (store_of c.args.store) (past_of events) c.loop-event.state.store c.loop-event.state.stages.items c.loop-event.state.running) all c.loop-event.invariant.at in
+    let at = subst (λ (events : List Reported). IsAt c.args.jobs.now c.args.tie c.args.limit (store_of c.args.store) (past_of events) c.loop-event.state.store c.loop-event.state.stages.items c.loop-event.state.running) all c.loop-event.invariant.at in
     record {
       agrees = c.agrees.ensures.0 c.if-not-agrees.false;
       run = at.run;

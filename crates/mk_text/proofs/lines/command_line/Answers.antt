@@ -11,7 +11,7 @@ returns-in-Ok-Some c =
     let block = c.args.block.now in
     let n = c.args.number in
     let kind = c.in-Ok-Some.kind in
-    let sorted = sym c.sort_of_command.ensures.sort ∙ c.in-Ok-Some.is ∙ ap Ok c.in-Ok-Some.field-0-is in
+    let sorted = sym c.kind_of_command.ensures.sort ∙ c.in-Ok-Some.is ∙ ap Ok c.in-Ok-Some.field-0-is in
     let pieces = pieces_command block (eq-eqb _ tab c.requires) in
     ap (line_at n (physical_lines block)) sorted
     ∙ ap (λ pieces. Ok (Some (record { kind = kind; first_line = n; pieces = pieces }))) pieces

@@ -8,4 +8,4 @@ returns-in_ok-push-in-Ok c =
 
 pub returns-in-Err : goal.returns-in-Err
 returns-in-Err c =
-    entry_ends c.args.placed.now c.args.so_far.now.rules.items c.args.so_far.now.taken c.args.macros.now c.args.self.now.root.now c.args.parts.now c.in-Err.halt c.tell.result c.tell.ensures c.in-Err.ensures
+    entry_ends c.args.placed.now c.args.so_far.now.rules.items c.args.so_far.now.taken c.args.macros.now c.args.self.now.root.now c.args.parts.now c.in-Err.halt c.reports.result c.reports.ensures c.in-Err.ensures

@@ -10,12 +10,12 @@ use std::marker::Model;
 /// It fails where the writer's write or flush does, and where the writer takes no byte of some. A write that a signal
 /// interrupts is made again.
 #[derive(Drop)]
-pub struct Spout<W: Write> {
+pub struct Sink<W: Write> {
     writer: W,
     failed: bool,
 }
 
-impl<W: Write> Model for Spout<W> {
+impl<W: Write> Model for Sink<W> {
     ghost use Rattle.mk_device.specs.Device.{Taking};
 
     ghost Value = { Taking };
@@ -23,12 +23,12 @@ impl<W: Write> Model for Spout<W> {
     ghost view = { λ s. record { written = W.contents s.writer; failed = s.failed } };
 }
 
-impl<W: Write> Spout<W> {
+impl<W: Write> Sink<W> {
     /// A device that writes behind what the writer holds.
-    pub fn new(writer: W) -> Spout<W>
+    pub fn new(writer: W) -> Sink<W>
         ensures { result ≡ record { written = W.contents writer; failed = false } }
     {
-        Spout {
+        Sink {
             writer,
             failed: false,
         }
@@ -38,12 +38,12 @@ impl<W: Write> Spout<W> {
     pub fn into_inner(self) -> W
         ensures { W.contents result ≡ self.written }
     {
-        let Spout { writer, failed: _ } = self;
+        let Sink { writer, failed: _ } = self;
         writer
     }
 }
 
-impl<W: Write> Outlet for Spout<W> {
+impl<W: Write> Outlet for Sink<W> {
     ghost written = { λ s. s.written };
 
     ghost has_failed = { λ s. s.failed };

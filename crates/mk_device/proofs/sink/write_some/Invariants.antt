@@ -1,5 +1,5 @@
 use Rattle.std.specs.Io.KnownBytes.{Keeps}
-use Rattle.mk_device.proofs.spout.write_some.Given as goal
+use Rattle.mk_device.proofs.sink.write_some.Given as goal
 
 -- writes that were interrupted wrote nothing
 abbrev pub invariant-tries : goal.invariant-tries

@@ -4,7 +4,7 @@ use Rattle.mk_name.specs.declared.fault.Kind.{Kind}
 use Rattle.mk_name.specs.declared.fault.Source.{Source}
 
 -- a fault: what is wrong, in which text or stage, at which line, operand or node, and the names that it tells
-pub record Told : Type 0 where
+pub record Reported : Type 0 where
   pub kind : Kind
   pub source : Source
   pub place : ℕ

@@ -4,7 +4,7 @@ use mk_name::report::refused_report;
 use std::alloc::{AllocError, Global};
 
 /// Whether this is the report of a fault.
-pub(crate) fn is_told(alloc: Global, halt: &Halt, report: &str) -> bool {
+pub(crate) fn has_report(alloc: Global, halt: &Halt, report: &str) -> bool {
     match halt {
         Halt::Fault(fault) => is_text(refused_report(alloc, fault), report),
         Halt::Memory => false,
