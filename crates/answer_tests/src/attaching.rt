@@ -79,7 +79,7 @@ fn without_plan(given: Result<Jobs, (Plan, Halt)>) -> Result<Jobs, Halt> {
     }
 }
 
-/// Whether each node has the paths that its line of footprints tells.
+/// Whether each node has the paths of its line of footprints.
 fn have_paths(jobs: &Jobs) -> bool {
     jobs.count() == 5
         && reads_and_writes(jobs, 0, &[], &[])

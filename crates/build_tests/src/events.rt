@@ -1,4 +1,4 @@
-//! Events of a number that no node has. No log can tell one.
+//! Events of a number that no node has. No log can hold one.
 use crate::builds::{name_of, of_jobs, store_of};
 use mk_jobs::jobs::Jobs;
 use mk_name::name::Name;

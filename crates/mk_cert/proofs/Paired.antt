@@ -58,7 +58,7 @@ all_paired jobs chains shape valid certificate a b inside apart reach = record {
 no_bit : (word k : ℕ) → word ≡ 0 → bit_at word k ≡ 1 → ⊥
 no_bit word k none has = let zero : bit_at 0 k ≡ 0 = bit_at-zero k in omega (arith, zero, ap (λ w. bit_at w k) none, has)
 
--- a row of noughts has no bit
+-- a row of zeros has no bit
 pub clear_row : (long n : ℕ) → HasBit (replicate long 0) n → ⊥
 clear_row long n has = elim (cases_lt (n / 64) long) [
   | inl inside ↦ no_bit (get_or (replicate long 0) (n / 64) 0) (n % 64) (get_or-replicate long (n / 64) 0 0 inside) has

@@ -115,7 +115,7 @@ pass_on jobs times first second past [] rest pass = pass
 pass_on jobs times first second past (step ∷ done) rest pass = pass_on jobs times first second (event_of step ∷ past) done rest
     (and_parts (passes jobs times (phase past) step) (all_pass jobs times first second (event_of step ∷ past) (done ++ rest)) pass).1
 
--- who follows the steps is in the phases that they tell
+-- who follows the steps is in the phases that they say
 alike : {jobs : Jobs} {tie : Bool} {opening : Store} {past : List Event} {steps : List Step} → Follows jobs tie opening past steps → phase (past_of steps) ≡ phase past
 alike {past = past} follows = fun_ext (λ n. ap (λ (es : List Event). phase es n) (sym follows.steps_alone) ∙ controls_report past n)
 

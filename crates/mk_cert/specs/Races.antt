@@ -9,7 +9,7 @@ use Rattle.mk_proof.specs.Shapes.{Trace, trace_of}
 use Rattle.mk_proof.specs.declared.step.Step.{Step}
 use Rattle.mk_proof.specs.declared.step.Step.TheVariants.{Skip, Start, Finish}
 
--- the test tells which nodes are before one of the two
+-- the test says which nodes are before one of the two
 abbrev pub ReportsEarly : Jobs → ℕ → ℕ → (ℕ → Bool) → Type 0
 ReportsEarly jobs first second early = (n : ℕ) → (early n ≡ true) ↔ (Before jobs n first ⊎ Before jobs n second)
 
@@ -34,7 +34,7 @@ race_trace jobs early first second path =
     trace_of first second path (falling_times jobs 0 (node_count jobs)) (early_steps jobs early (node_count jobs) ++ Start first ∷ Start second ∷ [])
 
 -- the trace of a race: its nodes are different, and neither is before the other; its path spells an overlap of their paths; and
--- the rest is as above, by a test that tells who is before one of them
+-- the rest is as above, by a test that says who is before one of them
 pub record IsOfRace (jobs : Jobs) (trace : Trace) : Type 0 where
   pub early : ℕ → Bool
   pub path : Path

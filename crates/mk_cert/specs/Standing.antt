@@ -28,7 +28,7 @@ moved before (Skip n) k = if n == k then skipped else before k
 moved before (Start n) k = if n == k then runs else before k
 moved before (Finish n) k = if n == k then ran else before k
 
--- the time in a table, and nought where none is
+-- the time in a table, and zero where none is
 abbrev pub time_in : List (Option ℕ) → ℕ → ℕ
 time_in table n = unwrap_or (get_or table n None) 0
 

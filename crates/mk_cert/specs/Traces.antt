@@ -60,7 +60,7 @@ past_of steps = reverse (map event_of steps)
 abbrev pub time_of : List (ℕ × ℕ) → ℕ → Option ℕ
 time_of times n = lookup (λ k. k == n) times
 
--- that time, or nought
+-- that time, or zero
 abbrev pub time_at : List (ℕ × ℕ) → ℕ → ℕ
 time_at times n = unwrap_or (time_of times n) 0
 

@@ -7,7 +7,7 @@ use Rattle.std.proofs.lemmas.List.Elements.{All-replicate}
 use Rattle.mk_path.specs.Bits.{HasBit}
 use Rattle.mk_order.proofs.RowBits.{clear_bits}
 
--- no bit stands in a word of nought
+-- no bit stands in a word that is zero
 pub no_bit_in : (row : List ℕ) (n k : ℕ) → get_or row (n / 64) 0 ≡ 0 → n ≤ k → k < (n / 64 + 1) * 64 → HasBit row k → ⊥
 no_bit_in row n k nought from below bit =
     let same : k / 64 ≡ n / 64 = omega arith in

@@ -126,7 +126,7 @@ early_shaped jobs early (suc n) few = All-append IsOfNode (early_steps jobs earl
 
 -- ---- early nodes
 
--- a table of all nodes tells of all numbers
+-- a table of all nodes has all numbers
 pub reports_all : (jobs : Jobs) (first second n : ℕ) (early : List Bool) → IsValid jobs → first < node_count jobs → second < node_count jobs → node_count jobs ≤ n → length early ≡ n
     → ((k : ℕ) → k < n → (get_or early k false ≡ true) ↔ (Before jobs k first ⊎ Before jobs k second)) → ReportsEarly jobs first second (λ k. get_or early k false)
 reports_all jobs first second n early valid first_node second_node all long reports k = elim (cases_lt k n) [

@@ -1,14 +1,14 @@
--- What devices have left to give, and what was written to them. Where that is not told, nothing is said of it.
+-- What devices have left to give, and what was written to them. Where that is not known, nothing is said of it.
 use Rattle.std.specs.Prelude.{ℕ, Bool, List, Option, take}
 use Rattle.std.specs.Io.KnownBytes.{Appends}
 
--- a device that gives bytes: those that are left, where they are told; whether it has failed; how many reads it allows
+-- a device that gives bytes: those that are left, where they are known; whether it has failed; how many reads it allows
 pub record Giving : Type 0 where
   pub left : Option (List ℕ)
   pub failed : Bool
   pub reads : ℕ
 
--- a device that takes bytes: those that were written, where they are told; whether it has failed
+-- a device that takes bytes: those that were written, where they are known; whether it has failed
 pub record Taking : Type 0 where
   pub written : Option (List ℕ)
   pub failed : Bool

@@ -6,7 +6,7 @@ use crate::device::{Broken, Outlet};
 use std::io::{ErrorKind, Write};
 use std::marker::Model;
 
-/// A writer as a device. Each write is flushed, so that a writer with a buffer tells at once that its device is full.
+/// A writer as a device. Each write is flushed, so that a writer with a buffer fails at once where its device is full.
 /// It fails where the writer's write or flush does, and where the writer takes no byte of some. A write that a signal
 /// interrupts is made again.
 #[derive(Drop)]

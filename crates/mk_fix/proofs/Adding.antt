@@ -46,7 +46,7 @@ source_out (e ∷ edges) p n = cond_both (e.1 == n) (e.0 ∷ sources_to edges n)
     ])
     (λ f h. there e edges (p, n) (source_out edges p n h))
 
--- the nodes stay, but for what they need
+-- the nodes stay, except what they need
 pub node_name : (edges : List (ℕ × ℕ)) (k : ℕ) (nodes : List Node) (n : ℕ) → (node_at (more_needs edges k nodes) n).name ≡ (node_at nodes n).name
 node_name edges k [] n = refl
 node_name edges k (node ∷ nodes) zero = refl

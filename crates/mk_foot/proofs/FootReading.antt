@@ -148,7 +148,7 @@ module _ (root : List ℕ) (ended : List (List ℕ)) (x : List ℕ) where
       few = few;
     }
 
--- a call that stops but for memory by a fault
+-- a call that stops by a fault, and not out of memory
 pub stops_by : (stop : Stop) (root : List ℕ) (lines : List (List ℕ)) (kind : Kind) (place : ℕ) → (stop ≢ Memory → stop ≡ Fault kind place)
     → (stop ≢ Memory → first_fault root lines ≡ Some (reported_at kind place)) → HasStopped root lines stop
 stops_by Memory root lines kind place is holds = tt

@@ -26,7 +26,7 @@ owned_names names targets = in_order (names ++ targets)
 abbrev pub HasAll : List Name → List Name → Type 0
 HasAll list names = (x : Name) → has same_name names x ≡ true → has same_name list x ≡ true
 
--- the fault of a live recipe: no line names its target; or it writes what belongs to another, of which the least name is told
+-- the fault of a live recipe: no line names its target; or it writes what belongs to others, and the least name is reported
 abbrev pub recipe_fault : List ℕ → List Name → ℕ → Name → Option Footprint → Option Reported
 recipe_fault root owned number own None = Some (reported MissingFootprint number (own ∷ []))
 recipe_fault root owned number own (Some footprint) =

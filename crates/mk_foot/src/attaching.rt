@@ -178,7 +178,7 @@ fn live_row(
     })
 }
 
-/// The fault of a live recipe whose target no footprint names. The only error is want of memory.
+/// The fault of a live recipe whose target no footprint names. The only error is out of memory.
 fn missing(alloc: Global, n: u32, own: &Name) -> Result<Halt, AllocError>
     ensures { IfOk result (λ halt. halt ≡ halts.Fault (spec.reported Kind.MissingFootprint n (own.now ∷ []))) }
 {

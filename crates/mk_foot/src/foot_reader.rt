@@ -80,8 +80,8 @@ impl FootReader {
     }
 
     /// Reads one more piece. The first fault is answered, in the footprints at its line from 1, without names, by the call
-    /// that ends the line: `BadFootprint` and `FootprintsTooLarge` as `read_footprints` tells them. The only other error is
-    /// want of memory. A reader that answered a fault or want of memory answers the same ever after.
+    /// that ends the line: `BadFootprint` and `FootprintsTooLarge` as `read_footprints` reports them. The only other
+    /// error is out of memory. A reader that answered a fault or out of memory answers the same ever after.
     pub fn feed(&mut self, piece: &[u8]) -> Result<(), Halt>
         ensures read { (root text : List ℕ) → HasRead root text self.old
             → HasRead root (text ++ piece.now) self.new }
@@ -99,8 +99,8 @@ impl FootReader {
         self.answer()
     }
 
-    /// The footprints of all pieces, whose last line needs no newline; or the first line's fault, or want of memory, as for
-    /// one text.
+    /// The footprints of all pieces, whose last line needs no newline; or the first line's fault, or out of memory,
+    /// as for one text.
     pub fn finish(self) -> Result<Footprints, Halt>
         ensures footprints { (root text : List ℕ) → HasRead root text self
             → Answers result (IsRead root text) }

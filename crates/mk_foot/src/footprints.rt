@@ -71,7 +71,7 @@ impl Footprints {
         self.by_target.get(target)
     }
 
-    /// Unites what a line says with what the others of its target say. The only error is want of memory.
+    /// Unites what a line says with what the others of its target say. The only error is out of memory.
     pub(crate) fn add(&mut self, alloc: Global, line: Line) -> Result<(), AllocError>
         ensures { OnOk result (AddsLine self.old line self.new) }
     {

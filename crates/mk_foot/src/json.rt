@@ -18,7 +18,7 @@ pub fn is_blank(text: &[u8]) -> bool
         .all(|byte| *byte == b' ' || *byte == b'\t' || *byte == b'\r')
 }
 
-/// What a text of JSON means; nothing where it is none, or no UTF-8. The only error is want of memory.
+/// What a text of JSON means; nothing where it is none, or no UTF-8. The only error is out of memory.
 pub fn value_of(alloc: Global, text: &[u8]) -> Result<Option<Value>, AllocError>
     ensures { IfOk result (λ value. option_map (λ v. view v) value ≡ spec.value_of text.now) }
 {
@@ -33,7 +33,7 @@ pub fn value_of(alloc: Global, text: &[u8]) -> Result<Option<Value>, AllocError>
     }
 }
 
-/// The name that a text spells, if it is a path. The only error is want of memory.
+/// The name that a text spells, if it is a path. The only error is out of memory.
 pub fn name_in(alloc: Global, text: &str, root: &Root) -> Result<Option<Name>, AllocError>
     ensures { IfOk result (λ name. name ≡ spec.path_named root.now text.now) }
 {
@@ -45,7 +45,7 @@ pub fn name_in(alloc: Global, text: &str, root: &Root) -> Result<Option<Name>, A
 }
 
 /// The name that the path under a key of an object spells; nothing where there is no such key, or no path under it. The
-/// only error is want of memory.
+/// only error is out of memory.
 pub fn path_under(
     alloc: Global,
     object: &Value,

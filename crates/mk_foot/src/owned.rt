@@ -14,7 +14,8 @@ use mk_rules::rulebook::Rulebook;
 use std::alloc::{AllocError, Global};
 use std::collections::BTreeSet;
 
-/// The names of the nodes of a plan and of the targets of target rules, rising, each once. The only error is want of memory.
+/// The names of the nodes of a plan and of the targets of target rules, rising, each once. The only error is out of
+/// memory.
 pub(crate) fn owned_names(
     alloc: Global,
     plan: &Plan,
@@ -70,7 +71,7 @@ fn in_order(alloc: Global, names: &BTreeSet<Name>) -> Result<Vec<Name>, AllocErr
     Ok(list)
 }
 
-/// The names, lent one by one. The only error is want of memory.
+/// The names, lent one by one. The only error is out of memory.
 pub(crate) fn lent(alloc: Global, names: &[Name]) -> Result<Vec<&Name>, AllocError>
     ensures { IfOk result (λ list. map (λ name. name.now) list.items ≡ names.now) }
 {

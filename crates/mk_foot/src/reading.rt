@@ -16,7 +16,7 @@ use std::alloc::Global;
 /// The first of these faults is answered, each in the footprints at its line from 1, without names: `BadFootprint` at a
 /// line that is no such object in UTF-8, or that has a text that `plain_path` refuses; `FootprintsTooLarge` at the line
 /// with which all paths so far, those that are read and those that are written, repeats too, are more than 1,000,000; a tree
-/// counts as one path. The only other error is want of memory.
+/// counts as one path. The only other error is out of memory.
 pub fn read_footprints(alloc: Global, text: &[u8], root: &Root) -> Result<Footprints, Halt>
     ensures { Answers result (IsRead root.now text.now) }
 {

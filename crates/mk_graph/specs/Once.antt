@@ -7,7 +7,7 @@ use Rattle.mk_rules.specs.Book.{Book}
 use Rattle.mk_graph.specs.Answer.{IsAnswer}
 use Rattle.mk_jobs.specs.Plan.{Plan}
 
--- the same fault, or two cycles: a graph may have several, and no rule says which is told
+-- the same fault, or two cycles: a graph may have several, and no rule says which is reported
 abbrev pub IsSameFault : Reported → Reported → Type 0
 IsSameFault reported other = (reported ≡ other) ⊎ ((reported.kind ≡ Cycle) × (other.kind ≡ Cycle))
 

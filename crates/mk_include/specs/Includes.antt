@@ -17,7 +17,7 @@ use Rattle.mk_text.specs.Spelling.{bad_name, is_path, plain_name}
 abbrev pub Cut : Type 0
 Cut = Result (List LogicalLine) Reported
 
--- the same, where a fault is told in the text of this name
+-- the same, where a fault is reported in the text of this name
 abbrev pub reported_in : Name → Cut → Cut
 reported_in name (Ok lines) = Ok lines
 reported_in name (Err fault) = Err (record fault { source = sources.Include name })

@@ -15,7 +15,7 @@ use Rattle.mk_include.specs.Includes.{Cut, Texts}
 abbrev pub words_of : List ℕ → List (List ℕ)
 words_of text = filter (λ word. not (length word == 0)) (slice_split is_blank text)
 
--- a fault of a word: who reads its line tells where it is
+-- a fault of a word: who reads its line says where it is
 abbrev pub word_reported : Kind → List Name → Reported
 word_reported kind names = record { kind = kind; source = Makefile; place = 0; names = names }
 

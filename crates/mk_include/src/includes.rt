@@ -55,7 +55,7 @@ impl<'t> Includes<'t> {
     /// paths have the same plain name, the text of the first stands.
     ///
     /// The first path that `plain_path` refuses is `BadName` in the source `Includes`, at the number of its
-    /// pair from 1, without names. A text's own faults are no error here: who names the text tells them.
+    /// pair from 1, without names. A text's own faults are no error here: who names the text reports them.
     /// Out of memory may come in place of any answer.
     pub fn read(
         alloc: Global,

@@ -2,7 +2,7 @@
 //!
 //! - [`includes::Includes`] holds them by their plain names, each cut into its lines ([`cut::Cut`]):
 //!   `specs/Includes.antt`.
-//! - [`words`] cuts a text into its words, and tells which text a word of an include line names, or why it
+//! - [`words`] cuts a text into its words, and says which text a word of an include line names, or why it
 //!   names none: `specs/Words.antt`.
 #![tactic(auto)]
 

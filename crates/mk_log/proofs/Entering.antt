@@ -51,7 +51,7 @@ some_alike : {A B : Type 0} (f : A → B) (o : Option A) → is_some o ≡ is_so
 some_alike f None = refl
 some_alike f (Some x) = refl
 
--- a test for nothing tells it of what is made of it, too
+-- a test for nothing says it of what is made of it, too
 pub reports_nothing : {A B : Type 0} (f : A → B) (o : Option A) (p : Option B) (none : Bool) → is_some o ≡ not none → option_map f o ≡ p → none ≡ not (is_some p)
 reports_nothing f o p none is made = opposite none ∙ ap not (sym is ∙ some_alike f o ∙ ap is_some made)
 

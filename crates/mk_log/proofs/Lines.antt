@@ -62,7 +62,7 @@ not_all_there (first ∷ done) placed rest whole same not =
     subst (λ (files : Files). list_all is_utf8 (keys_of files) ≡ false) same
     (and_false (is_utf8 first.0) _ (not_all_there done placed rest (done ++ placed ∷ rest) refl not))
 
--- one of the events tells one that is not
+-- one of the events has one that is not
 pub not_all_at : (names : Event → List Name) (events : List Event) (n : ℕ) (event : Event) → n < length events → event ≡ get_or events n event
     → list_all is_utf8 (names event) ≡ false → list_all is_utf8 (flat_map names events) ≡ false
 not_all_at names [] n event below is not = absurd (omega arith)

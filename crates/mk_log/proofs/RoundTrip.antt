@@ -172,7 +172,7 @@ events_kept [] [] = refl
 events_kept [] (event ∷ events) = ap (λ rest. event ∷ rest) (events_kept [] events)
 events_kept (placed ∷ files) events = events_kept files events
 
--- the names of a log are those that its entries tell
+-- the names of a log are those that its entries have
 names_kept : (jobs : Jobs) (files : Files) (events : List Event)
     → flat_map (names_reported jobs) (map file_entry files ++ map (λ event. Happens event) events) ≡ keys_of files ++ flat_map (names_in jobs) events
 names_kept jobs [] [] = refl
@@ -225,6 +225,6 @@ read_back jobs log root spelled in_order named =
 pub log_lines : (jobs : Jobs) (log : Log) → flat_map line_of (map (object_of jobs) (entries_reported log)) ≡ log_text jobs log
 log_lines jobs log = ap (flat_map line_of) (objects_kept jobs log.store log.events)
 
--- and its names are those that the entries tell
+-- and its names are those that the entries have
 pub log_names : (jobs : Jobs) (log : Log) → flat_map (names_reported jobs) (entries_reported log) ≡ names_of jobs log
 log_names jobs log = names_kept jobs log.store log.events

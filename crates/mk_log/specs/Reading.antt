@@ -19,7 +19,7 @@ use Rattle.mk_log.specs.Logs.{Log}
 abbrev pub entries_of : Jobs → List ℕ → List (List ℕ) → List Entry
 entries_of jobs root texts = flat_map (λ text. unwrap_or (entries_in jobs root text) []) texts
 
--- the files that an entry tells, and the events
+-- the files that an entry has, and the events
 abbrev pub file_of : Entry → Files
 file_of (Holds path bytes time) = (path, record { bytes = bytes; time = time }) ∷ []
 file_of (Happens event) = []
@@ -64,7 +64,7 @@ fault_at jobs root texts placed = if is_good jobs root (take placed.0 texts) pla
 abbrev pub first_fault : Jobs → List ℕ → List (List ℕ) → Option Reported
 first_fault jobs root texts = slice_get (filter_map (fault_at jobs root texts) (enumerate_from 0 texts)) 0
 
--- a log holds what entries say: at each name the file that they tell, and the events in their order
+-- a log holds what entries say: at each name the file that they say, and the events in their order
 pub record IsLogOf (entries : List Entry) (log : Log) : Type 0 where
   pub files : (x : Name) → store_of log.store x ≡ store_of (files_of entries) x
   pub in_order : IsInOrder log.store

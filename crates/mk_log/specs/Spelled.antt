@@ -30,7 +30,7 @@ abbrev pub object_of : Jobs → Entry → Data
 object_of jobs (Holds path bytes time) = file_object path (record { bytes = bytes; time = time })
 object_of jobs (Happens event) = event_object jobs event
 
--- the names that an entry tells
+-- the names that an entry has
 abbrev pub names_reported : Jobs → Entry → List Name
 names_reported jobs (Holds path bytes time) = path ∷ []
 names_reported jobs (Happens event) = names_in jobs event

@@ -26,7 +26,7 @@ line_of d = compact_text d ++ 10 ∷ []
 abbrev pub log_text : Jobs → Log → List ℕ
 log_text jobs log = flat_map line_of (objects_of jobs log)
 
--- the path that an event tells
+-- the path that an event has
 abbrev pub path_in : Event → List Name
 path_in (Skip n) = []
 path_in (Start n) = []
@@ -35,7 +35,7 @@ path_in (Put n path bytes time) = path ∷ []
 path_in (Erase n path) = path ∷ []
 path_in (Finish n) = []
 
--- the names that an event tells: its node's, and its path
+-- the names that an event has: its node's, and its path
 abbrev pub names_in : Jobs → Event → List Name
 names_in jobs event = name_of jobs (step_of event).node ∷ path_in event
 

@@ -1,7 +1,7 @@
 //! Logs: the files of an opening store and the events of a build, as lines of JSON.
 //!
 //! [`read_log`] takes the bytes of a log, the jobs of its build and the root, and gives the [`Log`]: a store with the files
-//! that it tells, and the events in their order; or the first line at fault; or that memory ran out. [`write_log`] takes
+//! that it has, and the events in their order; or the first line at fault; or that memory ran out. [`write_log`] takes
 //! jobs and a log, and gives its text, or that a name in it is no text. What is written reads as the log that was written,
 //! and as no other.
 //!

@@ -57,7 +57,7 @@ fn fault(alloc: Global, place: u64) -> Halt
     Halt::Fault(Fault::unnamed(alloc, Kind::BadLog, Source::Log, place))
 }
 
-/// Adds what a physical line says, and tells whether the line is good behind those before it.
+/// Adds what a physical line says, and says whether the line is good behind those before it.
 fn add_line(
     alloc: Global,
     log: &mut Log,
@@ -77,7 +77,7 @@ fn add_line(
     }
 }
 
-/// Adds what an entry says, and tells whether it may follow those before it.
+/// Adds what an entry says, and says whether it may follow those before it.
 fn add_entry(log: &mut Log, entry: Entry) -> Result<bool, AllocError>
     ensures { IfOk result (λ follows. AddsEntry log.old entry follows log.new) }
 {

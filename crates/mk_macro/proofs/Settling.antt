@@ -89,7 +89,7 @@ module _ (change : Change) where
       ap (λ xs. with_change change (xs ++ later)) (sym parts)
       ∙ front_stays (take (suc n) text) (drop (suc n) text) later (ap (list_any is_blank) parts ∙ h) (omega arith) (omega arith)
 
-  -- the end of a text whose words are put but for the last
+  -- the end of a text whose words are put, except the last
   pub last_settled : (whole before rest out front left next : List ℕ) (n : ℕ) → ComesToSame (Some change) whole before rest out → list_any is_blank rest ≡ false → n ≡ length rest - max 1 (length change.from)
       → front ≡ take n rest → left ≡ drop n rest → next ≡ out ++ front → ComesToSame (Some change) whole before left next
   last_settled whole before rest out front left next n same word e f l put later =

@@ -54,7 +54,7 @@ by_bytes f g bs w here other cs =
     (λ n. other cs n ∙ sym (cond-false (same_name bs cs) w (f cs) n))
     (cases_Bool (same_name bs cs))
 
--- what a table tells of each name after a change at one
+-- what a table says of each name after a change at one
 pub table_set : {X : Type 0} (m n : BTreeMap Key X) (name : Name) (o : Option X) → UpdatesBy (λ x y. slice_cmp nat_cmp x.items y.items) (compare name) m n o
     → (other : Name) → lookup (same_name other) (shown n.entries) ≡ cond (same_name name other) o (lookup (same_name other) (shown m.entries))
 table_set m n name o h other =
@@ -120,7 +120,7 @@ pub has_name : {X : Type 0} (m : BTreeMap Key X) (key name : Name) (es : List (N
 has_name m key name es b is same view =
     is ∙ ap is_some (look_up_in m.entries key) ∙ ap (λ k. is_some (lookup (same_name k) (shown m.entries))) same ∙ ap (λ xs. is_some (lookup (same_name name) xs)) view
 
--- what a table tells after a change, where it stands as a value
+-- what a table says after a change, where it stands as a value
 pub table_set_at : {X : Type 0} (m n : BTreeMap Key X) (key name : Name) (o : Option X) (es : List (Name × X)) → UpdatesBy (λ x y. slice_cmp nat_cmp x.items y.items) (compare key) m n o
     → key ≡ name → shown m.entries ≡ es → (other : Name) → lookup (same_name other) (shown n.entries) ≡ cond (same_name name other) o (lookup (same_name other) es)
 table_set_at m n key name o es h same view other =

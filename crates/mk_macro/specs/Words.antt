@@ -14,7 +14,7 @@ abbrev pub AreWords : List ℕ → List ℕ → List ℕ → List ℕ → Type 0
 AreWords text word blank others =
     (change : Change) (later : List ℕ) → with_change change (text ++ later) ≡ changed_word change word ++ blank ++ with_change change (others ++ later)
 
--- so many bytes at the end of a text may be changed once it goes on: one at least, which tells that there is a word
+-- so many bytes at the end of a text may be changed once it goes on: one at least, which says that there is a word
 abbrev pub reach : Option Change → ℕ
 reach None = 0
 reach (Some change) = max 1 (length change.from)

@@ -13,7 +13,7 @@ pub fn unnamed(alloc: Global, kind: Kind) -> Halt
     Halt::Fault(Fault::unnamed(alloc, kind, Source::Makefile, 0))
 }
 
-/// A fault that tells a macro's name. The only error is out of memory.
+/// A fault that names a macro. The only error is out of memory.
 pub fn named(alloc: Global, kind: Kind, name: &[u8]) -> Result<Fault, AllocError>
     ensures { IfOk result (λ fault. fault ≡ macro_fault kind (name.now ∷ [])) }
 {

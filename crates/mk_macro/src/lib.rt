@@ -1,7 +1,7 @@
 //! Macros: what operands of the command line and assignments define, and what a text expands to.
 //!
 //! - [`macros::Macros`] holds what each macro stands for: `specs/Macros.antt`. `Macros::new` reads the
-//!   operands of the command line (`specs/Operands.antt`), or tells the first bad one.
+//!   operands of the command line (`specs/Operands.antt`), or reports the first bad one.
 //! - `Macros::assign` does what a line's assignment says, and leaves the macros as they were after a fault:
 //!   `specs/Assignments.antt`.
 //! - `Macros::copy` gives equal macros, for a caller that may have to go back to them.

@@ -65,7 +65,7 @@ impl Macros {
         Ok(())
     }
 
-    /// Puts a text at the end of a macro's value, if the macro is defined. The only error is want of
+    /// Puts a text at the end of a macro's value, if the macro is defined. The only error is out of
     /// memory, and then nothing is changed.
     pub(crate) fn extend(&mut self, name: &[u8], text: &[u8]) -> Result<(), AllocError>
         ensures extended { OnOk result (MatchOption (macros_of self.old name.now)

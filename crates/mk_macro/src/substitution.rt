@@ -79,7 +79,7 @@ fn push_word(
 }
 
 /// How many bytes at the end of a text may still be changed when it goes on: as many as are looked
-/// for, and one at least, which tells that there is a word.
+/// for, and one at least, which says that there is a word.
 fn reach(change: &Change) -> usize
     ensures { result ≡ reach (Some change.now) }
 {

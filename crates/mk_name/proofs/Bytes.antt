@@ -107,7 +107,7 @@ pub record AreFirsts (xs ys : List ℕ) (first second : ℕ) : Type 0 where
   pub is : first ≡ from_be_bytes w64 (take 8 xs)
   pub other_is : second ≡ from_be_bytes w64 (take 8 ys)
 
--- as two splits of eight bytes tell them
+-- as two splits of eight bytes give them
 pub firsts : (xs ys front back rest left : List ℕ) (first second : ℕ) → (front ≡ take 8 xs) × (rest ≡ drop 8 xs) × (length rest + 8 ≡ length xs)
     → (back ≡ take 8 ys) × (left ≡ drop 8 ys) × (length left + 8 ≡ length ys) → first ≡ from_be_bytes w64 front → second ≡ from_be_bytes w64 back
     → AreSmall xs → AreSmall ys → AreFirsts xs ys first second

@@ -1,4 +1,4 @@
--- The shown form of a name, and the text that tells a fault.
+-- The shown form of a name, and the text that reports a fault.
 use Rattle.std.specs.Prelude.{ℕ, ◌/◌, ◌%◌, Bool, List, [], ◌∷◌, ◌++◌, ◌==◌, ◌&&◌, ◌||◌, nat_le, not, slice_index, codes, if◌then◌else◌}
 use Rattle.std.specs.List.{flat_map}
 use Rattle.std.specs.Fmt.{decimal}
@@ -28,7 +28,7 @@ shown name = flat_map shown_byte name
 abbrev pub line : List ℕ → List ℕ
 line text = text ++ codes "\n"
 
--- the number by which reports tell a kind of fault
+-- the number by which reports show a kind of fault
 abbrev pub number_of : Kind → ℕ
 number_of kinds.BadName = 1
 number_of kinds.NoColon = 2
@@ -64,7 +64,7 @@ number_of kinds.TooManyTasks = 32
 number_of kinds.TasksTooLarge = 33
 number_of kinds.UnusedFootprint = 34
 
--- the word by which reports tell it
+-- the word by which reports show it
 abbrev pub word_of : Kind → List ℕ
 word_of kinds.BadName = codes "BadName"
 word_of kinds.NoColon = codes "NoColon"
@@ -131,6 +131,6 @@ place_line source place = line (codes "at " ++ source_text source ++ codes " " +
 abbrev pub name_line : List ℕ → List ℕ
 name_line name = line (codes "name " ++ shown name)
 
--- the report of a fault: that the input is refused, what is wrong, where, and which names it tells
+-- the report of a fault: that the input is refused, what is wrong, where, and which names it reports
 abbrev pub refused_text : Reported → List ℕ
 refused_text reported = line (codes "refused") ++ kind_line reported.kind ++ place_line reported.source reported.place ++ flat_map name_line reported.names

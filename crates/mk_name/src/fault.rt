@@ -29,7 +29,7 @@ pub enum Source {
 }
 
 impl Source {
-    /// An equal source. The only error is want of memory.
+    /// An equal source. The only error is out of memory.
     pub fn copy(&self, alloc: Global) -> Result<Source, AllocError>
         ensures { IfOk result (λ source. source ≡ self.now) }
     {
@@ -91,7 +91,7 @@ pub enum Kind {
 impl Kind {
     ghost use Rattle.mk_name.specs.Shown.{number_of, word_of};
 
-    /// The number by which reports tell it.
+    /// The number by which reports show it.
     pub fn number(self) -> u8
         ensures { result ≡ number_of self }
     {
@@ -132,7 +132,7 @@ impl Kind {
         }
     }
 
-    /// The word by which reports tell it.
+    /// The word by which reports show it.
     pub fn word(self) -> &'static str
         ensures { result.now ≡ word_of self }
     {
@@ -175,7 +175,7 @@ impl Kind {
 }
 
 /// What is wrong with an input, and where: a kind, a source, a place in it and the names that it
-/// tells.
+/// reports.
 /// The place is a line from 1, an operand from 1 or a node's number, and 0 where there is none.
 #[derive(Debug, Drop)]
 pub struct Fault {
@@ -213,7 +213,7 @@ impl Fault {
         Fault::new(kind, source, place, Vec::new(alloc))
     }
 
-    /// The fault of this kind at this place, which tells one name. The only error is want of memory.
+    /// The fault of this kind at this place, which reports one name. The only error is out of memory.
     pub fn naming(
         alloc: Global,
         kind: Kind,
@@ -227,8 +227,8 @@ impl Fault {
         Ok(Fault::new(kind, source, place, vec![in alloc; name]?))
     }
 
-    /// The fault of a text that spells no name: `BadName` at place 0, which tells the text.
-    /// The only error is want of memory.
+    /// The fault of a text that spells no name: `BadName` at place 0, which reports the text.
+    /// The only error is out of memory.
     pub fn bad_name(alloc: Global, source: Source, text: &[u8]) -> Result<Fault, AllocError>
         ensures kind { IfOk result (λ fault. fault.kind ≡ Kind.BadName) }
         ensures source { IfOk result (λ fault. fault.source ≡ source) }
@@ -260,7 +260,7 @@ impl Fault {
         self.place
     }
 
-    /// The names that it tells.
+    /// The names that it reports.
     pub fn names(&self) -> &[Name]
         ensures { result.now ≡ self.now.names }
     {
@@ -288,7 +288,7 @@ pub enum Halt {
 }
 
 impl Halt {
-    /// The same halt, where a fault is told in this source, at this place.
+    /// The same halt, where a fault is reported in this source, at this place.
     pub fn at(self, source: Source, place: u64) -> Halt
         ensures { result ≡ halt_at source place self }
     {

@@ -45,7 +45,7 @@ impl Name {
     }
 
     /// The name with its first `cut` bytes, or all where it has fewer, and then the tail.
-    /// The only error is want of memory.
+    /// The only error is out of memory.
     pub fn with_tail(&self, alloc: Global, cut: usize, tail: &[u8]) -> Result<Name, AllocError>
         ensures { IfOk result (λ name. name ≡ take cut self.now ++ tail.now) }
     {
@@ -56,7 +56,7 @@ impl Name {
         Ok(Name { bytes })
     }
 
-    /// An equal name. The only error is want of memory.
+    /// An equal name. The only error is out of memory.
     pub fn copy(&self, alloc: Global) -> Result<Name, AllocError>
         ensures { IfOk result (λ name. name ≡ self.now) }
     {

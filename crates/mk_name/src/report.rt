@@ -11,7 +11,7 @@ const HEX_DIGITS: &[u8; 16] = b"0123456789abcdef";
 
 /// Puts the shown form of a name at the end (profile): a visible ASCII byte that is no backslash and
 /// a byte past ASCII stand for themselves, and any other is `\x` and two lower case hexadecimal
-/// digits. The only error is want of memory, and then nothing is changed.
+/// digits. The only error is out of memory, and then nothing is changed.
 pub fn push_shown(out: &mut Vec<u8>, name: &[u8]) -> Result<(), AllocError>
     ensures shown { OnOk result (out.new.items ≡ out.old.items ++ spec.shown name.now) }
     ensures unchanged { OnErr result (out.new.items ≡ out.old.items) }
@@ -66,7 +66,7 @@ fn is_all_visible(name: &[u8]) -> bool
 }
 
 /// The report of a fault (profile): the lines `refused`, its number and word, its source and place,
-/// and one for each of its names. The only error is want of memory.
+/// and one for each of its names. The only error is out of memory.
 pub fn refused_report(alloc: Global, fault: &Fault) -> Result<Vec<u8>, AllocError>
     ensures { IfOk result (λ text. text.items ≡ spec.refused_text fault.now) }
 {
@@ -103,7 +103,7 @@ fn push_place(
 }
 
 /// Puts the shown form of a source at the end: its word, and for the text that an include line names
-/// `include:` and the shown name (profile). The only error is want of memory, and then nothing is
+/// `include:` and the shown name (profile). The only error is out of memory, and then nothing is
 /// changed.
 pub fn push_source(out: &mut Vec<u8>, source: &Source) -> Result<(), AllocError>
     ensures shown { OnOk result (out.new.items ≡ out.old.items ++ spec.source_text source.now) }
@@ -126,7 +126,7 @@ pub fn push_source(out: &mut Vec<u8>, source: &Source) -> Result<(), AllocError>
     out.extend_from_slice(word.as_bytes())
 }
 
-/// Puts `include:` and the shown form of a name at the end. The only error is want of memory, and then
+/// Puts `include:` and the shown form of a name at the end. The only error is out of memory, and then
 /// nothing is changed.
 fn push_include(out: &mut Vec<u8>, name: &Name) -> Result<(), AllocError>
     ensures shown { OnOk result (out.new.items ≡ out.old.items ++ spec.include_text name.now) }

@@ -129,7 +129,7 @@ module _ (paths : List Path) (rise : IsStrictlySortedBy path_cmp paths) (text : 
     | inr above ↦ begins_before k text (then_tied _ (sym (ap (λ p. path_cmp p (tree_at text)) is) ∙ miss.after j above inside))
   ]
 
--- a search by halves that misses tells that place
+-- a search by halves that misses gives that place
 pub miss_from : (paths : List Path) (text : Name) (place : ℕ) → IsStrictlySortedBy path_cmp paths → IsSearchInRange (Err place) (length paths)
     → IsBinarySearchResult (λ y. path_cmp y (tree_at text)) paths (Err place) → IsMiss paths text place
 miss_from paths text place rise inside found =

@@ -33,7 +33,7 @@ module _ {K : Type 0} (cmp : K → K → Ordering) (total : IsTotalOrder cmp) wh
     | inr (inr more) ↦ absurd (omega (arith, more, le))
   ]
 
-  -- where the test of equality is that of the order, the search tells whether x stands in the list
+  -- where the test of equality is that of the order, the search says whether x stands in the list
   pub search_reports : (same : K → K → Bool) → ((y x : K) → same y x ≡ is_eq (cmp y x)) → (xs : List K) (x : K) (r : Result ℕ ℕ)
       → IsStrictlySortedBy cmp xs → IsSearchInRange r (length xs) → IsBinarySearchResult (λ y. cmp y x) xs r → is_ok r ≡ has same xs x
   search_reports same ties xs x (Ok i) sorted inside found =

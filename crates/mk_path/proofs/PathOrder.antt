@@ -16,7 +16,7 @@ kinds_tie false true = refl
 kinds_tie true false = refl
 kinds_tie true true = refl
 
--- two paths are the same where the order does not tell them apart
+-- two paths are the same where the order has neither before the other
 pub path_ties : (p q : Path) → same_path p q ≡ is_eq (path_cmp p q)
 path_ties p q =
     let n = slice_cmp nat_cmp p.name q.name in

@@ -22,7 +22,7 @@ abbrev pub proper_cuts : Name → List Name
 proper_cuts [] = []
 proper_cuts (b ∷ bs) = if b == 47 then [] ∷ map (λ t. b ∷ t) (proper_cuts bs) else map (λ t. b ∷ t) (proper_cuts bs)
 
--- the folders that a text spells: its beginnings before a slash, but for the empty one before a first slash
+-- the folders that a text spells: its beginnings before a slash, except the empty one before a first slash
 abbrev pub inner_folders : Name → List Name
 inner_folders [] = []
 inner_folders (b ∷ bs) = map (λ t. b ∷ t) (proper_cuts bs)

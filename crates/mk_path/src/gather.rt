@@ -115,8 +115,8 @@ impl<'a> Union<'a> {
         Ok(())
     }
 
-    /// Puts the next path behind the others, which the row has that the step tells, and with it a run of that row, if it has
-    /// the path alone.
+    /// Puts the next path behind the others, of the row that the step names, and with it a run of that row, if it
+    /// has the path alone.
     fn put(
         &mut self,
         step: Ordering,

@@ -41,7 +41,7 @@ refused_is texts footprints log limit limit' tie halt fault status text played i
     let at : HaltsAmong (Fault fault) (IsPlayed texts footprints log limit' tie) = subst (λ (h : Halt). HaltsAmong h (IsPlayed texts footprints log limit' tie)) is played in
     rw ends (fault, subst (λ (n : ℕ). IsPlayed texts footprints log n tie (Err fault)) same at, reported)
 
--- what is told of a log that was played is its answer
+-- what is reported of a log that was played is its answer
 pub outcome_is : (texts : Texts) (footprints log : List ℕ) (limit limit' : ℕ) (tie : Bool) (played : Played) (status : Status) (text : List ℕ)
     → IsPlayed texts footprints log limit' tie (Ok played) → limit' ≡ limit → status ≡ status_of played → IsOutcomeText played text
     → IsReplayAnswer texts footprints log limit tie status text
@@ -64,7 +64,7 @@ refusal_not_failed status refused failed = let e : ◌≡◌ {A = Status} Refuse
 pub not_failed : (status : Status) → status ≡ Done → status ≢ Failed
 not_failed status done failed = let e : ◌≡◌ {A = Status} Done Failed = sym done ∙ failed in cc
 
--- what is told of a plan is its answer
+-- what is reported of a plan is its answer
 pub plan_is : (texts : Texts) (planned : Planned) (status : Status) (text : List ℕ)
     → IsPlanned texts (Ok planned) → status ≡ Done → text ≡ plan_text planned.plan → IsOrderAnswer texts status text
 plan_is texts planned status text is ends reported = rw ends (planned, is, reported)
@@ -84,7 +84,7 @@ pub unverified_is : (Is : Result Bool Reported → Type 0) (Shown : Type 0) (hal
 unverified_is Is Shown halt fault status text verified is ends reported =
     rw ends (fault, subst (λ (h : Halt). HaltsAmong h Is) is verified, reported)
 
--- what is told of a proof that was judged is its answer
+-- what is reported of a proof that was judged is its answer
 pub verdict_is : (Is : Result Bool Reported → Type 0) (Shown : Type 0) (accepted : Bool) (status : Status) (text : List ℕ)
     → Is (Ok accepted) → (IsTrue accepted → Shown) → status ≡ verdict_status accepted → text ≡ verdict_text accepted
     → SaysVerdict Is Shown status text

@@ -55,7 +55,7 @@ found_parts : (o : Option (Text × List Row)) (name : Text) (rows : List Row) �
 found_parts None name rows n r = absurd (none-some name n)
 found_parts (Some found) name rows n r = ap Some (ap₂ (λ (x : Text) (y : List Row). (x, y)) (same_Some _ _ n) (same_Some _ _ r))
 
--- what the matches tell of their subcommand is what the words name
+-- what the matches say of their subcommand is what the words name
 pub found_is : (m : ArgMatches) (o : Option (Text × List Row)) (name : Text) (rows : List Row) → subcommand_rows_of m ≡ o → Some name ≡ subcommand_name_of m
     → Some rows ≡ option_map (λ (p : Text × List Row). p.1) (subcommand_rows_of m) → o ≡ Some (name, rows)
 found_is m o name rows same n r =

@@ -25,7 +25,7 @@ no_write : (failure : Failure) → IsIncludeFailure failure → failure ≢ Writ
 no_write failure (inl memory) = λ is. cc
 no_write failure (inr read) = λ is. cc
 
--- a name that is no text is told of a log in serial order alone
+-- a name that is no text is reported of a log in serial order alone
 not_reported : (X : Type 0) (opens : List ℕ → Option Bool) (request : Request) → (X × IsIncludeFailure NotText) ⊎ IsInputFailure opens (inputs_of request) NotText ⊎ IsUnreported request NotText
     → IsForSerial request
 not_reported X opens request (inl (given, inl memory)) = cc
@@ -80,7 +80,7 @@ no_value : {X E : Type 0} (P : X → Type 0) (r : Result X E) (e : E) → IsErrO
 no_value P (Ok x) e fails = cc
 no_value P (Err y) e fails = tt
 
--- right words are not refused but for memory
+-- right words are not refused, except out of memory
 pub right_words : {X E : Type 0} (P : X → Type 0) (words : List (Bor (List ℕ))) (error : Error) (r : Result X E) (e : E) → HasKind (wrong words) error
     → (kind_of error ≡ OutOfMemory → IsErrOf r e) → wrong words ≡ [] → IfOk r P
 right_words P words error r e (inl memory) fails right = no_value P r e (fails memory)

@@ -19,7 +19,7 @@ pub fix_read : (old new : Texts) (footprints footprints' : List ℕ) (proof : Bo
 fix_read old new footprints footprints' proof status text t f h =
     subst (λ (x : List ℕ). IsFixAnswer new x proof status text) f (subst (λ (x : Texts). IsFixAnswer x footprints proof status text) t h)
 
--- what is told of a build ends as done or as no
+-- what is reported of a build ends as done or as no
 pub fixing_not_failed : (texts : Texts) (footprints : List ℕ) (proof : Bool) (fixing : Fixing) (status : Status) (text : List ℕ)
     → IsFixReported texts footprints proof fixing status text → status ≢ Failed
 fixing_not_failed texts footprints proof (Fixed lines jobs chains) status text reported failed =
@@ -34,7 +34,7 @@ pub unfixed_is : (texts : Texts) (footprints : List ℕ) (proof : Bool) (halt : 
 unfixed_is texts footprints proof halt fault status text given is ends reported =
     rw ends (fault, subst (λ (h : Halt). HaltsAmong h (IsFixing texts footprints)) is given, reported)
 
--- what is told of it is its answer
+-- what is reported of it is its answer
 pub fixed_is : (texts : Texts) (footprints : List ℕ) (proof : Bool) (fixing : Fixing) (status : Status) (text : List ℕ)
     → IsFixing texts footprints (Ok fixing) → IsFixReported texts footprints proof fixing status text → IsFixAnswer texts footprints proof status text
 fixed_is texts footprints proof (Fixed lines jobs chains) status text is reported =

@@ -31,7 +31,7 @@ pub check_reported : (old new : Texts) (footprints footprints' : List ℕ) (proo
 check_reported old new footprints footprints' proof status text t f h =
     subst (λ (x : List ℕ). IsCheckAnswer new x proof status text) f (subst (λ (x : Texts). IsCheckAnswer x footprints proof status text) t h)
 
--- what is told of a build or of tasks that were judged is their answer
+-- what is reported of a build or of tasks that were judged is their answer
 pub judged_is : (Is : Judged → Type 0) (Headline : Type 0) (answer : Judged) (proof : Bool) (status : Status) (text : List ℕ)
     → Is answer → (IsSafe answer → Headline) → HoldsOfRace answer → status ≡ judged_status answer → IsReport answer proof text
     → SaysJudged Is Headline proof status text
@@ -41,7 +41,7 @@ judged_is Is Headline (judged.Race jobs trace) proof status text answered headli
     rw ends (record { jobs = jobs; trace = trace; answer = answered; report = report; holds = holds })
 judged_is Is Headline (judged.Refused reported) proof status text answered headline holds ends report = rw ends (reported, answered, report)
 
--- a build that was judged is told
+-- a build that was judged is reported
 pub judged_ends : (answer : Judged) (status : Status) → status ≡ judged_status answer → status ≢ Failed
 judged_ends (judged.Safe jobs chains) status ends failed = let e : ◌≡◌ {A = Status} Done Failed = sym ends ∙ failed in cc
 judged_ends (judged.Race jobs trace) status ends failed = let e : ◌≡◌ {A = Status} No Failed = sym ends ∙ failed in cc
@@ -81,7 +81,7 @@ no_others tasks path inputs.Proof out = refl
 no_others tasks path inputs.Log out = refl
 no_others tasks path inputs.Tasks out = absurd (All-head (λ (known : InputPath). known.input ≢ inputs.Tasks) _ [] out refl)
 
--- what is told of safe tasks says that no schedule shows
+-- what is reported of safe tasks says that no schedule shows
 question_safe : (question : TaskQuestion) (path root : Bor (List ℕ)) (files : List ℕ → Option (List ℕ)) (answer : List ℕ)
     → (name : Text) × (rows : List Row) × (name ≡ codes "check") × IsQuestion question name rows
     → ((includes : List Pair) (text : InputFile → List ℕ) → Some [] ≡ Some includes → Hold files (input_at inputs.Tasks path ++ proof_input question) text
@@ -98,7 +98,7 @@ question_safe (questions.Check proof) path root files answer asks reported tasks
 question_safe (questions.Verify proof) path root files answer asks reported tasks opened = absurd (not_check (codes "verify") asks.0 asks.2 asks.3.0 refl)
 question_safe questions.List path root files answer asks reported tasks opened = absurd (not_check (codes "list") asks.0 asks.2 asks.3 refl)
 
--- what is told of a safe build, or of safe tasks, says that no schedule shows
+-- what is reported of a safe build, or of safe tasks, says that no schedule shows
 pub says_safe : (words : List (Bor Text)) (files : List ℕ → Option (List ℕ)) (text : List ℕ) → AskToCheck (asked words)
     → IsAnswerTo words files Done text → SaysSafe words files
 says_safe words files text check (requests.Order build, asks, answer) = absurd (other (asked words) check asks)

@@ -6,7 +6,7 @@ use Rattle.mk_sched.specs.Stored.{Files}
 use Rattle.mk_sched.specs.Stores.{File}
 use Rattle.mk_program.specs.OutcomeText.{file_line, file_lines}
 
--- a refusal that is told in parts
+-- a refusal that is reported in parts
 pub refusal_reported : (number word place : List ℕ) → codes "not allowed V" ++ (number ++ 32 ∷ (word ++ (32 ∷ 97 ∷ 116 ∷ 32 ∷ (place ++ 10 ∷ []))))
     ≡ line (codes "not allowed V" ++ number ++ codes " " ++ word ++ codes " at " ++ place)
 refusal_reported number word place = simp append_assoc

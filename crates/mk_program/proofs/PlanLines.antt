@@ -17,7 +17,7 @@ use Rattle.mk_program.specs.PlanText.{behind_space, kind_word, lines_of, name_at
 none_past : {X : Type 0} (xs : List X) (i : ℕ) → slice_get xs i ≡ None → length xs ≤ i
 none_past xs i e = elim (slice_get_cases xs i).1 [ inl found ↦ absurd (none-some _ (sym e ∙ found.2)) | inr past ↦ past.0 ]
 
--- the text of one element more, each told with its number
+-- the text of one element more, each reported with its number
 one_more : {X : Type 0} (f : ℕ × X → List ℕ) (xs : List X) (first i : ℕ) (x : X) → slice_get xs i ≡ Some x
     → flat_map f (enumerate_from first (take (suc i) xs)) ≡ flat_map f (enumerate_from first (take i xs)) ++ f (first + i, x)
 one_more f [] first i x e = absurd (none-some x e)
@@ -45,7 +45,7 @@ lines_step nodes i before after within so_far line = go (slice_get nodes i) refl
     go None none line = absurd (omega (arith, none_past nodes i none))
     go (Some node) is line = line ∙ ap (λ l. l ++ node_line nodes i node) so_far ∙ sym (lines_more nodes i node is)
 
--- a line that is told in parts is the node's
+-- a line that is reported in parts is the node's
 pub line_reported : (nodes : List Node) (i : ℕ) (maker : Maker) (name : Name) (prerequisites : List ℕ) (old head new : List ℕ)
     → maker ≡ (node_at nodes i).maker → name ≡ (node_at nodes i).name → prerequisites ≡ (node_at nodes i).prerequisites
     → head ≡ decimal i ++ (32 ∷ (kind_word maker ++ 32 ∷ []))

@@ -13,7 +13,7 @@ use Rattle.mk_program.specs.declared.inputs.InputPath.{InputPath}
 use Rattle.mk_program.specs.declared.inputs.InputText.{InputText}
 use Rattle.mk_program.specs.declared.inputs.OpenInput.{OpenInput}
 
--- the first of the inputs are open, and the opener tells what it told at the start
+-- the first of the inputs are open, and the opener states what it stated at the start
 pub record FirstAreOpen {F : Type 0} (left : F → Option (List ℕ)) (failed : F → Bool) (inputs : List InputPath) (text text_now : List ℕ → Option (List ℕ))
     (opens opens_now : List ℕ → Option Bool) (files : List (OpenInput F)) (i : ℕ) : Type 0 where
   pub opened : AllWithin (MayOpen opens) inputs 0 i

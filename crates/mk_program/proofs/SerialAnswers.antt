@@ -28,7 +28,7 @@ serial_reported old new footprints footprints' log log' limit tie status text t 
     (subst (λ (x : List ℕ). IsSerialiseAnswer new x log limit tie status text) f
     (subst (λ (x : Texts). IsSerialiseAnswer x footprints log limit tie status text) t h))
 
--- what is told of a log ends as done or as no
+-- what is reported of a log ends as done or as no
 pub ends_as : (order : Ordered) → (order_status order ≡ Done) ⊎ (order_status order ≡ No)
 ends_as (Serial list) = inl refl
 ends_as (NotAllowed place refusal) = inr refl
@@ -50,7 +50,7 @@ unordered_is texts footprints log limit limit' tie halt fault status text given 
     let at : HaltsAmong (Fault fault) (IsSerialised texts footprints log limit' tie) = subst (λ (h : Halt). HaltsAmong h (IsSerialised texts footprints log limit' tie)) is given in
     rw ends (fault, subst (λ (n : ℕ). IsSerialised texts footprints log n tie (Err fault)) same at, reported)
 
--- what is told of a log is its answer
+-- what is reported of a log is its answer
 pub order_is : (texts : Texts) (footprints log : List ℕ) (limit limit' : ℕ) (tie : Bool) (given : Serialised) (status : Status) (text : List ℕ)
     → IsSerialised texts footprints log limit' tie (Ok given) → IsLawfulBuild texts footprints log tie given → limit' ≡ limit → status ≡ order_status given.order
     → IsOrderText given.jobs given.order text → IsSerialiseAnswer texts footprints log limit tie status text

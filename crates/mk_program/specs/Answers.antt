@@ -143,7 +143,7 @@ abbrev pub status_of : Played → Status
 status_of (Allowed replayed) = statuses.Done
 status_of (NotAllowed place refusal) = statuses.No
 
--- what is told of a log that was read: its serial order, or why it has none; and what is put in order is the same build
+-- what is reported of a log that was read: its serial order, or why it has none; and what is in order is the same build
 abbrev pub IsReportedOrder : Texts → List ℕ → List ℕ → ℕ → Bool → Status → List ℕ → Type 0
 IsReportedOrder texts footprints log limit tie status text =
     (given : Serialised) × IsSerialised texts footprints log limit tie (Ok given) × IsLawfulBuild texts footprints log tie given
@@ -183,7 +183,7 @@ IsListAnswer texts footprints status text = SaysList (IsListed texts footprints)
 abbrev pub IsTaskListAnswer : List ℕ → List ℕ → Status → List ℕ → Type 0
 IsTaskListAnswer root tasks status text = SaysList (tasked.IsListedBelow root tasks) status text
 
--- what is told of a build that was to be fixed: its lines, or the certificate of the build with them, and no schedule of that build
+-- what is reported of a build that was to be fixed: its lines, or the certificate of the build with them, and no schedule
 -- shows; or the edges that no lines give it
 abbrev pub IsFixReported : Texts → List ℕ → Bool → Fixing → Status → List ℕ → Type 0
 IsFixReported texts footprints proof (Fixed lines jobs chains) status text =
@@ -304,7 +304,7 @@ IsForSerial (requests.List list) = ⊥
 IsForSerial (requests.Fix fix) = ⊥
 IsForSerial (requests.Tasks tasks) = ⊥
 
--- why an answer is not told: memory is short, or a log that is to be written has a name that is no text
+-- why an answer is not reported: memory is short, or a log that is to be written has a name that is no text
 abbrev pub IsUnreported : Request → Failure → Type 0
 IsUnreported request failure = (failure ≡ failures.Memory) ⊎ (IsForSerial request × (failure ≡ failures.NotText))
 

@@ -136,7 +136,7 @@ value_kinds (Some found) =
     else (if lacks_files found.0 found.1 then MissingRequiredArgument ∷ [] else []))
 
 -- what is wrong with these words: what `clap` finds, and where that is nothing, what is wrong with their values; that they call
--- for help or the version is told so too
+-- for help or the version is reported too
 abbrev pub wrong : List (Bor Text) → Kinds
 wrong words = or_else (fault_of race_app (map (λ word. word.now) words)) (value_kinds (asked words))
 

@@ -1,4 +1,4 @@
--- How a failure is told.
+-- How a failure is reported.
 use Rattle.std.specs.Prelude.{ℕ, List, ◌++◌, Option, codes, string_bytes}
 use Rattle.std.specs.Io.KnownBytes.{Appends}
 use Rattle.mk_name.specs.Shown.{line}
@@ -7,7 +7,7 @@ use Rattle.mk_program.specs.declared.failures.Failure.TheVariants as failures
 use Rattle.mk_program.specs.declared.failures.InputFile.{InputFile}
 use Rattle.mk_program.specs.declared.failures.InputFile.TheVariants as inputs
 
--- how an input is told
+-- how an input is reported
 abbrev pub word_of : InputFile → List ℕ
 word_of inputs.Include = codes "include"
 word_of inputs.Base = codes "base"

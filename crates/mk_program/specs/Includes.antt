@@ -21,7 +21,7 @@ both None more = None
 both (Some pairs) None = None
 both (Some pairs) (Some more) = Some (pairs ++ more)
 
--- what lines hand in, in their order, where each file that they name tells its bytes
+-- what lines hand in, in their order, where each file that they name states its bytes
 abbrev pub pairs_of : (List ℕ → Option (List ℕ)) → List (List ℕ) → Option (List Pair)
 pairs_of files [] = Some []
 pairs_of files (line ∷ lines) = both (line_pairs files line) (pairs_of files lines)

@@ -30,11 +30,11 @@ IsTextOf texts input text =
 abbrev pub AreTexts : List InputText → (InputFile → List ℕ) → Type 0
 AreTexts texts text = (input : InputFile) (found : List ℕ) → IsTextOf texts input found → found ≡ text input
 
--- nothing tells that the input's file cannot be opened
+-- nothing states that the input's file cannot be opened
 abbrev pub MayOpen : (List ℕ → Option Bool) → InputPath → Type 0
 MayOpen opens known = opens known.path.now ≢ Some false
 
--- nothing tells that it can be
+-- nothing states that it can be
 abbrev pub MayBeShut : (List ℕ → Option Bool) → InputPath → Type 0
 MayBeShut opens known = opens known.path.now ≢ Some true
 
@@ -47,7 +47,7 @@ IsFirstShut opens inputs input = (place : ℕ) × (place < length inputs) × All
 abbrev pub IsUnread : (List ℕ → Option Bool) → List InputPath → InputFile → Type 0
 IsUnread opens inputs input = All (MayOpen opens) inputs × Contains (map (λ known. known.input) inputs) input
 
--- a failure of the inputs: the first that cannot be opened is told, or one that cannot be read; or memory is short
+-- a failure of the inputs: the first that cannot be opened is reported, or one that cannot be read; or memory is short
 abbrev pub IsInputFailure : (List ℕ → Option Bool) → List InputPath → Failure → Type 0
 IsInputFailure opens inputs (failures.Read input) = IsFirstShut opens inputs input ⊎ IsUnread opens inputs input
 IsInputFailure opens inputs failures.Write = ⊥

@@ -1,4 +1,4 @@
--- What is told of a log that is to be put in serial order.
+-- What is reported of a log that is to be put in serial order.
 use Rattle.std.specs.Prelude.{ℕ, ◌≡◌, List, codes}
 use Rattle.mk_name.specs.Shown.{line}
 use Rattle.mk_jobs.specs.Jobs.{Jobs}

@@ -8,7 +8,7 @@ use Rattle.mk_jobs.specs.Plan.{Node, Plan}
 use Rattle.mk_jobs.specs.declared.maker.Maker.{Maker}
 use Rattle.mk_jobs.specs.declared.maker.Maker.TheVariants as makers
 
--- how it is told what makes a node
+-- how it is reported what makes a node
 abbrev pub kind_word : Maker → List ℕ
 kind_word makers.Rule = codes "recipe"
 kind_word makers.Inferred = codes "inferred"

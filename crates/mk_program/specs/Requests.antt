@@ -47,7 +47,7 @@ proof_input (questions.Verify proof) = input_at inputs.Proof proof
 proof_input questions.List = []
 proof_input (questions.Fix print_proof) = []
 
--- the inputs but for the includes
+-- the inputs without the includes
 abbrev pub inputs_of : Request → List InputPath
 inputs_of (requests.Order build) = build_inputs build
 inputs_of (requests.Check check) = build_inputs check.build ++ input_at inputs.Footprints check.footprints

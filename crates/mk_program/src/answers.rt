@@ -236,7 +236,7 @@ fn replay_over(
     }
 }
 
-/// A plan, told.
+/// A plan, reported.
 fn plan_answer(alloc: Global, plan: &Plan) -> Result<Answer, AllocError>
     ensures { IfOk result (λ answer. (answer.status ≡ Status.Done)
         × (answer.text.items ≡ text_of_plan plan.now)) }
@@ -247,7 +247,7 @@ fn plan_answer(alloc: Global, plan: &Plan) -> Result<Answer, AllocError>
     })
 }
 
-/// Whether a proof is accepted, told.
+/// Whether a proof is accepted, reported.
 pub(crate) fn verdict_answer(alloc: Global, accepted: bool) -> Result<Answer, AllocError>
     ensures { IfOk result (λ answer. (answer.status ≡ spec.verdict_status accepted)
         × (answer.text.items ≡ spec.verdict_text accepted)) }
@@ -263,7 +263,7 @@ pub(crate) fn verdict_answer(alloc: Global, accepted: bool) -> Result<Answer, Al
     })
 }
 
-/// What a log is to a build, told.
+/// What a log is to a build, reported.
 fn outcome_answer(alloc: Global, played: &Played) -> Result<Answer, AllocError>
     ensures { IfOk result (λ answer. (answer.status ≡ spec.status_of played.now)
         × IsOutcomeText played.now answer.text.items) }
@@ -274,7 +274,7 @@ fn outcome_answer(alloc: Global, played: &Played) -> Result<Answer, AllocError>
     })
 }
 
-/// The report of a fault; want of memory is no answer.
+/// The report of a fault; out of memory is no answer.
 pub(crate) fn refused(alloc: Global, halt: Halt) -> Result<Answer, AllocError>
     ensures { IfOk result (λ answer. (reported : Reported) × (halt ≡ halts.Fault reported)
         × (answer.status ≡ Status.Refused) × (answer.text.items ≡ refused_text reported)) }
@@ -285,7 +285,7 @@ pub(crate) fn refused(alloc: Global, halt: Halt) -> Result<Answer, AllocError>
     }
 }
 
-/// A fault, told.
+/// A fault, reported.
 fn fault_answer(alloc: Global, fault: &Fault) -> Result<Answer, AllocError>
     ensures { IfOk result (λ answer. (answer.status ≡ Status.Refused)
         × (answer.text.items ≡ refused_text fault.now)) }
@@ -306,7 +306,7 @@ fn status_of(played: &Played) -> Status
     }
 }
 
-/// The bytes of some texts. The only error is want of memory.
+/// The bytes of some texts. The only error is out of memory.
 pub(crate) fn bytes_of<'a>(alloc: Global, texts: &[&'a str]) -> Result<Vec<&'a [u8]>, AllocError>
     ensures { IfOk result (λ list. map (λ bytes. bytes.now) list.items
         ≡ map (λ text. text.now) texts.now) }

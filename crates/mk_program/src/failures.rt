@@ -32,7 +32,7 @@ pub enum Failure {
     Memory,
     /// A name in a log that is to be written is no text.
     NotText,
-    /// The words are wrong; the text says how.
+    /// An invalid command line; the text says how.
     Usage(String),
 }
 

@@ -51,7 +51,7 @@ fn fix_over(alloc: Global, input: &Input<'_>, proof: bool) -> Result<Answer, All
     }
 }
 
-/// What comes of a build that was to be fixed, told. The only error is out of memory.
+/// What comes of a build that was to be fixed, reported. The only error is out of memory.
 fn fixing_answer(alloc: Global, fixing: &Fixing, proof: bool) -> Result<Answer, AllocError>
     ensures { IfOk result (λ answer. (texts : Texts) (footprints : List ℕ) → HoldsOfFixed texts footprints fixing.now
         → spec.IsFixReported texts footprints proof fixing.now answer.status answer.text.items) }

@@ -18,8 +18,9 @@ pub struct IncludeText {
 }
 
 /// The texts that the file of this path names, one path a line; empty lines are skipped, and without a path there are none.
-/// Each file is opened as its path is written, and read to its end before the next is opened. `Failure::Read` tells that one
-/// of them cannot be opened, as a path that is no UTF-8 cannot, or cannot be read; the only other failure is want of memory.
+/// Each file is opened as its path is written, and read to its end before the next is opened. `Failure::Read` says that
+/// one of them cannot be opened, such as a path that is no UTF-8, or cannot be read; the only other failure is out of
+/// memory.
 pub fn read_includes<P: Opener>(
     alloc: Global,
     opener: &mut P,
@@ -42,7 +43,7 @@ pub fn read_includes<P: Opener>(
     }
 }
 
-/// The texts as pairs of bytes. The only error is want of memory.
+/// The texts as pairs of bytes. The only error is out of memory.
 pub fn pairs_of<'a>(
     alloc: Global,
     texts: &'a [IncludeText],

@@ -30,7 +30,7 @@ pub(crate) struct OpenInput<F> {
 }
 
 /// The texts of some inputs. All files are opened, in the order of the inputs, before any is read, in the same order.
-/// `Failure::Read` tells the first input whose file cannot be opened, or cannot be read; the only other failure is want
+/// `Failure::Read` names the first input whose file cannot be opened, or cannot be read; the only other failure is out
 /// of memory.
 pub fn read_inputs<P: Opener>(
     alloc: Global,

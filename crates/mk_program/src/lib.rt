@@ -1,11 +1,12 @@
-//! The program `race` but for its `main`: from the words of the command line to what is written, and how it ends.
+//! The program `race` without its `main`: from the words of the command line to what is written, and how it ends.
 //!
 //! [`race_words`] is the program. It reads its words by `clap`, opens and reads the file of includes and each that it names,
-//! one after another, through an [`Opener`], then opens every other file that the words name, in the order base, makefile,
-//! listing, footprints, log, then reads each to its end in the same order, and then writes one text to its standard output: the answer, the help or the version. Where it cannot, it writes nothing there, or what the device
-//! took before it failed, and tells the [`Failure`] by a line on its standard error. The [`Status`] says how it ends, and
-//! [`ExitCode::from`](std::process::ExitCode) gives its number. [`fail`] tells a failure that comes before: words that are no
-//! text.
+//! one after another, through an [`Opener`]. Then it opens every other file that the words name, in the order base, makefile,
+//! listing, footprints or tasks, and log or proof, and reads each to its end in the same order. It writes one text: the
+//! answer, the help or the version. Where it cannot, it writes nothing, or what the device took before it failed, and
+//! reports the [`Failure`] by a line on its standard error. The [`Status`] says how it ends, and
+//! [`ExitCode::from`](std::process::ExitCode) gives its number. [`fail`] reports a failure that comes before: words that
+//! are no text.
 //!
 //! What its clauses say stands in `specs/`:
 //!

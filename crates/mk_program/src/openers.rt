@@ -8,10 +8,10 @@ pub trait Opener {
     /// An open file.
     type File: Intake + Drop;
 
-    /// The bytes of the file that a path names, where they are told.
+    /// The bytes of the file that a path names, where they are stated.
     ghost text: { Self → List ℕ → Option (List ℕ) };
 
-    /// Whether the file that a path names can be opened, where that is told.
+    /// Whether the file that a path names can be opened, where that is stated.
     ghost opens: { Self → List ℕ → Option Bool };
 
     /// Opens the file that this path names, for reading from its beginning. `Broken` says that it cannot be opened.

@@ -14,7 +14,7 @@ use std::alloc::Global;
 
 /// What is said of a log (profile): its text in serial order, or why it has none, a race by its report. The events of a log
 /// in serial order must be of nodes. The errors are `Failure::NotText`, where such a log has a name that is not UTF-8, and
-/// want of memory.
+/// out of memory.
 pub fn order_text(alloc: Global, jobs: &Jobs, order: &Ordered) -> Result<Vec<u8>, Failure>
     requires { HasNodes jobs.now order.now }
     ensures text { IfOk result (λ text. IsOrderText jobs.now order.now text.items) }

@@ -12,7 +12,7 @@ use mk_sched::replay::Replayed;
 use std::alloc::{AllocError, Global};
 
 /// What is said of a log (profile): that the log is a run, whether it is complete, and a line for each file that it
-/// leaves, in the byte order of names; or that it is none, why and where. The only error is want of memory.
+/// leaves, in the byte order of names; or that it is none, why and where. The only error is out of memory.
 pub fn outcome_text(alloc: Global, played: &Played) -> Result<Vec<u8>, AllocError>
     ensures { IfOk result (λ text. spec.IsOutcomeText played.now text.items) }
 {
@@ -22,7 +22,7 @@ pub fn outcome_text(alloc: Global, played: &Played) -> Result<Vec<u8>, AllocErro
     }
 }
 
-/// That a log is no run, why and where. The only error is want of memory.
+/// That a log is no run, why and where. The only error is out of memory.
 pub(crate) fn not_allowed_text(
     alloc: Global,
     place: u64,

@@ -9,7 +9,7 @@ use mk_name::report::push_shown;
 use std::alloc::{AllocError, Global};
 
 /// The text of a plan (profile): for each node in its order its number, what makes it, its name, and behind a colon the
-/// names of its prerequisites, where it has any. The only error is want of memory.
+/// names of its prerequisites, where it has any. The only error is out of memory.
 pub fn plan_text(alloc: Global, plan: &Plan) -> Result<Vec<u8>, AllocError>
     ensures { IfOk result (λ text. text.items ≡ spec.plan_text plan.now) }
 {

@@ -98,8 +98,8 @@ pub fn includes_path<'a>(request: &Request<'a>) -> Option<&'a str>
     }
 }
 
-/// The inputs of a request but for its includes, with the paths of their files, in the order in which they are opened and
-/// read. The only error is want of memory.
+/// The inputs of a request without its includes, with the paths of their files, in the order in which they are opened
+/// and read. The only error is out of memory.
 pub fn inputs_of<'a>(alloc: Global, request: &Request<'a>) -> Result<Vec<InputPath<'a>>, AllocError>
     ensures { IfOk result (λ inputs. inputs.items ≡ spec.inputs_of request.now) }
 {

@@ -45,7 +45,7 @@ pub fn race_words<'a, P: Opener, O: Outlet, E: Outlet>(
     ensures nothing { result ≡ Status.Failed → O.has_failed out.new ≡ false → out.new ≡ out.old }
     ensures beginning { wrong words.entry.now ≡ [] → O.has_failed out.new ≡ true
         → spec.WritesBeginning words.entry.now (P.text opener.old) (O.written out.old) (O.written out.new) }
-    // A failure is told by its line, where the device takes one, and nothing else is.
+    // A failure is reported by its line, where the device takes one, and nothing else is.
     ensures failed { O.has_failed out.new ≡ true → result ≡ Status.Failed }
     ensures reported { result ≡ Status.Failed → E.has_failed err.new ≡ false → (failure : Failure)
         × spec.IsFailureOf words.entry.now (P.opens opener.old) failure

@@ -15,8 +15,8 @@ use mk_race::input::Input;
 use mk_race::serialising::{Ordered, Serialised, serialise_log};
 use std::alloc::Global;
 
-/// A log in serial order, or why it has none, or why the inputs are refused. The errors are `Failure::NotText` and want of
-/// memory.
+/// A log in serial order, or why it has none, or why the inputs are refused. The errors are `Failure::NotText` and out
+/// of memory.
 pub(crate) fn serialise_answer(
     alloc: Global,
     replay: &ReplayArgs<'_>,
@@ -58,7 +58,7 @@ fn serialise_over(
     }
 }
 
-/// What comes of a log, told. The events of a log in serial order must be of nodes.
+/// What comes of a log, reported. The events of a log in serial order must be of nodes.
 fn reported(alloc: Global, given: &Serialised) -> Result<Answer, Failure>
     requires { HasNodes given.now.jobs given.now.order }
     ensures answer { IfOk result (λ answer. (answer.status ≡ order_status given.now.order)

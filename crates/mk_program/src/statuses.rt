@@ -13,7 +13,7 @@ pub enum Status {
     No,
     /// The inputs are refused, and the report says why.
     Refused,
-    /// A device failed, memory is short, or the words are wrong.
+    /// A device failed, memory is short, or the command line is invalid.
     Failed,
 }
 

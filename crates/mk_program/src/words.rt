@@ -51,7 +51,7 @@ fn error_of(alloc: Global, mistake: &Mistake) -> Result<Error, AllocError>
     race_command(alloc)?.error(mistake.kind, mistake.message)
 }
 
-/// What the matches of the subcommand with this name ask for. The only error is want of memory.
+/// What the matches of the subcommand with this name ask for. The only error is out of memory.
 fn request_of<'a>(
     alloc: Global,
     name: &str,
@@ -217,7 +217,7 @@ fn flag<'a>(alloc: Global, name: &'a str, about: &'a str) -> Arg<'a>
         .help(about)
 }
 
-/// The build that these matches of a subcommand ask for. The only error is want of memory.
+/// The build that these matches of a subcommand ask for. The only error is out of memory.
 fn build_args<'a>(alloc: Global, found: &ArgMatches<'a>) -> Result<BuildArgs<'a>, AllocError>
     ensures { IfOk result (λ build. spec.HasValues build (rows_of (found_of found.now))) }
 {

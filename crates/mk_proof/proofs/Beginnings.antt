@@ -59,13 +59,13 @@ behind_chains count chains line small shaped (inr begin) =
 
 -- ---- the first lines
 
--- a first line tells a number of chains, or two nodes
+-- a first line has a number of chains, or two nodes
 pub first_line : (line : Line) → BeginProof (line ∷ []) → ((count : ℕ) × IsCount count × (count_line count ≡ line)) ⊎ ((nodes : ℕ × ℕ) × AreNodes nodes × (nodes_line nodes ≡ line))
 first_line line (inl begin) = inl (begin.count, begin.small, heads (count_line begin.count) line (map chain_line begin.chains) [] begin.are)
 first_line line (inr begin) =
     inr ((begin.trace.first, begin.trace.second), (begin.shaped.order, begin.shaped.second), heads (nodes_line (begin.trace.first, begin.trace.second)) line _ begin.rest begin.are)
 
--- a second line behind two nodes tells a path
+-- a second line behind two nodes has a path
 pub second_line : (nodes : ℕ × ℕ) (line : Line) → BeginProof (nodes_line nodes ∷ line ∷ []) → (path : List ℕ) × IsPath path × (path_line path ≡ line)
 second_line nodes line (inl begin) =
     absurd (eqb-false 114 97 refl (ap tag (heads (count_line begin.count) (nodes_line nodes) (map chain_line begin.chains) (line ∷ []) begin.are)))
@@ -145,7 +145,7 @@ timed_lines times [] timed line none says =
     ∙ ap₂ (λ (ls : List Line) (l : Line). ls ++ l ∷ []) (sym (append-nil (map time_line times))) says
 timed_lines times (step ∷ steps) timed line none says = absurd (not_nil step steps (sym none))
 
--- a line that tells a time is no end and no step
+-- a line that has a time is no end and no step
 no_time : (trace : Trace) (line : Line) (timed : ℕ × ℕ) → IsTimed timed → time_line timed ≡ line
     → ((trace.steps ≡ []) × AreShapedTimes (trace.times ++ timed ∷ []) → ⊥) → NextLine trace line → ⊥
 no_time trace line timed small says never (inl ends) = end_not_time timed (sym (says ∙ ends))

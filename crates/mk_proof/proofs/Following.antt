@@ -47,11 +47,11 @@ map_same {X} f P inj (x ∷ xs) (y ∷ ys) small large same =
 pub decimal_same : (m n : ℕ) → m ≤ 10000000 → n ≤ 10000000 → decimal m ≡ decimal n → m ≡ n
 decimal_same m n small large same = decimal_injective m n (omega arith) (omega arith) same
 
--- the third byte of a line's first word, which tells the lines apart
+-- the third byte of a line's first word, by which the lines differ
 abbrev pub tag : Line → ℕ
 tag line = get_or (get_or line 0 []) 2 0
 
--- a step's line tells it
+-- a step's line says it
 second_word : Line → List ℕ
 second_word line = get_or line 1 []
 
@@ -67,7 +67,7 @@ step_same (Start m) (Finish n) small large same = absurd (eqb-false 97 110 refl 
 step_same (Finish m) (Skip n) small large same = absurd (eqb-false 110 105 refl (ap tag same))
 step_same (Finish m) (Start n) small large same = absurd (eqb-false 110 97 refl (ap tag same))
 
--- a time's line tells it
+-- a time's line says it
 pub pair_same : (p q : ℕ × ℕ) → p.0 ≤ 10000000 → p.1 ≤ 10000000 → q.0 ≤ 10000000 → q.1 ≤ 10000000 → decimal p.0 ≡ decimal q.0 → decimal p.1 ≡ decimal q.1 → p ≡ q
 pair_same p q a b c d first second = ap₂ (λ (m n : ℕ). (m, n)) (decimal_same p.0 q.0 a c first) (decimal_same p.1 q.1 b d second)
 

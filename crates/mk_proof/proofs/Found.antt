@@ -67,7 +67,7 @@ number_some text n value digits some short first =
       ap decimal value ∙ decimal-digits_value own text digits some first (omega arith),
     )
 
--- a text that is empty or long, or begins with a nought that is not all of it, writes no number
+-- a text that is empty or long, or begins with a zero that is not all of it, writes no number
 pub number_shape : (text : List ℕ) (n : ℕ) → n < 10 ^ 7 → decimal n ≡ text → (0 < length text) × (length text ≤ 7) × (get_or text 0 0 ≡ 48 → length text ≡ 1)
 number_shape text zero small is =
     let one : length text ≡ 1 = ap length (sym is ∙ decimal_digit 0 (omega arith)) in
@@ -154,7 +154,7 @@ pub behind_found : (word : Word) (line rest : List ℕ) (found : Option ℕ) →
 behind_found word line rest None cut none = λ n small same. none n small (behind_number word line rest n cut (omega arith) same)
 behind_found word line rest (Some n) cut found = (found.0, number_behind word line rest n cut (omega (arith, found.0)) found.1)
 
--- one line tells one number
+-- one line says one number
 pub number_same : (word : Word) (line : Line) (m n : ℕ) → m ≤ 10000000 → n ≤ 10000000 → word ∷ decimal m ∷ [] ≡ line → word ∷ decimal n ∷ [] ≡ line → m ≡ n
 number_same word line m n small large first second = decimal_same m n small large (ap (λ (l : Line). get_or l 1 []) (first ∙ sym second))
 

@@ -73,7 +73,7 @@ clean (proofs.Trace trace) shaped =
 pub whole : (proof : Proof) (text : List ℕ) → IsShapedProof proof → proof_text proof ≡ text → whole_lines text ≡ proof_lines proof
 whole proof text shaped is = ap whole_lines (sym is) ∙ whole_lines-text (proof_lines proof) (clean proof shaped)
 
--- ---- the lines of a proof tell it
+-- ---- the lines of a proof say it
 
 spelled_same : (xs ys : List ℕ) → IsBytes xs → IsBytes ys → encode_lower xs ≡ encode_lower ys → xs ≡ ys
 spelled_same xs ys small large same = decode_of-same (encode_lower ys) xs ys (ap decode_of (sym same) ∙ decode_of-encode_lower xs small) (decode_of-encode_lower ys large)

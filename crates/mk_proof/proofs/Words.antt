@@ -56,7 +56,7 @@ Lacks-encode_lower bytes are = (
 
 -- ---- words
 
--- the words of a text tell it
+-- the words of a text say it
 pub words_same : (s t : List ℕ) → words_of s ≡ words_of t → s ≡ t
 words_same s t same = sym (join_with_byte-slice_split 32 s) ∙ ap (join_with_byte 32) same ∙ join_with_byte-slice_split 32 t
 

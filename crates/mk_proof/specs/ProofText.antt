@@ -27,7 +27,7 @@ written words = join_with_byte 32 words ++ 10 ∷ []
 abbrev pub text_of : List Line → List ℕ
 text_of lines = flat_map written lines
 
--- the first line of a certificate tells how many chains follow, and each chain is a line
+-- the first line of a certificate says how many chains follow, and each chain is a line
 abbrev pub count_line : ℕ → Line
 count_line count = codes "certificate" ∷ decimal count ∷ []
 
@@ -37,7 +37,7 @@ chain_line chain = map decimal chain
 abbrev pub certificate_lines : ℕ → List (List ℕ) → List Line
 certificate_lines count chains = count_line count ∷ map chain_line chains
 
--- the first lines of a trace tell its nodes and its path
+-- the first lines of a trace have its nodes and its path
 abbrev pub nodes_line : ℕ × ℕ → Line
 nodes_line nodes = codes "trace" ∷ decimal nodes.0 ∷ decimal nodes.1 ∷ []
 
@@ -96,7 +96,7 @@ all_but_last (part ∷ next ∷ parts) = part ∷ all_but_last (next ∷ parts)
 abbrev pub whole_lines : List ℕ → List Line
 whole_lines text = map words_of (all_but_last (slice_split (λ b. b == 10) text))
 
--- lines begin a certificate: they tell a number of chains, and no more chains than that
+-- lines begin a certificate: they have a number of chains, and no more chains than that
 pub record BeginCertificate (lines : List Line) : Type 0 where
   pub count : ℕ
   pub chains : List (List ℕ)
@@ -129,7 +129,7 @@ pub record IsFirstBad (text : List ℕ) (n : ℕ) : Type 0 where
 abbrev pub reported : ℕ → Reported
 reported place = record { kind = BadProof; source = sources.Proof; place = place; names = [] }
 
--- a text is no proof: it is the text of none, and the fault tells its first line that is not good; places count from 1
+-- a text is no proof: it is the text of none, and the fault is at its first line that is not good; places count from 1
 pub record IsNoProof (text : List ℕ) (fault : Reported) : Type 0 where
   pub none : (proof : Proof) → IsShapedProof proof → ¬ (proof_text proof ≡ text)
   pub good : ℕ

@@ -48,7 +48,7 @@ fn node_behind(word: &[u8], line: &[u8]) -> Option<u32>
     }
 }
 
-/// The number of chains that the first line of a certificate tells.
+/// The number of chains that the first line of a certificate has.
 pub(crate) fn count_in(line: &[u8]) -> Option<usize>
     ensures { Finds count_line IsCount (words_of line.now) result }
 {
@@ -60,7 +60,7 @@ pub(crate) fn count_in(line: &[u8]) -> Option<usize>
     }
 }
 
-/// The nodes that the first line of a trace tells.
+/// The nodes that the first line of a trace has.
 pub(crate) fn nodes_in(line: &[u8]) -> Option<(u32, u32)>
     ensures { Finds nodes_line AreNodes (words_of line.now) result }
 {
@@ -88,7 +88,7 @@ fn bytes_in(alloc: Global, text: &[u8]) -> Result<Option<Vec<u8>>, AllocError>
     Ok(Some(bytes))
 }
 
-/// The path that the second line of a trace tells. The only error is out of memory.
+/// The path that the second line of a trace has. The only error is out of memory.
 pub(crate) fn path_in(alloc: Global, line: &[u8]) -> Result<Option<Vec<u8>>, AllocError>
     ensures { IfOk result (λ found. Finds path_line IsPath (words_of line.now) (option_map (λ bytes. bytes.items) found)) }
 {
@@ -98,7 +98,7 @@ pub(crate) fn path_in(alloc: Global, line: &[u8]) -> Result<Option<Vec<u8>>, All
     }
 }
 
-/// The time that a line tells, beside its node.
+/// The time that a line has, beside its node.
 pub(crate) fn time_in(line: &[u8]) -> Option<(u32, u32)>
     ensures { Finds time_line IsTimed (words_of line.now) result }
 {
@@ -110,7 +110,7 @@ pub(crate) fn time_in(line: &[u8]) -> Option<(u32, u32)>
     }
 }
 
-/// The step that a line tells.
+/// The step that a line has.
 pub(crate) fn step_in(line: &[u8]) -> Option<Step>
     ensures { Finds step_line (λ step. node_of step ≤ greatest_node) (words_of line.now) result }
 {

@@ -16,8 +16,8 @@ use Rattle.mk_report.specs.declared.answer.Answer.TheVariants.{Safe, Race, Refus
 use Rattle.mk_race.specs.Stages.{IsPrepared, Texts}
 use Rattle.mk_race.specs.declared.preparing.Prepared.{Prepared}
 
--- what is decided of jobs, told with them: safe by a certificate, or the trace of a race, where not too many pairs clash; else
--- they are refused
+-- what is decided of jobs, with them: safe by a certificate, or the trace of a race, where not too many pairs clash;
+-- else they are refused
 abbrev pub IsDecided : Jobs → Answer → Type 0
 IsDecided jobs (Safe given chains) = (given ≡ jobs) × HasFewPairs jobs × IsVerdict jobs (verdicts.Safe chains)
 IsDecided jobs (Race given trace) = (given ≡ jobs) × HasFewPairs jobs × IsVerdict jobs (verdicts.Race trace)

@@ -35,7 +35,7 @@ Then (Err reported) next answer = answer ≡ Err reported
 abbrev pub ThenAny : {X Y : Type 0} → (Result X Reported → Type 0) → (X → Result Y Reported → Type 0) → Result Y Reported → Type 0
 ThenAny {X} stage next answer = (given : Result X Reported) × stage given × Then given next answer
 
--- the lines of a text, whose faults are told in this source
+-- the lines of a text, whose faults are reported in this source
 abbrev pub reported_in : Source → Result (List LogicalLine) Reported → Result (List LogicalLine) Reported
 reported_in source (Ok lines) = Ok lines
 reported_in source (Err reported) = Err (record reported { source = source })

@@ -15,11 +15,11 @@ use mk_name::fault::Halt;
 use mk_report::answer::Answer;
 use std::alloc::{AllocError, Global};
 
-/// The answer of a build: safe, where any two of its recipes that are in each other's way are put in order by prerequisites,
+/// The answer of a build: safe, where any two of its recipes that conflict are ordered by prerequisites,
 /// with a certificate of that; a race, with the trace of the least one; or refused, with the first fault of its texts.
 ///
 /// The first fault is that of the jobs (see [`prepare`](crate::prepare)), and then `TooManyPairs` in the jobs at place 0,
-/// where more than 1,000,000 pairs of recipes clash. The only error is want of memory.
+/// where more than 1,000,000 pairs of recipes clash. The only error is out of memory.
 pub fn judge(alloc: Global, input: &Input<'_>) -> Result<Answer, AllocError>
     ensures answer { IfOk result (IsAnswered (texts_of input.now) input.now.footprints.now) }
     // The headline: where the answer is that the build is safe, no schedule of its recipes shows in the files.
@@ -36,7 +36,7 @@ pub fn judge(alloc: Global, input: &Input<'_>) -> Result<Answer, AllocError>
     }
 }
 
-/// What is decided of jobs, told with them. The only error is want of memory.
+/// What is decided of jobs, with them. The only error is out of memory.
 pub(crate) fn decided(alloc: Global, jobs: Jobs) -> Result<Answer, AllocError>
     ensures answer { IfOk result (IsDecided jobs) }
     ensures determinate { IfOk result (λ answer. IsSafe answer → IsDeterminate jobs) }
@@ -50,7 +50,7 @@ pub(crate) fn decided(alloc: Global, jobs: Jobs) -> Result<Answer, AllocError>
     }
 }
 
-/// What is refused with a fault; want of memory is no answer.
+/// What is refused with a fault; out of memory is no answer.
 pub(crate) fn refused(halt: Halt) -> Result<Answer, AllocError>
     ensures { IfOk result (λ answer. (reported : Reported) × (halt ≡ halts.Fault reported)
         × (answer ≡ answers.Refused reported)) }

@@ -24,7 +24,7 @@ use std::alloc::{AllocError, Global};
 ///
 /// Where these are the results of two texts below the root of the settings, the answer is that of [`judge`](crate::judge) for
 /// those texts: so a text may come in pieces, and need not be kept. Where the root is refused they count for nothing. The only
-/// error is want of memory.
+/// error is out of memory.
 pub fn judge_parts(
     alloc: Global,
     settings: &Settings<'_>,

@@ -47,7 +47,7 @@ pub(crate) struct Graphed {
 ///
 /// The first fault is answered, in this order: of the root, of the operands from the left, of the paths of the texts for
 /// include lines, of the listing by its lines, of the base makefile and of the makefile by their lines, of their entries,
-/// assignments and include lines with the texts that these name, and of the graph. The only other error is want of
+/// assignments and include lines with the texts that these name, and of the graph. The only other error is out of
 /// memory.
 pub fn plan_of(alloc: Global, input: &Input<'_>) -> Result<Planned, Halt>
     ensures { Answers result (IsPlanned (texts_of input.now)) }
@@ -101,7 +101,7 @@ fn book_of(
     read_rules(alloc, &base, &makefile, includes, macros, root)
 }
 
-/// The logical lines of a text, whose faults are told in this source.
+/// The logical lines of a text, whose faults are reported in this source.
 fn lines_in<'a>(alloc: Global, source: Source, text: &'a [u8]) -> Result<Vec<Line<'a>>, Halt>
     ensures { GivesLines result (reported_in source (logical_lines text.now)) }
 {

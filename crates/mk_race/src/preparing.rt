@@ -29,7 +29,7 @@ pub struct Prepared {
 /// The jobs of a build.
 ///
 /// The first fault is answered: those of the plan (see [`plan_of`]), then of the footprints by their lines, and then of
-/// the nodes with their footprints. The only other error is want of memory.
+/// the nodes with their footprints. The only other error is out of memory.
 pub fn prepare(alloc: Global, input: &Input<'_>) -> Result<Prepared, Halt>
     ensures { Answers result (IsPrepared (texts_of input.now) input.now.footprints.now) }
 {

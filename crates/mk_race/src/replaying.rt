@@ -25,11 +25,11 @@ pub enum Played {
     },
 }
 
-/// Replays a log against a build: whether its events, from the files that it tells, are a run of the build's jobs, in
+/// Replays a log against a build: whether its events, from the files that it has, are a run of the build's jobs, in
 /// which at most `limit` nodes run at once and with `tie` files of equal times count as newer.
 ///
 /// The first fault is answered: those of the jobs (see [`prepare`]), and then of the log by its lines. The only other error
-/// is want of memory.
+/// is out of memory.
 pub fn replay_log(
     alloc: Global,
     input: &Input<'_>,

@@ -60,7 +60,7 @@ pub struct Serialised {
 }
 
 /// Puts the log of a build in serial order: the same files, and then node after node, in rising number, all that the node
-/// did, as it did it. Puts get new times: the k-th of the whole log has the greatest time of the files plus k (nought where
+/// did, as it did it. Puts get new times: the k-th of the whole log has the greatest time of the files plus k (zero where
 /// there are none). What is put in order is a complete run too, in which one node runs at a time; in it each node does the
 /// same as in the log, the same nodes start, and it leaves the same bytes at each name.
 ///
@@ -70,7 +70,7 @@ pub struct Serialised {
 ///
 /// The first fault is answered: those of the jobs (see [`prepare`](crate::prepare)), then of the log by its lines, and for
 /// a complete run `TooManyPairs` in the jobs, at place 0, where more than 1,000,000 pairs of nodes clash. The only other
-/// error is want of memory.
+/// error is out of memory.
 pub fn serialise_log(
     alloc: Global,
     input: &Input<'_>,

@@ -11,9 +11,9 @@ use mk_text::root::Root;
 use mk_text::spelling::plain_word;
 use std::alloc::{AllocError, Global};
 
-/// The names of the goals among some operands; those that hold a `=` define macros. A fault is told in the settings, at
-/// the operand's place from 1: `BadName` of a goal that no word spells, with the word, and `BadAssignment` of a macro's
-/// name. The only other error is want of memory.
+/// The names of the goals among some operands; those that hold a `=` define macros. A fault is reported in the settings,
+/// at the operand's place from 1: `BadName` of a goal that no word spells, with the word, and `BadAssignment` of a macro's
+/// name. The only other error is out of memory.
 pub fn goals_of(alloc: Global, operands: &[&[u8]], root: &Root) -> Result<Vec<Name>, Halt>
     ensures names { IfOk result (λ goals.
         spec.goals_of root.now (map (λ operand. operand.now) operands.now) ≡ Ok goals.items) }

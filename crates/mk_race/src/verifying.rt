@@ -13,12 +13,12 @@ use mk_proof::proof::Proof;
 use mk_proof::reading::read_proof;
 use std::alloc::{AllocError, Global};
 
-/// Whether a proof is accepted for a build: a certificate just where it puts in order all of the build's recipes that are
-/// in each other's way, so that every run of them leaves the same files; a trace just where it surely leads to two such
-/// recipes that run at once.
+/// Whether a proof is accepted for a build: a certificate just where it puts in order all of the build's recipes that
+/// conflict, so that every run of them leaves the same files; a trace just where it surely leads to two such recipes that
+/// run at once.
 ///
 /// The first fault is answered: those of the jobs (see [`prepare`](crate::prepare)), and then of the proof by its lines. The
-/// only other error is want of memory.
+/// only other error is out of memory.
 pub fn verify_proof(alloc: Global, input: &Input<'_>, proof: &[u8]) -> Result<bool, Halt>
     ensures answer { Answers result
         (IsVerified (texts_of input.now) input.now.footprints.now proof.now) }
@@ -39,7 +39,7 @@ pub(crate) fn verify_on(alloc: Global, jobs: &Jobs, text: &[u8]) -> Result<bool,
     Ok(accepted)
 }
 
-/// Whether these jobs accept a proof. The only error is want of memory.
+/// Whether these jobs accept a proof. The only error is out of memory.
 fn judge(alloc: Global, jobs: &Jobs, proof: &Proof) -> Result<bool, AllocError>
     ensures { IfOk result (IsJudged jobs.now proof.now) }
 {

@@ -19,7 +19,7 @@ lines_more jobs (first ∷ chains) text chain own are is = (
   ap (λ (t : List ℕ). t ++ own) are.4 ∙ append_assoc are.0 are.1 own,
 )
 
--- what is told of a chain whose ends clash, least on this path
+-- what is reported of a chain whose ends clash, least on this path
 pub reported_of : (jobs : Jobs) (chain text : List ℕ) (path : Path) → EndsClash jobs chain → IsLeastOfChain jobs chain path
     → text ≡ order_line jobs path chain → IsOrderText jobs chain text
 reported_of jobs chain text path clash least is = record { reported = λ _. (path, least, is); unreported = λ no. absurd (no clash) }

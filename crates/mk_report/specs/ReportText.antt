@@ -62,12 +62,12 @@ IsLeastOfChain jobs chain path = IsLeastOverlap (uses_of jobs) (ends_of chain).0
 abbrev pub EndsClash : Jobs → List ℕ → Type 0
 EndsClash jobs chain = Clash jobs (ends_of chain).0 (ends_of chain).1
 
--- what is told of a chain: its line, with the least path on which its ends clash; and nothing where they do not clash
+-- what is reported of a chain: its line, with the least path on which its ends clash; and nothing where they do not clash
 pub record IsOrderText (jobs : Jobs) (chain text : List ℕ) : Type 0 where
   pub reported : EndsClash jobs chain → (path : Path) × IsLeastOfChain jobs chain path × (text ≡ order_line jobs path chain)
   pub unreported : (EndsClash jobs chain → ⊥) → text ≡ []
 
--- what is told of the chains, in their order
+-- what is reported of the chains, in their order
 abbrev pub AreOrderLines : Jobs → List (List ℕ) → List ℕ → Type 0
 AreOrderLines jobs [] text = text ≡ []
 AreOrderLines jobs (chain ∷ chains) text = (own : List ℕ) × (rest : List ℕ)

@@ -22,7 +22,7 @@ pub enum Answer {
     Refused(Fault),
 }
 
-/// The report of jobs with this certificate, or the text of the certificate. The only error is want of memory.
+/// The report of jobs with this certificate, or the text of the certificate. The only error is out of memory.
 fn safe_report(
     alloc: Global,
     jobs: &Jobs,
@@ -39,7 +39,7 @@ fn safe_report(
     Ok(out)
 }
 
-/// The report of jobs with this trace, or the text of the trace. The only error is want of memory.
+/// The report of jobs with this trace, or the text of the trace. The only error is out of memory.
 pub fn race_report(
     alloc: Global,
     jobs: &Jobs,
@@ -57,7 +57,8 @@ pub fn race_report(
 }
 
 /// The report of an answer (profile); docs/FORMATS.md has the form of its lines. With `proof` it is the text of the
-/// certificate or of the trace instead; what is refused has none, and is told as ever. The only error is want of memory.
+/// certificate or of the trace instead; what is refused has none, and is reported as ever. The only error is out of
+/// memory.
 pub fn report(alloc: Global, answer: &Answer, proof: bool) -> Result<Vec<u8>, AllocError>
     ensures { IfOk result (λ text. IsReport answer.now proof text.items) }
 {

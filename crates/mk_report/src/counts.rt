@@ -8,7 +8,7 @@ use mk_jobs::jobs::Jobs;
 use mk_jobs::recipe::has_recipe;
 use std::alloc::AllocError;
 
-/// Puts the line of a word and a number at the end. The only error is want of memory.
+/// Puts the line of a word and a number at the end. The only error is out of memory.
 pub(crate) fn push_number(out: &mut Vec<u8>, word: &[u8], number: u64) -> Result<(), AllocError>
     ensures { OnOk result (out.new.items ≡ out.old.items ++ number_line word.now number) }
 {
@@ -54,8 +54,8 @@ fn idle_count(jobs: &Jobs) -> u32
     idle
 }
 
-/// Puts the lines at the end that tell how many nodes, live recipes and idle recipes there are, and how often `.WAIT` is
-/// used. The only error is want of memory.
+/// Puts the lines at the end that say how many nodes, live recipes and idle recipes there are, and how often `.WAIT` is
+/// used. The only error is out of memory.
 pub fn push_counts(out: &mut Vec<u8>, jobs: &Jobs) -> Result<(), AllocError>
     ensures { OnOk result (out.new.items ≡ out.old.items ++ counts_text jobs.now) }
 {

@@ -13,7 +13,7 @@ use mk_proof::step::Step;
 use mk_proof::trace::Trace;
 use std::alloc::{AllocError, Global};
 
-/// Puts the line of a time at the end. The only error is want of memory.
+/// Puts the line of a time at the end. The only error is out of memory.
 fn push_time(out: &mut Vec<u8>, jobs: &Jobs, node: u32, time: u32) -> Result<(), AllocError>
     ensures { OnOk result (out.new.items ≡ out.old.items ++ time_line jobs.now (node, time)) }
 {
@@ -26,7 +26,7 @@ fn push_time(out: &mut Vec<u8>, jobs: &Jobs, node: u32, time: u32) -> Result<(),
     Ok(())
 }
 
-/// Puts the lines of times at the end. The only error is want of memory.
+/// Puts the lines of times at the end. The only error is out of memory.
 fn push_times(out: &mut Vec<u8>, jobs: &Jobs, times: &[(u32, u32)]) -> Result<(), AllocError>
     ensures { OnOk result (out.new.items ≡ out.old.items ++ flat_map (time_line jobs.now) times.now) }
 {
@@ -37,7 +37,7 @@ fn push_times(out: &mut Vec<u8>, jobs: &Jobs, times: &[(u32, u32)]) -> Result<()
     Ok(())
 }
 
-/// How a step is told.
+/// How a step is reported.
 fn step_word(step: Step) -> &'static str
     ensures { result.now ≡ step_word step }
 {
@@ -48,7 +48,7 @@ fn step_word(step: Step) -> &'static str
     }
 }
 
-/// Puts the line of a step at the end. The only error is want of memory.
+/// Puts the line of a step at the end. The only error is out of memory.
 fn push_step(out: &mut Vec<u8>, jobs: &Jobs, step: Step) -> Result<(), AllocError>
     ensures { OnOk result (out.new.items ≡ out.old.items ++ step_line jobs.now step) }
 {
@@ -58,7 +58,7 @@ fn push_step(out: &mut Vec<u8>, jobs: &Jobs, step: Step) -> Result<(), AllocErro
     Ok(())
 }
 
-/// Puts the lines of steps at the end. The only error is want of memory.
+/// Puts the lines of steps at the end. The only error is out of memory.
 fn push_steps(out: &mut Vec<u8>, jobs: &Jobs, steps: &[Step]) -> Result<(), AllocError>
     ensures { OnOk result (out.new.items ≡ out.old.items ++ flat_map (step_line jobs.now) steps.now) }
 {
@@ -68,7 +68,7 @@ fn push_steps(out: &mut Vec<u8>, jobs: &Jobs, steps: &[Step]) -> Result<(), Allo
     Ok(())
 }
 
-/// Puts the lines of a trace's path and of its two nodes at the end. The only error is want of memory.
+/// Puts the lines of a trace's path and of its two nodes at the end. The only error is out of memory.
 fn push_pair(out: &mut Vec<u8>, alloc: Global, jobs: &Jobs, trace: &Trace) -> Result<(), AllocError>
     ensures { OnOk result (out.new.items ≡ out.old.items ++ pair_text jobs.now trace.now) }
 {
@@ -82,7 +82,7 @@ fn push_pair(out: &mut Vec<u8>, alloc: Global, jobs: &Jobs, trace: &Trace) -> Re
 
 /// Puts the report of a race at the end (profile): the counts, the path on which two nodes clash, the two with what each
 /// does with it, times of files, and the steps after which both run. A number of the trace that is no node has no name there.
-/// The only error is want of memory.
+/// The only error is out of memory.
 pub fn push_race(
     out: &mut Vec<u8>,
     alloc: Global,

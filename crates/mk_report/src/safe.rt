@@ -14,7 +14,7 @@ use mk_path::spelling::text_of;
 use mk_proof::certificate::Certificate;
 use std::alloc::{AllocError, Global};
 
-/// Puts the line of a chain at the end: a path, and the names of the chain's nodes. The only error is want of memory.
+/// Puts the line of a chain at the end: a path, and the names of the chain's nodes. The only error is out of memory.
 fn push_order(
     out: &mut Vec<u8>,
     alloc: Global,
@@ -34,7 +34,7 @@ fn push_order(
 }
 
 /// Puts the lines at the end that stand before those of the chains: the counts, and how many chains there are. The only
-/// error is want of memory.
+/// error is out of memory.
 fn push_head(out: &mut Vec<u8>, jobs: &Jobs, pairs: usize) -> Result<(), AllocError>
     ensures { OnOk result (out.new.items ≡ out.old.items ++ safe_head jobs.now pairs) }
 {
@@ -56,7 +56,7 @@ pub(crate) fn clash_of(jobs: &Jobs, a: u32, b: u32) -> Option<&Path>
 }
 
 /// Puts the line of a chain at the end, with the least path on which its ends clash; none where they do not clash. The only
-/// error is want of memory.
+/// error is out of memory.
 fn push_chain(
     out: &mut Vec<u8>,
     alloc: Global,
@@ -73,7 +73,7 @@ fn push_chain(
     }
 }
 
-/// Puts the lines of a certificate's chains at the end. The only error is want of memory.
+/// Puts the lines of a certificate's chains at the end. The only error is out of memory.
 fn push_chains(
     out: &mut Vec<u8>,
     alloc: Global,
@@ -90,7 +90,7 @@ fn push_chains(
 }
 
 /// Puts the report of jobs with this certificate at the end (profile): the counts, how many chains there are, and for each
-/// chain whose ends clash the least path on which they do and the names of its nodes. The only error is want of memory.
+/// chain whose ends clash the least path on which they do and the names of its nodes. The only error is out of memory.
 pub fn push_safe(
     out: &mut Vec<u8>,
     alloc: Global,

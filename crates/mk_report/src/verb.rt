@@ -19,8 +19,8 @@ fn spells_tree(text: &[u8]) -> bool
     text.len() > 1 && text[text.len() - 1] == b'/'
 }
 
-/// The path that a text spells (profile): a tree where a slash stands behind a name, else a file. The only error is want of
-/// memory.
+/// The path that a text spells (profile): a tree where a slash stands behind a name, else a file. The only error is out
+/// of memory.
 pub fn spelled_path(alloc: Global, text: &[u8]) -> Result<Path, AllocError>
     ensures { IfOk result (λ path. path ≡ spelled_path text.now) }
 {
@@ -63,7 +63,7 @@ pub fn verb(jobs: &Jobs, number: u32, path: &Path) -> &'static str
 }
 
 /// Puts the line of a node of a race at the end: a word, the node's name and what it does with the path. The only error is
-/// want of memory.
+/// out of memory.
 pub(crate) fn push_racer(
     out: &mut Vec<u8>,
     jobs: &Jobs,

@@ -16,7 +16,7 @@ use Rattle.mk_rules.specs.Entries.{EntrySays}
 use Rattle.mk_rules.specs.Placed.{IsReportedAt, Placed}
 use Rattle.mk_rules.specs.Reading.{AssignmentSays, EndsAt, EntryLineSays, IncludeSays, Leads, Outcome, Point, SaysBy, ended_at, line_says, point}
 
--- what stops a line is told at it, and leaves these macros
+-- what stops a line is reported at it, and leaves these macros
 pub reported_ends : {X : Type 0} (p : Placed) (halt reported : Halt) (before after : Macros) → IsReportedAt p halt reported → after ≡ before → (says : Result X Reported → Type 0) → HaltsAmong halt says
     → (one : Outcome → Type 0) → ((fault : Reported) → says (Err fault) → one (Err (ended_at p before fault))) → EndsAt reported after one
 reported_ends p halt halts.Memory before after same kept says h one to = tt

@@ -37,7 +37,7 @@ has_recipe-take entries place t =
     ∙ ap (λ n. option_map_or (λ i. ltb i n) (position_from (gives_commands t) 0 entries) false) (omega arith)
     ∙ ap (λ o. option_map_or (λ i. ltb i place) o false) (sym (position_from-zero (gives_commands t) entries))
 
--- what the entry at a place is told by, if it is such an entry
+-- what the entry at a place is known by, if it is such an entry
 abbrev pub second_at : List Entry → ℕ × Entry → Option (ℕ × Name)
 second_at entries e = option_map (λ t. (e.0, t)) (second_target entries e)
 

@@ -31,7 +31,7 @@ pub second_within : (rules : List Entry) (place : ℕ) (name : Name) → Some (p
 unfolding found_in
 second_within rules place name h = let below : place < 0 + length rules = found_within rules 0 rules (place, name) (sym h) in omega arith
 
--- where it stands, and what it is told by
+-- where it stands, and what it is known by
 pub recipe_reported : (book : Book) (place : ℕ) (name : Name) (source : Source) (line : ℕ) → Some (place, name) ≡ second_recipe book.rules
     → slice_get (map (λ e. e.source) book.rules) place ≡ Some source → slice_get (map (λ e. e.line) book.rules) place ≡ Some line
     → BookSays book (Err (record { kind = TwoRecipes; source = source; place = line; names = name ∷ [] }))

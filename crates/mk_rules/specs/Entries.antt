@@ -23,7 +23,7 @@ expanded_names root (Ok text) = names_in root text
 abbrev pub PartSays : List ℕ → Macros → List ℕ → Result (List Name) Reported → Type 0
 PartSays root macros part answer = (text : Result (List ℕ) Reported) × IsExpansion macros part text × (answer ≡ expanded_names root text)
 
--- a fault of an entry: who reads its line tells where it is
+-- a fault of an entry: who reads its line says where it is
 abbrev pub entry_reported : Kind → List Name → Reported
 entry_reported kind names = record { kind = kind; source = Makefile; place = 0; names = names }
 

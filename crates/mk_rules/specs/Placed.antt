@@ -33,11 +33,11 @@ placed source (line ∷ lines) = record { source = source; line = line; command_
 abbrev pub all_lines : List LogicalLine → List LogicalLine → List Placed
 all_lines base makefile = placed Base base ++ placed Makefile makefile
 
--- a fault of a line is told at its first physical line, in its text
+-- a fault of a line is reported at its first physical line, in its text
 abbrev pub reported_at : Placed → Reported → Reported
 reported_at p fault = record fault { source = p.source; place = p.line.first_line }
 
--- the same halt, where a fault is told at a line, or want of memory
+-- the same halt, where a fault is reported at a line, or out of memory
 abbrev pub IsReportedAt : Placed → Halt → Halt → Type 0
 IsReportedAt p halt halts.Memory = Unit {0}
 IsReportedAt p halt (halts.Fault reported) = (fault : Reported) × (halt ≡ halts.Fault fault) × (reported ≡ reported_at p fault)

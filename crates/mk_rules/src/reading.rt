@@ -131,9 +131,9 @@ fn checked(alloc: Global, book: Rulebook) -> Result<Rulebook, Halt>
 /// prerequisites. The words of an include line are read from the left, and the text of one before the next:
 /// `BadName`, `UnknownInclude` for a name that no text has, `IncludeTooDeep` where [`DEPTH_LIMIT`] texts are
 /// open around it, `TooManyIncludes` behind 1,000 texts in all (profile); then the faults of the text's own
-/// lines, as [`mk_text::lines::lines`] tells them, in the source `Include` of its plain name. After all
+/// lines, as [`mk_text::lines::lines`] reports them, in the source `Include` of its plain name. After all
 /// lines `TwoRecipes` for the first target rule that gives commands to a target which has some from one
-/// before it: it tells the first such target, at the rule's line. Out of memory may come in place of any
+/// before it: it reports the first such target, at the rule's line. Out of memory may come in place of any
 /// answer.
 ///
 /// The macros are left as the lines say: after a refused line those before it, and so after a bad word of

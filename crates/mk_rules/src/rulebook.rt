@@ -87,7 +87,7 @@ impl Model for Rulebook {
 
 impl Rulebook {
     /// The book of these entries, in their order: what they say of target rules, inference rules and
-    /// special targets ("Target Rules", "Inference Rules", "Special Targets"). The only error is want
+    /// special targets ("Target Rules", "Inference Rules", "Special Targets"). The only error is out
     /// of memory.
     pub fn new(alloc: Global, entries: Vec<Rule>) -> Result<Rulebook, AllocError>
         ensures { IfOk result (λ book. book ≡ book_of entries.items) }

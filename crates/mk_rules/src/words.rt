@@ -10,7 +10,7 @@ use std::alloc::Global;
 
 /// The names that the words of a text spell, in their order.
 ///
-/// `BadName` tells the first word that spells no name. Its source is the makefile and its place 0.
+/// `BadName` reports the first word that spells no name. Its source is the makefile and its place 0.
 pub(crate) fn names_in(alloc: Global, text: &[u8], root: &Root) -> Result<Vec<Name>, Halt>
     ensures { GivesNames result (names_in root.now text.now) }
 {

@@ -1,4 +1,4 @@
--- What is told of an answer to texts that were read in pieces.
+-- What is reported of an answer to texts that were read in pieces.
 use Rattle.std.proofs.Common.{◌≡◌, ◌∙◌, ◌++◌, ℕ, IfOk, List, None, Ok, Err, Option, Result, Some, ap, subst, sym}
 use Rattle.std.proofs.lemmas.List.{append-nil}
 use Rattle.mk_name.specs.Names.{Name}

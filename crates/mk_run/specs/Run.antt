@@ -1,4 +1,4 @@
--- What a run reads from its devices, and what it tells.
+-- What a run reads from its devices, and what it reports.
 use Rattle.std.specs.Prelude.{◌≡◌, ◌⊎◌, ℕ, Bool, true, false, List, Option, Result, Ok}
 use Rattle.std.specs.Io.KnownBytes.{Consumes, IsAtEnd}
 use Rattle.mk_name.specs.Names.{Name}
@@ -22,7 +22,7 @@ use Rattle.mk_run.specs.declared.outcome.IoStop.TheVariants.{Read, Write, Memory
 use Rattle.mk_run.specs.declared.outcome.Outcome.{Outcome}
 use Rattle.mk_run.specs.declared.outcome.Outcome.TheVariants.{Safe, Race, Refused}
 
--- a device was read to its end, and gave these bytes: where it tells what it has left, they are all that it had
+-- a device was read to its end, and gave these bytes: where it states what it has left, they are all that it had
 pub record GaveAll (old new : Option (List ℕ)) (bytes : List ℕ) : Type 0 where
   pub gave : Consumes old new bytes
   pub end : IsAtEnd new
@@ -32,7 +32,7 @@ abbrev pub unread : Source → ReadStop → IoStop
 unread source stops.Broken = Read source
 unread source stops.Memory = Memory
 
--- a text was not read: its device failed and that is told, or memory ran out
+-- a text was not read: its device failed and that is reported, or memory ran out
 abbrev pub IsUnread : Source → IoStop → Bool → Type 0
 IsUnread source stop failed = ((stop ≡ Read source) × (failed ≡ true)) ⊎ ((stop ≡ Memory) × (failed ≡ false))
 
@@ -47,7 +47,7 @@ pub record Failed : Type 0 where
 abbrev pub none_failed : Failed
 none_failed = record { base = false; makefile = false; listing = false; footprints = false; out = false }
 
--- a stop tells the device that failed, and no other has; where it tells want of memory, none has
+-- a stop names the device that failed, and no other has; where it says out of memory, none has
 abbrev pub HasStopped : IoStop → Failed → Type 0
 HasStopped (Read sources.Base) failed = failed ≡ record none_failed { base = true }
 HasStopped (Read sources.Makefile) failed = failed ≡ record none_failed { makefile = true }
@@ -88,8 +88,8 @@ pub record Given : Type 0 where
 abbrev pub texts_given : Settings → Given → Texts
 texts_given settings given = texts_with settings given.base given.makefile given.listing
 
--- a text tells of these bytes: it is the report of an answer to them, of this kind; where that is that the build is safe, no
--- schedule of the build shows in its files, and its jobs are determinate; where it is a race, its trace holds
+-- a text reports on these bytes: it is the report of an answer to them, of this kind; where that is that the build is safe,
+-- no schedule of the build shows in its files, and its jobs are determinate; where it is a race, its trace holds
 pub record IsReported (settings : Settings) (given : Given) (outcome : Outcome) (text : List ℕ) : Type 0 where
   pub answer : Answer
   pub answered : IsAnswered (texts_given settings given) given.footprints answer

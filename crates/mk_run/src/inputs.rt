@@ -54,7 +54,7 @@ fn read_text<I: Intake>(alloc: Global, source: Source, device: &mut I) -> Result
     }
 }
 
-/// The texts of the makefiles, the base's first. A stop tells the device that failed; the only other is out of memory.
+/// The texts of the makefiles, the base's first. A stop names the device that failed; the only other is out of memory.
 pub(crate) fn read_makefiles<B: Intake, M: Intake>(
     alloc: Global,
     base: &mut B,
@@ -78,8 +78,8 @@ pub(crate) fn read_makefiles<B: Intake, M: Intake>(
     Ok(Makefiles { base, makefile })
 }
 
-/// The listing and the footprints below a root, the listing first. A stop tells the device that failed; the only other is want
-/// of memory.
+/// The listing and the footprints below a root, the listing first. A stop names the device that failed; the only other
+/// is out of memory.
 pub(crate) fn read_lists<L: Intake, F: Intake>(
     alloc: Global,
     root: &[u8],

@@ -55,12 +55,12 @@ pub fn run<B: Intake, M: Intake, L: Intake, F: Intake, O: Outlet>(
         × GaveAll (F.left footprints.old) (F.left footprints.new) given.footprints
         × (text : List ℕ) × spec.IsReported settings.now given outcome text
         × Appends (O.written out.old) (O.written out.new) text) }
-    // The headline: where the devices tell their bytes and the build is safe, no schedule of it shows in its files.
+    // The headline: where the devices state their bytes and the build is safe, no schedule of it shows in its files.
     ensures headline { result ≡ Ok Outcome.Safe → (given : Given)
         → B.left base.old ≡ Some given.base → M.left makefile.old ≡ Some given.makefile
         → L.left listing.old ≡ Some given.listing → F.left footprints.old ≡ Some given.footprints
         → NoScheduleShows (spec.texts_given settings.now given) given.footprints }
-    // A device has failed exactly where a stop tells it.
+    // A device has failed exactly where a stop names it.
     ensures works { OnOk result (none_failed ≡ record {
       base = B.has_failed base.new;
       makefile = M.has_failed makefile.new;

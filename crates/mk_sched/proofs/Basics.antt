@@ -78,7 +78,7 @@ written-untouched x (Put path bytes time) old none = split (same_name path x) (�
 written-untouched x (Erase path) old none = split (same_name path x) (λ same. cc (rw same at none)) (λ other. rw other refl)
 written-untouched x Finish old none = refl
 
--- and no history tells it as a write
+-- and no history has it as a write
 pub last_of-untouched : (x : Name) (a : Act) (acts : List Act) → touch x a ≡ None → last_of x (entries (a ∷ acts)) ≡ last_of x (entries acts)
 last_of-untouched x Skip acts none = refl
 last_of-untouched x Start acts none = refl

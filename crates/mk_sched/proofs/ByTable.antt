@@ -61,7 +61,7 @@ module _ (jobs : Jobs) (tie : Bool) (limit : ℕ) (opening : Store) where
   running_by past m k (Erase path) may = split (m == k) (λ own. rw own refl) (λ other. rw other refl)
   running_by past m k Finish may = split (m == k) (λ own. rw own refl) (λ other. rw other refl)
 
-  -- a run leaves the state that it tells of
+  -- a run leaves the state that it leads to
   pub state_is_reported : (past : List Event) → IsRun jobs tie limit opening past → state_after opening past ≡ reported_by opening past
   state_is_reported [] run = refl
   state_is_reported (e ∷ past) run =
@@ -71,7 +71,7 @@ module _ (jobs : Jobs) (tie : Bool) (limit : ℕ) (opening : Store) where
       let running = fun_ext (λ k. running_by past e.node k e.act run.1) in
       earlier ∙ (λ i. record { store = store i; passed = passed i; running = running i })
 
-  -- what is allowed after a past is what the table allows in the state that it tells of
+  -- what is allowed after a past is what the table allows in the state that it leads to
   to_table : (past : List Event) (n : ℕ) (a : Act) → May jobs tie limit opening past n a → IsAllowed jobs tie limit (reported_by opening past) n a
   to_table past n Skip may = (record { in_jobs = may.ready.in_jobs; not_passed = ap is_passed may.ready.waits; not_running = ap is_running may.ready.waits; prerequisites = may.ready.prerequisites }, and_fails _ _ may.fresh)
   to_table past n Start may =

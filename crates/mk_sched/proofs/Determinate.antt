@@ -35,7 +35,7 @@ look_among (Finish ∷ acts) newer x seen older is = look_later Finish acts x se
 
 module _ (jobs : Jobs) (opening : Store) (tie : Bool) (limit other : ℕ) (valid : IsValid jobs) (free : IsRaceFree jobs)
     (a b : List Event) (run_a : IsRun jobs tie limit opening a) (run_b : IsRun jobs tie other opening b) where
-  -- two looks of n at one name after equal histories tell the same, if the nodes before n did the same in both runs
+  -- two looks of n at one name after equal histories find the same, if the nodes before n did the same in both runs
   seen_alike : (n : ℕ) (x : Name) (s t : Option Bytes) (newer later older : List Entry) → ((m : ℕ) → Before jobs m n → history a m ≡ history b m)
       → history a n ≡ newer ++ Looked x s ∷ older → history b n ≡ later ++ Looked x t ∷ older → s ≡ t
   seen_alike n x s t newer later older known is_a is_b =

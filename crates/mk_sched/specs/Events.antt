@@ -73,7 +73,7 @@ count_to test (ℕ.suc n) = if test n then ℕ.suc (count_to test n) else count_
 abbrev pub running_below : List Event → ℕ → ℕ
 running_below past n = count_to (λ k. is_running (phase past k)) n
 
--- one line of a history: a look and what it told, or a name and what was left there, nothing after an erasure
+-- one line of a history: a look and what it found, or a name and what was left there, nothing after an erasure
 pub data Entry : Type 0 where
   Looked : (path : Name) (seen : Option Bytes) → Entry
   Wrote : (path : Name) (left : Option Bytes) → Entry

@@ -1,4 +1,4 @@
--- Runs told in the order of time, and their beginnings.
+-- Runs in the order of time, and their beginnings.
 use Rattle.std.specs.Prelude.{ℕ, ◌↔◌, ◌++◌, Bool, List, [], ◌∷◌, reverse}
 use Rattle.mk_jobs.specs.Jobs.{Jobs}
 use Rattle.mk_sched.specs.Stores.{Store}

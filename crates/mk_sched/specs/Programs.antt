@@ -14,7 +14,7 @@ pub data Request : Type 0 where
 abbrev pub Program : Type 0
 Program = List Entry → Option Request
 
--- the entry is what was wanted, whatever a look told; or the history ends where the program does
+-- the entry is what was wanted, whatever a look found; or the history ends where the program does
 abbrev pub IsAnswer : Option Request → Option Entry → Type 0
 IsAnswer None None = Unit {0}
 IsAnswer (Some (ToLook path)) (Some (Looked x seen)) = path ≡ x

@@ -31,7 +31,7 @@ is_within jobs n (Put path bytes time) = may_write jobs n path
 is_within jobs n (Erase path) = may_write jobs n path
 is_within jobs n Finish = true
 
--- a look tells what stands there
+-- a look finds what stands there
 abbrev pub IsTrueLook : Store → Act → Type 0
 IsTrueLook store Skip = Unit {0}
 IsTrueLook store Start = Unit {0}

@@ -32,8 +32,8 @@ pub record IsStoreRefused (listed : Name → Bool) (opening files : Files) (plac
   pub differs : AgreesWithListing listed (store_of opening) → ⊥
   pub same : files ≡ opening
 
--- an event is refused, and told by its place from 1: the store has the listed files, what stands before the event is a run
--- that leaves these files, the event is not allowed, and of the refusals that are asked of it this one holds first
+-- an event is refused, and reported by its place from 1: the store has the listed files, what stands before the event is a
+-- run that leaves these files, the event is not allowed, and of the refusals that are asked of it this one holds first
 pub record IsEventRefused (jobs : Jobs) (listed : Name → Bool) (tie : Bool) (limit : ℕ) (opening : Files) (events : List Reported) (files : Files) (place : ℕ) (refusal : Refusal) : Type 0 where
   pub agrees : AgreesWithListing listed (store_of opening)
   pub before : List Reported

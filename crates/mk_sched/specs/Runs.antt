@@ -22,7 +22,7 @@ pub record MayStart (jobs : Jobs) (tie : Bool) (limit : ℕ) (opening : Store) (
   pub stale : must_run jobs tie (store_after opening past) n ≡ true
   pub room : running_below past (node_count jobs) < limit
 
--- n may look: it runs, it may read the name, and the look tells what stands there
+-- n may look: it runs, it may read the name, and the look finds what stands there
 pub record MayLook (jobs : Jobs) (opening : Store) (past : List Event) (n : ℕ) (path : Name) (seen : Option Bytes) : Type 0 where
   pub runs : phase past n ≡ Running
   pub reads : may_read jobs n path ≡ true
@@ -57,7 +57,7 @@ IsRun jobs tie limit opening (e ∷ past) = IsRun jobs tie limit opening past ×
 abbrev pub IsComplete : Jobs → List Event → Type 0
 IsComplete jobs past = (n : ℕ) → n < node_count jobs → is_passed (phase past n) ≡ true
 
--- the same step, but for what a look tells
+-- the same step, except what a look finds
 abbrev pub AlikeSteps : Entry → Entry → Type 0
 AlikeSteps (Looked x seen) (Looked y reported) = x ≡ y
 AlikeSteps (Wrote x left) (Wrote y kept) = (x ≡ y) × (left ≡ kept)

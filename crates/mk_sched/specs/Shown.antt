@@ -1,9 +1,9 @@
--- How a refusal is told.
+-- How a refusal is reported.
 use Rattle.std.specs.Prelude.{ℕ, List, codes}
 use Rattle.mk_sched.specs.declared.refusal.Refusal.{Refusal}
 use Rattle.mk_sched.specs.declared.refusal.Refusal.TheVariants as refusals
 
--- the number by which reports tell a refusal
+-- the number by which reports show a refusal
 abbrev pub number_of : Refusal → ℕ
 number_of refusals.NotReady = 1
 number_of refusals.NotStale = 2
@@ -18,7 +18,7 @@ number_of refusals.TooManyJobs = 10
 number_of refusals.StoreNotListing = 11
 number_of refusals.NoNode = 12
 
--- the word by which reports tell it
+-- the word by which reports show it
 abbrev pub word_of : Refusal → List ℕ
 word_of refusals.NotReady = codes "NotReady"
 word_of refusals.NotStale = codes "NotStale"

@@ -1,4 +1,4 @@
--- The state that a store and the nodes' stages tell.
+-- The state that a store and the nodes' stages give.
 use Rattle.std.specs.Prelude.{ℕ, ◌≡◌, Bool, true, false, List, get_or}
 use Rattle.mk_sched.specs.Events.{Act, Skip, Start, Look, Put, Erase, Finish}
 use Rattle.mk_sched.specs.Stored.{Files, store_of}
@@ -27,7 +27,7 @@ state_of files stages = record {
   running = λ n. runs (get_or stages n Waiting);
 }
 
--- what a state of the code tells
+-- what a state of the code says
 abbrev pub held : Held → State
 held state = state_of state.store state.stages.items
 

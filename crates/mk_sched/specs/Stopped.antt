@@ -8,7 +8,7 @@ use Rattle.mk_sched.specs.declared.event.Event.{Event as Reported}
 use Rattle.mk_sched.specs.declared.replay.Stopped.{Stopped}
 use Rattle.mk_sched.specs.declared.replay.Stopped.TheVariants as stops
 
--- want of memory may stop any replay; else the store or an event is refused
+-- out of memory may stop any replay; else the store or an event is refused
 abbrev pub IsStopped : Jobs → (Name → Bool) → Bool → ℕ → Files → List Reported → Stopped → Type 0
 IsStopped jobs listed tie limit opening events stops.Memory = Unit {0}
 IsStopped jobs listed tie limit opening events (stops.Refused files place refusal) =

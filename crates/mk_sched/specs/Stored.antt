@@ -30,7 +30,7 @@ without_file files x = remove_entry (same_name x) files
 abbrev pub IsInOrder : Files → Type 0
 IsInOrder files = IsStrictlySortedBy (slice_cmp nat_cmp) (keys_of files)
 
--- one where the numbers are the same, and nought elsewhere
+-- one where the numbers are the same, and zero elsewhere
 abbrev pub one_at : ℕ → ℕ → ℕ
 one_at time t = if time == t then 1 else 0
 

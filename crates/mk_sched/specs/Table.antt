@@ -1,5 +1,5 @@
--- Allowed events as the format of logs tells them: a state, which is a store and two sets of nodes, and a table of what each
--- event asks of it and changes.
+-- Allowed events as the format of logs has them: a state, which is a store and two sets of nodes, and a table of what
+-- each event asks of it and changes.
 use Rattle.std.specs.Prelude.{ℕ, ◌≡◌, ◌<◌, ◌⊎◌, ◌==◌, ◌↔◌, Bool, true, false, List, [], ◌∷◌, reverse, Some, None, if◌then◌else◌}
 use Rattle.mk_name.specs.Names.{Name, same_name}
 use Rattle.mk_jobs.specs.Jobs.{Jobs, IsPrerequisite, node_count, has_recipe, may_read, may_write}
@@ -74,12 +74,12 @@ abbrev pub state_after : Store → List Event → State
 state_after opening [] = start_from opening
 state_after opening (e ∷ past) = changed (state_after opening past) e.node e.act
 
--- the state that a past tells of: the store that it leaves, and who has passed or runs by its own acts
+-- the state that a past leads to: the store that it leaves, and who has passed or runs by its own acts
 abbrev pub reported_by : Store → List Event → State
 reported_by opening past =
     record { store = store_after opening past; passed = λ n. is_passed (phase past n); running = λ n. is_running (phase past n) }
 
--- a run leaves the state that it tells of
+-- a run leaves the state that it leads to
 abbrev pub StateIsReported : Type 0
 StateIsReported =
     (jobs : Jobs) (tie : Bool) (limit : ℕ) (opening : Store) (past : List Event)

@@ -49,7 +49,7 @@ fn has_begun(state: &State, n: u32) -> bool
     state.has_passed(n) || state.runs(n)
 }
 
-/// Whether a look tells what a file holds, or that there is none.
+/// Whether a look finds what a file holds, or that there is none.
 fn has_report(seen: &Option<Contents>, file: Option<&File>) -> bool
     ensures { IsTrue result ↔ (seen.now ≡ bytes_of (option_map (λ file. file.now) file.entry)) }
 {

@@ -18,7 +18,7 @@ pub enum Refusal {
     NotRunning,
     /// V7: a look outside the reads, or a put or an erasure outside the writes.
     OutsideFootprint,
-    /// V8: a look that does not tell what is there.
+    /// V8: a look that does not find what is there.
     WrongBytes,
     /// V9: a put whose time is not after all times of the store.
     NotNewer,
@@ -33,7 +33,7 @@ pub enum Refusal {
 impl Refusal {
     ghost use Rattle.mk_sched.specs.Shown.{number_of, word_of};
 
-    /// The number by which reports tell it, from 1 to 12.
+    /// The number by which reports show it, from 1 to 12.
     pub fn number(self) -> u8
         ensures { result ≡ number_of self }
     {
@@ -53,7 +53,7 @@ impl Refusal {
         }
     }
 
-    /// The word by which reports tell it.
+    /// The word by which reports show it.
     pub fn word(self) -> &'static str
         ensures { result.now ≡ word_of self }
     {

@@ -29,7 +29,7 @@ pub line_twice : (place : ℕ) (earlier : List Task) (line : Line) → has same_
     → with_line place earlier line ≡ Err (reported TaskTwice place (line.label ∷ []))
 line_twice place earlier line here = cond-true (has same_name (labels_of earlier) line.label) _ _ here
 
--- with a new label it hangs on what the task stands behind
+-- with a new label it depends on what the task stands behind
 pub line_new : (place : ℕ) (earlier : List Task) (line : Line) → has same_name (labels_of earlier) line.label ≡ false
     → with_line place earlier line ≡ with_needs place earlier line (needs_from place (labels_of earlier) [] line.after)
 line_new place earlier line new = cond-false (has same_name (labels_of earlier) line.label) _ _ new

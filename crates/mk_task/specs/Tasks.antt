@@ -35,7 +35,7 @@ edge_count tasks = sum_by (λ (task : Task). length task.needs) tasks
 abbrev pub path_count : List Task → ℕ
 path_count tasks = sum_by (λ (task : Task). length task.reads + length task.writes) tasks
 
--- a fault of the line at a place, which tells these names
+-- a fault of the line at a place, which reports these names
 abbrev pub reported : Kind → ℕ → List Name → Reported
 reported kind place names = record { kind = kind; source = sources.Tasks; place = place; names = names }
 

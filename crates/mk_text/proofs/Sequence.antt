@@ -48,7 +48,7 @@ pub joined-none : (later : Result (List LogicalLine) Reported) → later ≡ joi
 joined-none (Ok lines) = refl
 joined-none (Err fault) = refl
 
--- a line tells what its block is
+-- a line says what its block is
 sort-line : (n : ℕ) (block : List (List ℕ)) (sort : Result (Option LineKind) Kind) (line : LogicalLine) → line_at n block sort ≡ Ok (Some line) → sort ≡ Ok (Some line.kind)
 sort-line n block (Err kind) line is = absurd (cc)
 sort-line n block (Ok None) line is = absurd (cc)

@@ -1,4 +1,4 @@
--- What a call says that gives the lines of a text, a fault or want of memory.
+-- What a call promises that gives the lines of a text, a fault or out of memory.
 use Rattle.std.specs.Prelude.{List, Result, Vec}
 use Rattle.std.specs.Global.{Global}
 use Rattle.std.specs.Result.{result_map_both}

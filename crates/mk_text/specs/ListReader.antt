@@ -43,7 +43,7 @@ pub record IsUnderWay (root : List ℕ) (ended : List (List ℕ)) (open_line : L
   pub place : reader.place ≡ place_behind 1 ended
   pub begun : reader.open_line ≡ take kept_length open_line
 
--- what a reader that stopped says of the lines that ended: the first fault is theirs; want of memory says nothing
+-- what a reader that stopped says of the lines that ended: the first fault is theirs; out of memory says nothing
 abbrev pub HasStopped : List ℕ → List (List ℕ) → Stop → Type 0
 HasStopped root ended Memory = Unit {0}
 HasStopped root ended (BadLine place) = listed root ended ≡ Err (bad_line place)
@@ -57,7 +57,7 @@ abbrev pub HasReadLines : List ℕ → List (List ℕ) → List ℕ → Reader �
 HasReadLines root ended open_line reader = HasReadBy reader.stop root ended open_line reader
 
 -- the reader has read a text below a root: it has the names of all lines that have ended, or stopped at the first fault of
--- these, or for want of memory
+-- these, or out of memory
 pub record HasRead (root text : List ℕ) (reader : Reader) : Type 0 where
   pub ended : List (List ℕ)
   pub open_line : List ℕ

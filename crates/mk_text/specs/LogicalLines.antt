@@ -71,7 +71,7 @@ assignment text operator start end =
     then Ok (Some (Assign name_start (name_start + length name) operator start (end + prefix_len is_blank (drop end text))))
     else Err BadAssignment
 
--- the first sign is the `=` at this place: what is right before it tells the operator
+-- the first sign is the `=` at this place: what is right before it says which operator
 abbrev pub at_equals : List ℕ → ℕ → Result (Option LineKind) Kind
 at_equals text at =
     let before = if at == 0 then 0 else slice_index text (at - 1) in
@@ -85,7 +85,7 @@ abbrev pub entry : List ℕ → ℕ → Result (Option LineKind) Kind
 entry text at =
     Ok (Some (Entry at (option_map (λ n. at + 1 + n) (place_outside (λ b. b == semicolon) (drop (at + 1) text)))))
 
--- the first sign is the `:` at this place: what follows it tells an immediate assignment from an entry
+-- the first sign is the `:` at this place: by what follows it an immediate assignment differs from an entry
 abbrev pub at_colon : List ℕ → ℕ → Result (Option LineKind) Kind
 at_colon text at =
     let one = slice_index text (at + 1) in

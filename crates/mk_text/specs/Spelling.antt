@@ -95,7 +95,7 @@ is_word word = has_path_length word && has_name_bytes word
 abbrev pub is_root : List ℕ → Bool
 is_root text = is_absolute text && is_path text
 
--- the fault of a text that spells no name, which tells these names
+-- the fault of a text that spells no name, which reports these names
 abbrev pub bad_name : Source → List (List ℕ) → Reported
 bad_name source names = record { kind = BadName; source = source; place = 0; names = names }
 

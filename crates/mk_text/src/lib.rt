@@ -1,7 +1,7 @@
 //! What stands in texts: physical and logical lines, the plain spelling of names, the listing.
 //!
 //! - [`lines::lines`] cuts the text of a makefile into its logical lines ([`line::Line`]), or gives the
-//!   first fault. `specs/Blocks.antt` and `specs/LogicalLines.antt` define them; a line tells its kind, its
+//!   first fault. `specs/Blocks.antt` and `specs/LogicalLines.antt` define them; a line says its kind, its
 //!   first physical line, its text and the parts of that ([`parts::Parts`], `specs/LogicalLine.antt`).
 //! - [`Root`](root::Root) is the directory that relative paths start from; [`plain_word`] and [`plain_path`]
 //!   give the plain name of a word of a makefile and of a path: `specs/Spelling.antt`.

@@ -32,7 +32,7 @@ impl Root {
     /// The root with this text (profile): one that begins with `/`, has at most 4,096 bytes and
     /// holds neither NUL nor newline.
     ///
-    /// Any other text is `BadName` in the settings, at place 0, which tells the text.
+    /// Any other text is `BadName` in the settings, at place 0, which reports the text.
     pub fn read(alloc: Global, text: &[u8]) -> Result<Root, Halt>
         ensures { Gives result (root_of text.now) }
     {

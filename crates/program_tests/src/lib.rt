@@ -1,8 +1,8 @@
 //! Tests of the program by [`mk_program::race_words`], over files and outputs in memory. They stand in a crate of their own, so
 //! that the program is not proved a second time for its tests.
 //!
-//! [`shelf::Shelf`] is an opener that tells what its files hold, and [`outcomes::run`] a run over it whose contract says
-//! what comes out: so the premises of `race_words` are met together by something that runs.
+//! [`shelf::Shelf`] is an opener that states what its files hold, and [`outcomes::run`] a run over it whose contract
+//! says what comes out: so the premises of `race_words` are met together by something that runs.
 #![tactic(auto)]
 
 #[cfg(test)]

@@ -3,7 +3,7 @@ use Rattle.std.specs.Prelude.{ℕ, ◌≡◌, List, string_bytes}
 use Rattle.mk_program.specs.declared.failures.Failure.{Failure}
 use Rattle.mk_program.specs.declared.failures.Failure.TheVariants as failures
 
--- the words are wrong, and this text says how
+-- the command line is invalid, and this text says how
 abbrev pub IsNotText : Failure → List ℕ → Type 0
 IsNotText (failures.Read input) reported = ⊥
 IsNotText failures.Write reported = ⊥

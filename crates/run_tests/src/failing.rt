@@ -65,8 +65,8 @@ fn the_first_that_fails_is_reported(rt: HostRuntime) {
     }
 }
 
-/// Which device a run tells where one of them fails after some bytes: 0 to 3 one that gives, 4 the one that takes; 5 where none
-/// is reported.
+/// Which device a run names where one of them fails after some bytes: 0 to 3 one that gives, 4 the one that takes; 5 where
+/// none is reported.
 fn reported_of(alloc: Global, broken: usize, good: usize, out: &mut Drip) -> usize
     requires { out.old.failed ≡ false }
 {
@@ -79,7 +79,7 @@ fn reported_of(alloc: Global, broken: usize, good: usize, out: &mut Drip) -> usi
     reported_with(alloc, good, out)
 }
 
-/// Which device a run tells where two of them fail at once, as `reported_of` does.
+/// Which device a run names where two of them fail at once, as `reported_of` does.
 fn reported_of_two(alloc: Global, first: usize, second: usize, out: &mut Drip) -> usize
     requires { out.old.failed ≡ false }
 {
@@ -92,7 +92,7 @@ fn reported_of_two(alloc: Global, first: usize, second: usize, out: &mut Drip) -
     reported_with(alloc, good, out)
 }
 
-/// Which device a run tells where the devices give so many bytes.
+/// Which device a run names where the devices give so many bytes.
 fn reported_with(alloc: Global, good: [usize; 4], out: &mut Drip) -> usize
     requires { out.old.failed ≡ false }
 {

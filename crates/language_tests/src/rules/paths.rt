@@ -1,4 +1,4 @@
-//! Paths of texts for include lines that no list of files can tell.
+//! Paths of texts for include lines that no list of files can hold.
 use crate::made::of_root;
 use mk_name::fault::Halt;
 use mk_rules::includes::Includes;

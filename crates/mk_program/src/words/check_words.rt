@@ -21,7 +21,7 @@ pub(super) fn check_command<'a>(alloc: Global) -> Result<Command<'a>, AllocError
     with_tasks(alloc, command)?.arg(flag(alloc, "print-proof", help::PRINT_PROOF))
 }
 
-/// The check that these matches of the subcommand ask for. The only error is want of memory.
+/// The check that these matches of the subcommand ask for. The only error is out of memory.
 pub(super) fn check_args<'a>(
     alloc: Global,
     found: &ArgMatches<'a>,

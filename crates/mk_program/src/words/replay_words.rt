@@ -51,7 +51,7 @@ fn tie<'a>(alloc: Global) -> Arg<'a>
         .help(help::TIE)
 }
 
-/// What these matches of a subcommand that reads a log ask for. The only error is want of memory.
+/// What these matches of a subcommand that reads a log ask for. The only error is out of memory.
 pub(super) fn replay_args<'a>(
     alloc: Global,
     found: &ArgMatches<'a>,

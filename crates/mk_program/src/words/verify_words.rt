@@ -21,7 +21,7 @@ pub(super) fn verify_command<'a>(alloc: Global) -> Result<Command<'a>, AllocErro
     with_tasks(alloc, command)?.arg(option(alloc, "proof", "PROOF", help::PROOF, true))
 }
 
-/// The proof that these matches of the subcommand name. The only error is want of memory.
+/// The proof that these matches of the subcommand name. The only error is out of memory.
 pub(super) fn verify_args<'a>(
     alloc: Global,
     found: &ArgMatches<'a>,

@@ -4,7 +4,7 @@ use Rattle.mk_text.specs.Blocks.{physical_lines}
 use Rattle.mk_program.specs.Includes.{Pair, pairs_of, shown}
 use Rattle.mk_program.proofs.includes.read_listed.Given as goal
 
--- the texts so far with those of the rest are all of them, and the opener tells what it told at the start
+-- the texts so far with those of the rest are all of them, and the opener states what it stated at the start
 abbrev pub invariant-lines : goal.invariant-lines
 invariant-lines g l = record {
   reported : (pairs : List Pair) → pairs_of (g.P.Opener.text l.fn.opener) (physical_lines l.fn.listed) ≡ Some pairs
