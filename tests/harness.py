@@ -38,6 +38,7 @@ NAMED = """
     cases/fix/inferred-target-found-by-another-rule cases/fix/name-that-is-no-word cases/fix/forgotten-header-proof
     cases/serialise/interleaved-run cases/serialise/race cases/serialise/no-files cases/serialise/times-with-just-room
     cases/tasks/check/safe cases/tasks/check/race cases/tasks/check/print-certificate cases/tasks/list/races
+    cases/tasks/fix/lines cases/tasks/fix/nothing-to-fix cases/tasks/fix/print-certificate
     cases/tasks/verify/certificate cases/tasks/faults/label-twice
 """.split()
 PROCESSES = len(os.sched_getaffinity(0))

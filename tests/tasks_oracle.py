@@ -3,14 +3,18 @@
 Tasks take the place of the nodes of a plan, and then are judged as a build is: slowly, all pairs of them.
 """
 import json
+import re
 from types import SimpleNamespace
 
 import answer_oracle
+import fix_oracle
 import oracle
-from answer_oracle import Footprint, Path, spelled
-from language_oracle import Fault
+from answer_oracle import Footprint, Path, spelled, text_of
+from language_oracle import Fault, shown
 
 MOST_TASKS, MOST_EDGES = 20_000, 200_000
+# The commands that take tasks, besides `verify`.
+COMMANDS = ("check", "list", "fix")
 LISTS = ("after", "reads", "writes")
 
 
@@ -97,6 +101,45 @@ def listed(root, text):
     """Status and output of `race list`."""
     answer, refusal = answered(root, text)
     return (2, refusal) if answer is None else (answer.status, answer.listed())
+
+
+def fix(root, text, wants_proof):
+    """Status and output of `race fix`."""
+    answer, refusal = answered(root, text)
+    if answer is None:
+        return 2, refusal
+    edges = fix_oracle.edges_of(answer)
+    labels = answer.jobs.plan.order
+    if answer.jobs.edges + len(edges) > MOST_EDGES:
+        return 1, text_of([[b"# not fixed"], *([b"# needs", shown(labels[it.second]), shown(labels[it.first])] for it in edges)])
+    if wants_proof:
+        return 0, answered(root, with_edges(text, [(labels[it.first], labels[it.second]) for it in edges]))[0].proof()
+    lines = [b"%s: %s # %s\n" % (shown(labels[it.second]), shown(labels[it.first]), fix_oracle.remark(answer, it)) for it in edges]
+    return 0, b"".join([b"# race fix: lines %d\n" % len(edges), *lines] if edges else [])
+
+
+def said(command, root, text, wants_proof):
+    """Status and output of one of the commands."""
+    return listed(root, text) if command == "list" else (fix if command == "fix" else check)(root, text, wants_proof)
+
+
+def with_edges(text, edges):
+    """A text of tasks in which the second label of each of these edges has the first one in its `after` too."""
+    lines = [json.loads(line) for line in text.split(b"\n") if line.strip(oracle.BLANK)]
+    for said in lines:
+        said["after"] += [first.decode() for first, second in edges if second.decode() == said["task"]]
+    return b"".join(json.dumps(said).encode() + b"\n" for said in lines)
+
+
+def edges_in(lines):
+    """The edges, as labels, that lines of a fix say. A shown label has no blank."""
+    rows = [line.split(b" ") for line in lines.splitlines() if not line.startswith(b"# race fix: lines ")]
+    return [(hidden(row[1]), hidden(row[0].removesuffix(b":"))) for row in rows]
+
+
+def hidden(word):
+    """The bytes of which this is the shown form."""
+    return re.sub(rb"\\x(..)", lambda found: bytes.fromhex(found[1].decode()), word)
 
 
 def behind(jobs, number):

@@ -1,0 +1,81 @@
+"""Random texts of tasks, and what the program says of them beside what tests/tasks_oracle.py says."""
+import json
+import random
+
+import harness
+import tasks_oracle
+
+FREE = "t t/ t/u t/u/v out t// /w/t /a/b/t/u d/e/k ../q".split()
+TAKEN = "d/ d/e/ s r.c ./ ../ / /w/d/".split()
+LABELS = ["a", "b", "cc -c x.c", "d/e", "/w/a", "ä", "\\", "x\n", ".", "\0", "t", "lex.o"]
+
+
+def random_tasks(dice):
+    """A text of tasks whose footprints meet; in some a line, a label or a path is odd."""
+    labels = dice.sample(LABELS, dice.randint(0, 9))
+    read, written = dice.sample(FREE + TAKEN, dice.choice([1, 2, 4, 8])), dice.sample(FREE + TAKEN, dice.choice([1, 2, 3]))
+    lines = []
+    for number, label in enumerate(labels):
+        after = [dice.choice(labels[:number]) for _ in range(dice.randint(0, 2)) if number]
+        reads = [dice.choice(read + written) for _ in range(dice.randint(0, 2))]
+        writes = [dice.choice(written) for _ in range(dice.choice([0, 0, 1, 1, 2]))]
+        if dice.random() < 0.02:
+            dice.choice([after, reads, writes]).append(dice.choice(["", "/", label, labels[-1], "\0"]))
+        said = {"task": dice.choice(labels) if dice.random() < 0.02 else label, "after": after, "reads": reads, "writes": writes, "line": number}
+        if dice.random() < 0.02:
+            del said[dice.choice([*said])]
+        lines += [json.dumps(said, ensure_ascii=dice.random() < 0.5)] + dice.choice([[]] * 8 + [["", " \t"]])
+    text = "".join(line + "\n" for line in lines).encode()
+    at = dice.randint(0, len(text))
+    return text if dice.random() < 0.9 else text[:at] + dice.choice([b"", b"\n", b'"', b"1", b"\xff"]) + text[at + 1 :]
+
+
+def said_of_tasks(runner, root, text):
+    """What is said of a text of tasks, and what the model says."""
+    words = ["--tasks", runner.write("tasks", text), b"--root=" + root]
+    said = {
+        ("check",): tasks_oracle.check(root, text, False),
+        ("check", "--print-proof"): tasks_oracle.check(root, text, True),
+        ("list",): tasks_oracle.listed(root, text),
+        ("fix",): tasks_oracle.fix(root, text, False),
+        ("fix", "--print-proof"): tasks_oracle.fix(root, text, True),
+    }
+    for (command, *flags), expected in said.items():
+        told = runner.run([command, *words, *flags])
+        if harness.outcome(told) != (*expected, b""):
+            yield " ".join([command, *flags]), told, expected
+    status, proof = said["check", "--print-proof"]
+    if status < 2:
+        told = runner.run(["verify", *words, "--proof", runner.write("proof", proof)])
+        if harness.outcome(told) != (0, b"accepted\n", b""):
+            yield "verify", told, (0, b"accepted\n")
+    if status < 2:
+        yield from fixed_tasks(runner, words, text)
+
+
+def fixed_tasks(runner, words, text):
+    """What is said of tasks that have the edges of their fix: they are safe, need no more, and the proof of their fix is theirs."""
+    lines, proof = (runner.run(["fix", *words, *flags]).stdout for flags in ([], ["--print-proof"]))
+    fixed = tasks_oracle.with_edges(text, tasks_oracle.edges_in(lines))
+    words = ["--tasks", runner.write("fixed", fixed), *words[2:]]
+    expected = {
+        ("fix",): b"",
+        ("check", "--print-proof"): proof,
+        ("verify", "--proof", runner.write("fixed-proof", proof)): b"accepted\n",
+    }
+    for (command, *more), output in expected.items():
+        told = runner.run([command, *words, *more])
+        if harness.outcome(told) != (0, output, b""):
+            yield f"{command} of fixed tasks", told, (0, output)
+    told = runner.run(["check", *words])
+    if told.status or not told.stdout.startswith(b"safe\n"):
+        yield "check of fixed tasks", told, (0, b"safe")
+
+
+def compare(runner, numbers):
+    """Each text of tasks of these numbers is said to be what it is."""
+    for number in numbers:
+        dice = random.Random(-number - 1)
+        root, text = dice.choice([b"/w", b"/w", b"/", b"/a/b", b"/w/../a//", b"w"]), random_tasks(dice)
+        for command, told, expected in said_of_tasks(runner, root, text):
+            yield f"tasks {number}, {command}: {harness.seen(told)}, expected {expected[0]} {expected[1][:80]}: {text!r}"
