@@ -85,7 +85,8 @@ class NinjaTests:
         self.manifest(GEN + USE + "".join(f"build r{it}: sh\n  c = echo {it} >> rest; touch r{it}\n" for it in range(6)),
                       {"all": f"{shutil.which('ninja')} -j4 a g\n"})
         self.record("sh", "./all")
-        self.check(1, "CONFIRMED  all of a before g:\n")
+        # (with four jobs nothing says which of the two is first in the build that is recorded)
+        self.check(1, "\nCONFIRMED  all of ")
 
     def test_one_command_of_two(self) -> None:
         self.manifest("build a: sh\n  c = echo x >> log\nbuild b: sh\n  c = echo x >> log\n")
