@@ -91,8 +91,9 @@ _race() {
       --base) mapfile -t COMPREPLY < <(compgen -f -- "$word"); return ;;
       --includes) mapfile -t COMPREPLY < <(compgen -f -- "$word"); return ;;
       --footprints) mapfile -t COMPREPLY < <(compgen -f -- "$word"); return ;;
+      --tasks) mapfile -t COMPREPLY < <(compgen -f -- "$word"); return ;;
     esac
-    case $word in -*) mapfile -t COMPREPLY < <(compgen -W "--makefile --listing --root --base --posix-base --includes --footprints --print-proof -h --help" -- "$word"); return ;; esac
+    case $word in -*) mapfile -t COMPREPLY < <(compgen -W "--makefile --listing --root --base --posix-base --includes --footprints --tasks --print-proof -h --help" -- "$word"); return ;; esac
     mapfile -t COMPREPLY < <(compgen -f -- "$word") ;;
   'race-confirm')
     case $before in

@@ -83,6 +83,7 @@ complete -c race -n '__fish_seen_subcommand_from fix' -l base -r -F -d 'A makefi
 complete -c race -n '__fish_seen_subcommand_from fix' -l posix-base -d 'The rules and macros that POSIX.1-2024 lists, in place of --base'
 complete -c race -n '__fish_seen_subcommand_from fix' -l includes -r -F -d 'The paths of the texts that include lines may name, one a line'
 complete -c race -n '__fish_seen_subcommand_from fix' -l footprints -r -F -d 'What the recipes read and write, one object of JSON a line'
+complete -c race -n '__fish_seen_subcommand_from fix' -l tasks -r -F -d 'What tasks wait for, read and write, one object of JSON a line'
 complete -c race -n '__fish_seen_subcommand_from fix' -l print-proof -d 'Print the certificate of the fixed build in place of the lines'
 complete -c race -n '__fish_seen_subcommand_from fix' -s h -l help -d 'Print help'
 

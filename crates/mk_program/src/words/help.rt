@@ -14,8 +14,8 @@ build: where it accepts a certificate, every run of the recipes leaves the same 
 writes the log of a parallel build as that of the same build with one job. `race order` and
 `race replay` end with 0 also on a build whose recipes race.
 
-With --tasks TASKS `check`, `list` and `verify` take tasks that another tool knows, such as a
-recorder of builds, in place of a makefile.
+With --tasks TASKS `check`, `list`, `fix` and `verify` take tasks that another tool knows, such as
+a recorder of builds, in place of a makefile.
 
 Statuses:
   0  check: the build is safe; list: there is no race; fix: the build is safe with the lines;
@@ -211,6 +211,10 @@ The lines rest on the premises of `race check`, also for the recipes as they the
 gain a word. A file that depends on a folder or a phony target is made more often.
 
 With --print-proof the certificate of the build with the lines comes out in their place.
+
+With --tasks TASKS the fix of these tasks is printed, as `race check` reads them. A line then has
+labels: the first task has to wait for the second. Nothing reads these lines: write them into the
+tasks. Where the tasks would have more than 200,000 edges, `# not fixed` and `# needs` come out.
 
 Example, an object that uses a header, which another recipe generates, and does not say so:
   $ printf 'all: gen.h a.o\\ngen.h:\\n\\tsh gen.sh\\na.o: a.c\\n\\tcc -c a.c\\n' > makefile
