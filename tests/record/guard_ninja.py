@@ -36,7 +36,7 @@ HOLES: List[Guard] = [
     Guard("ninja, holes: no manifest", "ninja_runs.py", 'self.holes.append("a ninja read no', 'str("a ninja read no', runs("ninja_that_read_no_manifest")),
     Guard("ninja, holes: a manifest that cannot be read", "ninja_runs.py", '                self.holes.append("the manifest that', '                str("the manifest that', runs("manifest_that_cannot_be_read")),
     Guard("ninja, holes: a manifest that changed since", "ninja_runs.py", "if not any(at > place for at in places):", "if True:", ninja("manifest-that-nobody-kept"), LOST_HOLE),
-    Guard("ninja, holes: a manifest that changed before", "ninja_runs.py", "and not any(at < place for at in places):", "and True:", ninja("manifest-that-changed-twice"), LOST_HOLE),
+    Guard("ninja, holes: a manifest that changed before", "ninja_runs.py", "and not any(at < place for at in places):", "and True:", ninja("manifest-that-changed-twice")),
     Guard("ninja, holes: no log", "ninja_runs.py", 'self.holes.append("ninja left no log', 'str("ninja left no log', ninja("log-is-gone"), LOST_HOLE),
     Guard("ninja, holes: a line of the log too many", "ninja_runs.py", "sorted((counted - ran).keys())[:3]", "()", ninja("log-with-a-line-too-many"), LOST_HOLE),
     Guard("ninja, holes: a line of the log less", "ninja_runs.py", "sorted((ran - counted).keys())[:3]", "()", ninja("log-with-a-line-less"), LOST_HOLE),
