@@ -97,6 +97,7 @@ question_safe (questions.Check proof) path root files answer asks reported tasks
     (reported [] (only_tasks tasks) refl hold).headline
 question_safe (questions.Verify proof) path root files answer asks reported tasks opened = absurd (not_check (codes "verify") asks.0 asks.2 asks.3.0 refl)
 question_safe questions.List path root files answer asks reported tasks opened = absurd (not_check (codes "list") asks.0 asks.2 asks.3 refl)
+question_safe (questions.Fix proof) path root files answer asks reported tasks opened = absurd (not_check (codes "fix") asks.0 asks.2 asks.3.0 refl)
 
 -- what is reported of a safe build, or of safe tasks, says that no schedule shows
 pub says_safe : (words : List (Bor Text)) (files : List ℕ → Option (List ℕ)) (text : List ℕ) → AskToCheck (asked words)

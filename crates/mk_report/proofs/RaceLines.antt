@@ -22,10 +22,10 @@ race_lines_more jobs (first ∷ races) text race own are is = (
 )
 
 -- what is reported of two nodes that clash, least on this path
-pub race_reported : (jobs : Jobs) (race : ℕ × ℕ) (text : List ℕ) (path : Path) → Clash jobs race.0 race.1 → IsLeastOverlap (uses_of jobs) race.0 race.1 path
+pub race_listed : (jobs : Jobs) (race : ℕ × ℕ) (text : List ℕ) (path : Path) → Clash jobs race.0 race.1 → IsLeastOverlap (uses_of jobs) race.0 race.1 path
     → text ≡ race_line jobs path race → IsRaceLine jobs race text
-race_reported jobs race text path clash least is = record { listed = λ _. (path, least, is); left_out = λ no. absurd (no clash) }
+race_listed jobs race text path clash least is = record { listed = λ _. (path, least, is); left_out = λ no. absurd (no clash) }
 
 -- and of two that do not
 pub race_left_out : (jobs : Jobs) (race : ℕ × ℕ) (text : List ℕ) → (Clash jobs race.0 race.1 → ⊥) → text ≡ [] → IsRaceLine jobs race text
-race_left_out jobs race text apart is = record { reported = λ clash. absurd (apart clash); left_out = λ _. is }
+race_left_out jobs race text apart is = record { listed = λ clash. absurd (apart clash); left_out = λ _. is }

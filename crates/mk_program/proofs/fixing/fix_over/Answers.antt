@@ -1,5 +1,7 @@
 use Rattle.std.proofs.lemmas.Result.{IfOk-weaker}
+use Rattle.mk_race.specs.Fixed.{IsFixing}
 use Rattle.mk_race.specs.Stages.{texts_of}
+use Rattle.mk_program.specs.Answers.{IsFixReported}
 use Rattle.mk_program.proofs.Answering.{refusal_not_failed}
 use Rattle.mk_program.proofs.Fixings.{fixed_is, fixing_not_failed, unfixed_is}
 use Rattle.mk_program.proofs.fixing.fix_over.Goals as goal
@@ -21,4 +23,5 @@ returns-in-Err-clause-status c = IfOk-weaker c.refused.result _ _ (λ answer h. 
 
 pub returns-in-Err-clause-answer : goal.returns-in-Err-clause-answer
 returns-in-Err-clause-answer c =
-    IfOk-weaker c.refused.result _ _ (λ answer h. unfixed_is (texts_of c.args.input.now) c.args.input.now.footprints.now c.args.proof c.in-Err.halt h.0 _ _ c.in-Err.ensures.answer h.1 h.2 h.3) c.refused.ensures
+    IfOk-weaker c.refused.result _ _ (λ answer h. unfixed_is (IsFixing (texts_of c.args.input.now) c.args.input.now.footprints.now)
+    (IsFixReported (texts_of c.args.input.now) c.args.input.now.footprints.now c.args.proof) c.in-Err.halt h.0 _ _ c.in-Err.ensures.answer h.1 h.2 h.3) c.refused.ensures
