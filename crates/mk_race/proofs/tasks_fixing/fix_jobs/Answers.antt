@@ -13,8 +13,8 @@ certificate_of-requires c =
     let fix = subst (IsFix c.args.jobs.now) (sym c.deref.ensures.value) c.in_ok-edges.ensures.fix in
     subst IsRaceFree (sym (made_is c.args.jobs.now c.in-Some.new c.deref.result.now c.in_ok-new.field-0 c.in-Some.is c.in_ok-new.ensures)) fix.free
 
-pub returns-in-Err : goal.returns-in-Err
-returns-in-Err c =
+pub returns : goal.returns
+returns c =
     let fix = subst (IsFix c.args.jobs.now) (sym c.deref.ensures.value) c.in_ok-edges.ensures.fix in
     let added = made_is c.args.jobs.now c.in-Some.new c.deref.result.now c.in_ok-new.field-0 c.in-Some.is c.in_ok-new.ensures in
     many_of c.args.jobs.now c.in-Some.new c.deref.result.now c.in-Err.halt fix added c.in-Err.ensures.many
