@@ -101,6 +101,31 @@ def lay_many_headers(folder):
     lay_readers(folder, 1_000, 1_000)
 
 
+def lay_layers(folder, kind="apart"):
+    """Builds at the limits, as a makefile and as tasks: 2,000 layers of 10 recipes, each behind all 10 of the layer before it
+    (199,900 edges), with 50 paths each (1,000,000 paths), of which one is as the kind says. The goals are the last layer."""
+    layers = [[], *([f"r{i}" for i in range(first, first + 10)] for first in range(0, 20_000, 10))]
+    entries = [f"{' '.join(names)}: {' '.join(before)}\n\tm\n" for before, names in zip(layers, layers[1:])]
+    (folder / "makefile").write_text("".join(entries))
+    (folder / "listing").write_text("")
+    with open(folder / "footprints", "w") as footprints, open(folder / "tasks", "w") as tasks:
+        for before, name in ((before, name) for before, names in zip(layers, layers[1:]) for name in names):
+            reads, writes = LAYER_KINDS[kind](int(name[1:]))
+            paths = {"reads": [f"{name}/{k}" for k in range(48)] + reads, "writes": [name, *writes]}
+            footprints.write(json.dumps({"target": name, **paths}) + "\n")
+            tasks.write(json.dumps({"task": name, "after": before, **paths}) + "\n")
+    return layers[-1]
+
+
+# What a recipe of a number reads and writes beside its own: nothing that others have; a folder in which one recipe of the
+# layer before writes a file; or a log of its layer.
+LAYER_KINDS = {
+    "apart": lambda i: ([f"r{i}/48"], []),
+    "shared": lambda i: ([f"d{i // 10 - 1}/"], []) if i % 10 else ([], [f"d{i // 10}/f"]),
+    "races": lambda i: ([], [f"log{i // 10}"]),
+}
+
+
 def lay_hostile(folder):
     """A certificate of a million chains that nothing asks for."""
     names = [f"{i:x}" for i in range(19_999)]

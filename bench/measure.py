@@ -1,20 +1,51 @@
-"""One run of a program: its wall time, its peak memory and what it printed; and what Python takes for the same log."""
+"""One run of a program: its times, its peak memory and what it printed; and what Python takes for the same text."""
+from __future__ import annotations
+
 import json
+import pathlib
+import resource
 import subprocess
+import sys
+import tempfile
 import time
+from dataclasses import dataclass
+
+# A reader of lines of JSON, which keeps nothing: the peer of what reads footprints, tasks or a log.
+READ_BY_PYTHON = (sys.executable, "-c", "import json, sys\nfor line in open(sys.argv[1], encoding='utf-8'): json.loads(line)")
 
 
-def once(folder, command):
-    """Runs a command in a folder. The seconds, the peak memory in MiB as GNU time tells it, and the output."""
-    command = ["time", "-q", "-f", "%M", "-o", "memory", *command]
-    begin = time.perf_counter()
-    out = subprocess.run(command, cwd=folder, stdin=subprocess.DEVNULL, capture_output=True).stdout
-    seconds = time.perf_counter() - begin
-    return seconds, int((folder / "memory").read_text().split()[-1]) / 1024, out
+@dataclass(frozen=True)
+class Run:
+    """The seconds of the clock and of the program itself (user time), the peak memory in MiB, the status and the output."""
+
+    seconds: float
+    user: float
+    memory: float
+    status: int
+    out: bytes
 
 
-def read_by_python(log):
-    """How long Python's json module takes to read a log, in seconds."""
+def once(folder: pathlib.Path, command: list[str]) -> Run:
+    """Runs a command in a folder. GNU time tells the peak memory, and the system the user time of it and of GNU time."""
+    with tempfile.NamedTemporaryFile("r", prefix="race-bench-") as memory:
+        used = resource.getrusage(resource.RUSAGE_CHILDREN).ru_utime
+        begin = time.perf_counter()
+        done = subprocess.run(["time", "-q", "-f", "%M", "-o", memory.name, *command], cwd=folder, stdin=subprocess.DEVNULL,
+                              stdout=subprocess.PIPE, stderr=subprocess.DEVNULL, check=False)
+        seconds = time.perf_counter() - begin
+        used = resource.getrusage(resource.RUSAGE_CHILDREN).ru_utime - used
+        return Run(seconds, used, int(memory.read().split()[-1]) / 1024, done.returncode, done.stdout)
+
+
+def best(runs: int, folder: pathlib.Path, command: list[str]) -> Run:
+    """The least times and the greatest peak memory of so many runs, and what the last one printed."""
+    made = [once(folder, command) for _ in range(runs)]
+    least = [min(getattr(it, name) for it in made) for name in ("seconds", "user")]
+    return Run(*least, max(it.memory for it in made), made[-1].status, made[-1].out)
+
+
+def read_by_python(log: pathlib.Path) -> float:
+    """How long Python's json module takes to read a text of lines, in seconds."""
     begin = time.perf_counter()
     with open(log, encoding="utf-8") as lines:
         for line in lines:

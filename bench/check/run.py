@@ -13,26 +13,24 @@ PROGRAM is the built program (crates/race/out/race). The builds:
   dense     20,000 nodes with nearly 200,000 edges; two recipes, the first and the last but one, share a file
   trees     9,999 pairs of recipes, of which one reads a folder and the other writes a file in it, in order
 
-Printed are, for each, the best wall time of N runs (three) of `race check`; of the part that makes the jobs (`race verify`
-with a proof that is none, which is refused once the jobs are made), of `race verify` with the proof that `race check
---print-proof` gives, and of Python's json module on the footprints alone; and the greatest peak memory of a run. Last come
-a million chains through 1,415 of 20,000 nodes, of which none clash, for `race verify`. With --keep the inputs are left in
-FOLDER. Nothing here is a test.
+Printed are, for each, the best wall time of N runs (three) of `race check` and its user time; the wall time of the part that
+makes the jobs (`race verify` with a proof that is none, which is refused once the jobs are made), of `race verify` with the
+proof that `race check --print-proof` gives, and of Python's json module on the footprints alone; and the greatest peak memory
+of a `race check`. Last come a million chains through 1,415 of 20,000 nodes, of which none clash, for `race verify`. With
+--keep the inputs are left in FOLDER. Nothing here is a test.
 """
 import argparse
-import json
 import os
 import pathlib
 import sys
 import tempfile
-import time
 
 TOP = pathlib.Path(__file__).resolve().parents[2]
 sys.dont_write_bytecode = True
 sys.path.insert(0, str(TOP / "bench"))
 
 from builds import lay_dense, lay_free, lay_hostile, lay_log, lay_paths, lay_sparse, lay_trees
-from measure import once
+from measure import Run, best, read_by_python
 
 BUILDS = {"log": lay_log, "free": lay_free, "sparse": lay_sparse, "paths": lay_paths, "dense": lay_dense, "trees": lay_trees}
 
@@ -41,35 +39,26 @@ class Bench:
     def __init__(self, program, runs):
         self.program, self.runs = program, runs
 
-    def best(self, folder, *words):
-        """The best wall time in seconds, the greatest peak memory in MiB, and what the last run printed."""
+    def best(self, folder, *words) -> Run:
+        """The best of the runs of a command on the build of a folder."""
         inputs = ["--makefile", "makefile", "--listing", "listing", "--footprints", "footprints", "--root", "/w"]
-        runs = [once(folder, [self.program, words[0], *inputs, *words[1:]]) for _ in range(self.runs)]
-        return min(r[0] for r in runs), max(r[1] for r in runs), runs[-1][2]
-
-
-def read_by_python(folder):
-    """How long Python's json module takes to read the footprints."""
-    begin = time.perf_counter()
-    with open(folder / "footprints", encoding="utf-8") as lines:
-        for line in lines:
-            json.loads(line)
-    return time.perf_counter() - begin
+        return best(self.runs, folder, [self.program, words[0], *inputs, *words[1:]])
 
 
 def bench_build(bench, name, lay_out, folder):
     lay_out(folder)
     size = sum((folder / it).stat().st_size for it in ("makefile", "footprints"))
-    check, memory, report = bench.best(folder, "check")
+    check = bench.best(folder, "check")
     (folder / "none").write_text("")
-    jobs, _, refused = bench.best(folder, "verify", "--proof", "none")
-    (folder / "proof").write_bytes(bench.best(folder, "check", "--print-proof")[2])
-    verify, _, verdict = bench.best(folder, "verify", "--proof", "proof")
-    words = " ".join(it.split(b"\n", 1)[0].decode() for it in (report, verdict))
-    if not refused.startswith(b"refused\nF25 "):
+    jobs = bench.best(folder, "verify", "--proof", "none")
+    (folder / "proof").write_bytes(bench.best(folder, "check", "--print-proof").out)
+    verify = bench.best(folder, "verify", "--proof", "proof")
+    words = " ".join(it.out.split(b"\n", 1)[0].decode() for it in (check, verify))
+    if not jobs.out.startswith(b"refused\nF25 "):
         words += ", and the jobs are not made"
+    times = (check.seconds, check.user, jobs.seconds, verify.seconds, read_by_python(folder / "footprints"))
     proof = (folder / "proof").stat().st_size
-    print(f"{name:>8}{size:11}{proof:11}{check:8.2f}{jobs:8.2f}{verify:8.2f}{read_by_python(folder):8.2f}{memory:8.1f}  {words}", flush=True)
+    print(f"{name:>8}{size:11}{proof:11}{''.join(f'{it:8.2f}' for it in times)}{check.memory:8.1f}  {words}", flush=True)
 
 
 def main():
@@ -79,7 +68,7 @@ def main():
     parser.add_argument("--keep", type=pathlib.Path)
     args = parser.parse_args()
     bench = Bench(os.path.abspath(args.program), args.runs)
-    print(f"{'build':>8}{'bytes':>11}{'proof':>11}{'check':>8}{'jobs':>8}{'verify':>8}{'python':>8}{'MiB':>8}  answers")
+    print(f"{'build':>8}{'bytes':>11}{'proof':>11}{'check':>8}{'user':>8}{'jobs':>8}{'verify':>8}{'python':>8}{'MiB':>8}  answers")
     with tempfile.TemporaryDirectory(prefix="race-bench-") as scratch:
         for name, lay_out in BUILDS.items():
             folder = (args.keep or pathlib.Path(scratch)) / name
@@ -88,8 +77,9 @@ def main():
         folder = (args.keep or pathlib.Path(scratch)) / "hostile"
         folder.mkdir(parents=True, exist_ok=True)
         lay_hostile(folder)
-        seconds, memory, told = bench.best(folder, "verify", "--proof", "proof")
-        print(f" hostile: {(folder / 'proof').stat().st_size} bytes of proof, verify {seconds:.2f} s, {memory:.1f} MiB: {told.decode().strip()}")
+        run = bench.best(folder, "verify", "--proof", "proof")
+        size, answer = (folder / "proof").stat().st_size, run.out.decode().strip()
+        print(f" hostile: {size} bytes of proof, verify {run.seconds:.2f} s, {run.memory:.1f} MiB: {answer}")
 
 
 if __name__ == "__main__":

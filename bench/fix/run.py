@@ -26,26 +26,20 @@ sys.dont_write_bytecode = True
 sys.path.insert(0, str(TOP / "bench"))
 
 from builds import lay_free, lay_headers, lay_many_headers, lay_readers, lay_temporaries
-from measure import once
+from measure import Run, best
 
 BUILDS = {"log": lay_free, "header": lay_readers, "temporaries": lay_temporaries, "440": lay_headers, "1,000": lay_many_headers}
 INPUTS = ("--makefile", "makefile", "--listing", "listing", "--footprints", "footprints", "--root", "/w")
 
 
-def best(runs, folder, *command):
-    """The best wall time in seconds, the greatest peak memory in MiB, and what the last run printed."""
-    answers = [once(folder, [*command, *INPUTS]) for _ in range(runs)]
-    return min(it[0] for it in answers), max(it[1] for it in answers), answers[-1][2]
-
-
-def bench_build(program, runs, folder):
+def bench_build(program, runs, folder) -> list[Run]:
     """`check`, `list` and `fix` on a build, and `check` with the lines of `fix` behind its makefile."""
-    answers = [best(runs, folder, program, it) for it in ("check", "list", "fix")]
-    lines = answers[2][2]
+    answers = [best(runs, folder, [program, it, *INPUTS]) for it in ("check", "list", "fix")]
+    lines = answers[2].out
     if lines.startswith(b"# race fix"):
         with open(folder / "makefile", "ab") as makefile:
             makefile.write(lines)
-        answers.append(best(runs, folder, program, "check"))
+        answers.append(best(runs, folder, [program, "check", *INPUTS]))
     return answers
 
 
@@ -61,9 +55,9 @@ def main():
         with tempfile.TemporaryDirectory(prefix="race-bench-") as folder:
             lay_out(pathlib.Path(folder))
             answers = bench_build(program, args.runs, pathlib.Path(folder))
-        numbers = "".join(f"{seconds:8.2f}{memory:8.1f}" for seconds, memory, _ in answers).ljust(64)
-        first = answers[2][2].split(b"\n", 1)[0].decode()
-        print(f"{name:>12}{numbers}{len(answers[1][2]):11}{len(answers[2][2]):10}  {first}", flush=True)
+        numbers = "".join(f"{it.seconds:8.2f}{it.memory:8.1f}" for it in answers).ljust(64)
+        first = answers[2].out.split(b"\n", 1)[0].decode()
+        print(f"{name:>12}{numbers}{len(answers[1].out):11}{len(answers[2].out):10}  {first}", flush=True)
 
 
 if __name__ == "__main__":

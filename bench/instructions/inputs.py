@@ -1,6 +1,6 @@
-"""The inputs whose instructions are counted: those of the other benches, and some that only counting needs.
+"""The inputs whose instructions are counted: those of the other benches, the runs of examples/, and some that only counting needs.
 
-An input lays its files out in a folder and returns the words of a run there.
+An input lays its files out in a folder, and says which words run `race` there, and which run a peer on the same files.
 """
 from __future__ import annotations
 
@@ -8,27 +8,38 @@ import importlib.util
 import pathlib
 import random
 import sys
-from dataclasses import dataclass
+from dataclasses import dataclass, field
 from types import ModuleType
 from typing import Callable
 
 BENCH = pathlib.Path(__file__).resolve().parents[1]
+EXAMPLES = BENCH.parent / "examples"
 sys.path.insert(0, str(BENCH))
 
 import builds
+from measure import READ_BY_PYTHON
 
 Words = list[str]
 EVENTS = 125_000
 BUILD = ["--makefile", "makefile", "--listing", "listing", "--root", "/w"]
-CHECK = ["check", *BUILD, "--footprints", "footprints"]
+FOOTPRINTS = ["--footprints", "footprints"]
+
+
+@dataclass(frozen=True)
+class Laid:
+    """What runs on the files of an input: the words of `race`, the commands of its peers by name, and in which folder."""
+
+    words: Words
+    folder: pathlib.Path
+    peers: dict[str, Words] = field(default_factory=dict)
 
 
 @dataclass(frozen=True)
 class Input:
-    """A name, and what lays the input out and returns the words."""
+    """A name, and what lays the input out in a folder."""
 
     name: str
-    lay_out: Callable[[pathlib.Path], Words]
+    lay_out: Callable[[pathlib.Path], Laid]
 
 
 def bench(folder: str) -> ModuleType:
@@ -45,45 +56,61 @@ ORDER, REPLAY, SERIALISE = bench("order"), bench("replay"), bench("serialise")
 
 
 def order(name: str) -> Input:
-    """An input of bench/order."""
+    """An input of bench/order, with both makes as peers."""
 
-    def lay_out(folder: pathlib.Path) -> Words:
+    def lay_out(folder: pathlib.Path) -> Laid:
         goals = ORDER.lay_out(folder, ORDER.INPUTS[name], 1)
-        return ["order", *BUILD, "--includes", "includes", *goals]
+        peers = {tool: words for tool, words in ORDER.commands("race", str(folder), goals).items() if tool != "race"}
+        return Laid(["order", *BUILD, "--includes", "includes", *goals], folder, peers)
 
     return Input(f"order-{name}", lay_out)
 
 
-def check(name: str, lay: Callable[[pathlib.Path], None]) -> Input:
-    """A build of bench/builds.py, or one of this module, judged."""
+def python(text: str) -> dict[str, Words]:
+    """Python's json module, which reads a text of lines."""
+    return {"python": [*READ_BY_PYTHON, text]}
 
-    def lay_out(folder: pathlib.Path) -> Words:
-        lay(folder)
-        return CHECK
 
-    return Input(f"check-{name}", lay_out)
+def build(command: str, name: str, lay: Callable[[pathlib.Path], Words | None]) -> Input:
+    """A build of bench/builds.py, or one of this module, under a command; the goals are those that laying it out gives."""
+
+    def lay_out(folder: pathlib.Path) -> Laid:
+        return Laid([command, *BUILD, *FOOTPRINTS, *(lay(folder) or [])], folder, python("footprints"))
+
+    return Input(f"{command}-{name}", lay_out)
+
+
+def lay_verify(folder: pathlib.Path) -> Laid:
+    """The proof of the build whose recipes append to one log."""
+    builds.lay_log(folder)
+    pairs = [(a, b) for a in range(1_414) for b in range(a + 1, 1_414)]
+    builds.write_certificate(folder, pairs, builds.BEHIND)
+    return Laid(["verify", *BUILD, *FOOTPRINTS, "--proof", "proof"], folder)
+
+
+def lay_tasks(folder: pathlib.Path) -> Laid:
+    """A text of tasks at the limits."""
+    builds.lay_layers(folder)
+    return Laid(["check", "--tasks", "tasks", "--root", "/w"], folder, python("tasks"))
 
 
 def log(module: ModuleType, command: str) -> Input:
     """The log of bench/replay or bench/serialise, an eighth of its events."""
 
-    def lay_out(folder: pathlib.Path) -> Words:
+    def lay_out(folder: pathlib.Path) -> Laid:
         module.lay_out(folder)
         module.write_log(folder, EVENTS)
-        return [command, *BUILD, "--footprints", "footprints", "--log", "log"]
+        return Laid([command, *BUILD, *FOOTPRINTS, "--log", "log"], folder, python("log"))
 
     return Input(command, lay_out)
 
 
 def lay_headers(folder: pathlib.Path) -> None:
     """700 objects that each need the same 280 headers: 196,000 edges."""
-    headers = [f"include/project/h{number:03}.h" for number in range(280)]
-    objects = [f"src/module/o{number:03}.o" for number in range(700)]
-    lists = [f"{name}: $(HEADERS)\n\tcc\n" for name in objects]
-    goals = [f"all: {' '.join(objects[at:at + 350])}\n" for at in range(0, 700, 350)]
-    (folder / "makefile").write_text(f"HEADERS = {' '.join(headers)}\n" + "".join(goals + lists))
+    text, headers, _goals = ORDER.headers(1)
+    (folder / "makefile").write_text(text)
     (folder / "listing").write_text("".join(f"{name}\n" for name in headers))
-    write_footprints(folder, [(name, headers, [name]) for name in objects])
+    write_footprints(folder, [(name, headers, [name]) for name in (f"src/module/o{number:03}.o" for number in range(700))])
 
 
 def lay_many_lines(folder: pathlib.Path) -> None:
@@ -103,6 +130,15 @@ def lay_shuffled(folder: pathlib.Path) -> None:
     builds.write(folder, [*rules, ("all", names)], [*builds.own(names), ("all", [], ["all"])])
 
 
+def lay_scattered(folder: pathlib.Path) -> None:
+    """4,600 recipes whose names have 40 to 60 bytes and come in no order, with a read each of 10 more such names."""
+    text, listed, _goals = ORDER.scattered(1)
+    (folder / "makefile").write_text(text)
+    (folder / "listing").write_text("".join(f"{name}\n" for name in listed))
+    names = [name[::-1] for name in listed]
+    write_footprints(folder, [(name, [f"{name}/{other[:40]}" for other in listed[at:at + 10]], [name]) for at, name in enumerate(names)])
+
+
 def write_footprints(folder: pathlib.Path, lines: list[tuple[str, list[str], list[str]]]) -> None:
     """Writes a line for each target, its reads and its writes."""
     with open(folder / "footprints", "w", encoding="utf-8") as out:
@@ -110,31 +146,35 @@ def write_footprints(folder: pathlib.Path, lines: list[tuple[str, list[str], lis
             out.write(builds.json.dumps({"target": target, "reads": reads, "writes": writes}) + "\n")
 
 
-def example(name: str) -> Input:
-    """The build of a folder of examples/, judged as it stands there."""
-
-    def lay_out(folder: pathlib.Path) -> Words:
-        given = BENCH.parent / "examples" / name
-        files = {"makefile": "makefile", "listing": "listing", "footprints": "footprints"}
-        for source, place in files.items():
-            (folder / place).write_bytes((given / source).read_bytes())
-        return CHECK
-
-    return Input(f"example-{name}", lay_out)
+def example(cmd: pathlib.Path) -> Input:
+    """A run of examples/, where it stands."""
+    run = cmd.parent
+    place = run / (run / "run-in").read_text().strip() if (run / "run-in").is_file() else run
+    words = cmd.read_text().splitlines()
+    return Input(f"example-{run.parent.name}/{run.name}", lambda folder: Laid(words, place))
 
 
 INPUTS = [
-    Input("version", lambda folder: ["--version"]),
+    Input("version", lambda folder: Laid(["--version"], folder)),
     *[order(name) for name in ORDER.INPUTS],
-    check("sparse", builds.lay_sparse),
-    check("paths", builds.lay_paths),
-    check("dense", builds.lay_dense),
-    check("trees", builds.lay_trees),
-    check("log", builds.lay_log),
-    check("headers", lay_headers),
-    check("many-lines", lay_many_lines),
-    check("shuffled", lay_shuffled),
-    *[example(name) for name in ("calculator", "hello", "generated-header", "shared-log")],
+    build("check", "sparse", builds.lay_sparse),
+    build("check", "paths", builds.lay_paths),
+    build("check", "dense", builds.lay_dense),
+    build("check", "trees", builds.lay_trees),
+    build("check", "log", builds.lay_log),
+    build("check", "free", builds.lay_free),
+    build("check", "layers", builds.lay_layers),
+    Input("check-tasks", lay_tasks),
+    Input("verify-log", lay_verify),
+    build("check", "headers", lay_headers),
+    build("check", "many-lines", lay_many_lines),
+    build("check", "shuffled", lay_shuffled),
+    build("check", "scattered", lay_scattered),
+    build("list", "free", builds.lay_free),
+    build("list", "temporaries", builds.lay_temporaries),
+    build("fix", "header", builds.lay_readers),
+    build("fix", "temporaries", builds.lay_temporaries),
     log(REPLAY, "replay"),
     log(SERIALISE, "serialise"),
+    *[example(cmd) for cmd in sorted(EXAMPLES.glob("*/*/cmd"))],
 ]

@@ -75,9 +75,9 @@ def measured(program, folder, runs):
     """The best seconds, the greatest peak memory and the last finding of each call, over so many runs up to each."""
     seconds, memory, found = {}, {}, {}
     for last in [it for it in CALLS for _ in range(runs)]:
-        _, peak, out = once(folder, [str(program), last])
-        memory[last] = max(memory.get(last, 0), peak)
-        for line in out.decode().splitlines():
+        run = once(folder, [str(program), last])
+        memory[last] = max(memory.get(last, 0), run.memory)
+        for line in run.out.decode().splitlines():
             call, micros, found[call] = line.split(" ", 2)
             seconds[call] = min(seconds.get(call, float("inf")), int(micros) / 1e6)
         if last not in found:

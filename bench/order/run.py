@@ -4,20 +4,26 @@
     bench/order/run.py [--runs N] [--only NAME] [PROGRAM]
 
 PROGRAM is the built program (crates/race/out/race). Each input is made in a folder of its own, with every listed file
-present, so that all three tools look at the same build. Printed are the best wall time of N runs (five) and the
-greatest peak memory of a run, as GNU time tells it (Debian's package `time`). A tool that is not on this machine is
-left out. Nothing here is a test.
+present, so that all three tools look at the same build. Printed are the best wall time of N runs (five), the best user
+time, and the greatest peak memory of a run, as GNU time tells it (Debian's package `time`). A tool that is not on this
+machine is left out. Nothing here is a test.
 """
 import argparse
 import os
 import pathlib
+import random
 import shutil
-import subprocess
 import sys
 import tempfile
-import time
 
 TOP = pathlib.Path(__file__).resolve().parents[2]
+sys.dont_write_bytecode = True
+sys.path.insert(0, str(TOP / "bench"))
+
+from measure import best
+
+# GNU make goes down a chain by calls, and needs more stack than it is given.
+WITH_STACK = ("sh", "-c", 'ulimit -s unlimited; exec "$@"', "sh")
 
 
 def chain(part):
@@ -49,6 +55,23 @@ def long(part):
     rules = [f"{stem}: {stem}.c\n\tcc -c x\n" for stem in stems]
     goals = [f"all: {' '.join(stems[i:i + 1_200])}\n" for i in range(0, len(stems), 1_200)]
     return "".join(goals + rules), [f"{stem}.c" for stem in stems], []
+
+
+def scattered(part):
+    """4,600 targets whose names have 40 to 60 bytes and come in no order, each behind one source, in a text of 1 MiB."""
+    source = random.Random(1)
+    stems = [f"{source.getrandbits(160):040x}{'_object_of_a_component'[:source.randrange(21)]}" for _ in range(int(4_600 * part))]
+    rules = [f"{stem}: {stem[::-1]}\n\tcc -c x\n" for stem in source.sample(stems, len(stems))]
+    goals = [f"all: {' '.join(stems[i:i + 1_000])}\n" for i in range(0, len(stems), 1_000)]
+    return "".join(goals + rules), [stem[::-1] for stem in stems], []
+
+
+def headers(part):
+    """700 objects that each need the same 280 headers, in an entry each, and a goal that needs the objects: 196,700 edges."""
+    names = [f"include/project/h{i:03}.h" for i in range(280)]
+    objects = [f"src/module/o{i:03}.o" for i in range(int(700 * part))]
+    rules = [f"{name}: $(HEADERS)\n\tcc -c x\n" for name in objects]
+    return f"HEADERS = {' '.join(names)}\nall: {' '.join(objects)}\n" + "".join(rules), names, []
 
 
 def short(part):
@@ -94,19 +117,13 @@ INPUTS = {
     "dense": dense,
     "wide": wide,
     "long": long,
+    "scattered": scattered,
+    "headers": headers,
     "short": short,
     "macros": macros,
     "includes": includes,
     "joined": joined,
 }
-
-
-def run(words, folder):
-    """The wall time in seconds, the peak memory in KiB and the status of one run."""
-    command = ["sh", "-c", 'ulimit -s unlimited; exec time -q -f %M -o "$0" "$@"', "memory", *words]
-    begin = time.perf_counter()
-    status = subprocess.run(command, cwd=folder, stdin=subprocess.DEVNULL, stdout=subprocess.DEVNULL, stderr=subprocess.DEVNULL).returncode
-    return time.perf_counter() - begin, int(pathlib.Path(folder, "memory").read_text().split()[-1]), status
 
 
 def lay_out(folder, make_input, part):
@@ -118,6 +135,7 @@ def lay_out(folder, make_input, part):
     pathlib.Path(folder, "includes").write_text("".join(path + "\n" for pairs in texts for path in pairs))
     pathlib.Path(folder, "listing").write_text("".join(path + "\n" for path in listed))
     for path in listed:
+        pathlib.Path(folder, path).parent.mkdir(parents=True, exist_ok=True)
         pathlib.Path(folder, path).touch()
     return goals
 
@@ -136,13 +154,12 @@ def compare(args, name, make_input):
         goals = lay_out(folder, make_input, 1)
         for tool, words in commands(args.program, folder, goals).items():
             if shutil.which(words[0]) is None:
-                print(f"{name:9}{tool:8}   not here")
+                print(f"{name:10}{tool:8}   not here")
                 continue
-            runs = []
-            while len(runs) < args.runs and not (runs and runs[-1][0] > 10):
-                runs.append(run(words, folder))
-            seconds, memory, status = min(r[0] for r in runs), max(r[1] for r in runs), runs[-1][2]
-            print(f"{name:9}{tool:8}{seconds:10.3f}{memory / 1024:8.1f}  {status}", flush=True)
+            run = best(1, pathlib.Path(folder), [*WITH_STACK, *words])
+            if run.seconds < 10:
+                run = best(args.runs, pathlib.Path(folder), [*WITH_STACK, *words])
+            print(f"{name:10}{tool:8}{run.seconds:10.3f}{run.user:10.3f}{run.memory:8.1f}  {run.status}", flush=True)
 
 
 def growth(args, name, make_input):
@@ -151,8 +168,8 @@ def growth(args, name, make_input):
     for part in (1 / 8, 1 / 4, 1 / 2, 1):
         with tempfile.TemporaryDirectory(prefix="race-bench-") as folder:
             words = commands(args.program, folder, lay_out(folder, make_input, part))["race"]
-            times.append(min(run(words, folder)[0] for _ in range(args.runs)))
-    print(f"{name:9}growth  " + "".join(f"{seconds:10.4f}" for seconds in times), flush=True)
+            times.append(best(args.runs, pathlib.Path(folder), [*WITH_STACK, *words]).seconds)
+    print(f"{name:10}growth  " + "".join(f"{seconds:10.4f}" for seconds in times), flush=True)
 
 
 def main():
@@ -162,11 +179,11 @@ def main():
     parser.add_argument("--only", choices=INPUTS)
     args = parser.parse_args()
     args.program = os.path.abspath(args.program)
-    print(f"{'input':9}{'tool':8}{'seconds':>10}{'MiB':>8}  status")
+    print(f"{'input':10}{'tool':8}{'seconds':>10}{'user':>10}{'MiB':>8}  status")
     chosen = [(name, make_input) for name, make_input in INPUTS.items() if args.only in (None, name)]
     for name, make_input in chosen:
         compare(args, name, make_input)
-    print("input   seconds of race at   1/8       1/4       1/2       all")
+    print("input    seconds of race at   1/8       1/4       1/2       all")
     for name, make_input in chosen:
         growth(args, name, make_input)
 

@@ -5,7 +5,7 @@
 
 PROGRAM is the built program (crates/race/out/race). The build has 9,999 sources, a recipe for each, and a goal that needs
 what they make: 19,999 nodes. In the log each recipe starts, looks at its source, puts its target again and again, each time
-newer than every file, and finishes; the events are 1,000,000 without --events. Printed are the best wall time
+newer than every file, and finishes; the events are 1,000,000 without --events. Printed are the best wall time and user time
 of N runs (three) and the greatest peak memory of a run, at an eighth, a quarter, a half and the whole of the events,
 and what Python's json module alone takes to read the same log. Nothing here is a test.
 """
@@ -13,18 +13,17 @@ import argparse
 import json
 import os
 import pathlib
-import subprocess
 import sys
 import tempfile
-import time
 
 TOP = pathlib.Path(__file__).resolve().parents[2]
 sys.dont_write_bytecode = True
 sys.path.insert(0, str(TOP / "bench"))
 
-from measure import read_by_python
+from measure import best, read_by_python
 
 RECIPES = 9_999
+INPUTS = "--makefile makefile --listing listing --footprints footprints --log log --root /w".split()
 
 
 def lay_out(folder):
@@ -67,18 +66,6 @@ def write_log(folder, count):
     return written
 
 
-def run(program, folder):
-    """The wall time in seconds, the peak memory in MiB and the first line of one run."""
-    inputs = ["--makefile", "makefile", "--listing", "listing", "--footprints", "footprints", "--log", "log"]
-    words = [program, "replay", *inputs, "--root", "/w"]
-    command = ["time", "-q", "-f", "%M", "-o", "memory", *words]
-    begin = time.perf_counter()
-    out = subprocess.run(command, cwd=folder, stdin=subprocess.DEVNULL, capture_output=True).stdout
-    seconds = time.perf_counter() - begin
-    memory = int(pathlib.Path(folder, "memory").read_text().split()[-1]) / 1024
-    return seconds, memory, out.split(b"\n", 1)[0].decode()
-
-
 def main():
     parser = argparse.ArgumentParser(description=__doc__, formatter_class=argparse.RawDescriptionHelpFormatter)
     parser.add_argument("program", nargs="?", default=str(TOP / "crates/race/out/race"))
@@ -86,7 +73,7 @@ def main():
     parser.add_argument("--events", type=int, default=1_000_000)
     args = parser.parse_args()
     program = os.path.abspath(args.program)
-    print(f"{'events':>10}{'bytes':>12}{'seconds':>10}{'MiB':>8}{'python':>8}  answer")
+    print(f"{'events':>10}{'bytes':>12}{'seconds':>10}{'user':>8}{'MiB':>8}{'python':>8}  answer")
     with tempfile.TemporaryDirectory(prefix="race-bench-") as folder:
         lay_out(folder)
         for part in (8, 4, 2, 1):
@@ -94,9 +81,9 @@ def main():
             log = pathlib.Path(folder, "log")
             size = log.stat().st_size
             python = read_by_python(log)
-            runs = [run(program, folder) for _ in range(args.runs)]
-            seconds, memory = min(r[0] for r in runs), max(r[1] for r in runs)
-            print(f"{count:10}{size:12}{seconds:10.2f}{memory:8.1f}{python:8.2f}  {runs[-1][2]}", flush=True)
+            run = best(args.runs, pathlib.Path(folder), [program, "replay", *INPUTS])
+            answer = run.out.split(b"\n", 1)[0].decode()
+            print(f"{count:10}{size:12}{run.seconds:10.2f}{run.user:8.2f}{run.memory:8.1f}{python:8.2f}  {answer}", flush=True)
 
 
 if __name__ == "__main__":

@@ -6,25 +6,23 @@
 PROGRAM is the built program (crates/race/out/race). The build has 9,999 sources, a recipe for each, and a goal that needs
 what they make: 19,999 nodes. In the log nine recipes run at a time: they start, look at their sources and put their targets
 in turn, again and again, each time newer than every file, and finish; the events are 1,000,000 without --events. So
-in the log that is written nearly every event stands elsewhere, and each put has another time. Printed are the best
-wall times of N runs (three) and the greatest peak memory of a run, at an eighth, a quarter, a half and the whole of the
-events, the bytes that are written, and what Python's json module alone takes to read the log, since the speed of a
-machine may change from one minute to the next. Nothing here is a test.
+in the log that is written nearly every event stands elsewhere, and each put has another time. Printed are, at an eighth,
+a quarter, a half and the whole of the events, the best wall times of N runs (three) of both, the user time and the greatest
+peak memory of `race serialise`, the bytes that it writes, and what Python's json module alone takes to read the log, since
+the speed of a machine may change from one minute to the next. Nothing here is a test.
 """
 import argparse
 import json
 import os
 import pathlib
-import subprocess
 import sys
 import tempfile
-import time
 
 TOP = pathlib.Path(__file__).resolve().parents[2]
 sys.dont_write_bytecode = True
 sys.path.insert(0, str(TOP / "bench"))
 
-from measure import read_by_python
+from measure import Run, best, read_by_python
 
 RECIPES = 9_999
 TOGETHER = 9
@@ -75,18 +73,13 @@ def write_log(folder, count):
     return written
 
 
-def run(program, subcommand, folder):
-    """The wall time in seconds, the peak memory in MiB and the bytes that one run writes."""
-    inputs = ["--makefile", "makefile", "--listing", "listing", "--footprints", "footprints", "--log", "log"]
-    words = [program, subcommand, *inputs, "--root", "/w", "--limit", str(TOGETHER)]
-    command = ["time", "-q", "-f", "%M", "-o", "memory", *words]
-    begin = time.perf_counter()
-    done = subprocess.run(command, cwd=folder, stdin=subprocess.DEVNULL, capture_output=True)
-    seconds = time.perf_counter() - begin
-    if done.returncode != 0:
-        sys.exit(f"{subcommand}: {done.stdout[:200]}")
-    memory = int(pathlib.Path(folder, "memory").read_text().split()[-1]) / 1024
-    return seconds, memory, len(done.stdout)
+def run(args, subcommand, folder) -> Run:
+    """The best of the runs of a command on the log of a folder."""
+    inputs = "--makefile makefile --listing listing --footprints footprints --log log --root /w --limit".split()
+    found = best(args.runs, pathlib.Path(folder), [os.path.abspath(args.program), subcommand, *inputs, str(TOGETHER)])
+    if found.status != 0:
+        sys.exit(f"{subcommand}: {found.out[:200]}")
+    return found
 
 
 def main():
@@ -95,8 +88,7 @@ def main():
     parser.add_argument("--runs", type=int, default=3)
     parser.add_argument("--events", type=int, default=1_000_000)
     args = parser.parse_args()
-    program = os.path.abspath(args.program)
-    print(f"{'events':>10}{'bytes':>12}{'replay':>10}{'serialise':>11}{'MiB':>8}{'written':>12}{'python':>8}")
+    print(f"{'events':>10}{'bytes':>12}{'replay':>10}{'serialise':>11}{'user':>8}{'MiB':>8}{'written':>12}{'python':>8}")
     with tempfile.TemporaryDirectory(prefix="race-bench-") as folder:
         lay_out(folder)
         for part in (8, 4, 2, 1):
@@ -104,10 +96,9 @@ def main():
             log = pathlib.Path(folder, "log")
             size = log.stat().st_size
             python = min(read_by_python(log) for _ in range(args.runs))
-            replays = [run(program, "replay", folder) for _ in range(args.runs)]
-            runs = [run(program, "serialise", folder) for _ in range(args.runs)]
-            replay, seconds, memory = min(r[0] for r in replays), min(r[0] for r in runs), max(r[1] for r in runs)
-            print(f"{count:10}{size:12}{replay:10.2f}{seconds:11.2f}{memory:8.1f}{runs[-1][2]:12}{python:8.2f}", flush=True)
+            replay, new = run(args, "replay", folder), run(args, "serialise", folder)
+            times = f"{replay.seconds:10.2f}{new.seconds:11.2f}{new.user:8.2f}"
+            print(f"{count:10}{size:12}{times}{new.memory:8.1f}{len(new.out):12}{python:8.2f}", flush=True)
 
 
 if __name__ == "__main__":

@@ -1,0 +1,91 @@
+-- A build of a store whose nodes are known leaves one whose nodes are settled: who did not start had no reason to.
+use Rattle.std.proofs.Common.{ℕ, ◌≡◌, inl, inr, Bool, true, false, List, Option, Some, sym, ap, ◌∙◌, subst, lt_trans}
+use Rattle.std.proofs.lemmas.Bool.{false≢true}
+use Rattle.mk_name.specs.Names.{Name}
+use Rattle.mk_jobs.specs.Jobs.{Jobs, IsValid, IsRaceFree, IsPrerequisite, name_of, is_live, is_listed, may_write}
+use Rattle.mk_jobs.proofs.JobsLemmas.{live_node}
+use Rattle.mk_sched.specs.Stores.{Bytes, Store, bytes_of}
+use Rattle.mk_sched.specs.Events.{Event, phase, is_started, history, store_after}
+use Rattle.mk_sched.specs.Programs.{Program}
+use Rattle.mk_sched.proofs.Basics.{split, last_of}
+use Rattle.mk_sched.proofs.OneRun.{wrote, last_write, unstarted_empty}
+use Rattle.mk_stale.specs.Watching.{RunsWith, IsLastWriter, Watches, always, named, through, written, never, IsInput, IsDeclared}
+use Rattle.mk_stale.specs.Doings.{AreGood}
+use Rattle.mk_stale.specs.Incremental.{HasSources, IsBuild}
+use Rattle.mk_stale.specs.Laws.{IsSettled, AllKnown, BuildSettles}
+use Rattle.mk_stale.proofs.Alone.{started_settled}
+use Rattle.mk_stale.proofs.Waking.{will_always, put_wakes, carries_starts, will_start}
+
+module _ (jobs : Jobs) (programs : ℕ → Program) (fixed : Name → Bool) (opening : Store) (past : List Event) (valid : IsValid jobs) (free : IsRaceFree jobs)
+    (declared : IsDeclared jobs fixed) (good : AreGood jobs programs) (has : HasSources jobs opening) (build : IsBuild jobs programs opening past) where
+  abbrev Starts : ℕ → Type 0
+  Starts n = is_started (phase past n) ≡ true
+
+  carried_on : (m n : ℕ) → RunsWith jobs m n → Starts m → Starts n
+  carried_on m n (inl often) started = will_start jobs build.tie build.limit opening past valid build.run build.complete free fixed declared programs good build.follows n (will_always jobs opening n valid has often)
+  carried_on m n (inr way) started = carries_starts jobs build.tie build.limit opening past valid build.run build.complete free fixed declared programs good build.follows m n way started
+
+  -- who wrote x has started
+  writer_started : (m : ℕ) (x : Name) (c : Option Bytes) → last_of x (history past m) ≡ Some c → Starts m
+  writer_started m x c some = split (is_started (phase past m)) (λ started. started)
+      (λ idle. absurd (let none = ap (last_of x) (unstarted_empty jobs build.tie build.limit opening past m build.run idle) in cc))
+
+  -- a node that names x starts if x was written
+  naming_starts : (n m : ℕ) (x : Name) (c : Option Bytes) → is_live jobs n ≡ true → (p : ℕ) → IsPrerequisite jobs p n → name_of jobs p ≡ x → last_of x (history past m) ≡ Some c → Starts n
+  naming_starts n m x c live p step is some =
+      let writes = subst (λ y. may_write jobs m y ≡ true) (sym is) (wrote jobs build.tie build.limit opening past m x c build.run some).0 in
+      let own : m ≡ p = valid.own m p (lt_trans (valid.smaller n p step) (live_node jobs n live)) writes in
+      put_wakes jobs build.tie build.limit opening past valid build.run build.complete n p c live step
+      (ap (λ k. last_of (name_of jobs p) (history past k)) (sym own) ∙ ap (λ y. last_of y (history past m)) is ∙ some)
+
+  -- and so does each node that watches x
+  watching_starts : (n m : ℕ) (x : Name) (c : Option Bytes) → is_live jobs n ≡ true → last_of x (history past m) ≡ Some c → Watches jobs n x → Starts n
+  watching_starts n m x c live some (always often) = carried_on m n (inl often) (writer_started m x c some)
+  watching_starts n m x c live some (named (p, step, is)) = naming_starts n m x c live p step is some
+  watching_starts n m x c live some (through {k = k} live_k (p, step, is) way) = carried_on k n (inr way) (naming_starts k m x c live_k p step is some)
+  watching_starts n m x c live some (written {w = w} last way) =
+      let started = writer_started m x c some in
+      carried_on w n (inr way) (elim (declared.last m w x (wrote jobs build.tie build.limit opening past m x c build.run some).0 last) [
+        | inl same ↦ subst Starts same started
+        | inr with ↦ carried_on m w with started
+      ])
+  watching_starts n m x c live some (never {p = p} inside is nowhere) =
+      let writes = subst (λ y. may_write jobs m y ≡ true) (sym is) (wrote jobs build.tie build.limit opening past m x c build.run some).0 in
+      let makes = subst (λ k. may_write jobs k (name_of jobs p) ≡ true) (valid.own m p inside writes) writes in
+      absurd (split (is_listed jobs p) (λ listed. false≢true (rw listed at nowhere)) (λ unlisted. false≢true (rw (unlisted, makes) at nowhere)))
+
+  -- what was written and is an input of n, or written last by n, made n start
+  input_starts : (n m : ℕ) (x : Name) (c : Option Bytes) → is_live jobs n ≡ true → last_of x (history past m) ≡ Some c → IsInput jobs n x → Starts n
+  input_starts n m x c live some input = elim (declared.watched n x input) [
+    | inl tight ↦ absurd (false≢true (sym (declared.made m x (wrote jobs build.tie build.limit opening past m x c build.run some).0) ∙ tight))
+    | inr watches ↦ watching_starts n m x c live some watches
+  ]
+
+  last_starts : (n m : ℕ) (x : Name) (c : Option Bytes) → last_of x (history past m) ≡ Some c → IsLastWriter jobs n x → Starts n
+  last_starts n m x c some last = elim (declared.last m n x (wrote jobs build.tie build.limit opening past m x c build.run some).0 last) [
+    | inl same ↦ subst Starts same (writer_started m x c some)
+    | inr with ↦ carried_on m n with (writer_started m x c some)
+  ]
+
+  -- so a name that would make an idle node start stands as at the opening
+  stays_if : (n : ℕ) (x : Name) → is_started (phase past n) ≡ false → ((m : ℕ) (c : Option Bytes) → last_of x (history past m) ≡ Some c → Starts n) → bytes_of (store_after opening past x) ≡ bytes_of (opening x)
+  stays_if n x idle wakes = elim (last_write jobs build.tie build.limit opening past x free build.run) [
+    | inl untouched ↦ untouched.0
+    | inr touched ↦ absurd (false≢true (sym idle ∙ wakes touched.writer _ touched.left))
+  ]
+
+  settled_after : AllKnown jobs programs opening → (n : ℕ) → is_live jobs n ≡ true → IsSettled jobs programs (store_after opening past) n
+  settled_after known n live = split (is_started (phase past n))
+      (λ started. started_settled jobs build.tie build.limit opening free valid fixed declared programs past build.run build.follows n started)
+      (λ idle.
+      let old = known n live (λ will. false≢true (sym idle ∙ will_start jobs build.tie build.limit opening past valid build.run build.complete free fixed declared programs good build.follows n will)) in
+      record {
+        start = old.start;
+        history = old.history;
+        does = old.does;
+        inputs = λ x input. old.inputs x input ∙ sym (stays_if n x idle (λ m c some. input_starts n m x c live some input));
+        stays = λ x last. stays_if n x idle (λ m c some. last_starts n m x c some last) ∙ old.stays x last;
+      })
+
+pub build_settles : BuildSettles
+build_settles jobs programs fixed opening past valid free declared good has known build = settled_after jobs programs fixed opening past valid free declared good has build known

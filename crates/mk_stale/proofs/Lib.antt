@@ -1,0 +1,6 @@
+pub mod Alone
+pub mod Building
+pub mod Editing
+pub mod Keeping
+pub mod Settling
+pub mod Waking

@@ -1,0 +1,156 @@
+-- Which nodes run: those that are stale when they are decided on, and those to which one that runs carries.
+use Rattle.std.proofs.Common.{ℕ, zero, suc, ◌≡◌, ◌<◌, ◌||◌, nat_lt, Bool, true, false, List, [], ◌∷◌, Option, Some, None, refl, sym, ap, ◌∙◌, subst, is_none, is_some, Contains, lt-ltb, lt_trans, arith}
+use Rattle.std.specs.List.{list_any}
+use Rattle.std.proofs.lemmas.Bool.{false≢true, and_parts, or_left, or_right}
+use Rattle.std.proofs.lemmas.List.Elements.{Contains-append_right}
+use Rattle.mk_name.specs.Names.{Name, same_name}
+use Rattle.mk_jobs.specs.Jobs.{Jobs, IsValid, IsRaceFree, IsPrerequisite, node_count, name_of, prerequisites_of, has_recipe, is_live, is_phony, is_listed}
+use Rattle.mk_jobs.proofs.JobsLemmas.{live_node}
+use Rattle.mk_sched.specs.Stores.{Bytes, File, Store, is_stale, outdates}
+use Rattle.mk_sched.specs.Events.{Event, Entry, Looked, Wrote, entries, is_started, phase, history, store_after}
+use Rattle.mk_sched.specs.Runs.{IsRun, IsComplete}
+use Rattle.mk_sched.specs.Programs.{Program, FollowsPrograms}
+use Rattle.mk_sched.proofs.Basics.{split, split_option, passed_begun, last_of, LeftBy, LeftBy-weaker}
+use Rattle.mk_sched.proofs.OneRun.{own_file, own_last, IsLater, Decided, decided}
+use Rattle.mk_stale.specs.Watching.{makes_own, is_never_there, RunsAlways, itself, needs, behind, Carries, edge, further, IsDeclared}
+use Rattle.mk_stale.specs.Doings.{has_write, AreGood}
+use Rattle.mk_stale.specs.Incremental.{HasSources}
+use Rattle.mk_stale.specs.Laws.{WillRun, stale, carried}
+use Rattle.mk_stale.proofs.Alone.{did}
+
+-- an element that passes is found, and what is found is such an element
+found : {X : Type 0} (p : X → Bool) (xs : List X) (x : X) → Contains xs x → p x ≡ true → list_any p xs ≡ true
+found p [] x (k, less, is) pass = absurd (omega arith)
+found p (y ∷ ys) x (zero, less, is) pass = or_left _ _ (ap p is ∙ pass)
+found p (y ∷ ys) x (suc k, less, is) pass = or_right _ _ (found p ys x (k, omega arith, is) pass)
+
+one_passes : {X : Type 0} (p : X → Bool) (xs : List X) → list_any p xs ≡ true → (x : X) × Contains xs x × (p x ≡ true)
+one_passes p [] some = absurd (false≢true some)
+one_passes p (x ∷ xs) some = split (p x)
+    (λ here. (x, (0, omega arith, refl), here))
+    (λ other. let rest = one_passes p xs (rw other at some) in (rest.0, Contains-append_right (x ∷ []) xs rest.0 rest.1, rest.2))
+
+pub absent_if : (file : Option File) → is_some file ≡ false → file ≡ None
+absent_if None none = refl
+absent_if (Some file) none = cc
+
+module _ (jobs : Jobs) where
+  -- a node is stale if it is phony, or absent, or if one prerequisite makes each file of its own out of date
+  pub phony_stale : (tie : Bool) (store : Store) (n : ℕ) → is_phony jobs n ≡ true → is_stale jobs tie store n ≡ true
+  phony_stale tie store n phony = or_left _ _ (or_left _ _ phony)
+
+  pub absent_stale : (tie : Bool) (store : Store) (n : ℕ) → store (name_of jobs n) ≡ None → is_stale jobs tie store n ≡ true
+  absent_stale tie store n none = or_left _ _ (or_right _ _ (ap is_none none))
+
+  pub stale_by : (tie : Bool) (store : Store) (n p : ℕ) → IsPrerequisite jobs p n
+      → ((own : File) → store (name_of jobs n) ≡ Some own → is_phony jobs p || outdates tie (Some own) (store (name_of jobs p)) ≡ true) → is_stale jobs tie store n ≡ true
+  stale_by tie store n p step old = split_option (store (name_of jobs n))
+      (λ none. absent_stale tie store n none)
+      (λ own some. or_right _ _ (found (λ q. is_phony jobs q || outdates tie (store (name_of jobs n)) (store (name_of jobs q))) (prerequisites_of jobs n) p step
+      (subst (λ file. is_phony jobs p || outdates tie file (store (name_of jobs p)) ≡ true) (sym some) (old own some))))
+
+  -- what is never there is absent from a store with the sources
+  pub never_there : (store : Store) (p : ℕ) → HasSources jobs store → p < node_count jobs → is_never_there jobs p ≡ true → store (name_of jobs p) ≡ None
+  never_there store p has inside nowhere = split (is_listed jobs p)
+      (λ listed. absurd (false≢true (rw listed at nowhere)))
+      (λ unlisted. split (makes_own jobs p)
+      (λ makes. absurd (false≢true (rw (unlisted, makes) at nowhere)))
+      (λ other. absent_if _ (has p inside other ∙ unlisted)))
+
+  -- who runs always will run
+  pub will_always : (store : Store) (n : ℕ) → IsValid jobs → HasSources jobs store → RunsAlways jobs n → WillRun jobs store n
+  will_always store n valid has (itself live restless) = stale live (split (is_phony jobs n)
+      (λ phony. phony_stale false store n phony)
+      (λ plain. absent_stale false store n (never_there store n has (live_node jobs n live) (rw plain at restless))))
+  will_always store n valid has (needs {p = p} live step restless) = stale live (stale_by false store n p step (λ own some. split (is_phony jobs p)
+      (λ phony. or_left _ _ phony)
+      (λ plain. or_right _ _ (ap (outdates false (Some own)) (never_there store p has (lt_trans (valid.smaller n p step) (live_node jobs n live)) (rw plain at restless))))))
+  will_always store n valid has (behind {p = p} live step often makes) = carried (will_always store p valid has often) (edge live step makes)
+
+-- a write by the prerequisite's own node makes the own file out of date
+wrote_outdates : (tie : Bool) (own : File) (start now : Option File) (c : Option Bytes) → LeftBy (λ time. own.time < time) start now (Some c) → outdates tie (Some own) now ≡ true
+wrote_outdates tie own start now None left = ap (outdates tie (Some own)) left
+wrote_outdates tie own start now (Some bytes) left = ap (outdates tie (Some own)) left.1 ∙ or_left _ _ (lt-ltb own.time left.0 left.2)
+
+-- what made it out of date without equal times still does, whatever that node did
+newer_outdates : (tie : Bool) (own : File) (other : Option File) → outdates false (Some own) other ≡ true → outdates tie (Some own) other ≡ true
+newer_outdates tie own None old = refl
+newer_outdates tie own (Some other) old = split (nat_lt own.time other.time) (λ less. or_left _ _ less) (λ not_less. absurd (false≢true (rw not_less at old)))
+
+still_outdates : (tie : Bool) (own : File) (start now : Option File) (last : Option (Option Bytes)) → LeftBy (λ time. own.time < time) start now last → outdates false (Some own) start ≡ true → outdates tie (Some own) now ≡ true
+still_outdates tie own start now None left old = ap (outdates tie (Some own)) left ∙ newer_outdates tie own start old
+still_outdates tie own start now (Some c) left old = wrote_outdates tie own start now c left
+
+-- a history with a write has a last one
+last_written : (x : Name) (es : List Entry) → has_write x es ≡ true → (c : Option Bytes) × (last_of x es ≡ Some c)
+last_written x [] some = absurd (false≢true some)
+last_written x (Looked path seen ∷ es) some = last_written x es some
+last_written x (Wrote path left ∷ es) some = split (same_name path x)
+    (λ same. (left, rw same refl))
+    (λ other. let earlier = last_written x es (rw other at some) in (earlier.0, rw other earlier.1))
+
+module _ (jobs : Jobs) (tie : Bool) (limit : ℕ) (opening : Store) (past : List Event) (valid : IsValid jobs) (run : IsRun jobs tie limit opening past) (complete : IsComplete jobs past) where
+  decision : (n : ℕ) → is_live jobs n ≡ true → Decided jobs tie limit opening past n
+  decision n live = decided jobs tie limit opening past n run (passed_begun _ (complete n (live_node jobs n live)))
+
+  -- a live node that is stale when it is decided on has started
+  starts_if : (n : ℕ) (live : is_live jobs n ≡ true) → is_stale jobs tie (store_after opening (decision n live).earlier) n ≡ true → is_started (phase past n) ≡ true
+  starts_if n live old = let d = decision n live in d.chosen ∙ rw ((and_parts (has_recipe jobs n) _ live).0, old) refl
+
+  -- its own file is then as at the opening
+  own_now : (n : ℕ) (live : is_live jobs n ≡ true) → store_after opening (decision n live).earlier (name_of jobs n) ≡ opening (name_of jobs n)
+  own_now n live = let d = decision n live in own_file jobs tie limit opening d.earlier n valid d.run (live_node jobs n live) (ap is_started d.ready.waits)
+
+  -- and a prerequisite's file is what its own node left, which is newer than the node's file if it was put
+  step_now : (n p : ℕ) (live : is_live jobs n ≡ true) → IsPrerequisite jobs p n → (own : File) → opening (name_of jobs n) ≡ Some own
+      → LeftBy (λ time. own.time < time) (opening (name_of jobs p)) (store_after opening (decision n live).earlier (name_of jobs p)) (last_of (name_of jobs p) (history past p))
+  step_now n p live step own some =
+      let d = decision n live in
+      let inside = live_node jobs n live in
+      let left = own_last jobs tie limit opening d.earlier p valid d.run (lt_trans (valid.smaller n p step) inside) in
+      let late = LeftBy-weaker (IsLater jobs tie limit opening d.earlier) (λ time. own.time < time) (λ time later. later n own inside (ap is_started d.ready.waits) some) _ _ _ left in
+      subst (λ acts. LeftBy (λ time. own.time < time) (opening (name_of jobs p)) (store_after opening d.earlier (name_of jobs p)) (last_of (name_of jobs p) (entries acts))) (sym (d.final p (d.ready.prerequisites p step))) late
+
+  -- a node whose prerequisite's file was written by its own node has started
+  pub put_wakes : (n p : ℕ) (c : Option Bytes) → is_live jobs n ≡ true → IsPrerequisite jobs p n → last_of (name_of jobs p) (history past p) ≡ Some c → is_started (phase past n) ≡ true
+  put_wakes n p c live step some =
+      let d = decision n live in
+      starts_if n live (stale_by jobs tie (store_after opening d.earlier) n p step (λ own here. or_right _ _ (
+      let opened : opening (name_of jobs n) ≡ Some own = sym (own_now n live) ∙ here in
+      let left = subst (LeftBy (λ time. own.time < time) (opening (name_of jobs p)) (store_after opening d.earlier (name_of jobs p))) some (step_now n p live step own opened) in
+      wrote_outdates tie own (opening (name_of jobs p)) (store_after opening d.earlier (name_of jobs p)) c left)))
+
+  -- a node that is stale at the opening, where equal times do not count, has started
+  stale_starts : (n : ℕ) → is_live jobs n ≡ true → is_stale jobs false opening n ≡ true → is_started (phase past n) ≡ true
+  stale_starts n live old =
+      let d = decision n live in
+      starts_if n live (split (is_phony jobs n)
+      (λ phony. phony_stale jobs tie (store_after opening d.earlier) n phony)
+      (λ plain. split_option (opening (name_of jobs n))
+      (λ none. absent_stale jobs tie (store_after opening d.earlier) n (own_now n live ∙ none))
+      (λ own some.
+      let newer = one_passes _ (prerequisites_of jobs n) (rw (plain, some) at old) in
+      let p = newer.0 in
+      stale_by jobs tie (store_after opening d.earlier) n p newer.1 (λ file here. split (is_phony jobs p)
+      (λ phony. or_left _ _ phony)
+      (λ other.
+      let both : Some own ≡ Some file = sym some ∙ sym (own_now n live) ∙ here in
+      let same : own ≡ file = cc in
+      or_right _ _ (subst (λ f. outdates tie (Some f) (store_after opening d.earlier (name_of jobs p)) ≡ true) same (still_outdates tie own (opening (name_of jobs p)) (store_after opening d.earlier (name_of jobs p)) (last_of (name_of jobs p) (history past p)) (step_now n p live newer.1 own some) (rw other at newer.2))))))))
+
+  module _ (free : IsRaceFree jobs) (fixed : Name → Bool) (declared : IsDeclared jobs fixed) (programs : ℕ → Program) (good : AreGood jobs programs) (follows : FollowsPrograms programs past) where
+    -- who makes its own file wakes each node that needs it
+    maker_wakes : (n m : ℕ) → is_live jobs n ≡ true → IsPrerequisite jobs m n → makes_own jobs m ≡ true → is_started (phase past m) ≡ true → is_started (phase past n) ≡ true
+    maker_wakes n m live step makes started =
+        let d = did jobs tie limit opening free valid fixed declared programs past run follows m started in
+        let written = last_written (name_of jobs m) (history past m) (good.own m d.0 (history past m) makes d.1) in
+        put_wakes n m written.0 live step written.1
+
+    pub carries_starts : (m n : ℕ) → Carries jobs m n → is_started (phase past m) ≡ true → is_started (phase past n) ≡ true
+    carries_starts m n (edge live step makes) started = maker_wakes n m live step makes started
+    carries_starts m n (further {k = k} way live step makes) started = maker_wakes n k live step makes (carries_starts m k way started)
+
+    -- who will run has started
+    pub will_start : (n : ℕ) → WillRun jobs opening n → is_started (phase past n) ≡ true
+    will_start n (stale live old) = stale_starts n live old
+    will_start n (carried {m = m} will way) = carries_starts m n way (will_start m will)

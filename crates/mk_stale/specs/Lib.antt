@@ -1,0 +1,4 @@
+pub mod Doings
+pub mod Incremental
+pub mod Laws
+pub mod Watching

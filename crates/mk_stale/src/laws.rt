@@ -1,0 +1,24 @@
+//! Laws of builds of old trees. Each function's contract is a law, and its body is empty.
+ghost use Rattle.mk_stale.specs.Incremental.{AsFromClean};
+ghost use Rattle.mk_stale.specs.Laws.{BuildSettles, EditIsKnown, SettledOnce};
+
+/// Of valid, race-free and declared jobs with good recipes, a build of a tree that edits and builds led to leaves what a build of a
+/// clean tree with the same sources leaves.
+pub fn as_from_clean()
+    ensures { AsFromClean }
+{}
+
+/// A build of a store whose nodes are known leaves one whose nodes are settled.
+pub fn build_settles()
+    ensures { BuildSettles }
+{}
+
+/// An edit of a store whose nodes are settled leaves one whose nodes are known.
+pub fn edit_is_known()
+    ensures { EditIsKnown }
+{}
+
+/// Two stores with the same sources whose nodes are settled have the same bytes at every name.
+pub fn settled_once()
+    ensures { SettledOnce }
+{}
