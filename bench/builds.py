@@ -20,7 +20,7 @@ def write(folder, rules, footprints):
 
 
 def behind(names, most):
-    """Each name behind the ones before it, at most so many."""
+    """Each name behind the ones before it, at most a given number of them."""
     return [(name, names[max(0, i - most):i]) for i, name in enumerate(names)]
 
 
@@ -35,7 +35,7 @@ def own(names):
 
 
 def lay_log(folder, most=BEHIND):
-    """1,414 recipes that all append to one log, each behind so many before it."""
+    """1,414 recipes that all append to one log, each behind a given number before it."""
     names = [f"r{i}" for i in range(1_414)]
     rules = behind(names, most) if most else below_all(names)
     write(folder, rules, [(name, [], [name, "build.log"]) for name in names] + [("all", [], [])])
@@ -135,14 +135,14 @@ def lay_hostile(folder):
 
 
 def write_certificate(folder, pairs, most):
-    """Writes a certificate of these pairs where each node needs so many before it."""
+    """Writes a certificate of these pairs where each node needs a given number before it."""
     with open(folder / "proof", "w") as proof:
         proof.write(f"certificate {len(pairs)}\n")
         proof.writelines(f"{' '.join(map(str, chain_between(a, b, most)))}\n" for a, b in pairs)
 
 
 def chain_between(first, last, most):
-    """The chain from the one to the other where each node needs so many before it, built from its end."""
+    """The chain from the one to the other where each node needs a given number before it, built from its end."""
     chain = [last]
     while chain[-1] != first:
         chain.append(max(first, chain[-1] - most))

@@ -26,7 +26,7 @@ class Run:
 
 
 def once(folder: pathlib.Path, command: list[str]) -> Run:
-    """Runs a command in a folder. GNU time tells the peak memory, and the system the user time of it and of GNU time."""
+    """Runs a command in a folder. GNU time reports the peak memory, and the system the user time of it and of GNU time."""
     with tempfile.NamedTemporaryFile("r", prefix="race-bench-") as memory:
         used = resource.getrusage(resource.RUSAGE_CHILDREN).ru_utime
         begin = time.perf_counter()
@@ -38,7 +38,7 @@ def once(folder: pathlib.Path, command: list[str]) -> Run:
 
 
 def best(runs: int, folder: pathlib.Path, command: list[str]) -> Run:
-    """The least times and the greatest peak memory of so many runs, and what the last one printed."""
+    """The least times and the greatest peak memory of some runs, and what the last one printed."""
     made = [once(folder, command) for _ in range(runs)]
     least = [min(getattr(it, name) for it in made) for name in ("seconds", "user")]
     return Run(*least, max(it.memory for it in made), made[-1].status, made[-1].out)

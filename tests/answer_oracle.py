@@ -151,8 +151,8 @@ class Answer:
 
     def counts(self):
         plan, jobs = self.jobs.plan, self.jobs
-        told = (b"nodes", len(plan.order)), (b"recipes", len(jobs.footprints)), (b"idle", jobs.idle), (b"waits", plan.book.waits)
-        return [[word, count] for word, count in told]
+        counts = (b"nodes", len(plan.order)), (b"recipes", len(jobs.footprints)), (b"idle", jobs.idle), (b"waits", plan.book.waits)
+        return [[word, count] for word, count in counts]
 
     def report(self):
         return text_of(self.race_lines() if self.race else self.safe_lines())

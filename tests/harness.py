@@ -50,7 +50,7 @@ MARKS_BYTES = 8192
 KINDS = ("memory", "open", "read", "write")
 OUT_OF_MEMORY = b"race: out of memory\n"
 
-Told = collections.namedtuple("Told", "status stdout stderr calls met changing what")
+Run = collections.namedtuple("Run", "status stdout stderr calls met changing what")
 
 
 def load_test():
@@ -64,23 +64,23 @@ def load_test():
 test = load_test()
 
 
-def outcome(told):
+def outcome(ran):
     """What a person sees of a run."""
-    return told.status, told.stdout, told.stderr
+    return ran.status, ran.stdout, ran.stderr
 
 
-def seen(told):
+def seen(ran):
     """A run in few words, for a failure."""
-    if told.status < 0:
-        return f"ended by {signal.Signals(-told.status).name}"
-    return f"status {told.status}, output {test.shown(told.stdout[:80])}, errors {test.shown(told.stderr[:80])}"
+    if ran.status < 0:
+        return f"ended by {signal.Signals(-ran.status).name}"
+    return f"status {ran.status}, output {test.shown(ran.stdout[:80])}, errors {test.shown(ran.stderr[:80])}"
 
 
-def is_refusal(told):
+def is_refusal(ran):
     """Whether a run reported a fault of its input, in the form of a refusal and with its status."""
-    lines = told.stdout.split(b"\n")
+    lines = ran.stdout.split(b"\n")
     whole = lines[0] == b"refused" and lines[-1] == b"" and len(lines) >= 4
-    return told.status == 2 and not told.stderr and whole and lines[1][:1] == b"F" and lines[2][:3] == b"at "
+    return ran.status == 2 and not ran.stderr and whole and lines[1][:1] == b"F" and lines[2][:3] == b"at "
 
 
 def bound_time(process):
@@ -139,7 +139,7 @@ class Runner:
 
     def run(self, words, faults=None, stdout=None):
         """One run; under the library where faults are given, an empty text for none, and then as a child of a program that
-        stands by. Without faults the program is started from its file, and its output goes to that descriptor."""
+        is already running. Without faults the program is started from its file, and its output goes to that descriptor."""
         self.runs += 1
         self.marks[:] = bytes(MARKS_BYTES)
         for stream in self.streams:
@@ -150,7 +150,7 @@ class Runner:
         out, err = (os.pread(stream, os.fstat(stream).st_size, 0) for stream in self.streams)
         *calls, met, changing = MARKS.unpack_from(self.marks)
         what = self.marks[MARKS.size:].split(b"\0", 1)[0]
-        return Told(status, out, err, dict(zip(KINDS, calls)), met, changing, os.fsdecode(what))
+        return Run(status, out, err, dict(zip(KINDS, calls)), met, changing, os.fsdecode(what))
 
     def places(self, stdout):
         """What the three standard streams of a run are."""
@@ -165,7 +165,7 @@ class Runner:
         return os.waitpid(process, 0)[1]
 
     def served_by(self, words):
-        """The program that stands by with these words: the one of the last run, or another in its place."""
+        """The program that waits with these words: the one of the last run, or another in its place."""
         served = [os.getcwd(), *words]
         if self.served != served:
             self.end_server()
@@ -203,7 +203,7 @@ def rooms(case, folder):
 
 
 def turns(count, most):
-    """Which of so many calls have their turn: all, or as many as are wanted, evenly, with the first and the last."""
+    """Which of `count` calls are tried: all, or `most` of them, spread evenly, with the first and the last."""
     if count <= most:
         return range(1, count + 1)
     return sorted({1 + i * (count - 1) // (most - 1) for i in range(most)})
@@ -221,7 +221,7 @@ def arguments(doc):
     parser = argparse.ArgumentParser(description=doc, formatter_class=argparse.RawDescriptionHelpFormatter)
     parser.add_argument("program", type=pathlib.Path, help="the built program")
     parser.add_argument("--case", action="append", metavar="NAME", help="a case or a folder of cases alone; may be repeated")
-    parser.add_argument("-v", action="store_true", help="tell each check with its runs")
+    parser.add_argument("-v", action="store_true", help="print each check with its runs")
     args = parser.parse_args()
     args.program = args.program.resolve()
     if not os.access(args.program, os.X_OK):
@@ -264,7 +264,7 @@ def do_check(job):
 
 
 def judge(args, jobs, what):
-    """Does all checks, tells what is wrong, and ends with the counts. A job is a title, a check and what it is about."""
+    """Does all checks, prints what is wrong, and ends with the counts. A job is a title, a check and what it is about."""
     begin = time.perf_counter()
     failed = runs = 0
     with tempfile.TemporaryDirectory(prefix="race-tests-") as folder:

@@ -65,7 +65,7 @@ def text(it, key):
 
 
 def unhex(digits):
-    """The bytes that lower-case hexadecimal digits tell, or None."""
+    """The bytes that lower-case hexadecimal digits say, or None."""
     if digits is None or len(digits) % 2 or re.search(rb"[^0-9a-f]", digits):
         return None
     return bytes.fromhex(digits.decode())
@@ -80,7 +80,7 @@ class Build:
         self.nodes = [Node(it[2], it[1] != b"plain", it[4:]) for it in lines]
         self.numbers = {node.name: number for number, node in enumerate(self.nodes)}
         self.listed = {plain(root, it) for it in listing.splitlines() if it}
-        # (the makefiles that are looked at here name their phony targets in so many words)
+        # (the makefiles that are looked at here name their phony targets without macros)
         self.phony = {plain(root, it) for words in re.findall(rb"(?m)^\.PHONY:(.*)", makefile) for it in words.split()}
         self.reads, self.writes = collections.defaultdict(list), collections.defaultdict(list)
         for line in filter(None, footprints.splitlines()):
@@ -109,20 +109,20 @@ class Build:
         )
 
     def read_log(self, log):
-        """The files and the events of a log; a BadLine tells the first bad one."""
+        """The files and the events of a log; a BadLine has the number of the first bad one."""
         store, events = {}, []
         lines = log.split(b"\n")
         for number, line in enumerate(lines[:-1] + lines[-1:] * bool(lines[-1]), 1):
             if not line.strip(BLANK):
                 continue
             it = read_object(line)
-            told = it and self.read_line(it)
-            if not told or told.do == "file" and (events or told.path in store):
+            read = it and self.read_line(it)
+            if not read or read.do == "file" and (events or read.path in store):
                 raise BadLine(number)
-            if told.do == "file":
-                store[told.path] = told.bytes, told.time
+            if read.do == "file":
+                store[read.path] = read.bytes, read.time
             else:
-                events.append(told)
+                events.append(read)
         return store, events
 
     def read_line(self, it):
@@ -192,9 +192,9 @@ class Build:
                 store[it.path] = it.bytes, it.time
             elif it.do == "erase":
                 store.pop(it.path, None)
-        told = b"allowed complete\n" if len(passed) == len(self.nodes) else b"allowed incomplete\n"
+        report = b"allowed complete\n" if len(passed) == len(self.nodes) else b"allowed incomplete\n"
         rows = [b"file %s %d %s\n" % (shown(name), time, content.hex().encode() or b"-") for name, (content, time) in sorted(store.items())]
-        return 0, told + b"".join(rows)
+        return 0, report + b"".join(rows)
 
     def has_race(self):
         """Whether two recipes touch a path that one of them writes, and neither needs the other."""
@@ -212,10 +212,10 @@ class Build:
 
     def serialise(self, log, limit, tie):
         """The status and the output of `race serialise` on a build without a race."""
-        status, told = self.replay(log, limit, tie)
+        status, report = self.replay(log, limit, tie)
         if status:
-            return status, told
-        if not told.startswith(b"allowed complete\n"):
+            return status, report
+        if not report.startswith(b"allowed complete\n"):
             return 1, b"not complete\n"
         store, events = self.read_log(log)
         time = max((time for _, time in store.values()), default=0)

@@ -1,4 +1,4 @@
-"""Random texts of tasks, and what the program says of them beside what tests/tasks_oracle.py says."""
+"""Random texts of tasks, and compared with what tests/tasks_oracle.py says of them."""
 import json
 import random
 
@@ -41,14 +41,14 @@ def said_of_tasks(runner, root, text):
         ("fix", "--print-proof"): tasks_oracle.fix(root, text, True),
     }
     for (command, *flags), expected in said.items():
-        told = runner.run([command, *words, *flags])
-        if harness.outcome(told) != (*expected, b""):
-            yield " ".join([command, *flags]), told, expected
+        ran = runner.run([command, *words, *flags])
+        if harness.outcome(ran) != (*expected, b""):
+            yield " ".join([command, *flags]), ran, expected
     status, proof = said["check", "--print-proof"]
     if status < 2:
-        told = runner.run(["verify", *words, "--proof", runner.write("proof", proof)])
-        if harness.outcome(told) != (0, b"accepted\n", b""):
-            yield "verify", told, (0, b"accepted\n")
+        ran = runner.run(["verify", *words, "--proof", runner.write("proof", proof)])
+        if harness.outcome(ran) != (0, b"accepted\n", b""):
+            yield "verify", ran, (0, b"accepted\n")
     if status < 2:
         yield from fixed_tasks(runner, words, text)
 
@@ -64,12 +64,12 @@ def fixed_tasks(runner, words, text):
         ("verify", "--proof", runner.write("fixed-proof", proof)): b"accepted\n",
     }
     for (command, *more), output in expected.items():
-        told = runner.run([command, *words, *more])
-        if harness.outcome(told) != (0, output, b""):
-            yield f"{command} of fixed tasks", told, (0, output)
-    told = runner.run(["check", *words])
-    if told.status or not told.stdout.startswith(b"safe\n"):
-        yield "check of fixed tasks", told, (0, b"safe")
+        ran = runner.run([command, *words, *more])
+        if harness.outcome(ran) != (0, output, b""):
+            yield f"{command} of fixed tasks", ran, (0, output)
+    ran = runner.run(["check", *words])
+    if ran.status or not ran.stdout.startswith(b"safe\n"):
+        yield "check of fixed tasks", ran, (0, b"safe")
 
 
 def compare(runner, numbers):
@@ -77,5 +77,5 @@ def compare(runner, numbers):
     for number in numbers:
         dice = random.Random(-number - 1)
         root, text = dice.choice([b"/w", b"/w", b"/", b"/a/b", b"/w/../a//", b"w"]), random_tasks(dice)
-        for command, told, expected in said_of_tasks(runner, root, text):
-            yield f"tasks {number}, {command}: {harness.seen(told)}, expected {expected[0]} {expected[1][:80]}: {text!r}"
+        for command, ran, expected in said_of_tasks(runner, root, text):
+            yield f"tasks {number}, {command}: {harness.seen(ran)}, expected {expected[0]} {expected[1][:80]}: {text!r}"

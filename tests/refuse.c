@@ -4,9 +4,9 @@
  * 1, those numbered FROM, FROM + STEP, .. up to TO do not do what they should. KIND is 'memory', 'open', 'read' or
  * 'write'. HOW is an error number (the call fails so; memory is refused, whatever number it is), 'none' (no byte moves,
  * and that is no failure) or 'one' (one byte moves). The rule "space BYTES" lets the address space
- * grow by so many bytes and no more, and "stack BYTES" lets the stack be so large.
+ * grow by BYTES and no more, and "stack BYTES" lets the stack be that large.
  *
- * RACE_MARKS names a file of MARKS bytes, in which the library tells how many calls of each kind there were, how many of
+ * RACE_MARKS names a file of MARKS bytes, in which the library writes how many calls of each kind there were, how many of
  * them met a rule, how many opened a file for more than reading, and for the last of these that failed, or moved nothing, what it was about: a path, or 'fd N'.
  *
  * Only calls of the program itself are counted: what runs before the library is set up goes through.
@@ -85,8 +85,8 @@ int open(const char *path, int flags, ...) {
 
 int open64(const char *path, int flags, ...) __attribute__((alias("open")));
 
-/* Tells what a descriptor is open for. */
-static void tell(int fd) {
+/* Writes down what a descriptor is open for. */
+static void note(int fd) {
     char link[64];
     ssize_t length = -1;
     if (fd > 2) {
@@ -102,7 +102,7 @@ static ssize_t share(int kind, int fd, size_t count) {
     int how = fate(kind);
     if (how == PASS) return count;
     if (how == ONE) return count ? 1 : 0;
-    tell(fd);
+    note(fd);
     if (how == NONE) return 0;
     errno = how;
     return -1;

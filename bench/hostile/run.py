@@ -5,10 +5,10 @@
 
 PROGRAM is the built program (crates/race/out/race). Each input is as large as a limit allows, or as its line in docs/SAFETY.md
 says, and is made at half of that size first. Printed are the size of the texts, the seconds of a processor and the peak
-memory of one run of each, as GNU time tells them (Debian's package `time`), the status, and whether the whole is over its
+memory of one run of each, as GNU time reports them (Debian's package `time`), the status, and whether the whole is over its
 bound: five seconds and a twentieth for each megabyte of the texts, and 64 MiB with 24 times the texts; and besides, for
 inputs that are named in LINES, what a line of the makefile is allowed there. A run that takes more than N seconds (100) is
-stopped, and one that wants more than so many gigabytes (6) is refused memory. Nothing here is a test.
+stopped, and one that wants more than N gigabytes (6) is refused memory. Nothing here is a test.
 """
 import argparse
 import json
@@ -266,7 +266,7 @@ def puts(part):
 
 
 def large_file(part):
-    """A file of 50 megabytes that a log tells, puts and looks at."""
+    """A file of 50 megabytes that a log lists, puts and looks at."""
     data = "61" * int(50 * MEGABYTE * part)
     log = ['{"do":"file","path":"s","bytes":"%s","time":1}' % data, '{"do":"skip","node":"s"}', '{"do":"start","node":"t0000"}']
     log += ['{"do":"look","node":"t0000","path":"s","bytes":"%s"}' % data]

@@ -4,7 +4,7 @@
     bench/inference/run.py
 
 The cases are those of cases/default-rules: the files that exist are in `listing`, the name is the last word of `cmd`,
-and `stdout` tells the source. GNU make runs in a temporary folder with -r, on the base in which each command only tells
+and `stdout` says the source. GNU make runs in a temporary folder with -r, on the base in which each command only prints
 its source. Prints each name for which the two differ; the exit status is 1 if one does.
 """
 import os
@@ -19,8 +19,8 @@ BASE = TOP / "share" / "posix-base.mk"
 CASES = TOP / "cases" / "default-rules"
 
 
-def told_makefile():
-    """The base, each rule of which tells its source alone."""
+def printing_makefile():
+    """The base, each rule of which only prints its source."""
     lines, first = [], False
     for line in BASE.read_text().splitlines():
         if not line.startswith("\t"):
@@ -40,7 +40,7 @@ def source_of_make(files, name):
         for file in files:
             (folder / file).parent.mkdir(parents=True, exist_ok=True)
             (folder / file).touch()
-        (folder / "base.mk").write_text(told_makefile())
+        (folder / "base.mk").write_text(printing_makefile())
         command = ["make", "-r", "-f", "base.mk", name]
         done = subprocess.run(command, cwd=folder, env=settings, capture_output=True, text=True, check=False)
     found = re.findall(r"^source=(.*)$", done.stdout, re.MULTILINE)
@@ -53,8 +53,8 @@ def main():
     for case in cases:
         files = (case / "listing").read_text().split()
         name = (case / "cmd").read_text().split()[-1]
-        told = re.search(rf"(?m)^\d+ inferred {re.escape(name)} : (.*)$", (case / "stdout").read_text())
-        wanted, found = told and told[1], source_of_make(files, name)
+        line = re.search(rf"(?m)^\d+ inferred {re.escape(name)} : (.*)$", (case / "stdout").read_text())
+        wanted, found = line and line[1], source_of_make(files, name)
         if found != wanted:
             print(f"{case.name}: {name} is made from {wanted}, GNU make finds {found}")
             failed = 1

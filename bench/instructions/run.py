@@ -108,7 +108,7 @@ def arguments() -> argparse.Namespace:
     parser.add_argument("program", nargs="?", default=str(TOP / "crates/race/out/race"), help="the built program")
     parser.add_argument("--only", metavar="NAME", action="append", help="the inputs whose names begin so; may be repeated")
     parser.add_argument("--jobs", type=int, default=2, help="how many inputs to run at once (2); with --times one")
-    parser.add_argument("--times", metavar="N", type=int, default=0, help="take times and memory too, of so many runs")
+    parser.add_argument("--times", metavar="N", type=int, default=0, help="take times and memory too, of N runs")
     parser.add_argument("--peers", action="store_true", help="measure the peers of each input too")
     parser.add_argument("--keep-counts", action="store_true", help="write the counts of this run into the file")
     args = parser.parse_args()

@@ -14,9 +14,9 @@ the jobs that these made, each in a run of its own: `rows` (Rows::new), `least` 
 (clashing_pairs), `decide`, and `accept` behind `proof` (read_proof). Where a build has no certificate, one of no chains is
 asked about, which is refused where anything clashes.
 
-A line for each build and call tells the seconds (the best of N runs, three, by the program's clock; reading the files and
+A line for each build and call says the seconds (the best of N runs, three, by the program's clock; reading the files and
 freeing what was found are not counted), the greatest peak memory of a run up to that call in MiB (with the texts and the
-jobs; as GNU time tells it), the bound that is asked, where one is, and what was found: rules, nodes, bytes, nodes, whether the
+jobs; as GNU time reports it), the bound that is asked, where one is, and what was found: rules, nodes, bytes, nodes, whether the
 first node is before the last, the race, pairs, the verdict with its chains, chains, whether they are accepted. Nothing here is
 a test.
 """
@@ -72,7 +72,7 @@ def build(room):
 
 
 def measured(program, folder, runs):
-    """The best seconds, the greatest peak memory and the last finding of each call, over so many runs up to each."""
+    """The best seconds, the greatest peak memory and the last finding of each call, over that number of runs up to each."""
     seconds, memory, found = {}, {}, {}
     for last in [it for it in CALLS for _ in range(runs)]:
         run = once(folder, [str(program), last])

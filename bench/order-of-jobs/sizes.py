@@ -92,7 +92,7 @@ def lay_shuffled(folder):
 
 
 def lay_sharing(recipes, shared, others):
-    """So many recipes that write so many files together, and so many others each for itself before them."""
+    """Recipes that write some files together, and others before them that write a file each."""
 
     @refused
     def lay(folder):

@@ -4,8 +4,8 @@
     bench/order/run.py [--runs N] [--only NAME] [PROGRAM]
 
 PROGRAM is the built program (crates/race/out/race). Each input is made in a folder of its own, with every listed file
-present, so that all three tools look at the same build. Printed are the best wall time of N runs (five), the best user
-time, and the greatest peak memory of a run, as GNU time tells it (Debian's package `time`). A tool that is not on this
+present, so that all three tools look at the same build. It prints the best wall time of N runs (five), the best user
+time, and the greatest peak memory of a run, as GNU time reports it (Debian's package `time`). A tool that is not on this
 machine is left out. Nothing here is a test.
 """
 import argparse

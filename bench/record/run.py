@@ -163,7 +163,7 @@ def once(name: str, part: float, race: str) -> Times:
 def main() -> None:
     """The program."""
     parser = argparse.ArgumentParser(description=__doc__, formatter_class=argparse.RawDescriptionHelpFormatter)
-    parser.add_argument("--runs", type=int, default=3, metavar="N", help="the best of so many runs (3)")
+    parser.add_argument("--runs", type=int, default=3, metavar="N", help="the best of N runs (3)")
     parser.add_argument("--race", default=str(STAND_IN), metavar="PROGRAM", help="the program race, where it reads tasks (the model of the tests)")
     parser.add_argument("--only", choices=sorted(PROJECTS), action="append", help="one project; may be repeated")
     parser.add_argument("--part", type=float, default=1.0, metavar="P", help="the size of projects that are made (1)")

@@ -5,7 +5,7 @@
 
 PROGRAM is the built program (crates/race/out/race). The build has 9,999 sources, a recipe for each, and a goal that needs
 what they make: 19,999 nodes. In the log each recipe starts, looks at its source, puts its target again and again, each time
-newer than every file, and finishes; the events are 1,000,000 without --events. Printed are the best wall time and user time
+newer than every file, and finishes; the events are 1,000,000 without --events. It prints the best wall time and user time
 of N runs (three) and the greatest peak memory of a run, at an eighth, a quarter, a half and the whole of the events,
 and what Python's json module alone takes to read the same log. Nothing here is a test.
 """

@@ -6,7 +6,7 @@
 PROGRAM is the built program (crates/race/out/race). The build has 9,999 sources, a recipe for each, and a goal that needs
 what they make: 19,999 nodes. In the log nine recipes run at a time: they start, look at their sources and put their targets
 in turn, again and again, each time newer than every file, and finish; the events are 1,000,000 without --events. So
-in the log that is written nearly every event stands elsewhere, and each put has another time. Printed are, at an eighth,
+in the log that is written nearly every event stands elsewhere, and each put has another time. It prints, at an eighth,
 a quarter, a half and the whole of the events, the best wall times of N runs (three) of both, the user time and the greatest
 peak memory of `race serialise`, the bytes that it writes, and what Python's json module alone takes to read the log, since
 the speed of a machine may change from one minute to the next. Nothing here is a test.

@@ -9,7 +9,7 @@ layer read the folder that one recipe of the layer before it writes a file in, s
 order; in `races` the recipes of a layer write one log, so that 90,000 pairs race. Each is laid out as tasks and as a makefile
 with footprints.
 
-Printed are, for each, the bytes of its texts, the best wall time and user time of N runs (three) of each command, the greatest
+It prints, for each, the bytes of its texts, the best wall time and user time of N runs (three) of each command, the greatest
 peak memory of `race check`, what Python's json module takes to read the tasks or the footprints, and the first line of the
 report, which is the same for both. Nothing here is a test.
 

@@ -1,4 +1,4 @@
-"""Races of ninja's commands: those that bite are confirmed, also where a recipe of make runs ninja; their fixes are not."""
+"""Races of ninja's commands: those that do harm are confirmed, also where a recipe of make runs ninja; their fixes are not."""
 
 from __future__ import annotations
 

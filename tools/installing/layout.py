@@ -50,7 +50,7 @@ class Item:
 
 
 def companions(top: Path) -> Iterator[Path]:
-    """The scripts beside the program: race-NAME in the folder NAME, as record/race-record."""
+    """The scripts beside the program: race-NAME in the folder NAME, such as record/race-record."""
     yield from sorted(it for it in top.glob("*/race-*") if it.name == f"race-{it.parent.name}" and it.is_file())
 
 
@@ -94,7 +94,7 @@ def share_items(top: Path) -> Iterator[Item]:
 
 
 def page_items(top: Path) -> Iterator[Item]:
-    """The documents, as they stand beside one another in the repository."""
+    """The documents, in the folders that they have in the repository."""
     yield from (Item(f"{DOCS}/{it}", top / it) for it in PAGES)
     yield from (Item(f"{DOCS}/docs/{it.name}", it) for it in files_below(top / "docs"))
 

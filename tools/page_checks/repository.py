@@ -27,9 +27,9 @@ class Repository:
     def files(self) -> set[str]:
         """The files that git has or would take, below the top."""
         words = ["git", "ls-files", "-co", "--exclude-standard"]
-        told = subprocess.run(words, cwd=self.top, capture_output=True, text=True, check=False)
-        if told.returncode == 0:
-            return {it for it in told.stdout.splitlines() if (self.top / it).exists()}
+        listed = subprocess.run(words, cwd=self.top, capture_output=True, text=True, check=False)
+        if listed.returncode == 0:
+            return {it for it in listed.stdout.splitlines() if (self.top / it).exists()}
         return {str(it.relative_to(self.top)) for it in self.top.rglob("*") if it.is_file()}
 
     @cached_property

@@ -47,13 +47,13 @@ def sessions(lines: list[Line]) -> Iterator[list[Command]]:
         yield commands
 
 
-def fits(shown: list[str], told: list[str]) -> bool:
+def fits(shown: list[str], printed: list[str]) -> bool:
     """Whether an output is as it is shown; a line `..` stands for any lines."""
     if not shown:
-        return not told
+        return not printed
     if shown[0] == LEFT_OUT:
-        return any(fits(shown[1:], told[at:]) for at in range(len(told) + 1))
-    return bool(told) and shown[0] == told[0] and fits(shown[1:], told[1:])
+        return any(fits(shown[1:], printed[at:]) for at in range(len(printed) + 1))
+    return bool(printed) and shown[0] == printed[0] and fits(shown[1:], printed[1:])
 
 
 def wrong(commands: list[Command], folder: Path, path: str) -> Iterator[str]:
@@ -73,7 +73,7 @@ def wrong(commands: list[Command], folder: Path, path: str) -> Iterator[str]:
         shown = command.shown
         while shown and not shown[-1].strip():
             shown = shown[:-1]
-        told = output.splitlines()
-        if not fits(shown, told):
-            first = next((b for a, b in zip(shown, told) if a not in (b, LEFT_OUT)), "")
+        printed = output.splitlines()
+        if not fits(shown, printed):
+            first = next((b for a, b in zip(shown, printed) if a not in (b, LEFT_OUT)), "")
             yield f"{command.place}: `{command.text}` gives another output: {first!r} {errors[:200]}"

@@ -44,11 +44,11 @@ class Banned:
         for found in self.pattern.findall(SPAN.sub("``", text)) if self.instead else ():
             yield " ".join(found.lower().split())
 
-    def wrong_in_help(self, told: Help) -> Iterator[str]:
+    def wrong_in_help(self, page: Help) -> Iterator[str]:
         """The banned words of a help, except those that it may still have."""
-        for word in self.words(told.text):
+        for word in self.words(page.text):
             if word not in self.still_in_help:
-                yield f"race {told.command} --help: banned word '{word}': write {self.instead[word]} (docs/GLOSSARY.md)"
+                yield f"race {page.command} --help: banned word '{word}': write {self.instead[word]} (docs/GLOSSARY.md)"
 
     def wrong_in_page(self, lines: list[Line]) -> Iterator[str]:
         """The banned words of a page outside blocks; an expression may go over the end of a line."""
