@@ -68,7 +68,7 @@ static char *in_digits(char *buffer, unsigned rest) {
 }
 
 /* Writes one line: what it is, the side, the process, its program, and what it does. */
-static void tell(int channel, const char *what, const char *when, const char *does) {
+static void report(int channel, const char *what, const char *when, const char *does) {
   char line[LINE] = "", number[16];
   const char *words[] = {what, getenv("RACE_HOLD_SIDE"), in_digits(number, getpid()), when, does, program_invocation_short_name};
   for (size_t at = 0; at < sizeof words / sizeof *words; at++) put(line, words[at] && *words[at] ? words[at] : "-");
@@ -81,7 +81,7 @@ static void ask(const char *what, const char *when, const char *does) {
   int channel = connected();
   char answer;
   if (channel < 0) return;
-  tell(channel, what, when, does);
+  report(channel, what, when, does);
   while (read(channel, &answer, 1) < 0 && errno == EINTR) {}
   close(channel);
 }
@@ -188,7 +188,7 @@ __attribute__((constructor)) static void begun(void) {
   pass_gate();
   char *life = getenv("RACE_HOLD_LIFE");
   if (life && !strcmp(life, "new") && (channel = connected()) >= 0) {
-    tell(channel, "life", "-", "-");
+    report(channel, "life", "-", "-");
     if ((high = fcntl(channel, DUPLICATE, HIGH)) < 0) high = fcntl(channel, DUPLICATE, 10);
     if (high >= 0) close(channel);
     memcpy(life, "old", 3);

@@ -1,4 +1,4 @@
-"""Ages that are compared: where two tasks that nothing orders write two names, and somebody asks which is newer."""
+"""Ages that are compared: where two tasks that nothing orders write two names, and somebody compares which is newer."""
 
 from itertools import combinations
 from typing import TYPE_CHECKING, Dict, Set
@@ -21,7 +21,7 @@ def add_ages(builder: "Builder") -> None:
             compare(builder, at, names[0], path, node.name)
         for work in build.tasks[at].works:
             inner_ages(builder, at, work)
-            told_ages(builder, at, work)
+            ages_by_words(builder, at, work)
 
 
 def writers_of(builder: "Builder", path: str) -> Set[int]:
@@ -61,8 +61,8 @@ def inner_ages(builder: "Builder", at: int, work: Work) -> None:
             paths = {n: inner_path(builder, make, one.vpath.get(n, n)) for n in one.nodes}
             for name, node in one.nodes.items():
                 if paths[name] in builder.build.writers:
-                    for ask in node.asks:
-                        compare(builder, at, paths[name], paths[ask])
+                    for prerequisite in node.prerequisites:
+                        compare(builder, at, paths[name], paths[prerequisite])
 
 
 def inner_path(builder: "Builder", make: Make, name: str) -> str:
@@ -70,7 +70,7 @@ def inner_path(builder: "Builder", make: Make, name: str) -> str:
     return builder.names.find(make.folder, name, True).path
 
 
-def told_ages(builder: "Builder", at: int, work: Work) -> None:
+def ages_by_words(builder: "Builder", at: int, work: Work) -> None:
     """Programs that compare ages: those of all names that they looked at, by who writes them."""
     writers, build = builder.build.writers, builder.build
     wrote: Dict[int, str] = {}

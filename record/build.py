@@ -110,10 +110,10 @@ class Builder:
                     self.look_of[node.label] = self.add(node, "look", node.label + "@look")
 
     def make_first_looks(self) -> None:
-        """Whether a target is there make asks once, when it considers it first, though its prerequisites are made later."""
+        """Make looks once whether a target is there, when it considers it first, though its prerequisites are made later."""
         users: Dict[str, List[Node]] = {}
         for node in self.graph.nodes.values():
-            for one in node.asks:
+            for one in node.prerequisites:
                 users.setdefault(one, []).append(node)
         late = self.graph.late()
         for node in self.graph.nodes.values():
@@ -146,7 +146,7 @@ class Builder:
     def plain(self, node: Node) -> List[str]:
         """Labels of the prerequisites whose ages count."""
         only = self.graph.base.order_only.get(node.name, set())
-        return [p for p in node.asks if p in self.graph.nodes and p not in only and self.graph.nodes[p].name != node.name and not self.graph.nodes[p].phony]
+        return [p for p in node.prerequisites if p in self.graph.nodes and p not in only and self.graph.nodes[p].name != node.name and not self.graph.nodes[p].phony]
 
     def is_leaf(self, node: Node) -> bool:
         """Whether no recipe runs below a target: make then decides in its first pass."""
@@ -158,7 +158,7 @@ class Builder:
         """Targets with a recipe that ran somewhere below them."""
         users: Dict[str, List[str]] = {}
         for node in self.graph.nodes.values():
-            for one in node.asks:
+            for one in node.prerequisites:
                 users.setdefault(one, []).append(node.label)
         busy: Set[str] = set()
         todo = [u for n in self.graph.nodes.values() if n.jobs for u in users.get(n.label, [])]
@@ -179,7 +179,7 @@ class Builder:
                 self.of_node[label] = self.add(self.graph.nodes[label], "group", label)
         after: List[Set[int]] = [set() for _ in tasks]
         for label, at in self.of_node.items():
-            after[at].update(self.of_node[p] for p in self.graph.nodes[label].asks if p in self.of_node)
+            after[at].update(self.of_node[p] for p in self.graph.nodes[label].prerequisites if p in self.of_node)
         for label, look in self.look_of.items():
             after[look].update(after[self.of_node[label]])
             after[self.of_node[label]].add(look)
@@ -191,8 +191,8 @@ class Builder:
             row = [self.of_node[label] for label in self.labels_of_jobs()]
             for first, second in zip(row, row[1:]):
                 after[second].add(first)
-        for at, asks in enumerate(after):
-            asks.discard(at)
+        for at, earlier in enumerate(after):
+            earlier.discard(at)
         jobs = {label: n for n, label in enumerate(self.labels_of_jobs())}
         keys = [(t.node.first if t.kind == "first" else t.node.done, jobs.get(t.node.label, 0)) for t in tasks]
         order, dropped = order_tasks(tasks, after, keys)
@@ -218,7 +218,7 @@ class Builder:
         """Targets without a task of their own that stand above one."""
         users: Dict[str, List[str]] = {}
         for node in self.graph.nodes.values():
-            for one in node.asks:
+            for one in node.prerequisites:
                 users.setdefault(one, []).append(node.label)
         seen: Set[str] = set()
         todo = [u for label in self.of_node for u in users.get(label, [])]
@@ -342,7 +342,7 @@ class Builder:
     def searched(self, make: Make, graph: Graph, name: str) -> Set[str]:
         """The names that one step of the search looks for."""
         found: Set[str] = set()
-        for targets, asks in graph.base.patterns:
+        for targets, prerequisites in graph.base.patterns:
             for target in targets:
                 head, _, tail = target.partition("%")
                 if "/" not in target:
@@ -351,9 +351,9 @@ class Builder:
                     folder, last = "", name
                 if last.startswith(head) and last.endswith(tail) and len(last) > len(head) + len(tail):
                     stem = last[len(head): len(last) - len(tail)]
-                    for ask in asks:
-                        if "%" in ask:
-                            found.add(os.path.normpath(os.path.join(make.folder, folder, ask.replace("%", stem, 1))))
+                    for one in prerequisites:
+                        if "%" in one:
+                            found.add(os.path.normpath(os.path.join(make.folder, folder, one.replace("%", stem, 1))))
         return found
 
     def drop_lonely(self) -> None:

@@ -16,15 +16,15 @@ PATTERN = re.compile(r"^([^#\t:=]*%[^:=]*)::?(?!=) *(.*)$")
 class Colons:
     """One rule of a double-colon target."""
 
-    asks: List[str]
+    prerequisites: List[str]
     order_only: List[str]
 
 
 @dataclass
 class Base:
-    """What the data base tells; names as make shows them, cut at blanks."""
+    """What the data base says; names as make shows them, cut at blanks."""
 
-    asks: Dict[str, List[str]] = field(default_factory=dict)
+    prerequisites: Dict[str, List[str]] = field(default_factory=dict)
     order_only: Dict[str, Set[str]] = field(default_factory=dict)
     phony: Set[str] = field(default_factory=set)
     intermediate: Set[str] = field(default_factory=set)
@@ -78,7 +78,7 @@ class _Files:
         first, _, second = ((match.group(3) or "") + " ").partition("| ")
         if self.name == ".NOTPARALLEL":
             base.serial = True
-        base.asks.setdefault(self.name, []).extend(first.split())
+        base.prerequisites.setdefault(self.name, []).extend(first.split())
         base.order_only.setdefault(self.name, set()).update(second.split())
         if match.group(2) == "::":
             base.double.setdefault(self.name, []).append(Colons(first.split(), second.split()))

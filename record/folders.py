@@ -1,7 +1,7 @@
 """Folders that recipes make for themselves, and what is known of folders besides their names: times, modes, links.
 
-Makers that tell nobody who was first do not clash; each user needs one maker before it. A strict maker, a look at a
-folder that is not there yet, and a removal clash with all that nothing orders.
+Quiet makers, which do not show who was first, do not conflict; each user needs one maker before it. A strict maker, a look at a
+folder that is not there yet, and a removal conflict with all that nothing orders.
 """
 
 import os
@@ -32,7 +32,7 @@ class Folder:
 
 
 def excused(works: List[Work], folder: str) -> bool:
-    """Whether the text of a recipe makes a folder in a form that tells nobody."""
+    """Whether the text of a recipe makes a folder in a quiet form, which does not show who was first."""
     return any(shelltext.is_excused(argv, folder) for work in works for life in work.lives for argv in life.ran)
 
 

@@ -17,7 +17,7 @@ class Node:
     label: str
     first: int
     done: int
-    asks: Dict[str, None] = field(default_factory=dict)  # labels of other nodes
+    prerequisites: Dict[str, None] = field(default_factory=dict)  # labels of other nodes
     jobs: List[Job] = field(default_factory=list)
     must: bool = False
     has_recipe: bool = False
@@ -57,7 +57,7 @@ class Graph:
     def read_nodes(self) -> None:
         base = self.base
         for name, seen in self.round.nodes.items():
-            node = Node(name, name, seen.index, max(seen.index, seen.done), dict.fromkeys(seen.asks))
+            node = Node(name, name, seen.index, max(seen.index, seen.done), dict.fromkeys(seen.prerequisites))
             self.nodes[name] = node
         for job in self.round.jobs:
             if job.target not in self.nodes:
@@ -70,13 +70,13 @@ class Graph:
             node.phony = name in base.phony
 
     def split_double_colons(self) -> None:
-        """The rules of one target run one after the other; who asks for the target waits for the first alone."""
+        """The rules of one target run one after the other; who needs the target waits for the first alone."""
         for name, rules in self.base.double.items():
             node = self.nodes.get(name)
             if node is None or len(rules) < 2:
                 continue
-            known = {p for rule in rules for p in rule.asks + rule.order_only}
-            loose = [p for p in node.asks if p not in known]
+            known = {p for rule in rules for p in rule.prerequisites + rule.order_only}
+            loose = [p for p in node.prerequisites if p not in known]
             jobs, node.jobs = node.jobs, []
             parts = [node]
             for at in range(1, len(rules)):
@@ -85,9 +85,9 @@ class Graph:
                 self.nodes[label] = part
                 parts.append(part)
             for at, (part, rule) in enumerate(zip(parts, rules)):
-                part.asks = dict.fromkeys([p for p in rule.asks + rule.order_only if p in self.nodes] + loose)
+                part.prerequisites = dict.fromkeys([p for p in rule.prerequisites + rule.order_only if p in self.nodes] + loose)
                 if at:
-                    part.asks[parts[at - 1].label] = None
+                    part.prerequisites[parts[at - 1].label] = None
             self.share_jobs(parts, jobs, rules)
             self.hold_back(parts)
 
@@ -101,17 +101,17 @@ class Graph:
                 self.notes.append("double colons: not every rule of %s ran" % parts[0].name)
 
     def hold_back(self, parts: List[Node]) -> None:
-        """What a later rule alone asks for is looked at when the rule before it has ended."""
+        """What a later rule alone needs is looked at when the rule before it has ended."""
         for before, part in zip(parts, parts[1:]):
             without = self.reached(part)
-            for label in list(part.asks):
+            for label in list(part.prerequisites):
                 if label not in without and label != before.label and label in self.nodes:
                     for one in self.reached_from([label]) - without:
                         if one not in (before.label, part.label):
-                            self.nodes[one].asks.setdefault(before.label)
+                            self.nodes[one].prerequisites.setdefault(before.label)
 
     def reached(self, but: Node) -> Set[str]:
-        """What is reached where one node asks for nothing."""
+        """What is reached where one node needs nothing."""
         return self.reached_from(list(self.round.goals) + [n.label for n in self.nodes.values() if n.rule and n is not but], but)
 
     def reached_from(self, starts: List[str], but: Optional[Node] = None) -> Set[str]:
@@ -123,11 +123,11 @@ class Graph:
                 seen.add(label)
                 node = self.nodes[label]
                 if node is not but:
-                    todo.extend(p for p in node.asks if p in self.nodes)
+                    todo.extend(p for p in node.prerequisites if p in self.nodes)
         return seen
 
     def late(self) -> Set[str]:
-        """What make may look at after its first pass: what only a later rule of a double-colon target asks for, and
+        """What make may look at after its first pass: what only a later rule of a double-colon target needs, and
         intermediate files."""
         later = [n for n in self.nodes.values() if n.rule]
         early: Set[str] = set()
@@ -136,7 +136,7 @@ class Graph:
             label = todo.pop()
             if label not in early and not self.nodes[label].rule:
                 early.add(label)
-                todo.extend(p for p in self.nodes[label].asks if p in self.nodes)
+                todo.extend(p for p in self.nodes[label].prerequisites if p in self.nodes)
         return {n.label for n in later} | (set(self.nodes) - early) | self.base.intermediate
 
     def free(self, label: str) -> str:
@@ -154,8 +154,8 @@ class Graph:
             for other in others:
                 member = self.nodes.get(other)
                 if member is not None and member is not node and not member.jobs:
-                    member.asks[name] = None
-                    node.asks.pop(other, None)
+                    member.prerequisites[name] = None
+                    node.prerequisites.pop(other, None)
 
 
 @dataclass
@@ -203,11 +203,11 @@ class Build:
 
 
 def order_tasks(tasks: List[Task], after: List[Set[int]], keys: List[Tuple[int, int]]) -> Tuple[List[int], int]:
-    """A serial order of tasks; edges that close a ring are dropped and counted."""
+    """A serial order of tasks; edges that close a cycle are dropped and counted."""
     users: List[List[int]] = [[] for _ in tasks]
     left = [len(a) for a in after]
-    for at, asks in enumerate(after):
-        for one in asks:
+    for at, earlier in enumerate(after):
+        for one in earlier:
             users[one].append(at)
     heap = [(keys[at], at) for at in range(len(tasks)) if not left[at]]
     heapq.heapify(heap)

@@ -4,7 +4,7 @@ A process number comes again, so a life is what counts. An event is a kind and a
 the trace is kept. Kinds:
 
     R read    S looked at, there    N looked at, absent    P a folder on the way is absent    U a folder was entered
-    W write   C name created        D name removed         M mkdir   T mkdir that tells nobody   E mkdir, there already
+    W write   C name created        D name removed         M mkdir   T quiet mkdir         E mkdir, there already
     X rmdir   x rmdir that failed   L listed               m mode of a folder    t time of a folder
     H number of links changed       h number of links looked at           Q listed by make
     A looked at by a process that compares ages         K folder looked at by a script that makes it for itself

@@ -50,14 +50,14 @@ class Missing(Exception):
 
 
 def version_of(program: str, pattern: str, least: Tuple[int, int], package: str) -> str:
-    """The version that a program tells of itself."""
+    """The version that a program reports of itself."""
     path = shutil.which(program)
     if path is None:
         raise Missing("%s is missing (Debian: apt-get install %s)" % (program, package))
-    told = subprocess.run([path, "--version"], capture_output=True, text=True, errors="replace", env=dict(os.environ, LC_ALL="C")).stdout
-    match = re.search(pattern, told)
+    output = subprocess.run([path, "--version"], capture_output=True, text=True, errors="replace", env=dict(os.environ, LC_ALL="C")).stdout
+    match = re.search(pattern, output)
     if not match or (int(match.group(1)), int(match.group(2))) < least:
-        raise Missing("%s is %s, and %d.%d or later is needed" % (program, told.split("\n")[0], least[0], least[1]))
+        raise Missing("%s is %s, and %d.%d or later is needed" % (program, output.split("\n")[0], least[0], least[1]))
     return "%s.%s" % match.groups()
 
 

@@ -3,7 +3,7 @@
 import os
 from typing import Any, Dict, Iterable, List, Set, Tuple
 
-from record.ages import inner_ages, told_ages
+from record.ages import ages_by_words, inner_ages
 from record.assumptions import Assumptions
 from record.build import Builder
 from record.folders import add_folders, parents
@@ -194,7 +194,7 @@ class NinjaBuilder(Builder):
         for at, task in enumerate(self.build.tasks):
             for work in task.works:
                 inner_ages(self, at, work)
-                told_ages(self, at, work)
+                ages_by_words(self, at, work)
         self.drop_lonely()
 
     def put_makers_first(self) -> None:

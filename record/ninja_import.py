@@ -59,9 +59,9 @@ def beside(ninjas: List[Ninja], builds: List[Build], names: Names) -> "Tuple[int
     asked = set()
     for ninja in ninjas:
         key = (ninja.life.program, ninja.folder, ninja.file)
-        told = ask_missing(*key) if key not in asked and any(stage.jobs for stage in ninja.stages) else None
+        missing = ask_missing(*key) if key not in asked and any(stage.jobs for stage in ninja.stages) else None
         asked.add(key)
-        for one in sorted(told or (), key=lambda m: (m.user, m.path)):
+        for one in sorted(missing or (), key=lambda m: (m.user, m.path)):
             found += 1
             if not any(is_race(build, one, names) for build in builds if isinstance(build, NinjaBuild) and build.folder == ninja.folder):
                 beyond.append(one)

@@ -50,14 +50,14 @@ def read_missing(text: str) -> Set[Missing]:
 def ask_missing(program: str, folder: str, file: str) -> "Set[Missing] | None":
     """Runs `-t missingdeps`; None where this ninja has none."""
     words = [program, "-C", folder, "-f", file, "-t", "missingdeps"]
-    told = subprocess.run(words, capture_output=True, text=True, errors="surrogateescape", stdin=subprocess.DEVNULL, check=False)
-    return read_missing(told.stdout) if "Processed" in told.stdout else None
+    ran = subprocess.run(words, capture_output=True, text=True, errors="surrogateescape", stdin=subprocess.DEVNULL, check=False)
+    return read_missing(ran.stdout) if "Processed" in ran.stdout else None
 
 
 def version_of(program: str) -> str:
     """What a ninja says of its version."""
-    told = subprocess.run([program, "--version"], capture_output=True, text=True, errors="replace", stdin=subprocess.DEVNULL, check=False)
-    return told.stdout.strip()
+    ran = subprocess.run([program, "--version"], capture_output=True, text=True, errors="replace", stdin=subprocess.DEVNULL, check=False)
+    return ran.stdout.strip()
 
 
 def ends(log: List[str]) -> Dict[str, Tuple[int, int]]:

@@ -111,7 +111,7 @@ class Edge:
             return self.scope.values[name]
         if name in self.bindings:
             if name in busy:
-                raise Unreadable("a variable of rule %s asks for itself: %s" % (self.rule, name))
+                raise Unreadable("a variable of rule %s needs itself: %s" % (self.rule, name))
             return evaluate(self.bindings[name], lambda other: self.value(other, escape, busy + (name,)))
         return self.scope.value(name)
 
@@ -224,7 +224,7 @@ class Manifest:
         return found
 
     def roots(self) -> List[str]:
-        """Outputs that nobody asks for."""
+        """Outputs that no statement needs."""
         asked = {path for edge in self.edges for path in edge.waits() + edge.validations}
         return [path for path in self.makers if path not in asked]
 

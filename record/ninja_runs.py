@@ -270,7 +270,7 @@ class Runs:
         self.ties.append(text)
 
     def check_tie(self, text: str, jobs: List[Job]) -> None:
-        """Where two that one command cannot tell apart ran at once, it must not matter which was which."""
+        """Where two with one command, which nothing distinguishes, ran at once, it must not matter which was which."""
         rows = sorted(jobs, key=lambda j: j.life.born)
         for first, second in zip(rows, rows[1:]):
             if second.life.born < first.life.died and set(first.work.events) != set(second.work.events):

@@ -63,7 +63,7 @@ def patterns(argv: List[str], cut: bool) -> Iterable[str]:
 
 
 def is_quiet_mkdir(argv: List[str]) -> bool:
-    """`mkdir -p` or `install -d`, which tell nobody whether the folder was there."""
+    """`mkdir -p` or `install -d`, which do not show whether the folder was there."""
     name, words = base_name(argv), argv[1:]
     loud = any(w == "--verbose" or re.match(r"-[a-zA-Z]*v", w) for w in words)
     if name == "mkdir":
@@ -72,7 +72,7 @@ def is_quiet_mkdir(argv: List[str]) -> bool:
 
 
 def makes(argv: List[str], folder: str) -> bool:
-    """Whether a script that builds carry makes this folder for itself, and asks no more than that it is there."""
+    """Whether a script that builds carry makes this folder for itself, and needs no more than that it is there."""
     name, words = base_name(argv), argv[1:]
     if name not in SHELLS and name != "cmake":
         return False
@@ -95,7 +95,7 @@ def is_on_the_way(folder: str, word: str) -> bool:
 
 
 def is_excused(argv: List[str], folder: str) -> bool:
-    """Whether a shell's text makes a folder in one of the forms that tell nobody who was first."""
+    """Whether a shell's text makes a folder in one of the quiet forms, which do not show who was first."""
     text = shell_text(argv)
     if not text:
         return False

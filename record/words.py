@@ -26,12 +26,12 @@ class Job:
 
 @dataclass
 class Considered:
-    """A target that make looked at: when first, when it had looked at what it asks for, and the targets that it asks for."""
+    """A target that make looked at: when first, when it had looked at its prerequisites, and which these are."""
 
     name: str
     index: int
     done: int
-    asks: List[str] = field(default_factory=list)
+    prerequisites: List[str] = field(default_factory=list)
 
 
 @dataclass
@@ -109,8 +109,8 @@ class _Reader:
             nodes[name] = Considered(name, self.clock, -1)
         if self.stack:
             parent = nodes[self.stack[max(self.stack)]]
-            if name not in parent.asks and name != parent.name:
-                parent.asks.append(name)
+            if name not in parent.prerequisites and name != parent.name:
+                parent.prerequisites.append(name)
         elif name not in self.round.goals:
             self.round.goals.append(name)
         self.stack[depth] = name

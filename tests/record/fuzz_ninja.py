@@ -72,7 +72,7 @@ class NinjaDraw(Draw):
     def needs(self) -> str:
         """Inputs of each kind."""
         marks = self.random.choice((("", " | "), ("", " || "), ("", " |@ "), ("", " ")))
-        return "".join(mark + " ".join(self.asks()) for mark in marks)
+        return "".join(mark + " ".join(self.prerequisites()) for mark in marks)
 
     def more(self, name: str) -> str:
         """More steps of a command, perhaps none."""
@@ -169,7 +169,7 @@ class NinjaDraw(Draw):
 
     def twice(self, name: str) -> Block:
         """Two statements with one command."""
-        text = "".join("build %s%s: sh %s\n  c = echo x >> %s.log\n" % (name, part, " ".join(self.asks()), name) for part in "ab")
+        text = "".join("build %s%s: sh %s\n  c = echo x >> %s.log\n" % (name, part, " ".join(self.prerequisites()), name) for part in "ab")
         return Block([name + "a", name + "b"], text)
 
     def inner(self, name: str) -> Block:

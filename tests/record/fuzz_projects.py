@@ -1,6 +1,6 @@
 """Random small projects for the fuzzer: makefiles of 2 to 8 targets, some of which forget a prerequisite on purpose.
 
-A project is a list of blocks (a rule or a few, with the targets that `all` asks for) and the files that stand beside the
+A project is a list of blocks (a rule or a few, with the prerequisites of `all`) and the files that stand beside the
 makefile. `$N` in a recipe is `:`, or what the environment says: that is where parallel builds are delayed, each target by itself.
 """
 
@@ -127,7 +127,7 @@ class Draw:
                 self.project.ages[name] = self.random.choice((OLD, OLD, NEW))
 
     # ---------------------------------------------------------------- parts
-    def asks(self) -> List[str]:
+    def prerequisites(self) -> List[str]:
         """Up to two earlier targets, and a source."""
         found = self.random.sample(self.done, min(len(self.done), self.random.choice((0, 0, 1, 1, 2))))
         return found + self.random.sample(("src0", "src1", "src2"), self.random.choice((0, 1)))
@@ -144,26 +144,26 @@ class Draw:
             steps.append("\t%s$N $@; %s\n" % (self.random.choice(("", "@", "-")), self.random.choice(STEPS).replace("X", one).replace("Y", two)))
         return "".join(steps)
 
-    def rule(self, name: str, asks: List[str], step: str, bar: str = "") -> str:
+    def rule(self, name: str, prerequisites: List[str], step: str, bar: str = "") -> str:
         """The text of a rule."""
-        body = "%s: %s%s\n\t@$N $@; %s\n%s" % (name, " ".join(asks), " | " + bar if bar else "", step, self.extra())
+        body = "%s: %s%s\n\t@$N $@; %s\n%s" % (name, " ".join(prerequisites), " | " + bar if bar else "", step, self.extra())
         return body
 
     # ---------------------------------------------------------------- shapes
     def file(self, name: str) -> Block:
-        asks = self.asks()
-        text = self.rule(name, asks, "cat /dev/null %s > $@" % " ".join(asks))
+        prerequisites = self.prerequisites()
+        text = self.rule(name, prerequisites, "cat /dev/null %s > $@" % " ".join(prerequisites))
         self.done.append(name)
         return Block([name], text)
 
     def stamp(self, name: str) -> Block:
         phony = self.random.random() < 0.3
-        text = (".PHONY: %s\n" % name if phony else "") + self.rule(name, self.asks(), "touch %s.made" % name if phony else "touch $@")
+        text = (".PHONY: %s\n" % name if phony else "") + self.rule(name, self.prerequisites(), "touch %s.made" % name if phony else "touch $@")
         self.done.append(name)
         return Block([name], text)
 
     def header(self, name: str) -> Block:
-        text = self.rule(name + ".h", self.asks(), "echo h > $@.t; $N $@; mv $@.t $@")
+        text = self.rule(name + ".h", self.prerequisites(), "echo h > $@.t; $N $@; mv $@.t $@")
         self.headers.append(name + ".h")
         self.done.append(name + ".h")
         return Block([name + ".h"], text)
@@ -173,13 +173,13 @@ class Draw:
         if not self.headers:
             return self.header(name)
         header = self.random.choice(self.headers)
-        asks = ["src0"] + ([] if self.forgets() else [header])
+        prerequisites = ["src0"] + ([] if self.forgets() else [header])
         self.done.append(name)
-        return Block([name], self.rule(name, asks, "cat src0 %s > $@" % header))
+        return Block([name], self.rule(name, prerequisites, "cat src0 %s > $@" % header))
 
     def pattern(self, name: str) -> Block:
-        asks = self.random.sample(self.headers, min(1, len(self.headers)))
-        text = "%%.o%s: %%.c%s\n\t@$N $@; cat $^ > $@\n" % (name, name) + ("".join("%s.o%s: %s\n" % (name, name, a) for a in asks if not self.forgets()))
+        prerequisites = self.random.sample(self.headers, min(1, len(self.headers)))
+        text = "%%.o%s: %%.c%s\n\t@$N $@; cat $^ > $@\n" % (name, name) + ("".join("%s.o%s: %s\n" % (name, name, a) for a in prerequisites if not self.forgets()))
         if self.random.random() < 0.4:
             text += "%%.c%s: %%.y%s\n\t@$N $@; cp $< $@\n" % (name, name)
             files = {name + ".y" + name: "y\n"}
@@ -195,26 +195,26 @@ class Draw:
             bar = "" if self.forgets() else name + ".d"
             own = "mkdir -p $(@D); " if self.random.random() < 0.3 else ""
             plain = self.random.random() < 0.1
-            text += self.rule("%s.d/%s" % (name, part), [bar] if plain and bar else self.asks(), own + "echo %s > $@" % part, "" if plain else bar)
+            text += self.rule("%s.d/%s" % (name, part), [bar] if plain and bar else self.prerequisites(), own + "echo %s > $@" % part, "" if plain else bar)
         self.done += [name + ".d/a", name + ".d/b"]
         return Block([name + ".d/a", name + ".d/b"], text)
 
     def double(self, name: str) -> Block:
-        text = "".join("%s:: %s\n\t@$N $@; echo %s >> $@\n" % (name, " ".join(self.asks()), part) for part in ("1", "2", "3")[: self.random.choice((2, 3))])
+        text = "".join("%s:: %s\n\t@$N $@; echo %s >> $@\n" % (name, " ".join(self.prerequisites()), part) for part in ("1", "2", "3")[: self.random.choice((2, 3))])
         self.done.append(name)
         return Block([name], text)
 
     def outputs(self, name: str) -> Block:
         colon = "&:" if self.random.random() < 0.5 else ":"
-        asks = " ".join(self.asks())
-        text = "%s %s.b %s %s\n\t@$N $@; echo 1 >> %s; $N $@; echo 2 >> %s.b\n" % (name, name, colon, asks, name, name)
+        prerequisites = " ".join(self.prerequisites())
+        text = "%s %s.b %s %s\n\t@$N $@; echo 1 >> %s; $N $@; echo 2 >> %s.b\n" % (name, name, colon, prerequisites, name, name)
         self.done += [name, name + ".b"]
         return Block([name, name + ".b"], text)
 
     def include(self, name: str) -> Block:
         """A makefile that is made, and read again."""
-        asks = " ".join(self.random.sample(self.headers, min(1, len(self.headers))))
-        text = "include %s.d\n%s.d: src0\n\t@$N $@; echo '%s: %s' > $@\n%s:\n\t@$N $@; cat src1 %s > $@\n%s" % (name, name, name, asks, name, asks, self.extra())
+        prerequisites = " ".join(self.random.sample(self.headers, min(1, len(self.headers))))
+        text = "include %s.d\n%s.d: src0\n\t@$N $@; echo '%s: %s' > $@\n%s:\n\t@$N $@; cat src1 %s > $@\n%s" % (name, name, name, prerequisites, name, prerequisites, self.extra())
         self.done.append(name)
         return Block([name], text)
 
@@ -222,7 +222,7 @@ class Draw:
         """What make itself does."""
         step = self.random.choice(("$(file >N.own,w)", "$(shell echo w > N.own)", "$(if $(wildcard N.own),,$(shell touch N.own))")).replace("N", name)
         reader = self.random.random() < 0.5
-        text = ".PHONY: %s\n%s: %s ; %s\n" % (name, name, " ".join(self.asks()), step)
+        text = ".PHONY: %s\n%s: %s ; %s\n" % (name, name, " ".join(self.prerequisites()), step)
         if reader:
             text += "%s.r: %s\n\t@$N $@; cat %s.own > $@ 2>/dev/null || true\n" % (name, "" if self.forgets() else name, name)
         return Block([name] + ([name + ".r"] if reader else []), text)
@@ -237,8 +237,8 @@ class Draw:
         return Block(goals, text, {"v/k": "k\n"} if made else {"v/%s.%sv" % (name, name): "v\n"})
 
     def expansion(self, name: str) -> Block:
-        asks = self.asks()
-        text = ".SECONDEXPANSION:\n%s: $$(%s.needs)\n\t@$N $@; cat /dev/null %s > $@\n%s.needs = %s\n" % (name, name, " ".join(asks), name, " ".join(asks))
+        prerequisites = self.prerequisites()
+        text = ".SECONDEXPANSION:\n%s: $$(%s.needs)\n\t@$N $@; cat /dev/null %s > $@\n%s.needs = %s\n" % (name, name, " ".join(prerequisites), name, " ".join(prerequisites))
         self.done.append(name)
         return Block([name], text)
 
@@ -250,11 +250,11 @@ class Draw:
 
     def row(self, name: str) -> Block:
         """Aggregates without a recipe, and prerequisites that no rule makes."""
-        asks = self.asks()
+        prerequisites = self.prerequisites()
         loose = self.random.choice(SHARED) if self.random.random() < 0.3 else ""
         if loose:
             self.project.files[loose] = "w\n"
-        text = "%s: %s %s\n" % (name, " ".join(asks), loose) + (".PHONY: %s\n" % name if self.random.random() < 0.5 else "%s: ; @touch $@\n" % name)
+        text = "%s: %s %s\n" % (name, " ".join(prerequisites), loose) + (".PHONY: %s\n" % name if self.random.random() < 0.5 else "%s: ; @touch $@\n" % name)
         self.done.append(name)
         return Block([name], text)
 
@@ -270,6 +270,6 @@ class Draw:
         files.update({"%s/%s" % (name, k): t for k, t in draw.project.files.items()})
         files["%s/Makefile" % name] = small.makefile() + (".NOTPARALLEL:\n" if self.random.random() < 0.15 else "")
         words = self.random.choice(("", "", "", "-s ", "-j1 ", "-k "))
-        text = ".PHONY: %s.all\n%s.all: %s\n\t@$N $@; $(MAKE) %s--no-print-directory -C %s\n%s" % (name, name, " ".join(self.asks()), words, name, self.extra())
+        text = ".PHONY: %s.all\n%s.all: %s\n\t@$N $@; $(MAKE) %s--no-print-directory -C %s\n%s" % (name, name, " ".join(self.prerequisites()), words, name, self.extra())
         self.done.append(name + ".all")
         return Block([name + ".all"], text, files)

@@ -88,8 +88,8 @@ NAMES: List[Guard] = [
 ]
 FOLDERS: List[Guard] = [
     Guard("folders: strict makers meet", "folders.py", "    for at in folder.strict & makers:\n", "    for at in ():\n", small("folder_made_by_two_who_fail"), YES),
-    Guard("folders: makers that tell nobody do not", "calls.py", "quiet = shelltext.is_quiet_mkdir(life.argv)\n", "quiet = False\n", case("folder-mkdir-p"), FALSE_RACE),
-    Guard("folders: mkdir -v tells", "shelltext.py", "return not loud and any(w == \"--parents\"", "return any(w == \"--parents\"", case("folder-mkdir-v"), YES),
+    Guard("folders: quiet makers do not", "calls.py", "quiet = shelltext.is_quiet_mkdir(life.argv)\n", "quiet = False\n", case("folder-mkdir-p"), FALSE_RACE),
+    Guard("folders: mkdir -v is not quiet", "shelltext.py", "return not loud and any(w == \"--parents\"", "return any(w == \"--parents\"", case("folder-mkdir-v"), YES),
     Guard("folders: mkdir || true", "folders.py", "        if excused(tasks[at].works, path):\n            folder.strict.discard(at)", "        if False:\n            folder.strict.discard(at)", small("folder_made_or_true"), FALSE_RACE),
     Guard("folders: test -d || mkdir", "folders.py", "(at in folder.scripts or excused(tasks[at].works, path))", "at in folder.scripts", small("folder_tested_or_made"), FALSE_RACE),
     Guard("folders: a user needs a maker", "folders.py", "            seen(builder, path, at, makers)\n    for at in makers:", "            pass\n    for at in makers:", case("folder-forgotten"), YES),
@@ -118,10 +118,10 @@ GRAPH: List[Guard] = [
     Guard("serial: an inner make without flags", "build.py", "return is_inner and not", "return False and not", small("inner_make_without_flags"), FALSE_RACE),
     Guard("serial: not every inner make", "build.py", "return is_inner and not self.make.words.below and", "return is_inner and", small("inner_make"), YES),
     Guard("double colons: users wait for the first rule", "graph.py", "if node is None or len(rules) < 2:", "if True:", case("double-colon-user"), YES),
-    Guard("double colons: one rule after the other", "graph.py", "                    part.asks[parts[at - 1].label] = None\n", "                    pass\n", case("double-colon-row"), FALSE_RACE),
+    Guard("double colons: one rule after the other", "graph.py", "                    part.prerequisites[parts[at - 1].label] = None\n", "                    pass\n", case("double-colon-row"), FALSE_RACE),
     Guard("double colons: the age that make saw first", "ages.py", "if not own or build.tasks[a].node.name != own}", "if True}", small("double_colon_ages"), FALSE_RACE),
-    Guard("double colons: what a later rule asks for", "graph.py", "            self.hold_back(parts)\n", "", small("double_colon_holds_back"), FALSE_RACE),
-    Guard("grouped targets wait for the one that runs", "graph.py", "                    member.asks[name] = None\n", "                    pass\n", case("two-outputs-grouped"), FALSE_RACE),
+    Guard("double colons: what a later rule needs", "graph.py", "            self.hold_back(parts)\n", "", small("double_colon_holds_back"), FALSE_RACE),
+    Guard("grouped targets wait for the one that runs", "graph.py", "                    member.prerequisites[name] = None\n", "                    pass\n", case("two-outputs-grouped"), FALSE_RACE),
     Guard("searches: a folder not listed before", "build.py", "                    self.build.tasks[at].reads.add(path)\n", "                    pass\n", small("search_sees_a_name_that_goes"), YES),
     Guard("searches: a folder listed before", "build.py", "if listed < self.first_birth():", "if False:", small("search_in_an_early_listing"), FALSE_RACE),
     Guard("searches: said", "build.py", 'self.assumed.add("search", path)', "pass", small("search_in_an_early_listing"), UNSAID),
@@ -130,7 +130,7 @@ GRAPH: List[Guard] = [
 ]
 AGES: List[Guard] = [
     Guard("ages: of inner makes", "ages.py", "            inner_ages(builder, at, work)\n", "", small("ages_in_an_inner_make"), YES),
-    Guard("ages: by the words of a program", "ages.py", "            told_ages(builder, at, work)\n", "", case("ages-test"), YES),
+    Guard("ages: by the words of a program", "ages.py", "            ages_by_words(builder, at, work)\n", "", case("ages-test"), YES),
     Guard("ages: queries", "calls.py", "if life.is_query or shelltext", "if shelltext", case("ages-query"), YES),
     Guard("ages: of folders, by what is in them", "ages.py", " | builder.timers.get(path, set())", "", small("age_of_a_folder"), YES),
 ]
@@ -157,7 +157,7 @@ OWNERS: List[Guard] = [
     Guard("said: targets of a make that has nothing to do", "main.py", ", *found.idle})", "})", small("all_up_to_date"), UNSAID),
     Guard("said: names outside of the project", "replay.py", "            self.outside[path.rstrip(\"/\")] = None\n", "            pass\n", small("outside"), UNSAID),
     Guard("said: scripts that make folders", "calls.py", 'self.makers.append(" ".join(script)[:60])', "pass", small("makers"), UNSAID),
-    Guard("scripts that make folders tell nobody", "replay.py", 'if kind == "S" and not life.is_make and', "if False and", small("makers"), FALSE_RACE),
+    Guard("scripts that make folders are quiet", "replay.py", 'if kind == "S" and not life.is_make and', "if False and", small("makers"), FALSE_RACE),
     Guard("scripts that make folders: no other folder", "shelltext.py", "    return any(is_on_the_way(folder, word)", "    return True or any(is_on_the_way(folder, word)", small("makers_of_another_folder"), YES),
     Guard("said: interpreters", "granted.py", 'assumed.add("interpreters", " ".join(argv)[:60])', "pass", small("interpreters"), UNSAID),
     Guard("said: MAKEFLAGS of a recipe", "granted.py", "if sees_words(argv, spool):", "if False:", small("path_of_a_recipe"), UNSAID),

@@ -142,7 +142,7 @@ def races(tasks: List[Task]) -> Tuple[List[Tuple[int, int]], int]:
     return [(a, b) for a, b in pairs if not bits[b] >> a & 1], len(pairs)
 
 
-def told(tasks: List[Task], root: str) -> Tuple[int, List[str]]:
+def listed(tasks: List[Task], root: str) -> Tuple[int, List[str]]:
     """The report of `list`."""
     found, pairs = races(tasks)
     lines = ["races %d" % len(found), "nodes %d" % len(tasks), "recipes %d" % len(tasks), "idle 0", "waits 0", "pairs %d" % pairs]
@@ -192,7 +192,7 @@ def main() -> int:
     if options.command == "fix":
         status, lines = fixed(tasks, options.root)
     else:
-        status, lines = told(tasks, options.root)
+        status, lines = listed(tasks, options.root)
         if options.command == "check":
             lines = ["race" if status else "safe"] + lines[1:]
     print("".join(line + "\n" for line in lines), end="")

@@ -26,7 +26,7 @@ def race_program() -> str:
 
 
 @dataclass
-class Told:
+class Outcome:
     """What a run of `race-record` left: its status, its streams, and the record."""
 
     status: int
@@ -71,12 +71,12 @@ class Project:
         """Runs a command that is not recorded."""
         return subprocess.run(list(words), cwd=self.folder, capture_output=True, stdin=subprocess.DEVNULL, timeout=SECONDS, check=False)
 
-    def record(self, words: Sequence[str] = ("make",), options: Sequence[str] = (), env: Optional[Dict[str, str]] = None) -> Told:
+    def record(self, words: Sequence[str] = ("make",), options: Sequence[str] = (), env: Optional[Dict[str, str]] = None) -> Outcome:
         """Runs `race-record` over a command, and reads what it left."""
         command = [str(RECORDER), "--race", race_program(), *options, "--", *words]
         ran = subprocess.run(command, cwd=self.folder, capture_output=True, stdin=subprocess.DEVNULL, timeout=SECONDS, check=False, env=env)
         record, builds = self.left()
-        return Told(ran.returncode, ran.stdout, ran.stderr, record, builds)
+        return Outcome(ran.returncode, ran.stdout, ran.stderr, record, builds)
 
     def left(self) -> "tuple[Optional[Dict[str, Any]], List[Dict[str, Any]]]":
         """The record in the folder, if there is one."""
@@ -100,6 +100,6 @@ def races_of(text: str) -> List[str]:
 
 def missing(folder: Path) -> List[str]:
     """The files of which `ninja -t missingdeps` says that a statement reads them, and waits for nobody who makes them."""
-    told = subprocess.run(["ninja", "-C", str(folder), "-t", "missingdeps"], capture_output=True, text=True, check=False, timeout=60).stdout
-    found = re.findall(r"Missing dep: .* uses (\S+)", told)
+    output = subprocess.run(["ninja", "-C", str(folder), "-t", "missingdeps"], capture_output=True, text=True, check=False, timeout=60).stdout
+    found = re.findall(r"Missing dep: .* uses (\S+)", output)
     return [os.path.relpath(os.path.join(folder, path), folder) for path in found]

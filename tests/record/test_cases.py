@@ -26,12 +26,12 @@ def test_of(folder: Path) -> Callable[[unittest.TestCase], None]:
             project.copy(folder / "tree")
             project.sh((folder / "setup").read_text())
             options = (folder / "options").read_text().split() if (folder / "options").exists() else []
-            told = project.record(words_of(folder), options)
+            outcome = project.record(words_of(folder), options)
         about = (folder / "about").read_text()
         wanted = (folder / "want").read_text().strip()
-        self.assertEqual(STATUSES[wanted], told.status, "%s%s%s" % (about, told.text()[-1500:], told.stderr.decode()[-800:]))
+        self.assertEqual(STATUSES[wanted], outcome.status, "%s%s%s" % (about, outcome.text()[-1500:], outcome.stderr.decode()[-800:]))
         for line in (folder / "says").read_text().splitlines() if (folder / "says").exists() else ():
-            self.assertIn(line, told.text(), about)
+            self.assertIn(line, outcome.text(), about)
 
     return test
 

@@ -53,7 +53,7 @@ class Reads(unittest.TestCase):
 
     def test_prerequisites(self) -> None:
         base = self.base()
-        self.assertEqual((["b", "source.c"], {"folder"}), (base.asks["a"], base.order_only["a"]))
+        self.assertEqual((["b", "source.c"], {"folder"}), (base.prerequisites["a"], base.order_only["a"]))
 
     def test_remarks(self) -> None:
         base = self.base()
@@ -70,7 +70,7 @@ class Reads(unittest.TestCase):
         self.assertEqual([("Makefile", 3), ("Makefile", 5)], base.places["d"])
 
     def test_end_of_the_list(self) -> None:
-        self.assertEqual(({"source.c", "all", "a", "d"}), set(self.base().asks))
+        self.assertEqual(({"source.c", "all", "a", "d"}), set(self.base().prerequisites))
 
     def test_what_is_no_target_may_have_been_searched_for(self) -> None:
         text = "# Files\n\n# Not a target:\nx.y:\n#  Implicit rule search has been done.\n"
@@ -87,14 +87,14 @@ class Reads(unittest.TestCase):
 class Lines(unittest.TestCase):
     """One target each."""
 
-    def asks(self, line: str) -> List[str]:
-        return read_base(["# Files", "", line]).asks.get(line.split(":")[0], [])
+    def prerequisites(self, line: str) -> List[str]:
+        return read_base(["# Files", "", line]).prerequisites.get(line.split(":")[0], [])
 
     def test_target_without_prerequisites(self) -> None:
-        self.assertEqual([], self.asks("x:"))
+        self.assertEqual([], self.prerequisites("x:"))
 
     def test_archive_member(self) -> None:
-        self.assertEqual(["a.o"], self.asks("lib.a(a.o): a.o"))
+        self.assertEqual(["a.o"], self.prerequisites("lib.a(a.o): a.o"))
 
 
 if __name__ == "__main__":

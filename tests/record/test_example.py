@@ -13,17 +13,17 @@ class Example(unittest.TestCase):
     def test_forgotten(self) -> None:
         with support.Project() as project:
             project.copy(EXAMPLE)
-            told = project.record(["make"])
-        self.assertEqual(1, told.status, told.text())
-        self.assertRegex(told.text(), r"(?m)^RACE  build/table\.h")
-        self.assertIn("fix: build/util.o: build/table.h", told.text())
+            outcome = project.record(["make"])
+        self.assertEqual(1, outcome.status, outcome.text())
+        self.assertRegex(outcome.text(), r"(?m)^RACE  build/table\.h")
+        self.assertIn("fix: build/util.o: build/table.h", outcome.text())
 
     def test_fixed(self) -> None:
         with support.Project() as project:
             project.copy(EXAMPLE)
-            told = project.record(["make", "-f", "Makefile-fixed"])
+            outcome = project.record(["make", "-f", "Makefile-fixed"])
             ran = project.plain(["build/app"])
-        self.assertEqual(0, told.status, told.text())
+        self.assertEqual(0, outcome.status, outcome.text())
         self.assertEqual(b"3 words, the first is apple\n", ran.stdout)
 
     def test_they_differ_in_one_rule(self) -> None:

@@ -18,12 +18,12 @@ Events = Sequence[Tuple[str, str]]
 def words_of(rules: Mapping[str, Sequence[str]]) -> List[str]:
     """What a make says that runs a recipe for each of these targets, in their order."""
     lines = ["ARGS", "FLAGS", "BELOW 0", "Reading makefiles...", "Updating goal targets....", "Considering target file 'all'."]
-    for number, (target, asks) in enumerate(rules.items()):
-        lines += [" Considering target file '%s'." % target, *("  Pruning file '%s'." % a for a in asks), " Must remake target '%s'." % target]
+    for number, (target, prerequisites) in enumerate(rules.items()):
+        lines += [" Considering target file '%s'." % target, *("  Pruning file '%s'." % a for a in prerequisites), " Must remake target '%s'." % target]
         lines += ["Putting child 0x%d (%s) PID %d on the chain." % (number, target, 10 + number)]
     base = ["# Make data base, printed on Monday", "# Files", ""]
-    for target, asks in rules.items():
-        base += ["%s: %s" % (target, " ".join(asks)), "#  recipe to execute (from 'Makefile', line 1):", "\techo", ""]
+    for target, prerequisites in rules.items():
+        base += ["%s: %s" % (target, " ".join(prerequisites)), "#  recipe to execute (from 'Makefile', line 1):", "\techo", ""]
     return lines + base + ["# files hash-table stats:", "# Finished Make data base on Monday", "EXIT 0"]
 
 
@@ -71,7 +71,7 @@ class Folders(unittest.TestCase):
     def test_two_strict_makers(self) -> None:
         self.assertEqual(["d/@make"], self.meet([("M", "d")], [("E", "d")]))
 
-    def test_two_makers_that_tell_nobody(self) -> None:
+    def test_two_quiet_makers(self) -> None:
         self.assertEqual([], self.meet([("T", "d")], [("T", "d")]))
 
     def test_user_without_a_maker_before_it(self) -> None:

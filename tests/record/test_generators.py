@@ -52,39 +52,39 @@ class CMake(unittest.TestCase):
     def test_forgotten(self) -> None:
         with support.Project(files("CMakeLists.txt", CMAKE.replace("FIRST", "good"))) as project:
             project.sh("cmake -G Ninja -S . -B b > log")
-            told = project.record(["cmake", "--build", "b"])
+            outcome = project.record(["cmake", "--build", "b"])
             found = missing(project.folder / "b")
-        text = told.text() + told.stderr.decode()[-800:]
-        self.assertEqual(1, told.status, text)
+        text = outcome.text() + outcome.stderr.decode()[-800:]
+        self.assertEqual(1, outcome.status, text)
         self.assertEqual(["gen.h"], races_of(text), text)
         self.assertIn("add_dependencies(prog ", text)
-        self.assertEqual((["gen.h"], 1), (found, (told.record or {})["missingdeps"]))
+        self.assertEqual((["gen.h"], 1), (found, (outcome.record or {})["missingdeps"]))
 
     def test_hidden_file_forgotten(self) -> None:
         text = CMAKE.replace("add_dependencies(use FIRST)\n", "").replace("cp hidden.txt use.txt", "sh -c 'cp hidden.txt use.txt || true'") + "add_dependencies(prog header)\n"
         with support.Project(files("CMakeLists.txt", text)) as project:
             project.sh("cmake -G Ninja -S . -B b > log")
-            told = project.record(["cmake", "--build", "b"])
+            outcome = project.record(["cmake", "--build", "b"])
             found = missing(project.folder / "b")
-        self.assertEqual((1, ["hidden.txt"], []), (told.status, races_of(told.text()), found), told.text())
+        self.assertEqual((1, ["hidden.txt"], []), (outcome.status, races_of(outcome.text()), found), outcome.text())
 
     def test_external_project(self) -> None:
         """A ninja that a statement starts is a build of its own, and one task of the build above."""
         for text, wanted in ((EXTERNAL, (1, ["gen.h"])), (EXTERNAL + "add_dependencies(user header)\n", (0, []))):
             with support.Project({"CMakeLists.txt": OUTER, "ext/CMakeLists.txt": text}) as project:
                 project.sh("cmake -G Ninja -S . -B b > log")
-                told = project.record(["cmake", "--build", "b"])
-            self.assertEqual(wanted, (told.status, races_of(told.text())), told.text() + told.stderr.decode()[-800:])
-            self.assertEqual({"ninja"}, {it["tool"] for it in told.builds})
-            self.assertEqual(["b", "b/ext"], sorted(os.path.relpath(it["folder"], os.path.realpath(project.folder)) for it in told.builds))
+                outcome = project.record(["cmake", "--build", "b"])
+            self.assertEqual(wanted, (outcome.status, races_of(outcome.text())), outcome.text() + outcome.stderr.decode()[-800:])
+            self.assertEqual({"ninja"}, {it["tool"] for it in outcome.builds})
+            self.assertEqual(["b", "b/ext"], sorted(os.path.relpath(it["folder"], os.path.realpath(project.folder)) for it in outcome.builds))
 
     def test_ordered(self) -> None:
         with support.Project(files("CMakeLists.txt", CMAKE.replace("FIRST", "header") + "add_dependencies(prog header)\n")) as project:
             project.sh("cmake -G Ninja -S . -B b > log")
-            told = project.record(["cmake", "--build", "b"])
+            outcome = project.record(["cmake", "--build", "b"])
             again = project.record(["cmake", "--build", "b", "--clean-first"])
-        self.assertEqual((0, 0), (told.status, (told.record or {})["missingdeps"]), told.text())
-        self.assertNotIn("WARM", told.text())
+        self.assertEqual((0, 0), (outcome.status, (outcome.record or {})["missingdeps"]), outcome.text())
+        self.assertNotIn("WARM", outcome.text())
         self.assertEqual(2, again.status, again.text())
 
 
@@ -99,19 +99,19 @@ class Meson(unittest.TestCase):
     def test_forgotten(self) -> None:
         with support.Project(files("meson.build", self.text("", ""))) as project:
             project.sh("chmod +x slow; CC=$PWD/slow meson setup b > log")
-            told = project.record(["meson", "compile", "-C", "b"])
+            outcome = project.record(["meson", "compile", "-C", "b"])
             found = missing(project.folder / "b")
-        text = told.text() + told.stderr.decode()[-800:]
-        self.assertEqual((1, {"gen.h", "hidden.txt"}), (told.status, set(races_of(text))), text)
+        text = outcome.text() + outcome.stderr.decode()[-800:]
+        self.assertEqual((1, {"gen.h", "hidden.txt"}), (outcome.status, set(races_of(text))), text)
         self.assertIn("into the sources of 'prog'", text)
-        self.assertEqual((["gen.h"], 1), (found, (told.record or {})["missingdeps"]))
+        self.assertEqual((["gen.h"], 1), (found, (outcome.record or {})["missingdeps"]))
 
     def test_ordered(self) -> None:
         with support.Project(files("meson.build", self.text(", gen", ", depends: gen"))) as project:
             project.sh("meson setup b > log")
-            told = project.record(["ninja", "-C", "b"])
+            outcome = project.record(["ninja", "-C", "b"])
             found = missing(project.folder / "b")
-        self.assertEqual((0, 0, []), (told.status, (told.record or {})["missingdeps"], found), told.text() + told.stderr.decode()[-800:])
+        self.assertEqual((0, 0, []), (outcome.status, (outcome.record or {})["missingdeps"], found), outcome.text() + outcome.stderr.decode()[-800:])
 
 
 if __name__ == "__main__":

@@ -11,7 +11,7 @@ from record.words import read_words
 
 
 def graph_of(considered: str, base: str, jobs: List[str]) -> Graph:
-    """A round: names with blanks in front say who asks for whom, `*` a target that was considered already."""
+    """A round: names with blanks in front say who needs whom, `*` a target that was considered already."""
     lines = ["Reading makefiles...", "Updating goal targets...."]
     for row in considered.split("\n"):
         name = row.strip()
@@ -23,17 +23,17 @@ def graph_of(considered: str, base: str, jobs: List[str]) -> Graph:
     return Graph(Make(words, Life(7), "/w"), 0)
 
 
-def asks(graph: Graph) -> Dict[str, List[str]]:
+def prerequisites(graph: Graph) -> Dict[str, List[str]]:
     """What each node waits for."""
-    return {label: sorted(node.asks) for label, node in graph.nodes.items()}
+    return {label: sorted(node.prerequisites) for label, node in graph.nodes.items()}
 
 
 class Nodes(unittest.TestCase):
-    """Considered targets, and who asks for them."""
+    """Considered targets, and who needs them."""
 
     def test_depth_says_who_asks(self) -> None:
         graph = graph_of("all\n a\n  x\n b\n  *x", "all: a b\n", ["a", "b"])
-        self.assertEqual({"all": ["a", "b"], "a": ["x"], "x": [], "b": ["x"]}, asks(graph))
+        self.assertEqual({"all": ["a", "b"], "a": ["x"], "x": [], "b": ["x"]}, prerequisites(graph))
         self.assertEqual((["all"], 1, 0), (graph.goals, len(graph.nodes["a"].jobs), len(graph.nodes["x"].jobs)))
 
     def test_job_of_a_target_that_was_not_considered(self) -> None:
@@ -42,10 +42,10 @@ class Nodes(unittest.TestCase):
 
     def test_rules_of_a_double_colon_target(self) -> None:
         graph = graph_of("u\n d\n  p\n d\n  q", "u: d\n\nd:: p\n\nd:: q\n", ["d", "d"])
-        self.assertEqual(["d"], sorted(graph.nodes["u"].asks))
-        self.assertEqual(["p"], sorted(graph.nodes["d"].asks))
-        self.assertEqual(["d", "q"], sorted(graph.nodes["d@rule2"].asks))
-        self.assertIn("d", graph.nodes["q"].asks)
+        self.assertEqual(["d"], sorted(graph.nodes["u"].prerequisites))
+        self.assertEqual(["p"], sorted(graph.nodes["d"].prerequisites))
+        self.assertEqual(["d", "q"], sorted(graph.nodes["d@rule2"].prerequisites))
+        self.assertIn("d", graph.nodes["q"].prerequisites)
         self.assertEqual([1, 1], [len(graph.nodes[n].jobs) for n in ("d", "d@rule2")])
 
     def test_double_colons_of_which_not_every_rule_ran(self) -> None:
@@ -55,7 +55,7 @@ class Nodes(unittest.TestCase):
 
     def test_members_of_a_group_wait_for_the_one_that_runs(self) -> None:
         graph = graph_of("all\n a\n  s\n b\n  *s", "all: a b\n\na: s\n#  Also makes: b\n\nb: s\n#  Also makes: a\n", ["a"])
-        self.assertEqual((["s"], ["a", "s"]), (sorted(graph.nodes["a"].asks), sorted(graph.nodes["b"].asks)))
+        self.assertEqual((["s"], ["a", "s"]), (sorted(graph.nodes["a"].prerequisites), sorted(graph.nodes["b"].prerequisites)))
 
     def test_late_targets(self) -> None:
         graph = graph_of("all\n d\n  p\n d\n  q\n m", "all: d m\n\nd:: p\n\nd:: q\n\nm:\n#  File is an intermediate prerequisite.\n", ["d", "d"])

@@ -15,20 +15,20 @@ def test_of(case: Case) -> Callable[[unittest.TestCase], None]:
     def test(self: unittest.TestCase) -> None:
         with support.Project({"build.ninja": RULES + case.manifest, **case.files} if case.manifest else case.files) as project:
             project.sh(case.setup)
-            told = project.record(case.words.split(), case.options)
+            outcome = project.record(case.words.split(), case.options)
             found = support.missing(project.folder) if (project.folder / ".ninja_deps").exists() else []
-        text = told.text() + told.stderr.decode()[-800:]
-        self.assertEqual(case.want, told.status, text)
+        text = outcome.text() + outcome.stderr.decode()[-800:]
+        self.assertEqual(case.want, outcome.status, text)
         for one in case.says:
-            self.assertIn(one, told.text())
+            self.assertIn(one, outcome.text())
         if case.races >= 0:
-            self.assertEqual(case.races, len(re.findall(r"(?m)^RACE", told.text())), text)
+            self.assertEqual(case.races, len(re.findall(r"(?m)^RACE", outcome.text())), text)
         if any(one.startswith("WARM") for one in case.says):
-            self.assertRegex(told.text(), r"(?m)^WARM")
+            self.assertRegex(outcome.text(), r"(?m)^WARM")
         elif case.want != NONE:
-            self.assertLessEqual(set(found), set(support.races_of(told.text())), "what ninja finds is among the races")
+            self.assertLessEqual(set(found), set(support.races_of(outcome.text())), "what ninja finds is among the races")
         if case.missing >= 0:
-            self.assertEqual((case.missing, case.missing), (len(found), (told.record or {})["missingdeps"]), text)
+            self.assertEqual((case.missing, case.missing), (len(found), (outcome.record or {})["missingdeps"]), text)
 
     return test
 
@@ -57,23 +57,23 @@ class Companions(unittest.TestCase):
 class Hints(unittest.TestCase):
     """What is said of a build that fails with one command at a time."""
 
-    def failed(self, needs: str) -> support.Told:
+    def failed(self, needs: str) -> support.Outcome:
         """A reader that always fails, and that waits for what it reads or does not."""
         manifest = RULES + "build g: sh\n  c = echo 1 > g\nbuild a: sh %s\n  c = cat g h; false\nbuild h: sh\n  c = echo 2 > h\n" % needs
         with support.Project({"build.ninja": manifest}) as project:
             return project.record(["ninja"])
 
     def test_absent_files_first(self) -> None:
-        told = self.failed("")
-        self.assertEqual(2, told.status)
-        found = re.findall(r"(?m)^HINT  (.*)", re.sub(r"\n +", " ", told.text()))
+        outcome = self.failed("")
+        self.assertEqual(2, outcome.status)
+        found = re.findall(r"(?m)^HINT  (.*)", re.sub(r"\n +", " ", outcome.text()))
         self.assertEqual(["a looks for h, which h makes, and does not wait for it", "a looks for g, which g makes, and does not wait for it"], found)
-        self.assertIn(b"recording again with -j4 (3 of 3)", told.stderr)
-        self.assertNotIn(b"(4 of", told.stderr)
+        self.assertIn(b"recording again with -j4 (3 of 3)", outcome.stderr)
+        self.assertNotIn(b"(4 of", outcome.stderr)
 
     def test_none_where_it_waits(self) -> None:
-        told = self.failed("|| g h")
-        self.assertEqual((2, False), (told.status, "HINT" in told.text()))
+        outcome = self.failed("|| g h")
+        self.assertEqual((2, False), (outcome.status, "HINT" in outcome.text()))
 
 
 @unittest.skipUnless(shutil.which("ninja"), "ninja is missing (Debian: apt-get install ninja-build)")
@@ -111,10 +111,10 @@ class Fresh(unittest.TestCase):
             warm = project.record(words)
             self.assertEqual(2, warm.status, warm.text())
             before = self.state(project)
-            told = project.record(words, ["--fresh"])
+            outcome = project.record(words, ["--fresh"])
             self.assertEqual(before, self.state(project))
-            self.assertEqual(1, told.status, told.text() + told.stderr.decode())
-            self.assertNotIn("WARM", told.text())
+            self.assertEqual(1, outcome.status, outcome.text() + outcome.stderr.decode())
+            self.assertNotIn("WARM", outcome.text())
             self.assertEqual([], list(project.folder.parent.rglob("*.race-saved")))
 
     def test_folder_below(self) -> None:
@@ -134,8 +134,8 @@ class Fresh(unittest.TestCase):
 
     def test_make(self) -> None:
         with support.Project({"Makefile": "all: ; touch all\n"}) as project:
-            told = project.record(["make"], ["--fresh"])
-        self.assertEqual((3, True), (told.status, b"make clean" in told.stderr))
+            outcome = project.record(["make"], ["--fresh"])
+        self.assertEqual((3, True), (outcome.status, b"make clean" in outcome.stderr))
 
 
 for case in CASES:

@@ -57,15 +57,15 @@ def asked(text: str) -> Dict[str, Set[str]]:
 def compare(test: unittest.TestCase, folder: Path) -> int:
     """Holds our reader against ninja; how many commands were compared."""
     manifest = manifest_of(folder)
-    told = json.loads(ninja(folder, "-t", "compdb"))
+    shown = json.loads(ninja(folder, "-t", "compdb"))
     test.assertEqual(sorted((e.label, e.command) for e in manifest.edges if e.waits() and not e.is_phony),
-                     sorted((one["output"], one["command"]) for one in told if one["command"] or manifest.makers[one["output"]].rule != "phony"))
+                     sorted((one["output"], one["command"]) for one in shown if one["command"] or manifest.makers[one["output"]].rule != "phony"))
     targets: List[Edge] = list({id(e): e for e in manifest.makers.values()}.values())
     for start in range(0, len(targets), 200):
         some = targets[start:start + 200]
         for edge, text in zip(some, re.split(r"(?m)^(?=\S)", ninja(folder, "-t", "query", *(e.label for e in some)))[1:]):
             test.assertEqual({"": set(edge.inputs), "| ": set(edge.implicit), "|| ": set(edge.order_only)}, asked(text), edge.label)
-    return len(told)
+    return len(shown)
 
 
 @unittest.skipUnless(shutil.which("ninja"), "ninja is missing (Debian: apt-get install ninja-build)")

@@ -47,7 +47,7 @@ class Holes(unittest.TestCase):
         self.assertEqual(([], ["two"]), (runs.holes, runs.ties))
         self.assertEqual(["a", "b", "c"], [edge.label for edge in runs.ninjas[0].stages[0].ran()])
 
-    def test_log_tells_which_of_two(self) -> None:
+    def test_log_says_which_of_two(self) -> None:
         runs = self.runs(["one", "two", "two"], "acb")
         self.assertEqual(["a", "c", "b"], [edge.label for edge in runs.ninjas[0].stages[0].ran()])
 

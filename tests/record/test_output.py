@@ -27,8 +27,8 @@ class Output(unittest.TestCase):
         with support.Project(files) as project:
             here = str(project.folder).encode()
             if recorded:
-                told = project.record()
-                status, out = told.status, told.stdout
+                outcome = project.record()
+                status, out = outcome.status, outcome.stdout
             else:
                 ran = project.plain(["make"])
                 status, out = ran.returncode, ran.stdout
@@ -89,8 +89,8 @@ class Output(unittest.TestCase):
 
     def test_input_and_standard_error(self) -> None:
         with support.Project({"Makefile": "all: ; @echo error >&2; echo out\n"}) as project:
-            told = project.record()
-        self.assertEqual(b"error\n", told.stderr)
+            outcome = project.record()
+        self.assertEqual(b"error\n", outcome.stderr)
 
 
 if __name__ == "__main__":

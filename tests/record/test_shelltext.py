@@ -56,7 +56,7 @@ class Patterns(unittest.TestCase):
 class Folders(unittest.TestCase):
     """Folders that recipes make for themselves."""
 
-    def test_makers_that_tell_nobody(self) -> None:
+    def test_quiet_makers(self) -> None:
         for words, wanted in (("mkdir -p d", True), ("mkdir --parents d", True), ("mkdir -m 755 -p d", True), ("mkdir d", False), ("mkdir -pv d", False),
                               ("mkdir -p --verbose d", False), ("install -d d", True), ("install -v -d d", False), ("install a d", False)):
             self.assertEqual(wanted, shelltext.is_quiet_mkdir(words.split()), words)

@@ -110,9 +110,9 @@ def test_of(name: str, small: Small) -> Callable[[unittest.TestCase], None]:
     def test(self: unittest.TestCase) -> None:
         with support.Project({"Makefile": small.makefile, **small.files}, small.below or None) as project:
             project.sh(small.setup)
-            told = project.record(COMMANDS.get(name, ["make"]), ["--warm"])
-        self.assertEqual(STATUSES[small.wanted], told.status, told.text()[-1500:] + told.stderr.decode()[-800:])
-        self.assertIn(small.says, told.text())
+            outcome = project.record(COMMANDS.get(name, ["make"]), ["--warm"])
+        self.assertEqual(STATUSES[small.wanted], outcome.status, outcome.text()[-1500:] + outcome.stderr.decode()[-800:])
+        self.assertIn(small.says, outcome.text())
 
     return test
 

@@ -23,7 +23,7 @@ class Holes(unittest.TestCase):
     def test_whole_data_base(self) -> None:
         words = self.words(*BASE)
         self.assertEqual(([], 0), (words.holes, words.status))
-        self.assertIn("a", words.rounds[0].base.asks)
+        self.assertIn("a", words.rounds[0].base.prerequisites)
 
     def test_no_data_base(self) -> None:
         self.assertEqual(["a make that began 1 times printed 0 data bases: make all"], self.holes([]))
