@@ -68,7 +68,7 @@ def location(recipe: Recipe, message: str, number: int | None = None) -> dict:
 
 
 def result(race: Race, report: Report) -> dict:
-    """One race as a result, at the recipe that has to wait, with the other one as a related place."""
+    """One race as a result, at the recipe that has to wait; both recipes are related places, the one that runs first in front."""
     late, early = race.second, race.first
     if not race.fix.startswith(f"{late.recipe.target}: "):
         late, early = early, late
@@ -78,7 +78,7 @@ def result(race: Race, report: Report) -> dict:
         "ruleId": race.kind.name, "ruleIndex": [it.name for it in KINDS].index(race.kind.name), "level": "error",
         "message": {"text": message},
         "locations": [location(late.recipe, f"{late.recipe.target} {late.does} {race.path}")],
-        "relatedLocations": [location(early.recipe, f"{early.recipe.target} {early.does} {race.path}", 0)],
+        "relatedLocations": [location(it.recipe, f"{it.recipe.target} {it.does} {race.path}", at) for at, it in enumerate((early, late))],
         "partialFingerprints": {"race/v1": race.fingerprint},
         "baselineState": "unchanged" if race.fingerprint in report.known else "new",
     }
