@@ -39,6 +39,7 @@ class Life:
     ran: List[List[str]] = field(default_factory=list)
     cut: bool = False
     events: Dict[Key, int] = field(default_factory=dict)
+    changed: Dict[str, int] = field(default_factory=dict)  # names: where it last changed what stands there
     acts: List[Act] = field(default_factory=list)
     starts: List[Tuple[int, str]] = field(default_factory=list)  # where make began (again), and its folder
     is_wrapper: bool = False

@@ -31,6 +31,7 @@ from record.ninja_runs import Kept, Ninja
 from record.owners import Make, Owners
 from record.report import Judged, read_json, report
 from record.strace import read_trace, skipping
+from record.unasked import unasked
 from record.warm import warm_names
 from record.words import read_logs
 
@@ -135,6 +136,8 @@ def import_record(spool: Path, names: Names, kept: Kept, real: str, folder: str,
     record.holes += holes
     if not owners.makes and not ninjas:
         record.holes.append("no make and no ninja ran")
+    for name in unasked(owners.makes, ninjas):
+        assumed.add("unasked", name)
     for name in replay.outside:
         assumed.add("outside", name)
     for argv in replay.makers:

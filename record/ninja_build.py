@@ -46,7 +46,7 @@ class NinjaBuild(Build):
 
     @property
     def considered(self) -> int:
-        return len(self.from_manifest.manifest.edges)
+        return len(self.ninja.wanted() if self.stage == "goals" else self.from_manifest.manifest.edges)
 
     def about(self, at: int) -> Dict[str, Any]:
         edge = self.edges[at]
@@ -95,7 +95,7 @@ class NinjaBuilder(Builder):
         keys = [(jobs[edge.number].life.died if edge.number in jobs else 0, edge.number) for edge in kept]
         order, dropped = order_tasks([Task(e.label, Node(e.label, e.label, 0, 0), "group") for e in kept], after, keys)
         if dropped:
-            self.holes.append("build statements of %s wait for each other in a ring" % self.ninja.file)
+            self.holes.append("build statements of %s wait for each other in a cycle" % self.ninja.file)
         number = {old: new for new, old in enumerate(order)}
         for old in order:
             edge = kept[old]

@@ -32,7 +32,7 @@ def import_ninjas(lives: List[Life], owners: Owners, names: Names, kept: Kept, a
         assumed.add("ninja", "")
     for ninja in runs.ninjas:
         for number, stage in enumerate(ninja.stages):
-            if stage.jobs:
+            if stage.jobs and stage.is_read:
                 builder = NinjaBuilder(ninja, number, removed, names, assumed)
                 builds.append(builder.run())
                 holes += builder.holes

@@ -36,6 +36,7 @@ class Stage:
     opened: int
     manifest: Manifest
     jobs: List[Job] = field(default_factory=list)
+    is_read: bool = True  # else the manifest is empty, and a hole says why
 
     def ran(self) -> List[Edge]:
         """The statements whose commands ran."""
@@ -58,6 +59,15 @@ class Ninja:
     def args(self) -> str:
         """Its words."""
         return " ".join(self.life.argv[1:])
+
+    def wanted(self) -> List[Edge]:
+        """The statements that its goals need, of the manifest that it read last; all where a goal is not known."""
+        if not self.stages:
+            return []
+        manifest = self.stages[-1].manifest
+        goals = manifest.goals(self.goals)
+        numbers = manifest.below(goals) if goals is not None else {edge.number for edge in manifest.edges}
+        return [edge for edge in manifest.edges if edge.number in numbers]
 
     def compared(self) -> Iterator[Tuple[str, str]]:
         """Outputs, each with the inputs whose ages ninja compares with its own."""
@@ -160,14 +170,15 @@ class Runs:
     def add_stage(self, ninja: Ninja, start: int, end: int) -> None:
         own = [life for life in ninja.life.children if start <= life.born < end]
         jobs = [job for job in map(self.job_of, own) if job is not None]
+        stage = Stage(start, Manifest(ninja.folder), jobs)
+        ninja.stages.append(stage)
         try:
-            manifest = read_manifest(ninja.folder, ninja.file, self.texts_at(start))
+            stage.manifest = read_manifest(ninja.folder, ninja.file, self.texts_at(start))
+            self.read_dyndeps(stage.manifest, self.reads(ninja.life, start, end))
         except Unreadable as fault:
-            manifest = Manifest(ninja.folder)
+            stage.is_read = False
             if jobs:
                 self.holes.append("the manifest that ninja read cannot be read again: %s" % fault)
-        self.read_dyndeps(manifest)
-        ninja.stages.append(Stage(start, manifest, jobs))
 
     def job_of(self, life: Life) -> Optional[Job]:
         """The command that a child of ninja runs."""
@@ -185,24 +196,35 @@ class Runs:
 
         def text(path: str) -> str:
             path = self.names.find("/", path, True).path
-            places = [at for life in self.lives for kind in "WCD" for at in (life.events.get((kind, path)),) if at is not None]
-            if not any(at > place for at in places):
+            first, last = self.changes(path)
+            if last < place:
                 return text_of(path)
-            if path in self.kept.texts and not any(at < place for at in places):
+            if path in self.kept.texts and first > place:
                 return self.kept.texts[path]
             raise Unreadable("nobody kept %s as it was when ninja read it" % path)
 
         return text
 
-    def read_dyndeps(self, manifest: Manifest) -> None:
-        """Adds what dyndep files say, as they are now."""
+    def changes(self, path: str) -> Tuple[int, int]:
+        """Where in the trace a file was first changed, and where last."""
+        firsts = [life.events.get((kind, path), NEVER) for life in self.lives for kind in "WCD"]
+        return min(firsts, default=NEVER), max((life.changed.get(path, -1) for life in self.lives), default=-1)
+
+    @staticmethod
+    def reads(life: Life, start: int, end: int) -> Dict[str, int]:
+        """Where a process last opened each file in a part of the trace."""
+        return {act.path: act.place for act in life.acts if act.kind == "R" and start <= act.place < end}
+
+    def read_dyndeps(self, manifest: Manifest, reads: Dict[str, int]) -> None:
+        """Adds what dyndep files say, as they were when ninja read them."""
         for edge in manifest.edges:
             name = "" if edge.is_phony else edge.path("dyndep")
             path = os.path.join(manifest.folder, name)
-            if not name or not os.path.isfile(path):
+            real = self.names.find("/", path, True).path
+            if not name or real not in reads and not os.path.isfile(path):
                 continue
             try:
-                for one in read_dyndep(text_of(path)):
+                for one in read_dyndep(self.texts_at(reads.get(real, NEVER - 1))(path)):
                     if manifest.makers.get(one.output) is edge:
                         edge.implicit += one.inputs
                         edge.implicit_outputs += [p for p in one.outputs if manifest.add_output(edge, p)]
@@ -219,8 +241,9 @@ class Runs:
         logged = self.logged(ninjas, log)
         for ninja in ninjas:
             for stage in ninja.stages:
-                self.attribute_stage(stage, logged)
-        if logged is not None and self.has_ended:
+                if stage.is_read:
+                    self.attribute_stage(stage, logged)
+        if logged is not None and self.has_ended and all(stage.is_read for ninja in ninjas for stage in ninja.stages):
             self.compare_log(ninjas, logged)
 
     def logged(self, ninjas: List[Ninja], log: str) -> Optional[List[str]]:
@@ -243,7 +266,7 @@ class Runs:
         groups: Dict[str, List[Job]] = {}
         for job in stage.jobs:
             groups.setdefault(job.text, []).append(job)
-        for text, jobs in groups.items():
+        for text, jobs in sorted(groups.items()):
             edges = by_text.get(text, [])
             if not edges or any(job.life.cut for job in jobs):
                 self.holes.append("ninja ran a command that no build statement has: " + text[:200])
@@ -253,7 +276,7 @@ class Runs:
                 self.break_tie(text, jobs, edges, logged)
         for job in stage.jobs:
             self.owners.take(job.work, job.life)
-        for text, jobs in groups.items():
+        for text, jobs in sorted(groups.items()):
             self.check_tie(text, jobs)
 
     def break_tie(self, text: str, jobs: List[Job], edges: List[Edge], logged: Optional[List[str]]) -> None:

@@ -127,6 +127,8 @@ class Replay:
         if life.is_make and life.number >= 0 or life.is_ninja and kind in "RU":
             life.acts.append(Act(self.place, kind, path, word))
         life.events.setdefault((kind, path), self.place)
+        if kind in "WCD":
+            life.changed[path] = self.place
 
     def is_inside(self, path: str) -> bool:
         """Whether a path is in one of the folders that the build works in."""

@@ -26,10 +26,5 @@ def warm_names(builds: List[Build], ninjas: List[Ninja], names: Names) -> List[s
 
 def targets_of(ninja: Ninja, names: Names) -> Set[str]:
     """Outputs of the statements with commands below a ninja's goals; of all where a goal is not known."""
-    if not ninja.stages:
-        return set()
-    manifest = ninja.stages[-1].manifest
-    goals = manifest.goals(ninja.goals)
-    wanted = manifest.below(goals) if goals is not None else {edge.number for edge in manifest.edges}
-    edges = [e for e in manifest.edges if e.number in wanted and not e.is_phony and not e.is_generator]
+    edges = [edge for edge in ninja.wanted() if not edge.is_phony and not edge.is_generator]
     return {names.find(ninja.folder, path, True).path for edge in edges for path in edge.makes()}

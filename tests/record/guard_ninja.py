@@ -20,11 +20,17 @@ def runs(name: str) -> str:
     return "test_ninja_runs.Holes.test_" + name
 
 
+def changed(name: str) -> str:
+    """The test of a manifest that changes, by lines of a trace."""
+    return "test_ninja_runs.Changed.test_" + name
+
+
 WARM: List[Guard] = [
     Guard("ninja, warm: no yes", "main.py", "if ended == 0 and record.warm and not options.warm:", "if False:", ninja("warm"), LOST_HOLE),
     Guard("ninja, warm: outputs that were there", "warm.py", "        found.update(targets_of(ninja, names))\n", "        pass\n", ninja("warm"), LOST_HOLE),
-    Guard("ninja, warm: all below the goals", "warm.py", "wanted = manifest.below(goals) if", "wanted = set() if", ninja("warm"), LOST_HOLE),
+    Guard("ninja, warm: all below the goals", "ninja_runs.py", "numbers = manifest.below(goals) if", "numbers = set() if", ninja("warm"), LOST_HOLE),
     Guard("ninja, warm: said with --warm", "main.py", 'found.assumed.add("up-to-date", name)', "pass", ninja("warm-accepted"), UNSAID),
+    Guard("ninja, said: statements that nothing asked for", "unasked.py", "            there.update(((ninja.folder", "            {}.update(((ninja.folder", ninja("part"), UNSAID),
     Guard("ninja, warm: a header that the log knows is no input", "ninja_build.py", AFTER, BY_LOG, ninja("warm-by-log-of-headers"), LOST_RACE),
     Guard("ninja, fresh: logs of earlier builds go", "fresh.py", "Path(logs, name).unlink(missing_ok=True)", "pass", "test_ninja.Fresh.test_logs_go"),
 ]
@@ -35,8 +41,10 @@ HOLES: List[Guard] = [
     Guard("ninja, holes: words that cannot be read", "ninja_runs.py", 'self.holes.append("ninja ran commands, and', 'str("ninja ran commands, and', runs("words_that_cannot_be_read")),
     Guard("ninja, holes: no manifest", "ninja_runs.py", 'self.holes.append("a ninja read no', 'str("a ninja read no', runs("ninja_that_read_no_manifest")),
     Guard("ninja, holes: a manifest that cannot be read", "ninja_runs.py", '                self.holes.append("the manifest that', '                str("the manifest that', runs("manifest_that_cannot_be_read")),
-    Guard("ninja, holes: a manifest that changed since", "ninja_runs.py", "if not any(at > place for at in places):", "if True:", ninja("manifest-that-nobody-kept"), LOST_HOLE),
-    Guard("ninja, holes: a manifest that changed before", "ninja_runs.py", "and not any(at < place for at in places):", "and True:", ninja("manifest-that-changed-twice")),
+    Guard("ninja, holes: a manifest that changed since", "ninja_runs.py", "if last < place:", "if True:", ninja("manifest-that-nobody-kept"), LOST_HOLE),
+    Guard("ninja, holes: a manifest that changed before", "ninja_runs.py", " and first > place:", ":", changed("before_and_after_ninja_read_it")),
+    Guard("ninja, holes: a manifest that one process changed twice", "ninja_runs.py", "life.changed.get(path, -1)", "life.events.get((\"W\", path), -1)", ninja("manifest-that-a-script-changes-twice"), LOST_HOLE),
+    Guard("ninja, holes: a dyndep file that changed since", "ninja_runs.py", "self.texts_at(reads.get(real, NEVER - 1))(path)", "text_of(path)", ninja("dyndep-that-changes"), LOST_HOLE),
     Guard("ninja, holes: no log", "ninja_runs.py", 'self.holes.append("ninja left no log', 'str("ninja left no log', ninja("log-is-gone"), LOST_HOLE),
     Guard("ninja, holes: a line of the log too many", "ninja_runs.py", "sorted((counted - ran).keys())[:3]", "()", ninja("log-with-a-line-too-many"), LOST_HOLE),
     Guard("ninja, holes: a line of the log less", "ninja_runs.py", "sorted((ran - counted).keys())[:3]", "()", ninja("log-with-a-line-less"), LOST_HOLE),
@@ -66,7 +74,7 @@ ORDER: List[Guard] = [
     Guard("ninja, order: pools are named", "ninja_fix.py", 'if not one.get("pool") or', 'if True or', ninja("pool"), UNSAID),
     Guard("ninja, order: through phony ones", "ninja_build.py", "if edge.number in above]", "if edge.number in jobs]", ninja("phony"), FALSE_RACE),
     Guard("ninja, order: through what is clean", "ninja_build.py", "if edge.number in above]", "if edge.number in jobs]", ninja("through-what-is-clean"), FALSE_RACE),
-    Guard("ninja, order: what a dyndep file adds", "ninja_runs.py", "        self.read_dyndeps(manifest)\n", "", ninja("dyndep"), FALSE_RACE),
+    Guard("ninja, order: what a dyndep file adds", "ninja_runs.py", "            self.read_dyndeps(stage.manifest, self.reads(ninja.life, start, end))\n", "", ninja("dyndep"), FALSE_RACE),
     Guard("ninja, order: a dyndep file adds to its statement alone", "ninja_runs.py", "if manifest.makers.get(one.output) is edge:", "if True:", ninja("dyndep-of-two"), YES),
     Guard("ninja, order: a manifest that is remade begins again", "ninja_runs.py", 'act.kind == "R" and act.path == target:', 'act.kind == "R" and act.path == target and not places:', ninja("remade-manifest"), LOST_RACE),
 ]

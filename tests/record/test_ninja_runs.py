@@ -5,11 +5,13 @@ from typing import List, Sequence
 
 import support
 from record.assumptions import Assumptions
+from record.calls import Calls
 from record.lives import Act, Life
 from record.names import Names
 from record.ninja_build import NinjaBuilder
 from record.ninja_runs import Kept, Runs
 from record.owners import Owners
+from record.strace import read_trace
 
 MANIFEST = "rule r\n  command = $c\nbuild a: r\n  c = one\nbuild b: r\n  c = two\nbuild c: r\n  c = two\n"
 
@@ -87,7 +89,47 @@ class Holes(unittest.TestCase):
 
     def test_statements_in_a_ring(self) -> None:
         text = "rule r\n  command = $c\nbuild a: r b\n  c = one\nbuild b: r a\n  c = two\n"
-        self.assertIn("wait for each other in a ring", " ".join(self.holes(self.runs(["one", "two"], "ab", manifest=text))))
+        self.assertIn("wait for each other in a cycle", " ".join(self.holes(self.runs(["one", "two"], "ab", manifest=text))))
+
+
+class Changed(unittest.TestCase):
+    """A manifest that changes while the build runs: the lines of its trace, in each order that they can come in."""
+
+    def holes(self, *lines: str) -> List[str]:
+        """The holes of a build of which the trace has these lines; `build.ninja` stands for an open that changes it."""
+        with support.Project({"build.ninja": MANIFEST, ".ninja_log": "# ninja log v5\n"}) as project:
+            folder = str(project.folder.resolve())
+            names = Names()
+            names.walk(folder)
+            replay = Calls(names, "/no/such/spool", "/usr/bin/make", folder, [folder])
+            for event in read_trace(self.line(text, folder) + "\n" for text in lines):
+                replay.play(event)
+            kept = Kept({folder + "/build.ninja": MANIFEST})
+            return [hole.replace(folder + "/", "") for hole in Runs(replay.all, Owners(replay.all, []), names, kept, False).holes]
+
+    @staticmethod
+    def line(text: str, folder: str) -> str:
+        """A line of the trace: `1 changes` and `2 reads` are opens of the manifest."""
+        pid, _, does = text.partition(" ")
+        flags = {"changes": "O_WRONLY|O_CREAT|O_TRUNC", "reads": "O_RDONLY"}.get(does)
+        return '%s openat(AT_FDCWD<%s>, "build.ninja", %s) = 3<%s/build.ninja>' % (pid, folder, flags, folder) if flags else text
+
+    START = ["1 vfork() = 2", '2 execve("/usr/bin/ninja", ["ninja"], 0x1 /* 1 var */) = 0', "2 reads"]
+    ONE = ["2 vfork() = 3", '3 execve("/bin/sh", ["/bin/sh", "-c", "one"], 0x1 /* 1 var */) = 0', "3 changes", "3 +++ exited with 0 +++"]
+    TWO = ["2 vfork() = 4", '4 execve("/bin/sh", ["/bin/sh", "-c", "more"], 0x1 /* 1 var */) = 0', "4 +++ exited with 0 +++"]
+    AT_ONCE = [ONE[0], TWO[0], ONE[1], TWO[1], ONE[2], TWO[2], ONE[3]]
+    HOLE = "the manifest that ninja read cannot be read again: nobody kept build.ninja as it was when ninja read it"
+
+    def test_before_and_after_ninja_read_it(self) -> None:
+        for jobs in (self.ONE + self.TWO, self.TWO + self.ONE, self.AT_ONCE):
+            self.assertEqual([self.HOLE], self.holes("1 changes", *self.START, *jobs))
+
+    def test_after_ninja_read_it(self) -> None:
+        for jobs in (self.ONE + self.TWO, self.TWO + self.ONE, self.AT_ONCE):
+            self.assertEqual(["ninja ran a command that no build statement has: more"], self.holes(*self.START, *jobs))
+
+    def test_by_one_process_before_and_after(self) -> None:
+        self.assertEqual([self.HOLE], self.holes("1 changes", *self.START, *self.TWO, "1 changes"))
 
 
 if __name__ == "__main__":
