@@ -101,7 +101,7 @@ class Builder:
         """A target that somebody writes, or one of whose prerequisites is written, is looked at, recipe or not."""
         for node in self.graph.nodes.values():
             own = self.of_node.get(node.label, -1)
-            needed = self.looked_at(node, own)
+            needed = self.looked_at(node, own) + self.followed(node, own)
             if own < 0 and any(self.is_written(p) for p in needed):
                 self.of_node[node.label] = self.add(node, "decision", node.label)
             elif own >= 0 and self.is_leaf(node):
@@ -120,7 +120,8 @@ class Builder:
             if node.phony or node.rule or node.label in late or self.is_leaf(node):
                 continue
             own = self.of_node.get(node.label, -1)
-            others = [self.build.tasks[at].node for at in self.build.writers.get(node.path, set()) - {own, self.look_of.get(node.label, -1)}]
+            mine = {own, self.look_of.get(node.label, -1)}
+            others = [self.build.tasks[at].node for path in self.first_seen(node) for at in self.build.writers.get(path, set()) - mine]
             others = [o for o in others if o.name != node.name and node.name not in self.graph.base.also.get(o.name, [])]
             if others and (self.has_effect(node) or any(len(self.looked_at(u, self.of_node.get(u.label, -1))) > 1 for u in users.get(node.label, []))):
                 self.first_of[node.label] = self.add(node, "first", node.label + "@first")
@@ -135,13 +136,32 @@ class Builder:
         who = self.build.writers.get(node.path, set()) - {own}
         return node.path in self.made or any(self.build.tasks[at].node.name != node.name for at in who)
 
-    def looked_at(self, node: Node, own: int) -> List[str]:
-        """The paths that decide whether a target is remade: none where it is phony; where it is absent, and nobody else
+    def deciding(self, node: Node, own: int) -> List[Node]:
+        """The targets that decide whether a target is remade: none where it is phony; where it is absent, and nobody else
         writes it, it is remade whatever the ages of its prerequisites are."""
         if node.phony:
             return []
         is_cold = self.before.get(node.path) is None and self.is_known(node.path) and not self.is_foreign(node, own)
-        return [node.path] + ([] if is_cold else [self.graph.nodes[p].path for p in self.plain(node)])
+        return [node] + ([] if is_cold else [self.graph.nodes[p] for p in self.plain(node)])
+
+    def looked_at(self, node: Node, own: int) -> List[str]:
+        """The paths that decide whether a target is remade, its own first."""
+        return [one.path for one in self.deciding(node, own)]
+
+    def seen(self, node: Node) -> Dict[str, int]:
+        """The paths that make's looks at a target led to, and when first: links, and what stood behind them then."""
+        spelled = self.graph.round.vpath.get(node.name, node.name)
+        return {**self.make.looked.get(spelled, {}), **self.make.looked.get(node.name, {})}
+
+    def followed(self, node: Node, own: int) -> List[str]:
+        """What else the looks that decide whether a target is remade led to."""
+        return [path for one in self.deciding(node, own) for path in self.seen(one) if path != one.path]
+
+    def first_seen(self, node: Node) -> List[str]:
+        """The paths that make's first look at a target led to: a link that its own recipe makes was not there yet."""
+        seen = self.seen(node)
+        first = min(seen.values(), default=0)
+        return [path for path, place in seen.items() if place == first] or [node.path]
 
     def plain(self, node: Node) -> List[str]:
         """Labels of the prerequisites whose ages count."""
@@ -273,7 +293,7 @@ class Builder:
             if task.kind != "group":
                 self.add_decision(looker, at, node)
         for label, at in self.first_of.items():
-            build.tasks[at].reads.add(self.graph.nodes[label].path)
+            build.tasks[at].reads.update(self.first_seen(self.graph.nodes[label]))
         add_folders(self)
         from record.ages import add_ages
         add_ages(self)
@@ -316,6 +336,7 @@ class Builder:
             if path in writers and writers[path] - {at, looker}:
                 task.reads.add(path)
             self.timed.setdefault(path, set()).add(looker)
+        task.reads.update(path for path in self.followed(node, at) if writers.get(path, set()) - {at, looker})
         if node.name in self.graph.base.implicit:
             self.add_search(looker, node)
 

@@ -88,14 +88,14 @@ class Calls(Replay):
         was_wrapper, was_make = life.is_wrapper, life.is_make
         forked = was_wrapper and not life.ran
         found = self.names.find(life.folder, words[0], True)
-        argv = shelltext.with_interpreter(argv, found.path)
+        life.is_wrapper = words[0].startswith(self.spool + "/bin/")
+        argv = argv if life.is_wrapper else shelltext.with_interpreter(argv, found.path)
         life.program = found.path
         life.is_ninja = argv == words[1:] and bool(shelltext.NINJA.match(os.path.basename(found.path)))
         if life.is_ninja:
             life.starts.append((self.place, life.folder))
         life.argv, life.cut = argv, is_cut(call.args)
         life.ran.append(argv)
-        life.is_wrapper = words[0].startswith(self.spool + "/bin/")
         if life.is_wrapper:
             return
         if os.path.realpath(found.path) == self.real or found.path == self.real:

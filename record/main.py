@@ -29,6 +29,7 @@ from record.ninja_import import beside, import_ninjas
 from record.ninja_import import versions as ninja_versions
 from record.ninja_runs import Kept, Ninja
 from record.owners import Make, Owners
+from record.progress import watched
 from record.report import Judged, read_json, report
 from record.strace import read_trace, skipping
 from record.unasked import unasked
@@ -101,7 +102,7 @@ def replay_trace(spool: Path, names: Names, real: str, folder: str, tops: List[s
     replay = Calls(names, str(spool), os.path.realpath(real), folder, tops)
     skip = skipping(spool / "trace", tops)
     with open(spool / "trace", encoding="latin-1") as lines:
-        for event in read_trace(lines, skip):
+        for event in read_trace(watched(lines, (spool / "trace").stat().st_size), skip):
             replay.play(event)
     return replay
 

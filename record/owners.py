@@ -43,6 +43,7 @@ class Make:
     acts: Dict[Tuple[int, str], Work] = field(default_factory=dict)  # by number of the round and target
     globs: List[str] = field(default_factory=list)
     listed: Dict[str, int] = field(default_factory=dict)  # folder: when it was first listed by make itself
+    looked: Dict[str, Dict[str, int]] = field(default_factory=dict)  # name as make spells it: the paths that it led to, and when first
 
 
 class Owners:
@@ -158,6 +159,8 @@ class Owners:
         for act in make.life.acts:
             if act.kind == "Q":
                 make.listed.setdefault(act.path, act.place)
+            if act.word:
+                make.looked.setdefault(act.word, {}).setdefault(act.path, act.place)
         for start, (begin, _) in enumerate(make.life.starts):
             end = make.life.starts[start + 1][0] if start + 1 < len(make.life.starts) else 1 << 60
             self.place_acts(make, start, self.read_by(make, start, begin, end), end)

@@ -134,14 +134,14 @@ class Replay:
         """Whether a path is in one of the folders that the build works in."""
         return any(path == top or path.startswith(top.rstrip("/") + "/") for top in self.tops)
 
-    def found(self, life: Life, path: str, follow: bool, base: str = "") -> Found:
+    def found(self, life: Life, path: str, follow: bool, base: str = "", word: str = "") -> Found:
         found = self.names.find(base or life.folder, own_path(life, path), follow)
         for link in found.links:
-            self.put(life, "R", link)
+            self.put(life, "R", link, word)
         return found
 
     def look(self, life: Life, path: str, ok: bool, follow: bool, kind: str = "S", base: str = "", word: str = "") -> Found:
-        found = self.found(life, path, follow, base)
+        found = self.found(life, path, follow, base, word)
         if ok and found.inode is None and found.folder is not None and self.names.is_walked(found.folder):
             self.names.put(found.folder, found.name, Inode("f"))
         if kind == "S" and not life.is_make and shelltext.makes(life.argv, found.path):

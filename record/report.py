@@ -156,8 +156,9 @@ def warm_text(record: Dict[str, Any], colour: Colours) -> List[str]:
     warm = record.get("warm", {"count": 0})
     if not warm["count"]:
         return []
-    text = "%s that this build makes was there before, such as %s: this is about builds from such a tree"
-    return [colour.bad + "WARM" + colour.end + "  " + text % (plural(warm["count"], "file"), os.path.relpath(warm["example"], record["folder"]))]
+    text = "%s that this build makes %s there before, such as %s: this is about builds from such a tree"
+    was = "was" if warm["count"] == 1 else "were"
+    return [colour.bad + "WARM" + colour.end + "  " + text % (plural(warm["count"], "file"), was, os.path.relpath(warm["example"], record["folder"]))]
 
 
 def read_json(path: Path) -> Dict[str, Any]:

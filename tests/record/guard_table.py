@@ -69,7 +69,7 @@ TRACE: List[Guard] = [
     Guard("wrapper's own calls are nobody's", "calls.py", 'if life.is_wrapper and name != "execve":', "if False:", "test_replay.Lives.test_what_the_wrapper_does_is_nobodys"),
 ]
 NAMES: List[Guard] = [
-    Guard("links on the way are read", "replay.py", 'self.put(life, "R", link)', "pass", small("link_on_the_way"), YES),
+    Guard("links on the way are read", "replay.py", 'self.put(life, "R", link, word)', "pass", small("link_on_the_way"), YES),
     Guard("folders that are absent on the way", "replay.py", 'self.put(life, "P", found.missing)', "pass", small("absent_folder_on_the_way"), YES),
     Guard("hard links: a write is of all names", "replay.py", "if found.inode is not None and len(found.inode.names) > 1:", "if False:", case("hard-link"), YES),
     Guard("hard links from before the build", "names.py", "if found.st_nlink > 1:", "if False:", case("hard-link-before"), YES),
@@ -107,6 +107,10 @@ GRAPH: List[Guard] = [
     Guard("decisions: cold targets depend on no age", "build.py", "is_cold = self.before.get(node.path) is None and", "is_cold = False and", small("folder_as_prerequisite_cold"), FALSE_RACE),
     Guard("decisions: order-only has no age", "build.py", "p not in only and self.graph", "self.graph", small("folder_behind_a_bar"), FALSE_RACE),
     Guard("looks of leaves", "build.py", "elif own >= 0 and self.is_leaf(node):", "elif False:", small("look_of_a_leaf"), FALSE_RACE),
+    Guard("looks at links: what the first look led to", "build.py", "return [path for path, place in seen.items() if place == first] or [node.path]", "return [node.path]", small("link_that_a_recipe_makes"), FALSE_RACE),
+    Guard("looks at links: what stood behind them", "build.py", "needed = self.looked_at(node, own) + self.followed(node, own)", "needed = self.looked_at(node, own)", small("link_of_a_target_that_is_kept"), YES),
+    Guard("looks at links: they are read", "build.py", "        task.reads.update(path for path in self.followed(node, at)", "        set().update(path for path in self.followed(node, at)", small("link_that_is_replaced_later"), YES),
+    Guard("looks at links: no act beside the look", "replay.py", 'self.put(life, "R", link, word)', 'self.put(life, "R", link)', small("link_that_make_looks_at_again"), FALSE_RACE),
     Guard("looks of leaves: not where a recipe runs below", "build.py", "return node.label not in self._busy", "return True", small("look_behind_a_recipe"), YES),
     Guard("first looks", "build.py", "        self.make_first_looks()\n", "", small("first_look_at_a_target"), YES),
     Guard("first looks: by what they change", "build.py", "if others and (self.has_effect(node) or", "if others and (True or", small("first_look_that_changes_nothing"), FALSE_RACE),
@@ -163,6 +167,7 @@ OWNERS: List[Guard] = [
     Guard("said: interpreters", "granted.py", 'assumed.add("interpreters", " ".join(argv)[:60])', "pass", small("interpreters"), UNSAID),
     Guard("said: MAKEFLAGS of a recipe", "granted.py", "if sees_words(argv, spool):", "if False:", small("path_of_a_recipe"), UNSAID),
     Guard("said: MAKEFLAGS of a makefile", "granted.py", "        if found:\n", "        if False:\n", small("flags_of_a_makefile"), UNSAID),
+    Guard("said: not of the recorder's own words", "calls.py", "argv if life.is_wrapper else ", "", "test_output.Output.test_inner_makes_are_no_assumption"),
     Guard("said: hard links", "main.py", '        assumed.add("hard-links", name)', "        pass", small("hard_links"), UNSAID),
     Guard("said: sockets", "main.py", '        assumed.add("sockets", socket)', "        pass", small("sockets"), UNSAID),
     Guard("race itself: refused", "main.py", "or any(j.verdict.status not in (0, 1) for j in judged):", "or False:", "test_judge.Answers.test_refused", LOST_HOLE),

@@ -87,6 +87,11 @@ class Output(unittest.TestCase):
         status = self.both("all: ; @$(MAKE) --debug=b -f in.mk > log; grep -c . log; rm log\n", in_mk="all: a b\na: ; echo a > a\nb: ; cat a > b\n")
         self.assertEqual(2, status)
 
+    def test_inner_makes_are_no_assumption(self) -> None:
+        with support.Project({"Makefile": "all: ; $(MAKE) -f in.mk\n", "in.mk": "all: ; touch all\n"}) as project:
+            outcome = project.record()
+        self.assertEqual(["serial"], [one["kind"] for one in (outcome.record or {})["assumptions"]])
+
     def test_input_and_standard_error(self) -> None:
         with support.Project({"Makefile": "all: ; @echo error >&2; echo out\n"}) as project:
             outcome = project.record()

@@ -54,6 +54,11 @@ SMALL: Dict[str, Small] = {
     # names
     "links_of_a_file_counted": Small("race", "all: a b\na: ; ln x y\nb: ; stat -c %h x > b\n", {"x": "x"}),
     "link_on_the_way": Small("race", "all: a b\na: ; ln -sfn e l\nb: ; cat l/x > b\n", {"d/x": "d", "e/x": "e"}, "ln -s d l"),
+    "link_that_a_recipe_makes": Small("safe", "all: a b c\na: ; echo a > a\nb: a ; ln -sf a b\nc: b ; cat b > c\n"),
+    "link_that_make_looks_at_again": Small("safe", "all: b d\na: ; echo a > a\nb: a ; ln -sf a b\nc: ; echo c > c\nd: c ; cp c d\n"),
+    "link_of_a_target_that_is_kept": Small("race", "all: gen t\nt: p ; touch t x\ngen: ; ln -sf e p; touch gen\n", {"d": "d", "e": "e", "t": "t"}, "ln -s d p; touch -d 2001-01-01 e; touch -d 2002-01-01 t"),
+    "link_of_a_prerequisite": Small("race", "all: gen t\nt: p ; touch t\ngen: ; ln -sf e p; touch gen\n", {"d": "d", "e": "e", "t": "t"}, "ln -s d p; touch -d 2001-01-01 d; touch -d 2002-01-01 t"),
+    "link_that_is_replaced_later": Small("race", "all: w t gen\nw: ; echo w > d; touch w\nt: p ; touch t\ngen: | t ; rm p; echo p > p; touch gen\n", {"d": "d", "t": "t"}, "ln -s d p; touch -d 2001-01-01 d; touch -d 2002-01-01 t"),
     "absent_folder_on_the_way": Small("race", "all: b a\na: ; ln -s d l\nb: ; cat l/x > b || true\n", {"d/x": "d"}),
     "absent_file": Small("race", "all: b a\na: ; echo a > a\nb: ; cat a > b || true\n"),
     "removed_file": Small("race", "all: a b\na: ; rm x\nb: ; cat x > b || true\n", {"x": "x"}),
