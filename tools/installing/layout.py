@@ -8,7 +8,8 @@ from pathlib import Path
 LIBRARY = "share/race"
 DOCS = "share/doc/race"
 UNPROVED = "lib/race/unproved/race"
-PAGES = ("README.md", "CHANGELOG.md", "LICENSE", "THIRD-PARTY")
+PAGES = ("README.md", "CONTRIBUTING.md", "CHANGELOG.md", "LICENSE", "THIRD-PARTY")
+PAGE_FOLDERS = ("docs", "examples")
 
 # The folder of the launcher is found from its own path, so that an installation may be moved.
 HERE = 'here=$(dirname -- "$(readlink -f -- "$0")")'
@@ -94,9 +95,9 @@ def share_items(top: Path) -> Iterator[Item]:
 
 
 def page_items(top: Path) -> Iterator[Item]:
-    """The documents, in the folders that they have in the repository."""
+    """The documents and examples, in the folders that they have in the repository, so that links between them lead somewhere."""
     yield from (Item(f"{DOCS}/{it}", top / it) for it in PAGES)
-    yield from (Item(f"{DOCS}/docs/{it.name}", it) for it in files_below(top / "docs"))
+    yield from (Item(f"{DOCS}/{it.relative_to(top)}", it) for folder in PAGE_FOLDERS for it in files_below(top / folder))
 
 
 def items(top: Path, program: Path, is_proved: bool) -> list[Item]:

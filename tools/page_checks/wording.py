@@ -1,4 +1,4 @@
-"""Words that the glossary bans: pages, help, the texts of cases and of scripts must not use them."""
+"""Words that the glossary bans: pages, help, the texts of cases, and the texts and names of scripts must not use them."""
 import io
 import re
 import tokenize
@@ -19,16 +19,13 @@ PLANTS = "tests/pages"
 # A string that is one word is a name, and not prose.
 NAME = re.compile(r"\W*\w+\W*")
 INTERPOLATED = re.compile(r"\{[^{}]*\}")
-# A line of the glossary that names banned words which the help still has.
-STILL_IN_HELP = re.compile(r"(?m)^The help still says (.*)$")
 
 
 @dataclass(frozen=True)
 class Banned:
-    """The banned words of a glossary, each with what to write instead, and those that the help still has."""
+    """The banned words of a glossary, each with what to write instead."""
 
     instead: dict[str, str]
-    still_in_help: frozenset[str] = frozenset()
 
     @cached_property
     def pattern(self) -> re.Pattern[str]:
@@ -45,10 +42,8 @@ class Banned:
             yield " ".join(found.lower().split())
 
     def wrong_in_help(self, page: Help) -> Iterator[str]:
-        """The banned words of a help, except those that it may still have."""
-        for word in self.words(page.text):
-            if word not in self.still_in_help:
-                yield f"race {page.command} --help: banned word '{word}': write {self.instead[word]} (docs/GLOSSARY.md)"
+        """The banned words of a help."""
+        yield from self.wrong(f"race {page.command} --help", page.text)
 
     def wrong_in_page(self, lines: list[Line]) -> Iterator[str]:
         """The banned words of a page outside blocks; an expression may go over the end of a line."""
@@ -66,8 +61,7 @@ def read(top: Path) -> Banned:
     path = top / GLOSSARY
     _, _, part = path.read_text(encoding="utf-8").partition(HEADING) if path.is_file() else ("", "", "")
     rows = [cells_of(it) for it in part.splitlines() if it.startswith("|")][2:]
-    still = {word for line in STILL_IN_HELP.findall(part) for word in SPAN.findall(line)}
-    return Banned({word.strip(): row[1] for row in rows for word in row[0].split(",")}, frozenset(still))
+    return Banned({word.strip(): row[1] for row in rows for word in row[0].split(",")})
 
 
 def abouts(at: Repository) -> Iterator[tuple[str, str]]:
@@ -78,9 +72,11 @@ def abouts(at: Repository) -> Iterator[tuple[str, str]]:
 
 
 def texts_of_script(path: str, code: str) -> Iterator[tuple[str, str]]:
-    """The comments and strings of a script in Python, each with its place; names in them are left out."""
+    """The comments, strings and names of a script in Python, each with its place; a name as its words."""
     for token in tokenize.generate_tokens(io.StringIO(code).readline):
-        if token.type == tokenize.COMMENT or token.type == tokenize.STRING and not NAME.fullmatch(token.string):
+        if token.type == tokenize.NAME:
+            yield f"{path}:{token.start[0]}", token.string.replace("_", " ")
+        elif token.type == tokenize.COMMENT or token.type == tokenize.STRING and not NAME.fullmatch(token.string):
             yield f"{path}:{token.start[0]}", INTERPOLATED.sub("", token.string)
 
 
