@@ -279,22 +279,14 @@ def included(lines, texts, before=""):
     return {"makefile": before + lines + "all:\n", "listing": "", "includes": "".join(f"{name}\n" for name in texts), "aside": texts}
 
 
-def large_values(part):
-    """1,000 include lines of a text that adds 60,000 bytes to one macro."""
-    return included(many("include a\n", 1_000 * part), {"a": "A += $(B)\n"}, "B = " + "b" * 60_000 + "\nA ::= a\n")
+# A macro of 60,000 bytes, and one whose value is kept as it expands; and a line that adds the first to the second.
+VALUES, ADD = "B = " + "b" * 60_000 + "\nA ::= a\n", "A += $(B)\n"
 
 
 def values_in_one_another(part):
     """16 texts inside one another, each of which adds to a macro of 30 megabytes, before a word that names an empty text."""
-    macros = "B = " + "b" * 60_000 + "\nA ::= a\n" + many("A += $(B)\n", 500 * part)
     texts = {f"t{i}": f"A += x\ninclude t{i + 1} e\n" for i in range(15)}
-    return included("include t0 e\n", {**texts, "t15": "A += x\n", "e": ""}, macros)
-
-
-def refused_values(part):
-    """An include line that is refused behind 1,000 texts that add 60,000 bytes each to one macro."""
-    words = " a" * int(999 * part)
-    return included(f"include{words} missing\n", {"a": "A += $(B)\n"}, "B = " + "b" * 60_000 + "\nA ::= a\n")
+    return included("include t0 e\n", {**texts, "t15": "A += x\n", "e": ""}, VALUES + many(ADD, 500 * part))
 
 
 INPUTS = {
@@ -331,9 +323,11 @@ INPUTS = {
     "200,000 edges": dense,
     "a million puts, 100,000 files": puts,
     "a file of 50 megabytes": large_file,
-    "include lines of large values": large_values,
+    "include lines of large values": lambda part: included(many("include a\n", 1_000 * part), {"a": ADD}, VALUES),
+    "the same lines of large values, by hand": lambda part: included(many(ADD, 1_000 * part), {}, VALUES),
     "include lines inside one another, of large values": values_in_one_another,
-    "an include line of large values that is refused": refused_values,
+    "the same lines of those, by hand": lambda part: included(many("A += x\n", 16), {}, VALUES + many(ADD, 500 * part)),
+    "an include line of large values that is refused": lambda part: included(f"include{' a' * int(999 * part)} missing\n", {"a": ADD}, VALUES),
     "include lines of large texts": lambda part: included(many("include a\n", 50 * part), {"a": many("x:\n", 100_000)}),
 }
 
