@@ -9,6 +9,7 @@ TEXTS = {
     "ties": "build statements with one command were distinguished by ninja's log",
     "up-to-date": "builds start from this tree: targets that were up to date stay so",
     "unasked": "builds have the same goals: recipes that nothing asked for are not judged",
+    "unwritten": "all processes of recipes that do not write their own target were seen",
     "at-once": "two processes of one recipe touch a file at the same time",
     "sockets": "a process talks to a server, whose files nobody saw",
     "hard-links": "files got a second name; links that were outside of the project before are not known",

@@ -48,9 +48,18 @@ class Builder:
         self.make_decisions()
         self.note_writers()
         self.make_first_looks()
+        self.note_unwritten()
         self.connect()
         self.fill()
         return self.build
+
+    def note_unwritten(self) -> None:
+        """Recipes that ran and left their own target alone: so would one of which the trace has lost a process."""
+        for label, at in self.of_node.items():
+            node = self.graph.nodes[label]
+            own = {node.path, self.names.find(self.make.folder, node.name, False).path, *self.seen(node)}
+            if node.jobs and not node.phony and not any(kind in "WCMT" and path in own for kind, path in self.events(self.build.tasks[at])):
+                self.assumed.add("unwritten", node.name)
 
     # ---------------------------------------------------------------- tasks
     def add(self, node: Node, kind: str, label: str) -> int:

@@ -159,6 +159,7 @@ OWNERS: List[Guard] = [
     Guard("said: two makes at once", "granted.py", 'assumed.add("tops"', '(lambda *_: None)("tops"', small("two_builds_at_once"), UNSAID),
     Guard("said: targets that are up to date", "main.py", 'found.assumed.add("up-to-date", name)', "pass", small("up_to_date"), UNSAID),
     Guard("said: targets of a make that has nothing to do", "main.py", ", *found.idle})", "})", small("all_up_to_date"), UNSAID),
+    Guard("said: recipes that leave their target alone", "build.py", 'self.assumed.add("unwritten", node.name)', "pass", small("unwritten"), UNSAID),
     Guard("said: recipes that nothing asked for", "main.py", 'assumed.add("unasked", name)', "pass", small("unasked"), UNSAID),
     Guard("said: names outside of the project", "replay.py", "            self.outside[path.rstrip(\"/\")] = None\n", "            pass\n", small("outside"), UNSAID),
     Guard("said: scripts that make folders", "calls.py", 'self.makers.append(" ".join(script)[:60])', "pass", small("makers"), UNSAID),

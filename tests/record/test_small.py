@@ -87,6 +87,7 @@ SMALL: Dict[str, Small] = {
     "outlives": Small("safe", "all: ; (sleep 0.2; echo x > x) > /dev/null 2>&1 &\n\techo y > y\n\tsleep 0.5\n", says="when its recipe had ended"),
     "up_to_date": Small("safe", "all: b\na: s ; cp s a\nb: a ; cp a b\n", {"s": "s", "a": "s"}, OLD + "s", says="targets that were up to date stay so (1, such"),
     "all_up_to_date": Small("safe", "a: s ; cp s a\n", {"s": "s", "a": "s"}, OLD + "s", says="targets that were up to date"),
+    "unwritten": Small("safe", "all: a b\na: ; echo a > x\nb: ; ln -s y b\n.PHONY: all\n", says="that do not write their own target were seen (1,"),
     "unasked": Small("safe", ".SUFFIXES: .x .y\nall: a\na: ; touch a\nb: a ; cp a b\nclean: ; rm -f a\n.x.y: ; cp $< $@\n.DEFAULT: ; false\n", says="(2, such as b)"),
     "outside": Small("safe", "all: ; echo x > $(CURDIR)/../outside; mktemp -u > /dev/null\n", says="outside of the project changed"),
     "makers": Small("safe", "all: a b\na b: ; sh install-sh -d d; touch d/$@\n", {"install-sh": INSTALL}, says="scripts that make folders"),
