@@ -68,7 +68,7 @@ def race_text(about: Dict[str, Any], race: Race, fixes: List[str], is_fixed: boo
     name = (OWN_NAME.sub("", race.path) or ".") if meaning else race.path
     lines = ["RACE  " + name + ("  (%s)" % meaning if meaning else "")]
     rows = [(target(about, race.first), place(about, race.first), verb(about, race.first, race.first_does, race.path)),
-            (target(about, race.second), place(about, race.second), verb(about, race.second, race.second_does, race.path) + ", and does not wait for it")]
+            (target(about, race.second), place(about, race.second), verb(about, race.second, race.second_does, race.path) + ", and nothing orders the two")]
     wide = [max(len(r[n]) for r in rows) for n in (0, 1)]
     lines += ["  %s  %s  %s" % (r[0].ljust(wide[0]), r[1].ljust(wide[1]), r[2]) for r in rows]
     own = race.path in (target(about, race.first), target(about, race.second))

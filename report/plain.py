@@ -1,8 +1,9 @@
-"""The report as text of 80 columns, and as annotations of GitHub."""
+"""The report as text, in the words of race-record, and as annotations of GitHub."""
 
 from __future__ import annotations
 
 from collections.abc import Iterator
+from textwrap import wrap
 
 from report.model import Race, Report
 
@@ -57,7 +58,8 @@ def text(report: Report) -> str:
         lines.append("safe, if:" if report.verdict == "safe" else "Assumed:")
     for it in report.assumptions:
         such = f", such as {it.example}" if it.example else ""
-        lines.append(f"  - {it.text}" + (f" ({it.count}{such})" if it.count > 1 or such else ""))
+        whole = it.text + (f" ({it.count}{such})" if it.count > 1 or such else "")
+        lines += wrap(whole, 78, initial_indent="  - ", subsequent_indent="    ", break_long_words=False, break_on_hyphens=False)
     return "\n".join(lines).rstrip("\n") + "\n"
 
 
