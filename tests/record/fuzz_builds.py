@@ -61,6 +61,8 @@ def tree_of(folder: Path) -> Tree:
                 text = "l " + os.readlink(full)
             elif stat.S_ISDIR(status.st_mode):
                 text = "d %o" % (status.st_mode & 0o777)
+            elif not stat.S_ISREG(status.st_mode):
+                text = "socket or the like %o" % status.st_mode
             else:
                 text = "f %o %s" % (status.st_mode & 0o777, content(full))
             found[os.path.relpath(full, folder)] = text
