@@ -180,11 +180,10 @@ pub fn unite<'a>(
     ensures { IfOk result (λ union. IsUnion (map (λ path. path.now) first.now) (map (λ path. path.now) second.now)
         (map (λ path. path.now) union.paths.items) union.firsts.items union.seconds.items) }
 {
-    let most = first.len().saturating_add(second.len());
     let mut union = Union {
-        paths: Vec::with_capacity(alloc, most)?,
-        firsts: Vec::with_capacity(alloc, first.len())?,
-        seconds: Vec::with_capacity(alloc, second.len())?,
+        paths: Vec::new(alloc),
+        firsts: Vec::new(alloc),
+        seconds: Vec::new(alloc),
     };
     union.put_all(first, second)?;
     Ok(union)
@@ -241,8 +240,7 @@ fn join<'a>(
         → AreGathered (rows ++ others) (map (λ path. path.now) gathered.paths.items) gathered.numbers.items) }
 {
     let union = unite(alloc, &first.paths, &second.paths)?;
-    let all = first.numbers.len().saturating_add(second.numbers.len());
-    let mut numbers = Vec::with_capacity(alloc, all)?;
+    let mut numbers = Vec::new(alloc);
     add_numbers(&mut numbers, &first.numbers, &union.firsts)?;
     add_numbers(&mut numbers, &second.numbers, &union.seconds)?;
     Ok(Gathered {

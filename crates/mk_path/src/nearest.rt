@@ -180,9 +180,6 @@ fn nearest(paths: &[&Path], trees: &[&Path], outside: Option<u32>, path: &Path) 
     ensures { (root : List ℕ) → Finds root (map (λ path. path.now) paths.now) (IsOverText (top_of root)) outside
         → Finds root (map (λ path. path.now) paths.now) (IsOverPath root path.now) result }
 {
-    if trees.is_empty() {
-        return None;
-    }
     match own(paths, trees, path) {
         Some(u) => Some(u),
         None => over_name(paths, trees, outside, path.name.as_bytes()),

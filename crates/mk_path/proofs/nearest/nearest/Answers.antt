@@ -1,14 +1,10 @@
-use Rattle.std.proofs.Common.{map, subst, sym, ◌∙◌}
-use Rattle.std.proofs.lemmas.Bool.{eqb-true}
+use Rattle.std.proofs.Common.{map, subst}
 use Rattle.mk_name.specs.Names.{Name}
-use Rattle.mk_path.specs.Nearest.{Finds, IsOverName, IsOverPath}
+use Rattle.mk_path.specs.Nearest.{Finds, IsOverName}
 use Rattle.mk_path.proofs.Numbering.{behind}
-use Rattle.mk_path.proofs.Finding.{none_there, path_first, path_second}
+use Rattle.mk_path.proofs.Finding.{path_first, path_second}
 use Rattle.mk_text.specs.Spelling.{top_of}
 use Rattle.mk_path.proofs.nearest.nearest.Goals as goal
-
-pub returns-then-is_empty : goal.returns-then-is_empty
-returns-then-is_empty c = λ root outside. none_there root c.args.paths.now c.args.trees.now (IsOverPath root c.args.path.now) c.requires (eqb-true _ _ (sym c.is_empty.ensures ∙ c.if-is_empty.true))
 
 pub returns-in-Some : goal.returns-in-Some
 returns-in-Some c = λ root outside. path_first root (map behind c.args.paths.now) c.args.path.now c.in-Some.u (c.in-Some.ensures root)
