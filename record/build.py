@@ -167,10 +167,10 @@ class Builder:
         return [path for one in self.deciding(node, own) for path in self.seen(one) if path != one.path]
 
     def first_seen(self, node: Node) -> List[str]:
-        """The paths that make's first look at a target led to: a link that its own recipe makes was not there yet."""
-        seen = self.seen(node)
-        first = min(seen.values(), default=0)
-        return [path for path, place in seen.items() if place == first] or [node.path]
+        """The paths that make's looks at a target led to before its recipe began: a link that it makes was not there yet."""
+        works = [self.make.work[id(job)] for job in node.jobs if id(job) in self.make.work]
+        began = min((life.born for work in works for life in work.lives), default=1 << 60)
+        return [path for path, place in self.seen(node).items() if place < began] or [node.path]
 
     def plain(self, node: Node) -> List[str]:
         """Labels of the prerequisites whose ages count."""
