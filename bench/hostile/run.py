@@ -274,6 +274,18 @@ def large_file(part):
     return {**footprints([["s"]]), "log": "\n".join(log) + "\n"}
 
 
+def ordered_pairs(part):
+    """20,000 nodes, each behind the ten before it, in groups of 101 that append to one log, and 99 that read a file of the first
+    node: 1,000,000 pairs conflict, all in order, and the longest chain has 2,000 nodes."""
+    names = [short(i)[1:] for i in range(int(20_000 * part))]
+    rules = [f"{name}: {' '.join(names[max(0, i - 10):i])}\n\tc\n" for i, name in enumerate(names)]
+    lines = [{"target": name, "reads": [], "writes": [name, f"log{i // 101}"]} for i, name in enumerate(names)]
+    lines[0]["writes"].append("first")
+    for line in lines[-102:-3]:
+        line["reads"].append("first")
+    return {"makefile": "".join(rules), "listing": "", "footprints": "".join(json.dumps(it) + "\n" for it in lines), "words": names[-1:]}
+
+
 def included(lines, texts, before=""):
     """A makefile with these lines, and texts that its include lines may name."""
     return {"makefile": before + lines + "all:\n", "listing": "", "includes": "".join(f"{name}\n" for name in texts), "aside": texts}
@@ -321,6 +333,7 @@ INPUTS = {
     "JSON of escapes": lambda part: json_line(part, "escapes"),
     "JSON with a long number": lambda part: json_line(part, "number"),
     "200,000 edges": dense,
+    "a million pairs in order": ordered_pairs,
     "a million puts, 100,000 files": puts,
     "a file of 50 megabytes": large_file,
     "include lines of large values": lambda part: included(many("include a\n", 1_000 * part), {"a": ADD}, VALUES),
@@ -353,7 +366,8 @@ def run(args, make_input, part):
         for name, text in texts.items():
             pathlib.Path(folder, name).write_text(text)
         size = sum(path.stat().st_size for path in pathlib.Path(folder).iterdir()) + sum(len(it) + 1 for it in operands_of)
-        words = ["replay" if "log" in texts else "order", "--root", "/w"]
+        command = "replay" if "log" in texts else "check" if "footprints" in texts else "order"
+        words = [command, "--root", "/w"]
         words += [word for name in texts for word in ("--" + name, name)] + operands_of
         del texts
         limits = f"ulimit -v {int(args.gigabytes * MEGABYTE)}; ulimit -t {args.seconds};"
