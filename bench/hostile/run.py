@@ -344,7 +344,8 @@ INPUTS = {
     "include lines of large texts": lambda part: included(many("include a\n", 50 * part), {"a": many("x:\n", 100_000)}),
 }
 
-# What docs/SAFETY.md allows a line of these makefiles, or an entry that is named: how many there are, and for each seconds of a processor and KiB.
+# What docs/SAFETY.md allows a line of these makefiles, an entry that is named, or a pair that is reported: how many there are, and for
+# each seconds of a processor and KiB.
 LINES = {
     "immediate macros": (70_000, 0.0002, 72),
     "additions to one macro": (40_000, 0.0002, 72),
@@ -353,6 +354,7 @@ LINES = {
     "references through a long word": (20, 1.5, 0),
     "references through a long value": (1, 10, 72 * 1_000),
     "include lines of large texts": (5_000_000, 0.000002, 0.3),
+    "a million pairs in order": (1_000_000, 0.000002, 0.07),
 }
 
 
