@@ -1,5 +1,5 @@
 //! Footprints: what the recipe of each target reads and writes.
-ghost use Rattle.std.specs.Prelude.{◌≡◌, [], IfOk, OnOk, fold, is_some, option_map};
+ghost use Rattle.std.specs.Prelude.{◌≡◌, [], IfOk, OnOk, fold, option_map};
 ghost use Rattle.std.specs.BTreeSet.{insert_key};
 ghost use Rattle.std.specs.List.Sorted.{IsStrictlySortedBy};
 ghost use Rattle.mk_path.specs.Paths.{path_cmp};
@@ -69,13 +69,6 @@ impl Footprints {
         ensures { option_map (λ footprint. footprint.now) result ≡ footprint_at self.now target.now }
     {
         self.by_target.get(target)
-    }
-
-    /// Whether some line names a target.
-    pub fn has(&self, target: &Name) -> bool
-        ensures { result ≡ is_some (footprint_at self.now target.now) }
-    {
-        self.of(target).is_some()
     }
 
     /// Unites what a line says with what the others of its target say. The only error is out of memory.
