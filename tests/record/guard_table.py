@@ -5,7 +5,7 @@ a yes on a record with a hole, `1 != 2` a race that is lost where a hole or the 
 """
 
 from dataclasses import dataclass
-from typing import List
+from typing import List, Optional, Tuple
 
 YES = "1 != 0"
 FALSE_RACE = "0 != 1"
@@ -16,7 +16,8 @@ UNSAID = "not found in"
 
 @dataclass(frozen=True)
 class Guard:
-    """One guard: its name, the module and the text that stands there once, what turns it off, and who sees it."""
+    """One guard: its name, the module and the text that stands there once, what turns it off, and who sees it; and the edit
+    that turns off what would find the same fault in another way."""
 
     name: str
     module: str
@@ -24,6 +25,7 @@ class Guard:
     new: str
     test: str
     gives: str = ""
+    beside: Optional[Tuple[str, str, str]] = None
 
 
 def case(name: str) -> str:
@@ -35,6 +37,9 @@ def small(name: str) -> str:
     """The test of a makefile of test_small.py."""
     return "test_small.Makefiles.test_" + name
 
+
+# Make's own looks lead to the same paths: without them a target is found by its name and its folder alone.
+LOOKS = ("build.py", "return {**self.make.looked.get(spelled, {}), **self.make.looked.get(node.name, {})}", "return {}")
 
 TRACE: List[Guard] = [
     Guard("devices are no files", "replay.py", "if DEVICES.match(path) and not self.is_inside(path):", "if False:", small("devices_are_no_files"), FALSE_RACE),
@@ -84,7 +89,7 @@ NAMES: List[Guard] = [
     Guard("patterns of computed text are *", "shelltext.py", 'cut or "$" in text or', "cut or", small("pattern_in_a_variable"), YES),
     Guard("patterns of eval are *", "shelltext.py", r' or re.search(r"\beval\b", text)', "", small("pattern_of_eval"), YES),
     Guard("patterns keep other names out", "build.py", " and fnmatchcase(name, pattern):", ":", case("glob-other-names"), FALSE_RACE),
-    Guard("scripts are of their interpreter", "calls.py", "argv = shelltext.with_interpreter(argv, found.path)", "pass", small("script_that_compares_ages"), YES),
+    Guard("scripts are of their interpreter", "calls.py", "argv = argv if life.is_wrapper else shelltext.with_interpreter(argv, found.path)", "pass", small("script_that_compares_ages"), YES),
 ]
 FOLDERS: List[Guard] = [
     Guard("folders: strict makers meet", "folders.py", "    for at in folder.strict & makers:\n", "    for at in ():\n", small("folder_made_by_two_who_fail"), YES),
@@ -129,7 +134,7 @@ GRAPH: List[Guard] = [
     Guard("searches: a folder not listed before", "build.py", "                    self.build.tasks[at].reads.add(path)\n", "                    pass\n", small("search_sees_a_name_that_goes"), YES),
     Guard("searches: a folder listed before", "build.py", "if listed < self.first_birth():", "if False:", small("search_in_an_early_listing"), FALSE_RACE),
     Guard("searches: said", "build.py", 'self.assumed.add("search", path)', "pass", small("search_in_an_early_listing"), UNSAID),
-    Guard("vpath: where a target is", "build.py", "spelled = self.graph.round.vpath.get(name, name)", "spelled = name", small("vpath_prerequisite"), YES),
+    Guard("vpath: where a target is", "build.py", "spelled = self.graph.round.vpath.get(name, name)", "spelled = name", small("vpath_prerequisite"), YES, LOOKS),
     Guard("second rounds: one build each", "words.py", '        elif text.startswith("Updating makefiles"):\n            self.begin("makefiles")\n', "", small("race_among_makefiles"), YES),
 ]
 AGES: List[Guard] = [
@@ -144,7 +149,7 @@ OWNERS: List[Guard] = [
     Guard("acts: not to what make looks at later", "owners.py", "{o for o in owners if looks.get(o[1], -1) < place} or owners", "owners", small("act_before_the_next_target"), FALSE_RACE),
     Guard("acts: what make lists", "owners.py", '                        for pattern in make.globs:\n                            work.add("L"', '                        for pattern in ():\n                            work.add("L"', case("make-wildcard"), YES),
     Guard("wildcards: computed patterns are *", "globs.py", '"(", "{")):\n            found.add("*")', '"(", "{")):\n            found.add(word)', small("wildcard_that_is_computed"), YES),
-    Guard("folder of make -C", "owners.py", '            if act.kind == "U":\n                folder = act.path\n', "", small("decision_below_another_folder"), YES),
+    Guard("folder of make -C", "owners.py", '            if act.kind == "U":\n                folder = act.path\n', "", small("decision_below_another_folder"), YES, LOOKS),
     Guard("outer recipe has what its makes do", "owners.py", "        todo = [life]\n        while todo:\n            one = todo.pop()\n            yield one\n            todo.extend(one.children)", "        yield life", case("subdirs-parallel"), YES),
     Guard("holes: a make that failed", "owners.py", 'self.holes.append("a make failed: make %s"', 'str("a make failed: make %s"', case("inner-failure-ignored"), LOST_HOLE),
     Guard("holes: a build that failed", "main.py", '            record.holes.append("the build ended with status %d" % status)', "            pass", small("status_of_the_command"), LOST_HOLE),
