@@ -1,75 +1,66 @@
 -- Lemmas on failures: of the inputs, and of the words.
-use Rattle.std.specs.Prelude.{IsSome}
-use Rattle.std.proofs.Common.{Result, Ok, Err, IfOk, OnOk, IsErrOf, ◌≡◌, ◌≢◌, ◌⊎◌, inl, inr, List, [], Option, Bool, ℕ, String, Global, subst}
+use Rattle.std.proofs.Common.{Result, Ok, Err, IfOk, OnOk, IsErrOf, ◌≡◌, ◌≢◌, ◌⊎◌, inl, inr, List, [], Option, ℕ, String, Global, refl, subst}
 use Rattle.std.specs.Borrow.{Bor}
 use Rattle.clap.specs.Words.{HasKind, IsAmong, Kinds, kind_of}
 use Rattle.clap.specs.declared.error.Error.{Error}
 use Rattle.clap.specs.declared.error.kind.ErrorKind.{ErrorKind}
 use Rattle.clap.specs.declared.error.kind.ErrorKind.TheVariants.{OutOfMemory}
-use Rattle.mk_program.specs.Answers.{IsFailureOf, IsForSerial, IsRequestFailure, IsUnreported}
+use Rattle.mk_program.specs.Answers.{IsFailureOf, IsRequestFailure}
 use Rattle.mk_program.specs.CommandLine.{Asks, IsAnswerable, IsCall, asked, wrong}
-use Rattle.mk_program.specs.Includes.{IsIncludeFailure}
-use Rattle.mk_program.specs.Inputs.{IsInputFailure}
+use Rattle.mk_program.specs.Files.{Files}
+use Rattle.mk_program.specs.Includes.{IncludesMayBeRead, IncludesMayFail, IsFailure}
+use Rattle.mk_program.specs.Inputs.{IsShortOr, IsUnread}
 use Rattle.mk_program.specs.Requests.{includes_path, inputs_of}
 use Rattle.mk_program.specs.declared.failures.Failure.{Failure}
 use Rattle.mk_program.specs.declared.failures.Failure.TheVariants.{Memory, NotText, Read, Usage, Write}
+use Rattle.mk_program.specs.declared.failures.InputFile.TheVariants.{Include}
 use Rattle.mk_program.specs.declared.inputs.InputPath.{InputPath}
 use Rattle.mk_program.specs.declared.requests.Request.{Request}
 
--- a failure of the includes is none of the words, nor of the output
-no_usage : (text : String Global) → IsIncludeFailure (Usage text) → ⊥
-no_usage text (inl memory) = cc
-no_usage text (inr read) = cc
+-- a failure to read the includes is one of the request
+pub of_includes : (files : Files) (request : Request) (given : Option (List ℕ)) (failure : Failure) → given ≡ includes_path request
+    → IsFailure (IncludesMayFail files given) failure → IsRequestFailure files request failure
+of_includes files request given failure same (inl memory) = inl (inl memory)
+of_includes files request given failure same (inr read) = inl (inr (Include, read.0, inl (refl, subst (IncludesMayFail files) same read.1)))
 
-no_write : (failure : Failure) → IsIncludeFailure failure → failure ≢ Write
-no_write failure (inl memory) = λ is. cc
-no_write failure (inr read) = λ is. cc
+-- and so is one to read the inputs, where the includes were read
+pub of_inputs : (files now : Files) (request : Request) (given : List InputPath) (failure : Failure) → now ≡ files → given ≡ inputs_of request
+    → IncludesMayBeRead files (includes_path request) → IsShortOr (IsUnread now given) failure → IsRequestFailure files request failure
+of_inputs files now request given failure same all read (inl memory) = inl (inl memory)
+of_inputs files now request given failure same all read (inr unread) =
+    inl (inr (
+      unread.0,
+      unread.1,
+      inr (
+        read,
+        subst (λ (f : Files). IsUnread f (inputs_of request) unread.0) same
+            (subst (λ (l : List InputPath). IsUnread now l unread.0) all unread.2),
+      ),
+    ))
 
--- a name that is no text is reported of a log in serial order alone
-not_reported : (X : Type 0) (opens : List ℕ → Option Bool) (request : Request) → (X × IsIncludeFailure NotText) ⊎ IsInputFailure opens (inputs_of request) NotText ⊎ IsUnreported request NotText
-    → IsForSerial request
-not_reported X opens request (inl (given, inl memory)) = cc
-not_reported X opens request (inl (given, inr read)) = cc
-not_reported X opens request (inr (inl fails)) = absurd fails
-not_reported X opens request (inr (inr (inl memory))) = cc
-not_reported X opens request (inr (inr (inr unreported))) = unreported.0
-
--- a failure of the files that the words ask for may come of the words
-pub input_failure : (words : List (Bor (List ℕ))) (opens : List ℕ → Option Bool) (request : Request) (failure : Failure) → Asks request (asked words)
-    → IsRequestFailure opens request failure → IsFailureOf words opens failure
-input_failure words opens request (Read input) asks fails = (request, asks, fails)
-input_failure words opens request Write asks fails = tt
-input_failure words opens request Memory asks fails = tt
-input_failure words opens request NotText asks fails = (request, asks, not_reported (IsSome (includes_path request)) opens request fails)
-input_failure words opens request (Usage text) asks (inl included) = absurd (no_usage text included.1)
-input_failure words opens request (Usage text) asks (inr (inl fails)) = absurd fails
-input_failure words opens request (Usage text) asks (inr (inr (inl memory))) = cc
-input_failure words opens request (Usage text) asks (inr (inr (inr unreported))) = let e : Usage text ≡ NotText = unreported.1 in cc
+-- a failure of what the words ask for may come of the words
+pub input_failure : (words : List (Bor (List ℕ))) (files : Files) (request : Request) (failure : Failure) → Asks request (asked words)
+    → IsRequestFailure files request failure → IsFailureOf words files failure
+input_failure words files request failure asks (inl (inl memory)) = rw memory tt
+input_failure words files request failure asks (inl (inr read)) = rw read.1 (request, asks, read.2)
+input_failure words files request failure asks (inr no_text) = rw no_text.0 (request, asks, no_text.1)
 
 -- and is none of the output
-input_not_written : (opens : List ℕ → Option Bool) (inputs : List InputPath) (failure : Failure) → IsInputFailure opens inputs failure → failure ≢ Write
-input_not_written opens inputs (Read input) fails = λ is. cc
-input_not_written opens inputs Write fails = absurd fails
-input_not_written opens inputs Memory fails = λ is. cc
-input_not_written opens inputs NotText fails = absurd fails
-input_not_written opens inputs (Usage text) fails = absurd fails
-
-pub not_written : (opens : List ℕ → Option Bool) (request : Request) (failure : Failure) → IsRequestFailure opens request failure → failure ≢ Write
-not_written opens request failure (inl included) = no_write failure included.1
-not_written opens request failure (inr (inl fails)) = input_not_written opens (inputs_of request) failure fails
-not_written opens request failure (inr (inr (inl memory))) = λ is. cc
-not_written opens request failure (inr (inr (inr unreported))) = λ is. let e : failure ≡ NotText = unreported.1 in cc
+pub not_written : (files : Files) (request : Request) (failure : Failure) → IsRequestFailure files request failure → failure ≢ Write
+not_written files request failure (inl (inl memory)) = λ is. cc
+not_written files request failure (inl (inr read)) = λ is. let e : failure ≡ Read read.0 = read.1 in cc
+not_written files request failure (inr no_text) = λ is. let e : failure ≡ NotText = no_text.0 in cc
 
 -- why the words get no answer but the help or the version
 abbrev pub IsRefusal : ErrorKind → Failure → Type 0
 IsRefusal kind failure = (failure ≡ Memory) ⊎ ((text : String Global) × (failure ≡ Usage text) × ¬ IsCall kind × (kind ≢ OutOfMemory))
 
 -- a mistake of the words may come of them
-pub usage_failure : (words : List (Bor (List ℕ))) (opens : List ℕ → Option Bool) (error : Error) (failure : Failure) → HasKind (wrong words) error
-    → IsRefusal (kind_of error) failure → IsFailureOf words opens failure
-usage_failure words opens error failure kinds (inl memory) = rw memory tt
-usage_failure words opens error failure (inl memory) (inr mistake) = absurd (mistake.3 memory)
-usage_failure words opens error failure (inr among) (inr mistake) = rw mistake.1 (kind_of error, mistake.2, among)
+pub usage_failure : (words : List (Bor (List ℕ))) (files : Files) (error : Error) (failure : Failure) → HasKind (wrong words) error
+    → IsRefusal (kind_of error) failure → IsFailureOf words files failure
+usage_failure words files error failure kinds (inl memory) = rw memory tt
+usage_failure words files error failure (inl memory) (inr mistake) = absurd (mistake.3 memory)
+usage_failure words files error failure (inr among) (inr mistake) = rw mistake.1 (kind_of error, mistake.2, among)
 
 pub not_written_either : (kind : ErrorKind) (failure : Failure) → IsRefusal kind failure → failure ≢ Write
 not_written_either kind failure (inl memory) = λ is. cc

@@ -1,137 +1,172 @@
 -- Lemmas on inputs that are opened and read one after another.
-use Rattle.std.proofs.Common.{◌≡◌, ◌≢◌, ◌⊎◌, inl, inr, ◌<◌, ◌∙◌, ℕ, ◌+◌, Bool, false, List, [], ◌∷◌, ◌++◌, Option, Some, map, take, length, get_or, refl, sym, ap, subst, append_assoc, append-nil, arith}
-use Rattle.std.proofs.Math.Seq.{take-length}
+use Rattle.std.proofs.Common.{◌≡◌, ◌≢◌, ◌⊎◌, inl, inr, ◌<◌, ◌∙◌, ℕ, ◌+◌, Bool, true, false, List, [], ◌∷◌, ◌++◌, Option, Some, drop, map, take, length, get_or, suc, refl, sym, ap, subst, append_assoc, append-nil, arith, take-append-drop}
+use Rattle.std.proofs.Math.Seq.{drop-cons, take-length}
 use Rattle.std.specs.Prelude.{IfSome}
-use Rattle.std.specs.List.{All, AllWithin, Contains}
-use Rattle.std.proofs.lemmas.List.{get_or_default, map-append, take_more}
-use Rattle.std.proofs.lemmas.List.Elements.{All-append, All-cons, All-head, All-nil, All-tail, AllWithin-more, Contains-append_right}
-use Rattle.mk_program.specs.Inputs.{AreTexts, Hold, HoldEach, IsFirstShut, IsInputFailure, MayBeShut, MayOpen}
+use Rattle.std.specs.List.{All}
+use Rattle.std.proofs.lemmas.List.{map-append, take_more}
+use Rattle.std.proofs.lemmas.List.Elements.{All-cons, All-head, All-nil, All-push, All-tail}
+use Rattle.mk_program.specs.Files.{Files}
+use Rattle.mk_program.specs.Inputs.{AreTexts, Hold, HoldEach, InputsMayBeRead, IsFirstToFail, IsShortOr, IsUnread, Mark, MayWork, marks}
 use Rattle.mk_program.specs.declared.failures.Failure.{Failure}
-use Rattle.mk_program.specs.declared.failures.Failure.TheVariants.{Memory, Read}
 use Rattle.mk_program.specs.declared.failures.InputFile.{InputFile}
 use Rattle.mk_program.specs.declared.inputs.InputPath.{InputPath}
 use Rattle.mk_program.specs.declared.inputs.InputText.{InputText}
 use Rattle.mk_program.specs.declared.inputs.OpenInput.{OpenInput}
 
+-- the marks of some inputs and one more
+marks_more : (works : List ℕ → Option Bool) (inputs : List InputPath) (i : ℕ) (d : InputPath) → i < length inputs
+    → marks works (take i inputs) ++ ((get_or inputs i d).input, works (get_or inputs i d).path.now) ∷ [] ≡ marks works (take (i + 1) inputs)
+marks_more works inputs i d within =
+    sym (ap (marks works) (take_more inputs i d within) ∙ map-append (λ (known : InputPath). (known.input, works known.path.now)) (take i inputs) (get_or inputs i d ∷ []))
+
 -- the first of the inputs are open, and the opener states what it stated at the start
-pub record FirstAreOpen {F : Type 0} (left : F → Option (List ℕ)) (failed : F → Bool) (inputs : List InputPath) (text text_now : List ℕ → Option (List ℕ))
-    (opens opens_now : List ℕ → Option Bool) (files : List (OpenInput F)) (i : ℕ) : Type 0 where
-  pub opened : AllWithin (MayOpen opens) inputs 0 i
-  pub same_text : (path : List ℕ) → text_now path ≡ text path
-  pub same_opens : (path : List ℕ) → opens_now path ≡ opens path
-  pub named : map (λ file. file.input) files ≡ map (λ known. known.input) (take i inputs)
-  pub work : All (λ file. failed file.file ≡ false) files
-  pub reported : (want : InputFile → List ℕ) → HoldEach text inputs want → All (λ file. left file.file ≡ Some (want file.input)) files
+pub record FirstAreOpen {F : Type 0} (text : F → Option (List ℕ)) (reads : F → Option Bool) (inputs : List InputPath) (files now : Files)
+    (ready : List (OpenInput F)) (i : ℕ) : Type 0 where
+  pub same : now ≡ files
+  pub opened : All MayWork (marks files.opens (take i inputs))
+  pub named : map (λ file. file.input) ready ≡ map (λ known. known.input) (take i inputs)
+  pub marked : map (λ file. (file.input, reads file.file)) ready ≡ marks files.reads (take i inputs)
+  pub reported : (want : InputFile → List ℕ) → HoldEach files.text inputs want → All (λ file. text file.file ≡ Some (want file.input)) ready
 
 -- what is read so far, of all files, and those that are left
-pub record AreReadSoFar {F : Type 0} (left : F → Option (List ℕ)) (failed : F → Bool) (all rest : List (OpenInput F)) (texts : List InputText) : Type 0 where
-  pub named : map (λ file. file.input) all ≡ map (λ known. known.input) texts ++ map (λ file. file.input) rest
-  pub work : All (λ file. failed file.file ≡ false) rest
-  pub reported : (want : InputFile → List ℕ) → All (λ file. left file.file ≡ Some (want file.input)) all
-      → All (λ file. left file.file ≡ Some (want file.input)) rest × All (λ known. known.text.items ≡ want known.input) texts
+pub record AreReadSoFar {F : Type 0} (text : F → Option (List ℕ)) (reads : F → Option Bool) (all rest : List (OpenInput F)) (texts : List InputText) : Type 0 where
+  pub before : List (OpenInput F)
+  pub parts : all ≡ before ++ rest
+  pub named : map (λ known. known.input) texts ≡ map (λ file. file.input) before
+  pub worked : All MayWork (map (λ file. (file.input, reads file.file)) before)
+  pub reported : (want : InputFile → List ℕ) → All (λ file. text file.file ≡ Some (want file.input)) all
+      → All (λ file. text file.file ≡ Some (want file.input)) rest × All (λ known. known.text.items ≡ want known.input) texts
 
-module _ {F : Type 0} (left : F → Option (List ℕ)) (failed : F → Bool) where
+module _ {F : Type 0} (text : F → Option (List ℕ)) (reads : F → Option Bool) where
+  abbrev mark : OpenInput F → Mark
+  mark file = (file.input, reads file.file)
+
   -- nothing is open at the start
-  pub none_open : (inputs : List InputPath) (text : List ℕ → Option (List ℕ)) (opens : List ℕ → Option Bool) (files : List (OpenInput F)) → files ≡ []
-      → FirstAreOpen left failed inputs text text opens opens files 0
-  none_open inputs text opens files none = rw none (record {
-    opened = λ k d low high. absurd (omega arith);
-    same_text = λ path. refl;
-    same_opens = λ path. refl;
+  pub none_open : (inputs : List InputPath) (files : Files) (ready : List (OpenInput F)) → ready ≡ [] → FirstAreOpen text reads inputs files files ready 0
+  none_open inputs files ready none = rw none (record {
+    same = refl;
+    opened = All-nil MayWork;
     named = refl;
-    work = All-nil (λ (file : OpenInput F). failed file.file ≡ false);
-    reported = λ want holds. All-nil (λ (file : OpenInput F). left file.file ≡ Some (want file.input));
+    marked = refl;
+    reported = λ want holds. All-nil (λ (file : OpenInput F). text file.file ≡ Some (want file.input));
   })
 
   -- one file more
-  pub one_open : (inputs : List InputPath) (text mid new : List ℕ → Option (List ℕ)) (opens opens_mid opens_new : List ℕ → Option Bool) (files more : List (OpenInput F))
-      (file : OpenInput F) (i : ℕ) (d : InputPath) → i < length inputs → FirstAreOpen left failed inputs text mid opens opens_mid files i
-      → file.input ≡ (get_or inputs i d).input → failed file.file ≡ false
-      → ((bytes : List ℕ) → mid (get_or inputs i d).path.now ≡ Some bytes → left file.file ≡ Some bytes) → MayOpen opens_mid (get_or inputs i d)
-      → ((path : List ℕ) → new path ≡ mid path) → ((path : List ℕ) → opens_new path ≡ opens_mid path) → more ≡ files ++ file ∷ []
-      → FirstAreOpen left failed inputs text new opens opens_new more (i + 1)
-  one_open inputs text mid new opens opens_mid opens_new files more file i d within so_far input works whole may same_text same_opens grown =
+  pub one_open : (inputs : List InputPath) (files mid new : Files) (ready more : List (OpenInput F)) (file : OpenInput F) (i : ℕ) (d : InputPath) → i < length inputs
+      → FirstAreOpen text reads inputs files mid ready i → file.input ≡ (get_or inputs i d).input → text file.file ≡ mid.text (get_or inputs i d).path.now
+      → reads file.file ≡ mid.reads (get_or inputs i d).path.now → mid.opens (get_or inputs i d).path.now ≢ Some false → new ≡ mid → more ≡ ready ++ file ∷ []
+      → FirstAreOpen text reads inputs files new more (i + 1)
+  one_open inputs files mid new ready more file i d within so_far input holds can may same grown =
       let known : InputPath = get_or inputs i d in
-      let here : MayOpen opens known = λ is. may (so_far.same_opens known.path.now ∙ is) in
-      let named_all : map (λ (f : OpenInput F). f.input) (files ++ file ∷ []) ≡ map (λ (k : InputPath). k.input) (take (i + 1) inputs) =
-      map-append (λ (f : OpenInput F). f.input) files (file ∷ [])
+      let at : List ℕ = known.path.now in
+      let named_all : map (λ (f : OpenInput F). f.input) (ready ++ file ∷ []) ≡ map (λ (k : InputPath). k.input) (take (i + 1) inputs) =
+      map-append (λ (f : OpenInput F). f.input) ready (file ∷ [])
       ∙ ap (λ (l : List InputFile). l ++ file.input ∷ []) so_far.named
       ∙ ap (λ (n : InputFile). map (λ (k : InputPath). k.input) (take i inputs) ++ n ∷ []) input
       ∙ sym (map-append (λ (k : InputPath). k.input) (take i inputs) (known ∷ []))
       ∙ ap (map (λ (k : InputPath). k.input)) (sym (take_more inputs i d within)) in
+      let can_here : reads file.file ≡ files.reads at = can ∙ ap (λ (f : Files). f.reads at) so_far.same in
+      let mark_here : mark file ≡ (known.input, files.reads at) = λ k. (input k, can_here k) in
+      let marked_all : map mark (ready ++ file ∷ []) ≡ marks files.reads (take (i + 1) inputs) =
+      map-append mark ready (file ∷ []) ∙ ap (λ (l : List Mark). l ++ mark file ∷ []) so_far.marked
+      ∙ ap (λ (m : Mark). marks files.reads (take i inputs) ++ m ∷ []) mark_here ∙ marks_more files.reads inputs i d within in
       rw grown (record {
-        opened = AllWithin-more (MayOpen opens) inputs 0 i so_far.opened (λ e. subst (MayOpen opens) (get_or_default inputs i d e within) here);
-        same_text = λ path. same_text path ∙ so_far.same_text path;
-        same_opens = λ path. same_opens path ∙ so_far.same_opens path;
+        same = same ∙ so_far.same;
+        opened = subst (All MayWork) (marks_more files.opens inputs i d within) (All-push MayWork (marks files.opens (take i inputs)) (known.input, files.opens at)
+            so_far.opened (λ is. may (ap (λ (f : Files). f.opens at) so_far.same ∙ is)));
         named = named_all;
-        work = All-append (λ (f : OpenInput F). failed f.file ≡ false) files (file ∷ []) so_far.work
-            (All-cons (λ (f : OpenInput F). failed f.file ≡ false) file [] works (All-nil (λ (f : OpenInput F). failed f.file ≡ false)));
-        reported = λ want holds. All-append (λ (f : OpenInput F). left f.file ≡ Some (want f.input)) files (file ∷ []) (so_far.reported want holds)
-            (All-cons (λ (f : OpenInput F). left f.file ≡ Some (want f.input)) file []
-            (whole (want file.input) (so_far.same_text known.path.now ∙ holds i d within ∙ ap (λ (n : InputFile). Some (want n)) (sym input)))
-            (All-nil (λ (f : OpenInput F). left f.file ≡ Some (want f.input))));
+        marked = marked_all;
+        reported = λ want hold. All-push (λ (f : OpenInput F). text f.file ≡ Some (want f.input)) ready file (so_far.reported want hold)
+            (holds ∙ ap (λ (f : Files). f.text at) so_far.same ∙ hold i d within ∙ ap (λ (n : InputFile). Some (want n)) (sym input));
       })
 
   -- all files are open
-  pub all_named : (inputs : List InputPath) (text now : List ℕ → Option (List ℕ)) (opens opens_now : List ℕ → Option Bool) (files : List (OpenInput F)) (i : ℕ)
-      → FirstAreOpen left failed inputs text now opens opens_now files i → i ≡ length inputs → map (λ file. file.input) files ≡ map (λ known. known.input) inputs
-  all_named inputs text now opens opens_now files i so_far end = so_far.named ∙ ap (map (λ (k : InputPath). k.input)) (ap (λ n. take n inputs) end ∙ take-length inputs)
+  pub all_named : (inputs : List InputPath) (files now : Files) (ready : List (OpenInput F)) (i : ℕ)
+      → FirstAreOpen text reads inputs files now ready i → i ≡ length inputs → map (λ file. file.input) ready ≡ map (λ known. known.input) inputs
+  all_named inputs files now ready i so_far end = so_far.named ∙ ap (map (λ (k : InputPath). k.input)) (ap (λ n. take n inputs) end ∙ take-length inputs)
+
+  pub all_marked : (inputs : List InputPath) (files now : Files) (ready : List (OpenInput F)) (i : ℕ)
+      → FirstAreOpen text reads inputs files now ready i → i ≡ length inputs → map (λ file. (file.input, reads file.file)) ready ≡ marks files.reads inputs
+  all_marked inputs files now ready i so_far end = so_far.marked ∙ ap (marks files.reads) (ap (λ n. take n inputs) end ∙ take-length inputs)
+
+  pub all_opened : (inputs : List InputPath) (files now : Files) (ready : List (OpenInput F)) (i : ℕ)
+      → FirstAreOpen text reads inputs files now ready i → i ≡ length inputs → All MayWork (marks files.opens inputs)
+  all_opened inputs files now ready i so_far end =
+      subst (λ (l : List InputPath). All MayWork (marks files.opens l)) (ap (λ n. take n inputs) end ∙ take-length inputs) so_far.opened
+
+  -- the input at this place is the first that cannot be opened
+  pub shut_first : (inputs : List InputPath) (files now : Files) (ready : List (OpenInput F)) (i : ℕ) (d : InputPath) → i < length inputs
+      → FirstAreOpen text reads inputs files now ready i → now.opens (get_or inputs i d).path.now ≢ Some true
+      → IsFirstToFail (marks files.opens inputs) (get_or inputs i d).input
+  shut_first inputs files now ready i d within so_far shut =
+      let known : InputPath = get_or inputs i d in record {
+        before = marks files.opens (take i inputs);
+        works = files.opens known.path.now;
+        rest = marks files.opens (drop (suc i) inputs);
+        parts = ap (marks files.opens) (sym (take-append-drop i inputs) ∙ ap (λ (l : List InputPath). take i inputs ++ l) (drop-cons inputs i d within))
+            ∙ map-append (λ (k : InputPath). (k.input, files.opens k.path.now)) (take i inputs) (known ∷ drop (suc i) inputs);
+        worked = so_far.opened;
+        fails = λ is. shut (ap (λ (f : Files). f.opens known.path.now) so_far.same ∙ is);
+      }
 
   -- nothing is read at the start
-  pub none_read : (all rest : List (OpenInput F)) (texts : List InputText) → rest ≡ all → texts ≡ [] → All (λ file. failed file.file ≡ false) all
-      → AreReadSoFar left failed all rest texts
-  none_read all rest texts whole none work = rw (whole, none) (record {
+  pub none_read : (all rest : List (OpenInput F)) (texts : List InputText) → rest ≡ all → texts ≡ [] → AreReadSoFar text reads all rest texts
+  none_read all rest texts whole none = rw (whole, none) (record {
+    before = [];
+    parts = refl;
     named = refl;
-    work = work;
+    worked = All-nil MayWork;
     reported = λ want holds. (holds, All-nil (λ (known : InputText). known.text.items ≡ want known.input));
   })
 
   -- one file more
-  pub one_read : (all before rest : List (OpenInput F)) (texts more : List InputText) (file : OpenInput F) (text : InputText) → AreReadSoFar left failed all before texts
-      → before ≡ file ∷ rest → text.input ≡ file.input → IfSome (left file.file) (λ bytes. text.text.items ≡ bytes) → more ≡ texts ++ text ∷ []
-      → AreReadSoFar left failed all rest more
-  one_read all before rest texts more file text so_far next input read grown =
-      let first : AreReadSoFar left failed all (file ∷ rest) texts = subst (λ (b : List (OpenInput F)). AreReadSoFar left failed all b texts) next so_far in
-      let names : List InputText → List InputFile = map (λ (t : InputText). t.input) in
-      let left_names : List InputFile = map (λ (f : OpenInput F). f.input) rest in
-      let named_all : map (λ (f : OpenInput F). f.input) all ≡ names (texts ++ text ∷ []) ++ left_names =
-      first.named ∙ ap (λ (n : InputFile). names texts ++ (n ∷ left_names)) (sym input) ∙ sym (append_assoc (names texts) (text.input ∷ []) left_names)
-      ∙ ap (λ (l : List InputFile). l ++ left_names) (sym (map-append (λ (t : InputText). t.input) texts (text ∷ []))) in
+  pub one_read : (all left rest : List (OpenInput F)) (texts more : List InputText) (file : OpenInput F) (one : InputText) → AreReadSoFar text reads all left texts
+      → left ≡ file ∷ rest → one.input ≡ file.input → IfSome (text file.file) (λ bytes. one.text.items ≡ bytes) → reads file.file ≢ Some false → more ≡ texts ++ one ∷ []
+      → AreReadSoFar text reads all rest more
+  one_read all left rest texts more file one so_far next input read can grown =
+      let first : AreReadSoFar text reads all (file ∷ rest) texts = subst (λ (b : List (OpenInput F)). AreReadSoFar text reads all b texts) next so_far in
+      let named_all : map (λ (t : InputText). t.input) (texts ++ one ∷ []) ≡ map (λ (f : OpenInput F). f.input) (first.before ++ file ∷ []) =
+      map-append (λ (t : InputText). t.input) texts (one ∷ [])
+      ∙ ap (λ (l : List InputFile). l ++ one.input ∷ []) first.named
+      ∙ ap (λ (n : InputFile). map (λ (f : OpenInput F). f.input) first.before ++ n ∷ []) input
+      ∙ sym (map-append (λ (f : OpenInput F). f.input) first.before (file ∷ [])) in
       rw grown (record {
+        before = first.before ++ file ∷ [];
+        parts = first.parts ∙ sym (append_assoc first.before (file ∷ []) rest);
         named = named_all;
-        work = All-tail (λ (f : OpenInput F). failed f.file ≡ false) file rest first.work;
+        worked = subst (All MayWork) (sym (map-append mark first.before (file ∷ []))) (All-push MayWork (map mark first.before) (mark file) first.worked can);
         reported = λ want holds.
             let both = first.reported want holds in
-            let is : text.text.items ≡ want file.input = subst (λ (o : Option (List ℕ)). IfSome o (λ bytes. text.text.items ≡ bytes))
-            (All-head (λ (f : OpenInput F). left f.file ≡ Some (want f.input)) file rest both.0) read in (
-              All-tail (λ (f : OpenInput F). left f.file ≡ Some (want f.input)) file rest both.0,
-              All-append (λ (t : InputText). t.text.items ≡ want t.input) texts (text ∷ []) both.1
-                  (All-cons (λ (t : InputText). t.text.items ≡ want t.input) text [] (is ∙ ap want (sym input)) (All-nil (λ (t : InputText). t.text.items ≡ want t.input))),
+            let is : one.text.items ≡ want file.input = subst (λ (o : Option (List ℕ)). IfSome o (λ bytes. one.text.items ≡ bytes))
+            (All-head (λ (f : OpenInput F). text f.file ≡ Some (want f.input)) file rest both.0) read in (
+              All-tail (λ (f : OpenInput F). text f.file ≡ Some (want f.input)) file rest both.0,
+              All-push (λ (t : InputText). t.text.items ≡ want t.input) texts one both.1 (is ∙ ap want (sym input)),
             );
       })
 
-  -- a file that is left is one of them
-  pub is_left : (all before rest : List (OpenInput F)) (texts : List InputText) (file : OpenInput F) → AreReadSoFar left failed all before texts → before ≡ file ∷ rest
-      → Contains (map (λ file. file.input) all) file.input
-  is_left all before rest texts file so_far next =
-      let first : AreReadSoFar left failed all (file ∷ rest) texts = subst (λ (b : List (OpenInput F)). AreReadSoFar left failed all b texts) next so_far in
-      subst (λ (l : List InputFile). Contains l file.input) (sym first.named)
-      (Contains-append_right (map (λ (t : InputText). t.input) texts) (map (λ (f : OpenInput F). f.input) (file ∷ rest)) file.input (0, omega arith, refl))
+  -- the next file is the first that cannot be read
+  pub unread_first : (all left rest : List (OpenInput F)) (texts : List InputText) (file : OpenInput F) → AreReadSoFar text reads all left texts → left ≡ file ∷ rest
+      → reads file.file ≢ Some true → IsFirstToFail (map (λ file. (file.input, reads file.file)) all) file.input
+  unread_first all left rest texts file so_far next fails = record {
+    before = map mark so_far.before;
+    works = reads file.file;
+    rest = map mark rest;
+    parts = ap (map mark) (so_far.parts ∙ ap (λ (l : List (OpenInput F)). so_far.before ++ l) next) ∙ map-append mark so_far.before (file ∷ rest);
+    worked = so_far.worked;
+    fails = fails;
+  }
 
   -- all are read
-  pub all_read : (all rest : List (OpenInput F)) (texts : List InputText) → AreReadSoFar left failed all rest texts → rest ≡ []
-      → map (λ known. known.input) texts ≡ map (λ file. file.input) all
-  all_read all rest texts so_far none =
-      sym (so_far.named ∙ ap (λ (r : List (OpenInput F)). map (λ (t : InputText). t.input) texts ++ map (λ (f : OpenInput F). f.input) r) none
-      ∙ append-nil (map (λ (t : InputText). t.input) texts))
+  all_before : (all rest : List (OpenInput F)) (texts : List InputText) (so_far : AreReadSoFar text reads all rest texts) → rest ≡ [] → so_far.before ≡ all
+  all_before all rest texts so_far none = sym (so_far.parts ∙ ap (λ (l : List (OpenInput F)). so_far.before ++ l) none ∙ append-nil so_far.before)
 
--- the input at this place is the first that cannot be opened
-pub shut_first : (inputs : List InputPath) (opens opens_now : List ℕ → Option Bool) (i : ℕ) (d : InputPath) → i < length inputs → AllWithin (MayOpen opens) inputs 0 i
-    → ((path : List ℕ) → opens_now path ≡ opens path) → MayBeShut opens_now (get_or inputs i d) → IsFirstShut opens inputs (get_or inputs i d).input
-shut_first inputs opens opens_now i d within opened same shut =
-    let known : InputPath = get_or inputs i d in
-    let here : MayBeShut opens known = λ is. shut (same known.path.now ∙ is) in
-    (i, within, opened, λ e. subst (λ (k : InputPath). (k.input ≡ known.input) × MayBeShut opens k) (get_or_default inputs i d e within) (refl, here))
+  pub all_read : (all rest : List (OpenInput F)) (texts : List InputText) → AreReadSoFar text reads all rest texts → rest ≡ []
+      → map (λ known. known.input) texts ≡ map (λ file. file.input) all
+  all_read all rest texts so_far none = so_far.named ∙ ap (map (λ (f : OpenInput F). f.input)) (all_before all rest texts so_far none)
+
+  pub all_worked : (all rest : List (OpenInput F)) (texts : List InputText) → AreReadSoFar text reads all rest texts → rest ≡ []
+      → All MayWork (map (λ file. (file.input, reads file.file)) all)
+  all_worked all rest texts so_far none = subst (λ (l : List (OpenInput F)). All MayWork (map mark l)) (all_before all rest texts so_far none) so_far.worked
 
 -- what no element of a list comes to, none of a list that comes to the same does
 none_else : {A B N : Type 0} (f : A → N) (g : B → N) (n : N) (xs : List A) (ys : List B) → map f xs ≡ map g ys → All (λ x. f x ≢ n) xs → All (λ y. g y ≢ n) ys
@@ -159,14 +194,19 @@ texts_read files inputs texts text named each hold input found (inr none) =
     none.1 ∙ sym (hold.others input (none_else (λ (known : InputText). known.input) (λ (known : InputPath). known.input) input texts inputs named none.0))
 
 -- a failure to open is a failure of the inputs
-pub open_failure : (opens : List ℕ → Option Bool) (inputs : List InputPath) (failure : Failure)
-    → (failure ≡ Memory) ⊎ ((input : InputFile) × (failure ≡ Read input) × IsFirstShut opens inputs input) → IsInputFailure opens inputs failure
-open_failure opens inputs failure (inl memory) = rw memory tt
-open_failure opens inputs failure (inr shut) = rw shut.1 (inl shut.2)
+pub open_failure : (files : Files) (inputs : List InputPath) (failure : Failure) → IsShortOr (IsFirstToFail (marks files.opens inputs)) failure
+    → IsShortOr (IsUnread files inputs) failure
+open_failure files inputs failure (inl memory) = inl memory
+open_failure files inputs failure (inr shut) = inr (shut.0, shut.1, inl shut.2)
 
 -- and so is a failure to read
-pub read_failure : (opens : List ℕ → Option Bool) (inputs : List InputPath) (names : List InputFile) (failure : Failure)
-    → All (MayOpen opens) inputs → names ≡ map (λ known. known.input) inputs
-    → (failure ≡ Memory) ⊎ ((input : InputFile) × (failure ≡ Read input) × Contains names input) → IsInputFailure opens inputs failure
-read_failure opens inputs names failure opened named (inl memory) = rw memory tt
-read_failure opens inputs names failure opened named (inr unread) = rw unread.1 (inr (opened, subst (λ (l : List InputFile). Contains l unread.0) named unread.2))
+pub read_failure : (files : Files) (inputs : List InputPath) (all : List Mark) (failure : Failure) → All MayWork (marks files.opens inputs)
+    → all ≡ marks files.reads inputs → IsShortOr (IsFirstToFail all) failure → IsShortOr (IsUnread files inputs) failure
+read_failure files inputs all failure opened marked (inl memory) = inl memory
+read_failure files inputs all failure opened marked (inr unread) =
+    inr (unread.0, unread.1, inr (opened, subst (λ (l : List Mark). IsFirstToFail l unread.0) marked unread.2))
+
+-- where all were opened and read, all may be
+pub may_be_read : (files : Files) (inputs : List InputPath) (all : List Mark) → All MayWork (marks files.opens inputs) → all ≡ marks files.reads inputs
+    → All MayWork all → InputsMayBeRead files inputs
+may_be_read files inputs all opened marked worked = record { opened = opened; read = subst (All MayWork) marked worked }

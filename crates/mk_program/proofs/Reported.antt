@@ -1,5 +1,5 @@
 -- What holds of a result that is passed on.
-use Rattle.std.proofs.Common.{Result, Ok, Err, IfErr, IfOk}
+use Rattle.std.proofs.Common.{Result, Ok, Err, IfErr, IfOk, OnOk}
 
 -- two facts of a value give a third
 pub both_ok : {X E : Type 0} (P Q R : X → Type 0) (r : Result X E) → ((x : X) → P x → Q x → R x) → IfOk r P → IfOk r Q → IfOk r R
@@ -10,3 +10,16 @@ both_ok P Q R (Err e) more p q = tt
 pub err_more : {X E : Type 0} (P Q : E → Type 0) (r : Result X E) → ((e : E) → P e → Q e) → IfErr r P → IfErr r Q
 err_more P Q (Ok x) more p = tt
 err_more P Q (Err e) more p = more e p
+
+-- what holds where there is a value gives more
+pub ok_more : {X E : Type 0} (P Q : Type 0) (r : Result X E) → (P → Q) → OnOk r P → OnOk r Q
+ok_more P Q (Ok x) more p = more p
+ok_more P Q (Err e) more p = tt
+
+pub value_more : {X E : Type 0} (P Q : Type 0) (r : Result X E) → (P → Q) → OnOk r P → IfOk r (λ x. Q)
+value_more P Q (Ok x) more p = more p
+value_more P Q (Err e) more p = tt
+
+pub always_ok : {X E : Type 0} (P : Type 0) (r : Result X E) → P → OnOk r P
+always_ok P (Ok x) p = p
+always_ok P (Err e) p = tt

@@ -14,8 +14,9 @@ use Rattle.mk_race.specs.declared.serialising.Ordered.TheVariants.{Serial, NotAl
 use Rattle.mk_race.specs.declared.serialising.Serialised.{Serialised}
 use Rattle.mk_sched.specs.Stored.{store_of}
 use Rattle.mk_sched.proofs.SerialList.{all_inside}
-use Rattle.mk_program.specs.Answers.{IsSerialiseAnswer}
-use Rattle.mk_program.specs.OrderText.{HasNodes, IsOrderText, order_status}
+use Rattle.mk_program.specs.Answers.{HasNoText, IsSerialiseAnswer}
+use Rattle.mk_program.specs.OrderText.{HasNodes, IsNoText, IsOrderText, IsUnreported, order_status}
+use Rattle.mk_program.specs.declared.failures.Failure.{Failure}
 use Rattle.mk_program.specs.declared.statuses.Status.{Status}
 use Rattle.mk_program.specs.declared.statuses.Status.TheVariants.{Done, No, Failed, Refused}
 
@@ -72,3 +73,22 @@ nodes_in jobs tie log NoRoom same = tt
 pub has_nodes : (texts : Texts) (footprints log : List ℕ) (tie : Bool) (given : Serialised) → IsLawfulBuild texts footprints log tie given → HasNodes given.jobs given.order
 has_nodes texts footprints log tie given law =
     subst (λ (jobs : Jobs). HasNodes jobs given.order) (sym law.jobs) (nodes_in law.prepared.jobs tie law.lawful.read given.order law.lawful.lawful)
+
+-- why something is not reported gives why more is not
+pub unreported_more : (P Q : Type 0) (failure : Failure) → (P → Q) → IsUnreported P failure → IsUnreported Q failure
+unreported_more P Q failure more (inl memory) = inl memory
+unreported_more P Q failure more (inr no_text) = inr (no_text.0, more no_text.1)
+
+-- a name that is no text is one of the log over these texts
+pub no_text_is : (texts : Texts) (footprints log : List ℕ) (limit limit' : ℕ) (tie : Bool) (given : Serialised)
+    → IsSerialised texts footprints log limit' tie (Ok given) → limit' ≡ limit → IsNoText given.jobs given.order → HasNoText texts footprints log limit tie
+no_text_is texts footprints log limit limit' tie given is same no_text =
+    (given, subst (λ (n : ℕ). IsSerialised texts footprints log n tie (Ok given)) same is, no_text)
+
+-- over what was read it is one over the texts
+pub no_text_reported : (old new : Texts) (footprints footprints' log log' : List ℕ) (limit : ℕ) (tie : Bool)
+    → old ≡ new → footprints ≡ footprints' → log ≡ log' → HasNoText old footprints log limit tie → HasNoText new footprints' log' limit tie
+no_text_reported old new footprints footprints' log log' limit tie t f l h =
+    subst (λ (x : List ℕ). HasNoText new footprints' x limit tie) l
+    (subst (λ (x : List ℕ). HasNoText new x log limit tie) f
+    (subst (λ (x : Texts). HasNoText x footprints log limit tie) t h))

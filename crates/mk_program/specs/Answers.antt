@@ -1,5 +1,5 @@
 -- What the program answers to a request, over what the files hold, and what it writes of that.
-use Rattle.std.specs.Prelude.{◌≡◌, ◌⊎◌, ℕ, Bool, true, false, List, [], ◌∷◌, Result, Ok, Err, Option, None, Some, IsSome, map, codes, if◌then◌else◌}
+use Rattle.std.specs.Prelude.{◌≡◌, ◌⊎◌, ℕ, Bool, true, false, List, [], ◌∷◌, Result, Ok, Err, Option, None, Some, map, codes, if◌then◌else◌}
 use Rattle.std.specs.Borrow.{Bor}
 use Rattle.std.specs.Io.KnownBytes.{Appends}
 use Rattle.clap.specs.Words.{Row, Text}
@@ -36,9 +36,10 @@ use Rattle.mk_report.specs.declared.answer.Answer.TheVariants as judged
 use Rattle.mk_sched.specs.declared.refusal.Refusal.{Refusal}
 use Rattle.mk_sched.specs.declared.replay.Replayed.{Replayed}
 use Rattle.mk_program.specs.CommandLine.{Asks, HasMistake, asked, wrong}
-use Rattle.mk_program.specs.Includes.{IsIncludeFailure, Pair, includes_in}
-use Rattle.mk_program.specs.Inputs.{Hold, IsInputFailure}
-use Rattle.mk_program.specs.OrderText.{IsOrderText, order_status}
+use Rattle.mk_program.specs.Files.{Files}
+use Rattle.mk_program.specs.Includes.{IncludesMayBeRead, IncludesMayFail, Pair, includes_in}
+use Rattle.mk_program.specs.Inputs.{Hold, InputsMayBeRead, IsShortOr, IsUnread}
+use Rattle.mk_program.specs.OrderText.{IsNoText, IsOrderText, order_status}
 use Rattle.mk_program.specs.OutcomeText.{IsOutcomeText}
 use Rattle.mk_program.specs.PlanText.{plan_text}
 use Rattle.mk_program.specs.PosixBase.{posix_base}
@@ -156,6 +157,11 @@ IsSerialiseAnswer texts footprints log limit tie statuses.No text = IsReportedOr
 IsSerialiseAnswer texts footprints log limit tie statuses.Refused text =
     (reported : Reported) × IsSerialised texts footprints log limit tie (Err reported) × (text ≡ refused_text reported)
 IsSerialiseAnswer texts footprints log limit tie statuses.Failed text = ⊥
+
+-- the log in serial order has a name that is no text
+abbrev pub HasNoText : Texts → List ℕ → List ℕ → ℕ → Bool → Type 0
+HasNoText texts footprints log limit tie =
+    (given : Serialised) × IsSerialised texts footprints log limit tie (Ok given) × IsNoText given.jobs given.order
 
 -- how the program ends after all races were listed: with 0 where there is none
 abbrev pub races_status : List (ℕ × ℕ) → Status
@@ -293,31 +299,47 @@ WritesAnswer words files status old new = (text : List ℕ) × Appends old new t
 abbrev pub WritesBeginning : List (Bor Text) → (List ℕ → Option (List ℕ)) → Option (List ℕ) → Option (List ℕ) → Type 0
 WritesBeginning words files old new = (status : Status) × (text : List ℕ) × AppendsBeginning old new text × IsAnswerTo words files status text
 
--- the request is for a log in serial order
-abbrev pub IsForSerial : Request → Type 0
-IsForSerial (requests.Order build) = ⊥
-IsForSerial (requests.Check check) = ⊥
-IsForSerial (requests.Verify verify) = ⊥
-IsForSerial (requests.Replay replay) = ⊥
-IsForSerial (requests.Serialise replay) = Unit {0}
-IsForSerial (requests.List list) = ⊥
-IsForSerial (requests.Fix fix) = ⊥
-IsForSerial (requests.Tasks tasks) = ⊥
+-- the log in serial order that a request is to write has a name that is no text, over the texts of its includes and of its inputs
+abbrev pub IsNoTextOver : Request → List Pair → (InputFile → List ℕ) → Type 0
+IsNoTextOver (requests.Order build) includes text = ⊥
+IsNoTextOver (requests.Check check) includes text = ⊥
+IsNoTextOver (requests.Verify verify) includes text = ⊥
+IsNoTextOver (requests.Replay replay) includes text = ⊥
+IsNoTextOver (requests.Serialise replay) includes text =
+    HasNoText (texts_for replay.build includes text) (text inputs.Footprints) (text inputs.Log) replay.limit replay.tie
+IsNoTextOver (requests.List list) includes text = ⊥
+IsNoTextOver (requests.Fix fix) includes text = ⊥
+IsNoTextOver (requests.Tasks tasks) includes text = ⊥
 
--- why an answer is not reported: memory is short, or a log that is to be written has a name that is no text
-abbrev pub IsUnreported : Request → Failure → Type 0
-IsUnreported request failure = (failure ≡ failures.Memory) ⊎ (IsForSerial request × (failure ≡ failures.NotText))
+-- that, over what its files hold
+abbrev pub IsNoTextIn : Request → (List ℕ → Option (List ℕ)) → Type 0
+IsNoTextIn request files =
+    (includes : List Pair) (text : InputFile → List ℕ) → includes_in files (includes_path request) ≡ Some includes → Hold files (inputs_of request) text
+    → IsNoTextOver request includes text
 
--- a failure of a request: of its includes, where it has any, of its inputs, or of the answer
-abbrev pub IsRequestFailure : (List ℕ → Option Bool) → Request → Failure → Type 0
-IsRequestFailure opens request failure =
-    (IsSome (includes_path request) × IsIncludeFailure failure) ⊎ IsInputFailure opens (inputs_of request) failure ⊎ IsUnreported request failure
+-- all files of a request may be opened, and read
+abbrev pub MayAllBeRead : Files → Request → Type 0
+MayAllBeRead files request = IncludesMayBeRead files (includes_path request) × InputsMayBeRead files (inputs_of request)
 
--- the failure may come of these words, where some files may be shut
-abbrev pub IsFailureOf : List (Bor Text) → (List ℕ → Option Bool) → Failure → Type 0
-IsFailureOf words opens (failures.Read input) =
-    (request : Request) × Asks request (asked words) × IsRequestFailure opens request (failures.Read input)
-IsFailureOf words opens failures.Write = Unit {0}
-IsFailureOf words opens failures.Memory = Unit {0}
-IsFailureOf words opens failures.NotText = (request : Request) × Asks request (asked words) × IsForSerial request
-IsFailureOf words opens (failures.Usage text) = HasMistake (wrong words)
+-- an input of a request is reported: its includes come first, and fail; or they do not, and it is the first other input that does
+abbrev pub IsReadFailure : Files → Request → InputFile → Type 0
+IsReadFailure files request input =
+    ((input ≡ inputs.Include) × IncludesMayFail files (includes_path request))
+    ⊎ (IncludesMayBeRead files (includes_path request) × IsUnread files (inputs_of request) input)
+
+-- a failure of a request: memory is short, its files fail, or its answer is no text
+abbrev pub IsRequestFailure : Files → Request → Failure → Type 0
+IsRequestFailure files request failure =
+    IsShortOr (IsReadFailure files request) failure ⊎ ((failure ≡ failures.NotText) × IsNoTextIn request files.text)
+
+-- the files that these words name may be opened, and read
+abbrev pub AreRead : List (Bor Text) → Files → Type 0
+AreRead words files = (request : Request) × Asks request (asked words) × MayAllBeRead files request
+
+-- the failure may come of these words and of these files
+abbrev pub IsFailureOf : List (Bor Text) → Files → Failure → Type 0
+IsFailureOf words files (failures.Read input) = (request : Request) × Asks request (asked words) × IsReadFailure files request input
+IsFailureOf words files failures.Write = Unit {0}
+IsFailureOf words files failures.Memory = Unit {0}
+IsFailureOf words files failures.NotText = (request : Request) × Asks request (asked words) × IsNoTextIn request files.text
+IsFailureOf words files (failures.Usage text) = HasMistake (wrong words)

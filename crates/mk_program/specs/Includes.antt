@@ -1,7 +1,10 @@
--- The texts that the file of includes hands in.
-use Rattle.std.specs.Prelude.{◌≡◌, ◌⊎◌, ℕ, List, [], ◌∷◌, ◌++◌, Option, None, Some, length, map, ◌==◌, option_map, if◌then◌else◌}
+-- The texts that the file of includes hands in, and which of its files fail.
+use Rattle.std.specs.Prelude.{◌≡◌, ◌≢◌, ◌⊎◌, ℕ, true, false, List, [], ◌∷◌, ◌++◌, Option, None, Some, length, map, ◌==◌, option_map, if◌then◌else◌}
+use Rattle.std.specs.List.{All, Contains}
 use Rattle.std.specs.Option.{option_and_then}
+use Rattle.std.specs.Str.{IsUtf8}
 use Rattle.mk_text.specs.Blocks.{physical_lines}
+use Rattle.mk_program.specs.Files.{Files}
 use Rattle.mk_program.specs.declared.failures.Failure.{Failure}
 use Rattle.mk_program.specs.declared.failures.Failure.TheVariants as failures
 use Rattle.mk_program.specs.declared.failures.InputFile.TheVariants as inputs
@@ -35,6 +38,35 @@ includes_in files (Some path) = option_and_then (λ listed. pairs_of files (phys
 abbrev pub shown : List IncludeText → List Pair
 shown texts = map (λ known. (known.path.items, known.text.items)) texts
 
--- a failure to take texts in: one of the files cannot be opened or read, or memory is short
-abbrev pub IsIncludeFailure : Failure → Type 0
-IsIncludeFailure failure = (failure ≡ failures.Memory) ⊎ (failure ≡ failures.Read inputs.Include)
+-- the file of this path may be opened, and read
+abbrev pub MayBeRead : Files → List ℕ → Type 0
+MayBeRead files path = (files.opens path ≢ Some false) × (files.reads path ≢ Some false)
+
+-- it may not be opened, or not be read
+abbrev pub MayFail : Files → List ℕ → Type 0
+MayFail files path = (files.opens path ≢ Some true) ⊎ (files.reads path ≢ Some true)
+
+-- a line names nothing, or a file that may be read
+abbrev pub LineMayBeRead : Files → List ℕ → Type 0
+LineMayBeRead files line = (length line ≡ 0) ⊎ (IsUtf8 line × MayBeRead files line)
+
+-- a line is no text, or names a file that may fail
+abbrev pub LineMayFail : Files → List ℕ → Type 0
+LineMayFail files line = (length line ≢ 0) × ((¬ IsUtf8 line) ⊎ MayFail files line)
+
+-- the file of this path and all that its lines name may be read; without a path there is none
+abbrev pub IncludesMayBeRead : Files → Option (List ℕ) → Type 0
+IncludesMayBeRead files None = Unit {0}
+IncludesMayBeRead files (Some path) =
+    MayBeRead files path × ((listed : List ℕ) → files.text path ≡ Some listed → All (LineMayBeRead files) (physical_lines listed))
+
+-- that file may fail, or one of its lines
+abbrev pub IncludesMayFail : Files → Option (List ℕ) → Type 0
+IncludesMayFail files None = ⊥
+IncludesMayFail files (Some path) =
+    MayFail files path
+    ⊎ ((listed : List ℕ) → files.text path ≡ Some listed → (line : List ℕ) × Contains (physical_lines listed) line × LineMayFail files line)
+
+-- memory is short, or `include` is reported, and then this holds
+abbrev pub IsFailure : Type 0 → Failure → Type 0
+IsFailure Why failure = (failure ≡ failures.Memory) ⊎ ((failure ≡ failures.Read inputs.Include) × Why)

@@ -1,6 +1,7 @@
 -- What is read from the files of a build's inputs, and which input fails.
-use Rattle.std.specs.Prelude.{ℕ, ◌≡◌, ◌≢◌, ◌⊎◌, ◌<◌, Bool, true, false, List, [], Option, Some, length, map}
-use Rattle.std.specs.List.{All, AllWithin, Contains, HoldsAt}
+use Rattle.std.specs.Prelude.{ℕ, ◌≡◌, ◌≢◌, ◌⊎◌, ◌<◌, Bool, true, false, List, [], ◌∷◌, ◌++◌, Option, Some, length, map}
+use Rattle.std.specs.List.{All, HoldsAt}
+use Rattle.mk_program.specs.Files.{Files}
 use Rattle.mk_program.specs.declared.failures.Failure.{Failure}
 use Rattle.mk_program.specs.declared.failures.Failure.TheVariants as failures
 use Rattle.mk_program.specs.declared.failures.InputFile.{InputFile}
@@ -30,27 +31,38 @@ IsTextOf texts input text =
 abbrev pub AreTexts : List InputText → (InputFile → List ℕ) → Type 0
 AreTexts texts text = (input : InputFile) (found : List ℕ) → IsTextOf texts input found → found ≡ text input
 
--- nothing states that the input's file cannot be opened
-abbrev pub MayOpen : (List ℕ → Option Bool) → InputPath → Type 0
-MayOpen opens known = opens known.path.now ≢ Some false
+-- an input, and whether a step works with its file, where that is stated
+abbrev pub Mark : Type 0
+Mark = InputFile × Option Bool
 
--- nothing states that it can be
-abbrev pub MayBeShut : (List ℕ → Option Bool) → InputPath → Type 0
-MayBeShut opens known = opens known.path.now ≢ Some true
+-- the inputs, each with what is stated of the step
+abbrev pub marks : (List ℕ → Option Bool) → List InputPath → List Mark
+marks works inputs = map (λ known. (known.input, works known.path.now)) inputs
 
--- the input is the first whose file cannot be opened
-abbrev pub IsFirstShut : (List ℕ → Option Bool) → List InputPath → InputFile → Type 0
-IsFirstShut opens inputs input = (place : ℕ) × (place < length inputs) × AllWithin (MayOpen opens) inputs 0 place
-    × HoldsAt (λ known. (known.input ≡ input) × MayBeShut opens known) inputs place
+-- nothing states that the step fails
+abbrev pub MayWork : Mark → Type 0
+MayWork mark = mark.1 ≢ Some false
 
--- the input cannot be read, though every file could be opened
-abbrev pub IsUnread : (List ℕ → Option Bool) → List InputPath → InputFile → Type 0
-IsUnread opens inputs input = All (MayOpen opens) inputs × Contains (map (λ known. known.input) inputs) input
+-- the input is the first with which the step may fail
+pub record IsFirstToFail (all : List Mark) (input : InputFile) : Type 0 where
+  pub before : List Mark
+  pub works : Option Bool
+  pub rest : List Mark
+  pub parts : all ≡ before ++ (input, works) ∷ rest
+  pub worked : All MayWork before
+  pub fails : works ≢ Some true
 
--- a failure of the inputs: the first that cannot be opened is reported, or one that cannot be read; or memory is short
-abbrev pub IsInputFailure : (List ℕ → Option Bool) → List InputPath → Failure → Type 0
-IsInputFailure opens inputs (failures.Read input) = IsFirstShut opens inputs input ⊎ IsUnread opens inputs input
-IsInputFailure opens inputs failures.Write = ⊥
-IsInputFailure opens inputs failures.Memory = Unit {0}
-IsInputFailure opens inputs failures.NotText = ⊥
-IsInputFailure opens inputs (failures.Usage text) = ⊥
+-- all files of the inputs may be opened, and read
+pub record InputsMayBeRead (files : Files) (inputs : List InputPath) : Type 0 where
+  pub opened : All MayWork (marks files.opens inputs)
+  pub read : All MayWork (marks files.reads inputs)
+
+-- the input is the first that may not be opened; or, where all may be opened, the first that may not be read
+abbrev pub IsUnread : Files → List InputPath → InputFile → Type 0
+IsUnread files inputs input =
+    IsFirstToFail (marks files.opens inputs) input
+    ⊎ (All MayWork (marks files.opens inputs) × IsFirstToFail (marks files.reads inputs) input)
+
+-- memory is short, or an input is reported of which this holds
+abbrev pub IsShortOr : (InputFile → Type 0) → Failure → Type 0
+IsShortOr Is failure = (failure ≡ failures.Memory) ⊎ ((input : InputFile) × (failure ≡ failures.Read input) × Is input)

@@ -1,6 +1,7 @@
 pub mod Answers
 pub mod CommandLine
 pub mod Failures
+pub mod Files
 pub mod Includes
 pub mod Inputs
 pub mod OrderText

@@ -1,14 +1,16 @@
 -- What is reported of a log that is to be put in serial order.
-use Rattle.std.specs.Prelude.{ℕ, ◌≡◌, List, codes}
+use Rattle.std.specs.Prelude.{ℕ, ◌≡◌, ◌⊎◌, false, List, codes}
 use Rattle.mk_name.specs.Shown.{line}
 use Rattle.mk_jobs.specs.Jobs.{Jobs}
 use Rattle.mk_log.specs.Logs.{Log}
 use Rattle.mk_log.specs.Reading.{IsReadAs}
-use Rattle.mk_log.specs.Writing.{AreOfNodes, ReadBack, log_text}
+use Rattle.mk_log.specs.Writing.{AreOfNodes, ReadBack, is_text, log_text}
 use Rattle.mk_race.specs.declared.serialising.Ordered.{Ordered}
 use Rattle.mk_race.specs.declared.serialising.Ordered.TheVariants.{Serial, NotAllowed, NotComplete, Race, NoRoom}
 use Rattle.mk_report.specs.ReportText.{race_text}
 use Rattle.mk_program.specs.OutcomeText.{not_allowed_text}
+use Rattle.mk_program.specs.declared.failures.Failure.{Failure}
+use Rattle.mk_program.specs.declared.failures.Failure.TheVariants as failures
 use Rattle.mk_program.specs.declared.statuses.Status.{Status}
 use Rattle.mk_program.specs.declared.statuses.Status.TheVariants as statuses
 
@@ -40,3 +42,15 @@ HasNodes jobs (NotAllowed place refusal) = Unit {0}
 HasNodes jobs NotComplete = Unit {0}
 HasNodes jobs (Race trace) = Unit {0}
 HasNodes jobs NoRoom = Unit {0}
+
+-- it is a log in serial order with a name that is no text
+abbrev pub IsNoText : Jobs → Ordered → Type 0
+IsNoText jobs (Serial list) = is_text jobs list ≡ false
+IsNoText jobs (NotAllowed place refusal) = ⊥
+IsNoText jobs NotComplete = ⊥
+IsNoText jobs (Race trace) = ⊥
+IsNoText jobs NoRoom = ⊥
+
+-- why something is not reported: memory is short, or a name is no text, and then this holds
+abbrev pub IsUnreported : Type 0 → Failure → Type 0
+IsUnreported Why failure = (failure ≡ failures.Memory) ⊎ ((failure ≡ failures.NotText) × Why)

@@ -1,5 +1,5 @@
 //! The answers to requests.
-ghost use Rattle.std.specs.Prelude.{◌≡◌, ◌≢◌, IfErr, IfOk, List, map, ℕ};
+ghost use Rattle.std.specs.Prelude.{◌≡◌, ◌≢◌, IfErr, IfOk, List, OnOk, map, ℕ};
 ghost use Rattle.mk_name.specs.Shown.{refused_text};
 ghost use Rattle.mk_name.specs.Reported.{Reported};
 ghost use Rattle.mk_name.specs.declared.fault.Halt.TheVariants as halts;
@@ -7,6 +7,7 @@ ghost use Rattle.mk_race.specs.Stages.{texts_of};
 ghost use Rattle.mk_program.specs.Answers as spec;
 ghost use Rattle.mk_program.specs.Includes.{shown};
 ghost use Rattle.mk_program.specs.Inputs.{AreTexts};
+ghost use Rattle.mk_program.specs.OrderText.{IsUnreported};
 ghost use Rattle.mk_program.specs.OutcomeText.{IsOutcomeText};
 ghost use Rattle.mk_program.specs.PlanText.{plan_text as text_of_plan};
 
@@ -48,9 +49,10 @@ pub fn answer_of<P: Opener>(
     opener: &mut P,
 ) -> Result<Answer, Failure>
     ensures status { IfOk result (λ answer. answer.status ≢ Status.Failed) }
-    ensures failure { IfErr result (spec.IsRequestFailure (P.opens opener.old) request.now) }
+    ensures read { OnOk result (spec.MayAllBeRead (P.files opener.old) request.now) }
+    ensures failure { IfErr result (spec.IsRequestFailure (P.files opener.old) request.now) }
     ensures answer { IfOk result (λ answer.
-        spec.IsAnswer request.now (P.text opener.old) answer.status answer.text.items) }
+        spec.IsAnswer request.now (P.files opener.old).text answer.status answer.text.items) }
 {
     let included = read_includes(alloc, opener, includes_path(request))?;
     let inputs = inputs_of(alloc, request)?;
@@ -66,7 +68,8 @@ fn answer_with(
     texts: &[InputText],
 ) -> Result<Answer, Failure>
     ensures status { IfOk result (λ answer. answer.status ≢ Status.Failed) }
-    ensures failure { IfErr result (spec.IsUnreported request.now) }
+    ensures failure { IfErr result (IsUnreported ((text : InputFile → List ℕ) → AreTexts texts.now text
+        → spec.IsNoTextOver request.now (shown included.now) text)) }
     ensures answer { IfOk result (λ answer. (text : InputFile → List ℕ) → AreTexts texts.now text
         → spec.IsAnswerOver request.now (shown included.now) text answer.status answer.text.items) }
 {
@@ -82,7 +85,8 @@ fn answer_over(
     texts: &[InputText],
 ) -> Result<Answer, Failure>
     ensures status { IfOk result (λ answer. answer.status ≢ Status.Failed) }
-    ensures failure { IfErr result (spec.IsUnreported request.now) }
+    ensures failure { IfErr result (IsUnreported ((text : InputFile → List ℕ) → AreTexts texts.now text
+        → spec.IsNoTextOver request.now (map (λ pair. (pair.0.now, pair.1.now)) includes.now) text)) }
     ensures answer { IfOk result (λ answer. (text : InputFile → List ℕ) → AreTexts texts.now text
         → spec.IsAnswerOver request.now (map (λ pair. (pair.0.now, pair.1.now)) includes.now) text
         answer.status answer.text.items) }

@@ -1,5 +1,6 @@
 //! The texts that include lines may name: a file names theirs, one path a line.
-ghost use Rattle.std.specs.Prelude.{◌≡◌, ◌++◌, IfErr, IfOk, IsSome, List, OnOk, Some, map, option_map, ℕ};
+ghost use Rattle.std.specs.Prelude.{◌≡◌, ◌++◌, IfErr, IfOk, IfSome, List, OnOk, Some, map, option_map, ℕ};
+ghost use Rattle.std.specs.List.{All, Contains};
 ghost use Rattle.mk_text.specs.Blocks.{physical_lines};
 ghost use Rattle.mk_program.specs.Includes as spec;
 
@@ -27,12 +28,13 @@ pub fn read_includes<P: Opener>(
     path: Option<&str>,
 ) -> Result<Vec<IncludeText>, Failure>
     ensures reported { IfOk result (λ texts. (pairs : List spec.Pair)
-        → spec.includes_in (P.text opener.old) (option_map (λ path. path.now) path.entry) ≡ Some pairs
+        → spec.includes_in (P.files opener.old).text (option_map (λ path. path.now) path.entry) ≡ Some pairs
         → spec.shown texts.items ≡ pairs) }
-    ensures given { IfErr result (λ failure. IsSome (option_map (λ path. path.now) path.entry)) }
-    ensures failure { IfErr result spec.IsIncludeFailure }
-    ensures same_text { (path : List ℕ) → P.text opener.new path ≡ P.text opener.old path }
-    ensures same_opens { (path : List ℕ) → P.opens opener.new path ≡ P.opens opener.old path }
+    ensures read { OnOk result (spec.IncludesMayBeRead (P.files opener.old)
+        (option_map (λ path. path.now) path.entry)) }
+    ensures failure { IfErr result (spec.IsFailure (spec.IncludesMayFail (P.files opener.old)
+        (option_map (λ path. path.now) path.entry))) }
+    ensures same { P.files opener.new ≡ P.files opener.old }
 {
     match path {
         None => Ok(Vec::new(alloc)),
@@ -65,11 +67,12 @@ fn read_listed<P: Opener>(
     listed: &[u8],
 ) -> Result<Vec<IncludeText>, Failure>
     ensures reported { IfOk result (λ texts. (pairs : List spec.Pair)
-        → spec.pairs_of (P.text opener.old) (physical_lines listed.now) ≡ Some pairs
+        → spec.pairs_of (P.files opener.old).text (physical_lines listed.now) ≡ Some pairs
         → spec.shown texts.items ≡ pairs) }
-    ensures failure { IfErr result spec.IsIncludeFailure }
-    ensures same_text { (path : List ℕ) → P.text opener.new path ≡ P.text opener.old path }
-    ensures same_opens { (path : List ℕ) → P.opens opener.new path ≡ P.opens opener.old path }
+    ensures read { OnOk result (All (spec.LineMayBeRead (P.files opener.old)) (physical_lines listed.now)) }
+    ensures failure { IfErr result (spec.IsFailure ((line : List ℕ)
+        × Contains (physical_lines listed.now) line × spec.LineMayFail (P.files opener.old) line)) }
+    ensures same { P.files opener.new ≡ P.files opener.old }
 {
     let mut texts = Vec::new(alloc);
     let mut rest = Some(listed);
@@ -89,11 +92,11 @@ fn read_line<P: Opener>(
     line: &[u8],
 ) -> Result<(), Failure>
     ensures reported { OnOk result ((pairs : List spec.Pair)
-        → spec.line_pairs (P.text opener.old) line.now ≡ Some pairs
+        → spec.line_pairs (P.files opener.old).text line.now ≡ Some pairs
         → spec.shown texts.new.items ≡ spec.shown texts.old.items ++ pairs) }
-    ensures failure { IfErr result spec.IsIncludeFailure }
-    ensures same_text { (path : List ℕ) → P.text opener.new path ≡ P.text opener.old path }
-    ensures same_opens { (path : List ℕ) → P.opens opener.new path ≡ P.opens opener.old path }
+    ensures read { OnOk result (spec.LineMayBeRead (P.files opener.old) line.now) }
+    ensures failure { IfErr result (spec.IsFailure (spec.LineMayFail (P.files opener.old) line.now)) }
+    ensures same { P.files opener.new ≡ P.files opener.old }
 {
     if line.is_empty() {
         return Ok(());
@@ -109,17 +112,17 @@ fn read_line<P: Opener>(
 
 /// The text of the file of this path.
 fn read_file<P: Opener>(alloc: Global, opener: &mut P, path: &str) -> Result<Vec<u8>, Failure>
-    ensures reported { IfOk result (λ text. (bytes : List ℕ)
-        → P.text opener.old path.now ≡ Some bytes → text.items ≡ bytes) }
-    ensures failure { IfErr result spec.IsIncludeFailure }
-    ensures same_text { (path : List ℕ) → P.text opener.new path ≡ P.text opener.old path }
-    ensures same_opens { (path : List ℕ) → P.opens opener.new path ≡ P.opens opener.old path }
+    ensures reported { IfOk result (λ text. IfSome ((P.files opener.old).text path.now)
+        (λ bytes. text.items ≡ bytes)) }
+    ensures read { OnOk result (spec.MayBeRead (P.files opener.old) path.now) }
+    ensures failure { IfErr result (spec.IsFailure (spec.MayFail (P.files opener.old) path.now)) }
+    ensures same { P.files opener.new ≡ P.files opener.old }
 {
     let known = InputPath {
         input: InputFile::Include,
         path,
     };
     let file = opened(opener, &known)?;
-    let read = text_in(alloc, file)?;
+    let read = text_in::<P>(alloc, file)?;
     Ok(read.text)
 }

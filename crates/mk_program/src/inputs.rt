@@ -1,11 +1,11 @@
 //! The inputs of a build: the paths of their files, and the texts that are read from these.
-ghost use Rattle.std.specs.Prelude.{◌≡◌, ◌⊎◌, IfErr, IfOk, IfSome, List, OnOk, Some, false, map, ℕ};
-ghost use Rattle.std.specs.List.{All, Contains};
+ghost use Rattle.std.specs.Prelude.{◌≡◌, ◌≢◌, ◌⊎◌, IfErr, IfOk, IfSome, List, OnOk, Some, false, map, true, ℕ};
+ghost use Rattle.std.specs.List.{All};
 ghost use Rattle.mk_program.specs.Inputs as spec;
 
 use crate::failures::{Failure, InputFile};
 use crate::openers::Opener;
-use mk_device::device::{Intake, ReadStop, read_all};
+use mk_device::device::ReadStop;
 use std::alloc::Global;
 
 /// An input, and the path of its file.
@@ -38,11 +38,12 @@ pub fn read_inputs<P: Opener>(
     inputs: &[InputPath<'_>],
 ) -> Result<Vec<InputText>, Failure>
     ensures reported { IfOk result (λ texts. (text : InputFile → List ℕ)
-        → spec.Hold (P.text opener.old) inputs.now text → spec.AreTexts texts.items text) }
-    ensures failure { IfErr result (spec.IsInputFailure (P.opens opener.old) inputs.now) }
+        → spec.Hold (P.files opener.old).text inputs.now text → spec.AreTexts texts.items text) }
+    ensures read { OnOk result (spec.InputsMayBeRead (P.files opener.old) inputs.now) }
+    ensures failure { IfErr result (spec.IsShortOr (spec.IsUnread (P.files opener.old) inputs.now)) }
 {
     let files = open_all(alloc, opener, inputs)?;
-    read_files(alloc, files)
+    read_files::<P>(alloc, files)
 }
 
 /// The text of an input, which is empty where it is not among these.
@@ -65,14 +66,14 @@ fn open_all<P: Opener>(
 ) -> Result<Vec<OpenInput<P::File>>, Failure>
     ensures named { IfOk result (λ files.
         map (λ file. file.input) files.items ≡ map (λ known. known.input) inputs.now) }
-    ensures work { IfOk result (λ files. All (λ file. P.File.has_failed file.file ≡ false) files.items) }
     ensures reported { IfOk result (λ files. (text : InputFile → List ℕ)
-        → spec.HoldEach (P.text opener.old) inputs.now text
-        → All (λ file. P.File.left file.file ≡ Some (text file.input)) files.items) }
-    ensures opened { IfOk result (λ _. All (spec.MayOpen (P.opens opener.old)) inputs.now) }
-    ensures failure { IfErr result (λ failure. (failure ≡ Failure.Memory)
-        ⊎ ((input : InputFile) × (failure ≡ Failure.Read input)
-        × spec.IsFirstShut (P.opens opener.old) inputs.now input)) }
+        → spec.HoldEach (P.files opener.old).text inputs.now text
+        → All (λ file. P.text file.file ≡ Some (text file.input)) files.items) }
+    ensures reads { IfOk result (λ files. map (λ file. (file.input, P.reads file.file)) files.items
+        ≡ spec.marks (P.files opener.old).reads inputs.now) }
+    ensures opened { OnOk result (All spec.MayWork (spec.marks (P.files opener.old).opens inputs.now)) }
+    ensures failure { IfErr result (spec.IsShortOr
+        (spec.IsFirstToFail (spec.marks (P.files opener.old).opens inputs.now))) }
 {
     let mut files = Vec::new(alloc);
     for known in inputs {
@@ -88,14 +89,13 @@ pub(crate) fn opened<P: Opener>(
     known: &InputPath<'_>,
 ) -> Result<OpenInput<P::File>, Failure>
     ensures input { IfOk result (λ file. file.input ≡ known.now.input) }
-    ensures works { IfOk result (λ file. P.File.has_failed file.file ≡ false) }
-    ensures whole { IfOk result (λ file. (bytes : List ℕ)
-        → P.text opener.old known.now.path.now ≡ Some bytes → P.File.left file.file ≡ Some bytes) }
-    ensures opened { OnOk result (spec.MayOpen (P.opens opener.old) known.now) }
-    ensures failure { IfErr result (λ failure. (failure ≡ Failure.Read known.now.input)
-        × spec.MayBeShut (P.opens opener.old) known.now) }
-    ensures same_text { (path : List ℕ) → P.text opener.new path ≡ P.text opener.old path }
-    ensures same_opens { (path : List ℕ) → P.opens opener.new path ≡ P.opens opener.old path }
+    ensures text { IfOk result (λ file. P.text file.file ≡ (P.files opener.old).text known.now.path.now) }
+    ensures reads { IfOk result (λ file.
+        P.reads file.file ≡ (P.files opener.old).reads known.now.path.now) }
+    ensures can { OnOk result ((P.files opener.old).opens known.now.path.now ≢ Some false) }
+    ensures cannot { IfErr result (λ failure. (failure ≡ Failure.Read known.now.input)
+        × ((P.files opener.old).opens known.now.path.now ≢ Some true)) }
+    ensures same { P.files opener.new ≡ P.files opener.old }
 {
     match opener.open(known.path) {
         Ok(file) => Ok(OpenInput {
@@ -107,41 +107,41 @@ pub(crate) fn opened<P: Opener>(
 }
 
 /// Reads files to their ends, in their order.
-fn read_files<I: Intake + Drop>(
+fn read_files<P: Opener>(
     alloc: Global,
-    files: Vec<OpenInput<I>>,
+    files: Vec<OpenInput<P::File>>,
 ) -> Result<Vec<InputText>, Failure>
-    requires { All (λ file. I.has_failed file.file ≡ false) files.items }
     ensures named { IfOk result (λ texts.
         map (λ known. known.input) texts.items ≡ map (λ file. file.input) files.items) }
     ensures reported { IfOk result (λ texts. (text : InputFile → List ℕ)
-        → All (λ file. I.left file.file ≡ Some (text file.input)) files.items
+        → All (λ file. P.text file.file ≡ Some (text file.input)) files.items
         → All (λ known. known.text.items ≡ text known.input) texts.items) }
-    ensures failure { IfErr result (λ failure. (failure ≡ Failure.Memory)
-        ⊎ ((input : InputFile) × (failure ≡ Failure.Read input)
-        × Contains (map (λ file. file.input) files.items) input)) }
+    ensures read { OnOk result (All spec.MayWork
+        (map (λ file. (file.input, P.reads file.file)) files.items)) }
+    ensures failure { IfErr result (spec.IsShortOr (spec.IsFirstToFail
+        (map (λ file. (file.input, P.reads file.file)) files.items))) }
 {
     let mut texts = Vec::new(alloc);
     for file in files {
-        let text = text_in(alloc, file)?;
+        let text = text_in::<P>(alloc, file)?;
         texts.push(text)?;
     }
     Ok(texts)
 }
 
 /// The text of an open input, read to its end. The errors are `Failure::Read` of that input and `Failure::Memory`.
-pub(crate) fn text_in<I: Intake + Drop>(
+pub(crate) fn text_in<P: Opener>(
     alloc: Global,
-    given: OpenInput<I>,
+    given: OpenInput<P::File>,
 ) -> Result<InputText, Failure>
-    requires { I.has_failed given.file ≡ false }
     ensures input { IfOk result (λ known. known.input ≡ given.input) }
-    ensures text { IfOk result (λ known. IfSome (I.left given.file) (λ bytes. known.text.items ≡ bytes)) }
-    ensures failure { IfErr result (λ failure.
-        (failure ≡ Failure.Read given.input) ⊎ (failure ≡ Failure.Memory)) }
+    ensures text { IfOk result (λ known. IfSome (P.text given.file) (λ bytes. known.text.items ≡ bytes)) }
+    ensures can { OnOk result (P.reads given.file ≢ Some false) }
+    ensures cannot { IfErr result (λ failure. (failure ≡ Failure.Memory)
+        ⊎ ((failure ≡ Failure.Read given.input) × (P.reads given.file ≢ Some true))) }
 {
-    let OpenInput { input, mut file } = given;
-    match read_all(alloc, &mut file) {
+    let OpenInput { input, file } = given;
+    match P::read(alloc, file) {
         Ok(text) => Ok(InputText { input, text }),
         Err(ReadStop::Memory) => Err(Failure::Memory),
         Err(ReadStop::Broken) => Err(Failure::Read(input)),

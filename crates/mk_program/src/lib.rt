@@ -12,9 +12,10 @@
 //!
 //! - `CommandLine.antt`: what the words ask (`asked`), and what is wrong with them (`wrong`), as `clap` reads them;
 //! - `Requests.antt`: the inputs that a request reads, in their order (`inputs_of`);
-//! - `Includes.antt`: the texts that the file of includes hands in (`includes_in`);
-//! - `Inputs.antt`: that the files hold the texts of the inputs (`Hold`), and which input fails (`IsInputFailure`): the first
-//!   that cannot be opened, or one that cannot be read though all were opened;
+//! - `Files.antt`: what an opener states of files;
+//! - `Includes.antt`: the texts that the file of includes hands in (`includes_in`), and whether one of its files fails;
+//! - `Inputs.antt`: that the files hold the texts of the inputs (`Hold`), and which input fails (`IsUnread`): the first that
+//!   cannot be opened, or, where all can, the first that cannot be read;
 //! - `PosixBase.antt`: the base makefile of `--posix-base`;
 //! - `Answers.antt`: the answer to a request over what its files hold (`IsAnswer`), and that it was written (`WritesAnswer`);
 //! - `PlanText.antt`, `OutcomeText.antt` and `OrderText.antt`: the texts of `race order`, of `race replay` and of `race serialise`;

@@ -1,26 +1,35 @@
-//! How files are opened.
-ghost use Rattle.std.specs.Prelude.{◌≡◌, Bool, false, IfOk, is_ok, List, Option, Some, ℕ};
+//! How files are opened and read.
+ghost use Rattle.std.specs.Prelude.{◌≡◌, ◌≢◌, Bool, false, true, IfOk, IfSome, IsErrOf, OnOk, is_ok, List, Option, Some, ℕ};
+ghost use Rattle.mk_program.specs.Files.{Files};
 
-use mk_device::device::{Broken, Intake};
+use mk_device::device::{Broken, ReadStop};
+use std::alloc::Global;
 
-/// What opens files.
+/// What opens files, and reads them.
 pub trait Opener {
     /// An open file.
-    type File: Intake + Drop;
+    type File: Drop;
 
-    /// The bytes of the file that a path names, where they are stated.
-    ghost text: { Self → List ℕ → Option (List ℕ) };
+    /// What is stated of the files that paths name.
+    ghost files: { Self → Files };
 
-    /// Whether the file that a path names can be opened, where that is stated.
-    ghost opens: { Self → List ℕ → Option Bool };
+    /// The bytes of an open file, where they are stated.
+    ghost text: { Self.File → Option (List ℕ) };
+
+    /// Whether an open file can be read to its end, where that is stated.
+    ghost reads: { Self.File → Option Bool };
 
     /// Opens the file that this path names, for reading from its beginning. `Broken` says that it cannot be opened.
     fn open(&mut self, path: &str) -> Result<Self::File, Broken>
-        ensures works { IfOk result (λ file. Self.File.has_failed file ≡ false) }
-        ensures whole { IfOk result (λ file. (bytes : List ℕ)
-            → text self.old path.now ≡ Some bytes → Self.File.left file ≡ Some bytes) }
-        ensures opens { (can : Bool) → opens self.old path.now ≡ Some can → is_ok result ≡ can }
+        ensures text { IfOk result (λ file. text file ≡ (files self.old).text path.now) }
+        ensures reads { IfOk result (λ file. reads file ≡ (files self.old).reads path.now) }
+        ensures opens { (can : Bool) → (files self.old).opens path.now ≡ Some can → is_ok result ≡ can }
         // No path's file is another for it.
-        ensures same_text { (path : List ℕ) → text self.new path ≡ text self.old path }
-        ensures same_opens { (path : List ℕ) → opens self.new path ≡ opens self.old path };
+        ensures same { files self.new ≡ files self.old };
+
+    /// Reads an open file to its end. `ReadStop::Broken` says that it cannot be read; the only other error is out of memory.
+    fn read(alloc: Global, file: Self::File) -> Result<Vec<u8>, ReadStop>
+        ensures whole { IfOk result (λ all. IfSome (text file) (λ bytes. all.items ≡ bytes)) }
+        ensures can { OnOk result (reads file ≢ Some false) }
+        ensures cannot { IsErrOf result ReadStop.Broken → reads file ≢ Some true };
 }

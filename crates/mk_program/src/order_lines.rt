@@ -1,7 +1,7 @@
 //! What is said of a log that is to be put in serial order.
-ghost use Rattle.std.specs.Prelude.{◌≡◌, ◌⊎◌, IfErr, IfOk};
-ghost use Rattle.mk_log.specs.Writing.{AreOfNodes};
-ghost use Rattle.mk_program.specs.OrderText.{HasNodes, IsOrderText, IsSerialText};
+ghost use Rattle.std.specs.Prelude.{◌≡◌, IfErr, IfOk, false};
+ghost use Rattle.mk_log.specs.Writing.{AreOfNodes, is_text};
+ghost use Rattle.mk_program.specs.OrderText.{HasNodes, IsNoText, IsOrderText, IsSerialText, IsUnreported};
 
 use crate::failures::Failure;
 use crate::outcome_lines::not_allowed_text;
@@ -18,8 +18,7 @@ use std::alloc::Global;
 pub fn order_text(alloc: Global, jobs: &Jobs, order: &Ordered) -> Result<Vec<u8>, Failure>
     requires { HasNodes jobs.now order.now }
     ensures text { IfOk result (λ text. IsOrderText jobs.now order.now text.items) }
-    ensures failure { IfErr result (λ failure.
-        (failure ≡ Failure.Memory) ⊎ (failure ≡ Failure.NotText)) }
+    ensures failure { IfErr result (IsUnreported (IsNoText jobs.now order.now)) }
 {
     match order {
         Ordered::Serial(log) => serial_text(alloc, jobs, log),
@@ -34,8 +33,7 @@ pub fn order_text(alloc: Global, jobs: &Jobs, order: &Ordered) -> Result<Vec<u8>
 fn serial_text(alloc: Global, jobs: &Jobs, log: &Log) -> Result<Vec<u8>, Failure>
     requires { AreOfNodes jobs.now log.now.events }
     ensures text { IfOk result (λ text. IsSerialText jobs.now log.now text.items) }
-    ensures failure { IfErr result (λ failure.
-        (failure ≡ Failure.Memory) ⊎ (failure ≡ Failure.NotText)) }
+    ensures failure { IfErr result (IsUnreported (is_text jobs.now log.now ≡ false)) }
 {
     match write_log(alloc, jobs, log) {
         Ok(text) => Ok(text),

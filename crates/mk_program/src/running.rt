@@ -32,23 +32,26 @@ pub fn race_words<'a, P: Opener, O: Outlet, E: Outlet>(
     requires err_works { E.has_failed err.old ≡ false }
     // Words that are right get their answer, and words that are wrong get none.
     ensures answer { wrong words.entry.now ≡ [] → result ≢ Status.Failed → spec.WritesAnswer
-        words.entry.now (P.text opener.old) result (O.written out.old) (O.written out.new) }
+        words.entry.now (P.files opener.old).text result (O.written out.old) (O.written out.new) }
     ensures refused { result ≡ Status.Refused → spec.WritesAnswer
-        words.entry.now (P.text opener.old) result (O.written out.old) (O.written out.new) }
+        words.entry.now (P.files opener.old).text result (O.written out.old) (O.written out.new) }
     ensures no { result ≡ Status.No → spec.WritesAnswer
-        words.entry.now (P.text opener.old) result (O.written out.old) (O.written out.new) }
+        words.entry.now (P.files opener.old).text result (O.written out.old) (O.written out.new) }
     ensures usage { result ≢ Status.Failed → IsAnswerable (wrong words.entry.now) }
+    // No answer comes where a file that the words name cannot be opened or read.
+    ensures read { wrong words.entry.now ≡ [] → result ≢ Status.Failed
+        → spec.AreRead words.entry.now (P.files opener.old) }
     // The yes: where the words ask to check a build and the program ends with 0, no schedule of the build shows in its files.
     ensures safe { wrong words.entry.now ≡ [] → spec.AskToCheck (asked words.entry.now)
-        → result ≡ Status.Done → spec.SaysSafe words.entry.now (P.text opener.old) }
+        → result ≡ Status.Done → spec.SaysSafe words.entry.now (P.files opener.old).text }
     // What is not the whole answer is nothing, or what a device took before it failed.
     ensures nothing { result ≡ Status.Failed → O.has_failed out.new ≡ false → out.new ≡ out.old }
     ensures beginning { wrong words.entry.now ≡ [] → O.has_failed out.new ≡ true
-        → spec.WritesBeginning words.entry.now (P.text opener.old) (O.written out.old) (O.written out.new) }
+        → spec.WritesBeginning words.entry.now (P.files opener.old).text (O.written out.old) (O.written out.new) }
     // A failure is reported by its line, where the device takes one, and nothing else is.
     ensures failed { O.has_failed out.new ≡ true → result ≡ Status.Failed }
     ensures reported { result ≡ Status.Failed → E.has_failed err.new ≡ false → (failure : Failure)
-        × spec.IsFailureOf words.entry.now (P.opens opener.old) failure
+        × spec.IsFailureOf words.entry.now (P.files opener.old) failure
         × ((failure ≡ Failure.Write) ↔ (O.has_failed out.new ≡ true))
         × IsFailureReported failure (E.written err.old) (E.written err.new) }
     ensures silent { result ≢ Status.Failed → err.new ≡ err.old }
@@ -93,17 +96,19 @@ fn answer_written<'a, P: Opener, O: Outlet>(
     requires { O.has_failed out.old ≡ false }
     ensures status { IfOk result (λ status. status ≢ Status.Failed) }
     ensures answer { wrong words.entry.now ≡ [] → IfOk result (λ status. spec.WritesAnswer
-        words.entry.now (P.text opener.old) status (O.written out.old) (O.written out.new)) }
+        words.entry.now (P.files opener.old).text status (O.written out.old) (O.written out.new)) }
     ensures refused { IfOk result (λ status. status ≡ Status.Refused → spec.WritesAnswer
-        words.entry.now (P.text opener.old) status (O.written out.old) (O.written out.new)) }
+        words.entry.now (P.files opener.old).text status (O.written out.old) (O.written out.new)) }
     ensures no { IfOk result (λ status. status ≡ Status.No → spec.WritesAnswer
-        words.entry.now (P.text opener.old) status (O.written out.old) (O.written out.new)) }
+        words.entry.now (P.files opener.old).text status (O.written out.old) (O.written out.new)) }
     ensures usage { OnOk result (IsAnswerable (wrong words.entry.now)) }
+    ensures read { wrong words.entry.now ≡ [] → IfOk result
+        (λ _. spec.AreRead words.entry.now (P.files opener.old)) }
     ensures nothing { OnErr result (O.has_failed out.new ≡ false → out.new ≡ out.old) }
     ensures beginning { wrong words.entry.now ≡ [] → O.has_failed out.new ≡ true
-        → spec.WritesBeginning words.entry.now (P.text opener.old) (O.written out.old) (O.written out.new) }
+        → spec.WritesBeginning words.entry.now (P.files opener.old).text (O.written out.old) (O.written out.new) }
     ensures write { IsErrOf result Failure.Write ↔ (O.has_failed out.new ≡ true) }
-    ensures failure { IfErr result (spec.IsFailureOf words.entry.now (P.opens opener.old)) }
+    ensures failure { IfErr result (spec.IsFailureOf words.entry.now (P.files opener.old)) }
 {
     let answer = answer_to(alloc, words, opener)?;
     match write_all(out, answer.text.as_slice()) {
@@ -120,14 +125,16 @@ fn answer_to<'a, P: Opener>(
 ) -> Result<Answer, Failure>
     ensures status { IfOk result (λ answer. answer.status ≢ Status.Failed) }
     ensures answer { wrong words.entry.now ≡ [] → IfOk result (λ answer. spec.IsAnswerTo
-        words.entry.now (P.text opener.old) answer.status answer.text.items) }
+        words.entry.now (P.files opener.old).text answer.status answer.text.items) }
     ensures refused { IfOk result (λ answer. answer.status ≡ Status.Refused → spec.IsAnswerTo
-        words.entry.now (P.text opener.old) answer.status answer.text.items) }
+        words.entry.now (P.files opener.old).text answer.status answer.text.items) }
     ensures no { IfOk result (λ answer. answer.status ≡ Status.No → spec.IsAnswerTo
-        words.entry.now (P.text opener.old) answer.status answer.text.items) }
+        words.entry.now (P.files opener.old).text answer.status answer.text.items) }
     ensures usage { OnOk result (IsAnswerable (wrong words.entry.now)) }
+    ensures read { wrong words.entry.now ≡ [] → IfOk result
+        (λ _. spec.AreRead words.entry.now (P.files opener.old)) }
     ensures write { IfErr result (λ failure. failure ≢ Failure.Write) }
-    ensures failure { IfErr result (spec.IsFailureOf words.entry.now (P.opens opener.old)) }
+    ensures failure { IfErr result (spec.IsFailureOf words.entry.now (P.files opener.old)) }
 {
     match read_words(alloc, words) {
         Ok(request) => answer_of(alloc, &request, opener),

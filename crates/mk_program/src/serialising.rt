@@ -1,9 +1,9 @@
 //! The answers to `race serialise`.
-ghost use Rattle.std.specs.Prelude.{◌≡◌, ◌≢◌, ◌⊎◌, IfErr, IfOk, List, map, ℕ};
+ghost use Rattle.std.specs.Prelude.{◌≡◌, ◌≢◌, IfErr, IfOk, List, map, ℕ};
 ghost use Rattle.mk_race.specs.Stages.{texts_of};
 ghost use Rattle.mk_program.specs.Answers as spec;
 ghost use Rattle.mk_program.specs.Inputs.{AreTexts};
-ghost use Rattle.mk_program.specs.OrderText.{HasNodes, IsOrderText, order_status};
+ghost use Rattle.mk_program.specs.OrderText.{HasNodes, IsNoText, IsOrderText, IsUnreported, order_status};
 
 use crate::answers::{Answer, bytes_of, input_of, refused};
 use crate::failures::{Failure, InputFile};
@@ -28,8 +28,10 @@ pub(crate) fn serialise_answer(
         → spec.IsSerialiseAnswer (spec.texts_for replay.now.build
         (map (λ pair. (pair.0.now, pair.1.now)) includes.now) text) (text InputFile.Footprints)
         (text InputFile.Log) replay.now.limit replay.now.tie answer.status answer.text.items) }
-    ensures failure { IfErr result (λ failure.
-        (failure ≡ Failure.Memory) ⊎ (failure ≡ Failure.NotText)) }
+    ensures failure { IfErr result (IsUnreported ((text : InputFile → List ℕ) → AreTexts texts.now text
+        → spec.HasNoText (spec.texts_for replay.now.build
+        (map (λ pair. (pair.0.now, pair.1.now)) includes.now) text) (text InputFile.Footprints)
+        (text InputFile.Log) replay.now.limit replay.now.tie)) }
 {
     let build = &replay.build;
     let operands = bytes_of(alloc, build.operands.as_slice())?;
@@ -49,8 +51,8 @@ fn serialise_over(
     ensures status { IfOk result (λ answer. answer.status ≢ Status.Failed) }
     ensures answer { IfOk result (λ answer. spec.IsSerialiseAnswer (texts_of input.now)
         input.now.footprints.now log.now limit tie answer.status answer.text.items) }
-    ensures failure { IfErr result (λ failure.
-        (failure ≡ Failure.Memory) ⊎ (failure ≡ Failure.NotText)) }
+    ensures failure { IfErr result (IsUnreported (spec.HasNoText (texts_of input.now)
+        input.now.footprints.now log.now limit tie)) }
 {
     match serialise_log(alloc, input, log, u32::from(limit), tie) {
         Ok(given) => reported(alloc, &given),
@@ -63,8 +65,7 @@ fn reported(alloc: Global, given: &Serialised) -> Result<Answer, Failure>
     requires { HasNodes given.now.jobs given.now.order }
     ensures answer { IfOk result (λ answer. (answer.status ≡ order_status given.now.order)
         × IsOrderText given.now.jobs given.now.order answer.text.items) }
-    ensures failure { IfErr result (λ failure.
-        (failure ≡ Failure.Memory) ⊎ (failure ≡ Failure.NotText)) }
+    ensures failure { IfErr result (IsUnreported (IsNoText given.now.jobs given.now.order)) }
 {
     Ok(Answer {
         status: status_of(&given.order),

@@ -1,6 +1,7 @@
 -- What files in memory hold.
-use Rattle.std.specs.Prelude.{ℕ, Bool, List, [], ◌∷◌, Option, Some, None, if◌then◌else◌, is_some, option_and_then}
+use Rattle.std.specs.Prelude.{ℕ, Bool, true, false, List, [], ◌∷◌, Option, Some, None, if◌then◌else◌, is_some, option_and_then, option_map}
 use Rattle.std.specs.Str.{bytes_eq}
+use Rattle.mk_program.specs.Files.{Files}
 use Rattle.program_tests.specs.declared.shelf.Book.{Book}
 use Rattle.program_tests.specs.declared.shelf.Page.{Page}
 use Rattle.program_tests.specs.declared.shelf.Page.TheVariants as pages
@@ -19,6 +20,15 @@ page_at (book ∷ rest) path = if bytes_eq book.path.now path then Some book.pag
 abbrev pub text_at : List Book → List ℕ → Option (List ℕ)
 text_at books path = option_and_then page_text (page_at books path)
 
--- a file has this path
-abbrev pub is_there : List Book → List ℕ → Bool
-is_there books path = is_some (page_at books path)
+-- a page can be read
+abbrev pub is_readable : Page → Bool
+is_readable (pages.Text text) = true
+is_readable pages.Unreadable = false
+
+-- what is stated of the files with these pages: all there is
+abbrev pub files_of : List Book → Files
+files_of books = record {
+  text = text_at books;
+  opens = λ path. Some (is_some (page_at books path));
+  reads = λ path. option_map is_readable (page_at books path);
+}

@@ -1,4 +1,5 @@
-//! What no case shows: how a message of wrong words begins, and a standard error that is full.
+//! What no case shows: how a message of wrong words begins, which of two unreadable files is named, and a standard error
+//! that is full.
 use crate::outcomes::{Outcome, run};
 use crate::shelf::{Book, Page, Shelf};
 use mk_device::sink::Sink;
@@ -7,8 +8,8 @@ use std::alloc::{AllocError, Global};
 use std::io;
 use std::io::{ErrorKind, Write};
 
-/// A makefile with one target, and an empty file. There is no file `absent`.
-static BOOKS: [Book<'static>; 2] = [
+/// A makefile with one target, an empty file, and one that cannot be read. There is no file `absent`.
+static BOOKS: [Book<'static>; 3] = [
     Book {
         path: "makefile",
         page: Page::Text(b"all:\n"),
@@ -16,6 +17,10 @@ static BOOKS: [Book<'static>; 2] = [
     Book {
         path: "empty",
         page: Page::Text(b""),
+    },
+    Book {
+        path: "broken",
+        page: Page::Unreadable,
     },
 ];
 
@@ -65,6 +70,26 @@ fn is_usage(reported: &Outcome) -> bool {
             .err
             .as_slice()
             .ends_with(b"For more information, try '--help'.\n")
+}
+
+#[test]
+fn names_the_first_unreadable_file(rt: HostRuntime) {
+    assert!(rt; names_the_makefile(rt.alloc()));
+}
+
+fn names_the_makefile(alloc: Global) -> bool {
+    let words = [
+        "race",
+        "order",
+        "--root",
+        "/w",
+        "--listing",
+        "broken",
+        "--makefile",
+        "broken",
+    ];
+    let reported = run(alloc, &words, Shelf { books: &BOOKS });
+    reported.err.as_slice() == b"race: read failed: makefile\n".as_slice()
 }
 
 /// A writer that is full.

@@ -1,10 +1,10 @@
-//! That the paths of includes are opened as they are written, which no folder shows.
+//! That the paths of includes are opened as they are written, which no folder shows, and that they come first.
 use crate::outcomes::{Outcome, run};
 use crate::shelf::{Book, Page, Shelf};
 use mk_program::Status;
 use std::alloc::Global;
 
-static BOOKS: [Book<'static>; 5] = [
+static BOOKS: [Book<'static>; 7] = [
     Book {
         path: "makefile",
         page: Page::Text(b"include d/a.mk\nall: $(X)\n"),
@@ -26,6 +26,14 @@ static BOOKS: [Book<'static>; 5] = [
         path: "spelled",
         page: Page::Text(b"\n./d//a.mk\n\n"),
     },
+    Book {
+        path: "two",
+        page: Page::Text(b"d/a.mk\nbroken\n"),
+    },
+    Book {
+        path: "broken",
+        page: Page::Unreadable,
+    },
 ];
 
 #[test]
@@ -35,8 +43,30 @@ fn opens_paths_as_they_are_written(rt: HostRuntime) {
     assert!(rt; is_failure(&ran(alloc, "spelled"), b"race: read failed: include\n"));
 }
 
+#[test]
+fn names_the_includes_first(rt: HostRuntime) {
+    let alloc = rt.alloc();
+    assert!(rt;
+        is_failure(
+            &ran_on(alloc, "two", "absent"),
+            b"race: read failed: include\n"
+        )
+    );
+    assert!(rt;
+        is_failure(
+            &ran_on(alloc, "one", "absent"),
+            b"race: read failed: makefile\n"
+        )
+    );
+}
+
 /// Runs `race order` with this file of includes, over those files.
 fn ran(alloc: Global, includes: &str) -> Outcome {
+    ran_on(alloc, includes, "makefile")
+}
+
+/// The same on the makefile of this path.
+fn ran_on(alloc: Global, includes: &str, makefile: &str) -> Outcome {
     let words = [
         "race",
         "order",
@@ -45,7 +75,7 @@ fn ran(alloc: Global, includes: &str) -> Outcome {
         "--listing",
         "listing",
         "--makefile",
-        "makefile",
+        makefile,
         "--includes",
         includes,
     ];

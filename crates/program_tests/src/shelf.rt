@@ -2,28 +2,15 @@
 ghost use Rattle.std.specs.Prelude.{◌≡◌, Some};
 ghost use Rattle.program_tests.specs.Shelf as spec;
 
-use mk_device::device::Broken;
-use mk_device::feed::Feed;
+use mk_device::device::{Broken, ReadStop};
 use mk_program::Opener;
-use std::io;
-use std::io::{ErrorKind, Read};
+use std::alloc::Global;
 
 /// What reading a file gives: a text, or nothing but a failure.
 #[derive(Clone, Copy)]
 pub enum Page<'a> {
     Text(&'a [u8]),
     Unreadable,
-}
-
-impl Read for Page<'_> {
-    ghost remaining = { spec.page_text };
-
-    fn read(&mut self, buf: &mut [u8]) -> io::Result<usize> {
-        match self {
-            Page::Text(text) => text.read(buf),
-            Page::Unreadable => Err(ErrorKind::Other.into()),
-        }
-    }
 }
 
 /// A file with its path.
@@ -40,16 +27,25 @@ pub struct Shelf<'a> {
 }
 
 impl<'a> Opener for Shelf<'a> {
-    type File = Feed<Page<'a>>;
+    type File = Page<'a>;
 
-    ghost text = { λ shelf path. spec.text_at shelf.books.now path };
+    ghost files = { λ shelf. spec.files_of shelf.books.now };
 
-    ghost opens = { λ shelf path. Some (spec.is_there shelf.books.now path) };
+    ghost text = { spec.page_text };
 
-    fn open(&mut self, path: &str) -> Result<Feed<Page<'a>>, Broken> {
+    ghost reads = { λ page. Some (spec.is_readable page) };
+
+    fn open(&mut self, path: &str) -> Result<Page<'a>, Broken> {
         match page_at(self.books, path) {
-            Some(page) => Ok(Feed::new(page)),
+            Some(page) => Ok(page),
             None => Err(Broken),
+        }
+    }
+
+    fn read(alloc: Global, page: Page<'a>) -> Result<Vec<u8>, ReadStop> {
+        match page {
+            Page::Text(text) => Ok(Vec::from_slice(alloc, text)?),
+            Page::Unreadable => Err(ReadStop::Broken),
         }
     }
 }

@@ -1,27 +1,39 @@
 //! The files of the system that the program runs on.
-ghost use Rattle.std.specs.Prelude.{None};
+ghost use Rattle.race.specs.Disk.{no_answer, no_files, no_text};
+ghost use Rattle.std.specs.Prelude.{◌≡◌, ◌≢◌, IfOk, IfSome, IsErrOf, OnOk, Some, false, true};
 
-use mk_device::device::Broken;
+use mk_device::device::{Broken, ReadStop, read_all};
 use mk_device::feed::Feed;
 use mk_program::Opener;
+use std::alloc::Global;
 use std::fs;
 use std::fs::File;
 
-/// The files of the system. Their contract does not state what they hold, nor whether they can be opened.
+/// The files of the system. Their contract does not state what they hold, nor whether they can be opened and read.
 #[derive(Drop)]
 pub struct Disk<'a>(pub &'a HostRuntime);
 
 impl Opener for Disk<'_> {
-    type File = Feed<File>;
+    type File = File;
 
-    ghost text = { λ _ _. None };
+    ghost files = { λ _. no_files };
 
-    ghost opens = { λ _ _. None };
+    ghost text = { λ _. no_text };
 
-    fn open(&mut self, path: &str) -> Result<Feed<File>, Broken> {
+    ghost reads = { λ _. no_answer };
+
+    fn open(&mut self, path: &str) -> Result<File, Broken> {
         match fs::open(self.0, path) {
-            Ok(file) => Ok(Feed::new(file)),
+            Ok(file) => Ok(file),
             Err(_) => Err(Broken),
         }
+    }
+
+    fn read(alloc: Global, file: File) -> Result<Vec<u8>, ReadStop>
+        ensures whole { IfOk result (λ all. IfSome no_text (λ bytes. all.items ≡ bytes)) }
+        ensures can { OnOk result (no_answer ≢ Some false) }
+        ensures cannot { IsErrOf result ReadStop.Broken → no_answer ≢ Some true }
+    {
+        read_all(alloc, &mut Feed::new(file))
     }
 }

@@ -3,5 +3,4 @@ use Rattle.mk_program.proofs.inputs.open_all.Given as goal
 
 abbrev pub invariant-loop-known : goal.invariant-loop-known
 invariant-loop-known g l =
-    FirstAreOpen g.P.File.Intake.left g.P.File.Intake.has_failed l.inputs (g.P.Opener.text l.initial.opener) (g.P.Opener.text l.opener)
-    (g.P.Opener.opens l.initial.opener) (g.P.Opener.opens l.opener) l.files.items l.known-index
+    FirstAreOpen g.P.Opener.text g.P.Opener.reads l.inputs (g.P.Opener.files l.initial.opener) (g.P.Opener.files l.opener) l.files.items l.known-index

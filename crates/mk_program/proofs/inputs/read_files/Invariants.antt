@@ -6,4 +6,4 @@ abbrev pub invariant-loop-file : goal.invariant-loop-file
 invariant-loop-file g l =
     (goal.iterator-loop-file g).can_next l.file-iterator ×
     (goal.iterator-loop-file g).is_finite l.file-iterator ×
-    AreReadSoFar g.I.Intake.left g.I.Intake.has_failed l.fn.files.items (into_iter_items l.file-iterator) l.texts.items
+    AreReadSoFar g.P.Opener.text g.P.Opener.reads l.fn.files.items (into_iter_items l.file-iterator) l.texts.items

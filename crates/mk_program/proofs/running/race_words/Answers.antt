@@ -13,5 +13,5 @@ returns-in-Err-clause-reported g c =
 pub returns-in-Ok-clause-safe : goal.returns-in-Ok-clause-safe
 returns-in-Ok-clause-safe g c =
     λ right check done. let reported = c.in-Ok.ensures.answer right in
-    says_safe c.args.words.now (g.P.Opener.text c.args.opener.now) reported.0 check
-    (subst (λ (s : Status). IsAnswerTo c.args.words.now (g.P.Opener.text c.args.opener.now) s reported.0) done reported.2)
+    says_safe c.args.words.now (g.P.Opener.files c.args.opener.now).text reported.0 check
+    (subst (λ (s : Status). IsAnswerTo c.args.words.now (g.P.Opener.files c.args.opener.now).text s reported.0) done reported.2)
