@@ -19,7 +19,7 @@ With --times N each line has the best user time and wall time of N runs and the 
 input has a line for each peer that is on this machine: GNU make and bmake that read the same makefile (`-n -r`), or Python's
 json module that reads the footprints, the tasks or the log. A peer that takes more than two seconds is not counted.
 
-An instruction count is no time: an ordered map looks dear and is cheap on rising names. docs/PERFORMANCE.md has both.
+An instruction count is no time: an ordered map looks dear and is cheap on rising names. docs/MEASUREMENTS.md has both.
 """
 from __future__ import annotations
 
