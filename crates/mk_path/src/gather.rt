@@ -180,10 +180,11 @@ pub fn unite<'a>(
     ensures { IfOk result (λ union. IsUnion (map (λ path. path.now) first.now) (map (λ path. path.now) second.now)
         (map (λ path. path.now) union.paths.items) union.firsts.items union.seconds.items) }
 {
+    let most = first.len().saturating_add(second.len());
     let mut union = Union {
-        paths: Vec::new(alloc),
-        firsts: Vec::new(alloc),
-        seconds: Vec::new(alloc),
+        paths: Vec::with_capacity(alloc, most)?,
+        firsts: Vec::with_capacity(alloc, first.len())?,
+        seconds: Vec::with_capacity(alloc, second.len())?,
     };
     union.put_all(first, second)?;
     Ok(union)
@@ -240,7 +241,8 @@ fn join<'a>(
         → AreGathered (rows ++ others) (map (λ path. path.now) gathered.paths.items) gathered.numbers.items) }
 {
     let union = unite(alloc, &first.paths, &second.paths)?;
-    let mut numbers = Vec::new(alloc);
+    let all = first.numbers.len().saturating_add(second.numbers.len());
+    let mut numbers = Vec::with_capacity(alloc, all)?;
     add_numbers(&mut numbers, &first.numbers, &union.firsts)?;
     add_numbers(&mut numbers, &second.numbers, &union.seconds)?;
     Ok(Gathered {

@@ -34,7 +34,7 @@ returns c = λ rows others rows_are others_are.
     let both = joined rows others (map behind first.paths.items) (map behind second.paths.items) ps first.numbers.items second.numbers.items made.firsts.items made.seconds.items
     union rows_are others_are in
     let front : c.add_numbers.new.numbers.items ≡ map (at made.firsts.items) first.numbers.items =
-    c.in_ok-add_numbers.ensures ∙ ap₂ (λ (ns ms : List ℕ). ns ++ ms) c.new-numbers.ensures.items
+    c.in_ok-add_numbers.ensures ∙ ap₂ (λ (ns ms : List ℕ). ns ++ ms) c.in_ok-numbers.ensures.items
     (moved_at_lent c.deref-3.result.now first.numbers.items c.deref-4.result.now made.firsts.items c.deref-3.ensures.value c.deref-4.ensures.value) in
     let all : c.add_numbers-2.new.numbers.items ≡ map (at made.firsts.items) first.numbers.items ++ map (at made.seconds.items) second.numbers.items =
     c.in_ok-add_numbers-2.ensures ∙ ap₂ (λ (ns ms : List ℕ). ns ++ ms) front
