@@ -20,14 +20,14 @@ abbrev pub word_reported : Kind → List Name → Reported
 word_reported kind names = record { kind = kind; source = Makefile; place = 0; names = names }
 
 -- so many texts may be taken in
-abbrev pub text_limit : ℕ
-text_limit = 1000
+abbrev pub include_limit : ℕ
+include_limit = 1000
 
 -- a text of this name, where so many more may open inside one another, behind so many that were taken in
 abbrev pub opened : ℕ → ℕ → Name → Cut → Result (Option (Name × Cut)) Reported
 opened room taken name cut =
     if room == 0 then Err (word_reported IncludeTooDeep (name ∷ []))
-    else (if nat_le text_limit taken then Err (word_reported TooManyIncludes []) else Ok (Some (name, cut)))
+    else (if nat_le include_limit taken then Err (word_reported TooManyIncludes []) else Ok (Some (name, cut)))
 
 -- the text of a name: a hyphen passes over one that no text has
 abbrev pub text_named : Texts → Bool → ℕ → ℕ → Name → Result (Option (Name × Cut)) Reported

@@ -15,7 +15,7 @@ use mk_text::spelling::plain_word;
 use std::alloc::{AllocError, Global};
 
 /// So many texts may be taken in, each as often as it is (profile).
-pub const TEXT_LIMIT: usize = 1_000;
+pub const INCLUDE_LIMIT: usize = 1_000;
 
 /// The words of a text: what stands between its blanks. The only error is out of memory.
 pub fn words(alloc: Global, text: &[u8]) -> Result<Vec<&[u8]>, AllocError>
@@ -43,7 +43,7 @@ fn opened<'i, 't>(
         let fault = Fault::naming(alloc, kind, Source::Makefile, 0, name)?;
         return Err(Halt::Fault(fault));
     }
-    if taken >= TEXT_LIMIT {
+    if taken >= INCLUDE_LIMIT {
         let kind = Kind::TooManyIncludes;
         return Err(Halt::Fault(Fault::unnamed(alloc, kind, Source::Makefile, 0)));
     }

@@ -72,13 +72,22 @@ abbrev pub is_empty : List ℕ → Bool
 is_empty [] = true
 is_empty (x ∷ xs) = false
 
--- idle: a recipe that can never run, since its target is there, is not phony and has no prerequisite
-abbrev pub is_idle : Jobs → ℕ → Bool
-is_idle jobs n = has_recipe jobs n && is_listed jobs n && not (is_phony jobs n) && is_empty (prerequisites_of jobs n)
+-- idle, by whether a node has a recipe, is listed and is phony, and by its prerequisites: the recipe can never run, since its
+-- target is there, is not phony and has no prerequisite
+abbrev pub idle_by : Bool → Bool → Bool → List ℕ → Bool
+idle_by recipe listed phony prerequisites = recipe && listed && not phony && is_empty prerequisites
 
--- live: a recipe that is not idle
+-- live, by the same: a recipe that is not idle
+abbrev pub live_by : Bool → Bool → Bool → List ℕ → Bool
+live_by recipe listed phony prerequisites = recipe && not (idle_by recipe listed phony prerequisites)
+
+-- a node's recipe is idle
+abbrev pub is_idle : Jobs → ℕ → Bool
+is_idle jobs n = idle_by (has_recipe jobs n) (is_listed jobs n) (is_phony jobs n) (prerequisites_of jobs n)
+
+-- a node has a recipe that is live
 abbrev pub is_live : Jobs → ℕ → Bool
-is_live jobs n = has_recipe jobs n && not (is_idle jobs n)
+is_live jobs n = live_by (has_recipe jobs n) (is_listed jobs n) (is_phony jobs n) (prerequisites_of jobs n)
 
 -- a node may read a name: it is live, and its reads cover the name
 unfoldable pub may_read : Jobs → ℕ → Name → Bool

@@ -2,9 +2,9 @@
 use Rattle.std.specs.Prelude.{ℕ, ◌≡◌, ◌<◌, ◌≤◌, ◌↔◌, List, length, get_or, Contains}
 use Rattle.mk_path.specs.Table.{row_of}
 
--- no more nodes have numbers
-abbrev pub node_limit : ℕ
-node_limit = 4294967296
+-- a number of 32 bits is the place of one of so many rows
+abbrev pub row_limit : ℕ
+row_limit = 4294967296
 
 -- the pairs are the numbers of the first rows, each with its row's place
 abbrev pub ArePairs : List (List ℕ) → ℕ → List (ℕ × ℕ) → Type 0

@@ -1,7 +1,7 @@
 //! For each number the nodes that hold it.
 ghost use Rattle.std.specs.Prelude.{ℕ, ◌≡◌, ◌<◌, ◌≤◌, ◌↔◌, ◌++◌, Contains, IfOk, List, OnOk, length, map};
 ghost use Rattle.std.specs.List.Sorted.{IsNonDecreasingBy};
-ghost use Rattle.mk_path.specs.Holders.{AreFirsts, ArePairs, IsRun, node_limit};
+ghost use Rattle.mk_path.specs.Holders.{AreFirsts, ArePairs, IsRun, row_limit};
 ghost use Rattle.mk_path.specs.Table.{row_of};
 
 use crate::table::Table;
@@ -9,7 +9,7 @@ use std::alloc::{AllocError, Global};
 
 /// For each number below the count the nodes whose row has it. The only error is out of memory.
 pub fn holders(alloc: Global, rows: &Table, count: usize) -> Result<Table, AllocError>
-    requires few { length rows.now ≤ node_limit }
+    requires few { length rows.now ≤ row_limit }
     ensures count { IfOk result (λ holders. length holders ≡ count) }
     ensures hold { IfOk result (λ holders. (t n : ℕ) → t < count → Contains (row_of holders t) n ↔ Contains (row_of rows.now n) t) }
 {
@@ -20,7 +20,7 @@ pub fn holders(alloc: Global, rows: &Table, count: usize) -> Result<Table, Alloc
 
 /// Each number of a row, with the row's place.
 fn pairs_of(alloc: Global, rows: &Table) -> Result<Vec<(u32, u32)>, AllocError>
-    requires few { length rows.now ≤ node_limit }
+    requires few { length rows.now ≤ row_limit }
     ensures { IfOk result (λ pairs. ArePairs rows.now (length rows.now) pairs.items) }
 {
     let mut pairs = Vec::new(alloc);

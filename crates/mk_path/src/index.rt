@@ -2,7 +2,7 @@
 ghost use Rattle.std.specs.Prelude.{ℕ, ◌≡◌, ◌<◌, ◌≤◌, ◌*◌, ◌↔◌, ◌⊎◌, ◌∷◌, IfNone, IfOk, IfSome, List, length, slice_index};
 ghost use Rattle.std.specs.List.Sorted.{IsStrictlyIncreasing};
 ghost use Rattle.mk_path.specs.Bits.{HasBit};
-ghost use Rattle.mk_path.specs.Holders.{node_limit};
+ghost use Rattle.mk_path.specs.Holders.{row_limit};
 ghost use Rattle.mk_path.specs.Index.{IsIndexed, IsNumberRow, IsWhole, numbers_of};
 ghost use Rattle.mk_path.specs.Meets.{AreBelow, Facing, IsFront, IsLeastMet, Stands, facing};
 ghost use Rattle.mk_path.specs.Uses.{AreRising, IsLeastOverlap, IsOverlap, Reaches, Uses, path_of, paths_of, uses_of};
@@ -67,7 +67,7 @@ impl Index {
         writes: &[Vec<Path>],
     ) -> Result<Index, AllocError>
         requires same { length writes.now ≡ length reads.now }
-        requires few { length reads.now ≤ node_limit }
+        requires few { length reads.now ≤ row_limit }
         requires rise { AreRising (uses_of root.now reads.now writes.now) }
         ensures count { IfOk result (λ index. length index.reads ≡ length reads.now) }
         ensures indexed { IfOk result (λ index. IsIndexed (uses_of root.now reads.now writes.now) index) }

@@ -9,7 +9,7 @@ use crate::step::Step;
 use std::alloc::AllocError;
 use std::marker::Model;
 
-/// The greatest time of a node.
+/// The greatest time of a node: a plan has no more nodes, so each can have a time of its own.
 pub const GREATEST_TIME: u32 = 20_000;
 
 /// Two nodes, a path on which they clash, times of nodes, and steps after which both nodes run (profile). The first node is

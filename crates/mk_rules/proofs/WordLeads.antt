@@ -14,7 +14,7 @@ use Rattle.mk_macro.specs.Expansion.{IsExpansion}
 use Rattle.mk_macro.specs.Macros.{Macros}
 use Rattle.std.specs.Option.{option_map_or}
 use Rattle.mk_include.specs.Includes.{Cut, Texts, reported_in}
-use Rattle.mk_include.specs.Words.{opened, text_limit, text_of_name, word_text, word_reported, words_of}
+use Rattle.mk_include.specs.Words.{include_limit, opened, text_of_name, word_text, word_reported, words_of}
 use Rattle.mk_text.specs.Spelling.{word_name}
 use Rattle.mk_rules.specs.Placed.{IsReportedAt, Placed, placed}
 use Rattle.mk_rules.specs.Reading.{EndsAt, IncludeSays, Leads, Outcome, Point, Steps, TextSays, WordSays, WordSaysBy, ended_at, line_says}
@@ -34,27 +34,27 @@ neither false false f g x y h = (refl, refl)
 some_room : (room : ℕ) → (room == 0) ≡ false → 0 < room
 some_room room h = grind arith
 
-some_left : (taken : ℕ) → nat_le text_limit taken ≡ false → taken < text_limit
+some_left : (taken : ℕ) → nat_le include_limit taken ≡ false → taken < include_limit
 some_left taken h = grind arith
 
 module _ (texts : Texts) (hyphen : Bool) (room taken : ℕ) (text : Name × Cut) where
   named_left : (name : Name) (found : Option Cut) → option_map_or (opened room taken name) found (if hyphen then Ok None else Err (word_reported UnknownInclude (name ∷ []))) ≡ Ok (Some text)
-      → (0 < room) × (taken < text_limit)
+      → (0 < room) × (taken < include_limit)
   named_left name None h = absurd (none hyphen h)
     where
       none : (hyphen : Bool) → (if hyphen then Ok None else Err (word_reported UnknownInclude (name ∷ []))) ≡ Ok (Some text) → ⊥
       none true h = cc
       none false h = cc
   named_left name (Some cut) h =
-      let tests = neither (room == 0) (nat_le text_limit taken) _ _ (Some (name, cut)) (Some text) h in
+      let tests = neither (room == 0) (nat_le include_limit taken) _ _ (Some (name, cut)) (Some text) h in
       (some_room room tests.0, some_left taken tests.1)
 
-  text_left : (name : Result Name Reported) → text_of_name texts hyphen room taken name ≡ Ok (Some text) → (0 < room) × (taken < text_limit)
+  text_left : (name : Result Name Reported) → text_of_name texts hyphen room taken name ≡ Ok (Some text) → (0 < room) × (taken < include_limit)
   text_left (Err fault) h = absurd (cc)
   text_left (Ok name) h = named_left name (texts name) h
 
   -- a text that may open
-  pub room_left : (root : List ℕ) (word : List ℕ) → word_text root texts hyphen room taken word ≡ Ok (Some text) → (0 < room) × (taken < text_limit)
+  pub room_left : (root : List ℕ) (word : List ℕ) → word_text root texts hyphen room taken word ≡ Ok (Some text) → (0 < room) × (taken < include_limit)
   room_left root word h = text_left (word_name root word) h
 
 module _ (root : List ℕ) (texts : Texts) (hyphen : Bool) (room : ℕ) (inner : Point → Placed → Outcome → Type 0) (p : Placed) (before : Macros) (at : Point) (word : List ℕ) where

@@ -7,7 +7,7 @@ ghost use Rattle.mk_macro.specs.Macros as specs;
 ghost use Rattle.mk_macro.specs.Macros.{macros_of};
 ghost use Rattle.mk_text.specs.LogicalLine.{parts_of};
 ghost use Rattle.mk_include.specs.Includes.{texts_of, reported_in};
-ghost use Rattle.mk_include.specs.Words.{text_limit};
+ghost use Rattle.mk_include.specs.Words.{include_limit};
 ghost use Rattle.mk_rules.specs.Before.{IsBefore};
 ghost use Rattle.mk_rules.specs.Placed.{placed};
 ghost use Rattle.mk_rules.specs.Reading.{AssignmentSays, EntryLineSays, IncludeSays, Leads, Point, Steps, TextSays, WordSays, line_says, point};
@@ -97,7 +97,7 @@ impl<'r, 't> Reader<'r, 't> {
         so_far: &mut SoFar,
     ) -> Result<(), Halt>
         requires room { 0 < room }
-        requires taken { so_far.old.taken < text_limit }
+        requires taken { so_far.old.taken < include_limit }
         ensures { Leads result (point so_far.new.rules.items so_far.new.taken macros.new)
             (TextSays (line_says self.now.root.now (texts_of self.now.includes.now) room)
             (point so_far.old.rules.items (so_far.old.taken + 1) macros.old) name (reported_in name cut.now)) }

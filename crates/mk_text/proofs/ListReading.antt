@@ -14,7 +14,7 @@ use Rattle.mk_text.specs.Listing.{at_line, both, line_names, names_from, next_pl
 use Rattle.mk_text.specs.declared.list_reader.Stop.{Stop}
 use Rattle.mk_text.specs.declared.list_reader.Stop.TheVariants.{Memory, BadLine}
 use Rattle.mk_text.specs.ListReader.{HasRead, HasReadBy, HasReadLines, IsUnderWay, Reader, bad_line, kept_length, listed, place_behind}
-use Rattle.mk_text.specs.Spelling.{is_line, is_path}
+use Rattle.mk_text.specs.Spelling.{is_line, is_path, path_length}
 use Rattle.mk_text.proofs.FedLines.{joined, joined_open, lines_joined}
 
 -- ---- names
@@ -81,14 +81,14 @@ le_none n m more = lt-leb n m more
 
 no_path : (text : List ℕ) → kept_length < length text → is_path text ≡ false
 no_path text long =
-    ap (λ b. (nat_lt 0 (length text) && b) && is_line text) (le_none (length text) 4096 (omega (arith, long)))
+    ap (λ b. (nat_lt 0 (length text) && b) && is_line text) (le_none (length text) path_length (omega (arith, long)))
     ∙ none_left (nat_lt 0 (length text)) (is_line text)
 
 -- a text of more bytes than a path has is none, and so is its beginning of one byte more
 cut_same : (text : List ℕ) → kept_length < length text → is_path (take kept_length text) ≡ is_path text
 cut_same text long =
-    let whole : (nat_le (length text) 4096) ≡ false = le_none (length text) 4096 (omega (arith, long)) in
-    let begun : (nat_le (length (take kept_length text)) 4096) ≡ false = le_none (length (take kept_length text)) 4096 (omega (arith, long, length-take kept_length text)) in
+    let whole : (nat_le (length text) path_length) ≡ false = le_none (length text) path_length (omega (arith, long)) in
+    let begun : (nat_le (length (take kept_length text)) path_length) ≡ false = le_none (length (take kept_length text)) path_length (omega (arith, long, length-take kept_length text)) in
     ap (λ b. (nat_lt 0 (length (take kept_length text)) && b) && is_line (take kept_length text)) begun
     ∙ none_left (nat_lt 0 (length (take kept_length text))) (is_line (take kept_length text))
     ∙ sym (none_left (nat_lt 0 (length text)) (is_line text))

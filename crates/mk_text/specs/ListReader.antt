@@ -1,5 +1,5 @@
 -- A reader of listings: what it is once it was fed a text, in whatever pieces.
-use Rattle.std.specs.Prelude.{◌≡◌, ℕ, List, [], ◌∷◌, Option, None, Some, Result, Ok, Err, take}
+use Rattle.std.specs.Prelude.{◌≡◌, ℕ, suc, List, [], ◌∷◌, Option, None, Some, Result, Ok, Err, take}
 use Rattle.mk_name.specs.Reported.{Reported}
 use Rattle.mk_name.specs.declared.fault.Halt.{Halt}
 use Rattle.mk_name.specs.declared.fault.Halt.TheVariants as halts
@@ -7,6 +7,7 @@ use Rattle.mk_name.specs.declared.fault.Kind.TheVariants.{BadName}
 use Rattle.mk_name.specs.declared.fault.Source.TheVariants.{Listing}
 use Rattle.mk_text.specs.Fed.{IsCut}
 use Rattle.mk_text.specs.Listing.{names_from, next_place, with_names}
+use Rattle.mk_text.specs.Spelling.{path_length}
 use Rattle.mk_text.specs.declared.list_reader.Stop.{Stop}
 use Rattle.mk_text.specs.declared.list_reader.Stop.TheVariants.{Memory, BadLine}
 
@@ -21,7 +22,7 @@ pub record Reader : Type 0 where
 
 -- the bytes that are kept of a line: one more than a path may have
 abbrev pub kept_length : ℕ
-kept_length = 4097
+kept_length = suc path_length
 
 -- the place behind some lines, of which the first is at this place
 abbrev pub place_behind : ℕ → List (List ℕ) → ℕ

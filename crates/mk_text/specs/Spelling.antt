@@ -71,9 +71,13 @@ top_of root = 47 ∷ join_with_byte 47 (reduced (components root))
 abbrev pub is_line : List ℕ → Bool
 is_line text = list_all (λ b. not (b == 0) && not (b == 10)) text
 
+-- the greatest length of a path, in bytes
+abbrev pub path_length : ℕ
+path_length = 4096
+
 -- one to 4,096 bytes
 abbrev pub has_path_length : List ℕ → Bool
-has_path_length text = nat_lt 0 (length text) && nat_le (length text) 4096
+has_path_length text = nat_lt 0 (length text) && nat_le (length text) path_length
 
 -- a path: one to 4,096 bytes, none of them NUL or a newline
 abbrev pub is_path : List ℕ → Bool

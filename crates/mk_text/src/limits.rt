@@ -3,7 +3,7 @@ ghost use Rattle.std.specs.Prelude.{◌≡◌};
 ghost use Rattle.mk_text.specs.Spelling as spec;
 
 /// The greatest length of a path, in bytes.
-const MAX_PATH_LEN: usize = 4096;
+pub(crate) const MAX_PATH_LEN: usize = 4_096;
 
 /// Whether the text is a root: a path that begins with a slash.
 pub fn is_root(text: &[u8]) -> bool

@@ -6,6 +6,7 @@ ghost use Rattle.mk_text.specs.ListReader as spec;
 ghost use Rattle.mk_text.specs.declared.list_reader.Stop.{Stop};
 
 use crate::lexical::split_line;
+use crate::limits::MAX_PATH_LEN;
 use crate::listing::{Listing, add_line};
 use crate::root::Root;
 use mk_name::fault::{Fault, Halt, Kind, Source};
@@ -15,7 +16,7 @@ use std::collections::BTreeSet;
 use std::marker::Model;
 
 /// How many bytes are kept of a line: one more than a path may have, so that a longer line is refused all the same.
-const KEPT_LENGTH: usize = 4_097;
+const KEPT_LENGTH: usize = MAX_PATH_LEN + 1;
 
 /// Why a reader goes no further.
 #[derive(Clone, Copy, Debug)]
@@ -26,8 +27,8 @@ pub enum Stop {
     BadLine(u64),
 }
 
-/// Reads a listing that comes in pieces, whatever the cuts between them. It keeps the names so far and at most 4,097 bytes
-/// of the line that is open.
+/// Reads a listing that comes in pieces, whatever the cuts between them. It keeps the names so far, and of
+/// the line that is open at most one byte more than a path may have.
 #[derive(Debug, Drop)]
 pub struct ListReader {
     alloc: Global,
