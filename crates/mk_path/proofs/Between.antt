@@ -31,11 +31,11 @@ nat_above a b more =
     let less : nat_cmp b a ≡ Less = cond-true (ltb b a) Less _ (lt-ltb b a more) in
     nat_cmp_total.antisymm a b ∙ ap ordering_reverse less
 
-nat_tied : (a b : ℕ) → a ≡ b → nat_cmp a b ≡ Equal
+pub nat_tied : (a b : ℕ) → a ≡ b → nat_cmp a b ≡ Equal
 nat_tied a b same = cond-false (ltb a b) Less _ (le-ltb a b (omega (arith, same))) ∙ cond-true _ Equal Greater (eq-eqb a b same)
 
 -- a text between a beginning of another and that other begins so too
-begins_between : (k : ℕ) (x p : Name) → k ≤ length x → NotAfter (take k x) p → NotAfter p x → take k p ≡ take k x
+pub begins_between : (k : ℕ) (x p : Name) → k ≤ length x → NotAfter (take k x) p → NotAfter p x → take k p ≡ take k x
 begins_between zero x p within low high = refl
 begins_between (suc k) [] p within low high = absurd (omega (arith, within))
 begins_between (suc k) (a ∷ x) [] within low high = absurd (low refl)
@@ -55,12 +55,12 @@ begins_before zero (a ∷ x) = λ after. cc
 begins_before (suc k) [] = λ after. cc
 begins_before (suc k) (a ∷ x) = λ after. begins_before k x (sym (ap (λ o. ordering_then o (slice_cmp nat_cmp (take k x) x)) (nat_tied a a refl)) ∙ after)
 
-not_after_itself : (x : Name) → NotAfter x x
+pub not_after_itself : (x : Name) → NotAfter x x
 not_after_itself [] = λ after. cc
 not_after_itself (a ∷ x) = λ after. not_after_itself x (sym (ap (λ o. ordering_then o (slice_cmp nat_cmp x x)) (nat_tied a a refl)) ∙ after)
 
 -- what the order of paths says of their names
-less_names : (p q : Path) → path_cmp p q ≡ Less → NotAfter p.name q.name
+pub less_names : (p q : Path) → path_cmp p q ≡ Less → NotAfter p.name q.name
 less_names p q less = λ after.
     let more : path_cmp p q ≡ Greater = ap (λ o. ordering_then o (bool_cmp p.tree q.tree)) after in
     let no : Less ≡ Greater = sym less ∙ more in cc

@@ -55,6 +55,13 @@ tree_kept paths trees v y are tree =
     let there : Contains (map behind paths) (tree_at y) = subst (Contains (map behind paths)) tree.1 (Contains-get_or (map behind paths) v nothing tree.0) in
     subst (λ (ps : List Path). Contains ps (tree_at y)) (sym are.trees_are) (filter_has is_tree (map behind paths) (tree_at y) refl there)
 
+-- where there are no trees, none has one of some names
+pub none_there : (root : List ℕ) (paths trees : List (Bor Path)) (among : Name → Type 0) → AreTrees (map behind paths) (map behind trees) → length trees ≡ 0
+    → Finds root (map behind paths) among None
+none_there root paths trees among are none = λ v y one tree.
+    let kept = tree_kept paths trees v y are tree in
+    omega (arith, kept.1, length-map trees behind, none)
+
 trees_rise : (paths trees : List (Bor Path)) → AreTrees (map behind paths) (map behind trees) → IsStrictlySortedBy path_cmp (map behind trees)
 trees_rise paths trees are =
     subst (λ (ps : List Path). IsStrictlySortedBy path_cmp ps) (sym are.trees_are) (IsStrictlySortedBy-filter path_cmp is_tree (map behind paths) are.paths_are.rise)

@@ -23,6 +23,7 @@ pub mod Reaching
 pub mod Searching
 pub mod SetBits
 pub mod Spelled
+pub mod Sweeping
 pub mod Tables
 pub mod Tests
 pub mod Uniting

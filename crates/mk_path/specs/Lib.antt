@@ -10,6 +10,7 @@ pub mod Nearest
 pub mod Paths
 pub mod Places
 pub mod Ranges
+pub mod Sweep
 pub mod Table
 pub mod Taken
 pub mod Texts

@@ -21,6 +21,7 @@ mod nearest;
 pub mod path;
 mod places;
 pub mod spelling;
+mod sweep;
 pub mod table;
 pub mod taken;
 mod ups;

@@ -1,12 +1,14 @@
 //! The nearest tree over each path.
 ghost use Rattle.std.specs.Prelude.{List, ℕ, ◌≡◌, ◌<◌, ◌≤◌, IfErr, IfOk, length, map, take, true};
 ghost use Rattle.std.specs.List.{filter};
+ghost use Rattle.mk_path.specs.Index.{path_at};
 ghost use Rattle.mk_path.specs.Nearest.{AreNearest, ArePaths, AreRanks, AreTrees, AreWaysUp, Finds, IsInner, IsInnermost, IsNext, IsOther, IsOuter, IsOverName, IsOverPath, IsOverText, IsOwn, IsTreeAt, is_tree, rank_of};
 ghost use Rattle.mk_text.specs.Spelling.{is_absolute, top_of};
 
 use crate::covering::{common, order};
 use crate::path::Path;
 use crate::places::number;
+use crate::sweep::pass;
 use crate::ups::Ups;
 use mk_text::root::Root;
 use std::alloc::{AllocError, Global};
@@ -34,9 +36,11 @@ fn next_above(alloc: Global, root: &Root, paths: &[&Path]) -> Result<Vec<u32>, A
 {
     let trees = trees_of(alloc, paths)?;
     let outside = over_text(paths, &trees, root.top());
+    let mut stack = Vec::new(alloc);
     let mut next = Vec::with_capacity(alloc, paths.len())?;
     for t in 0..paths.len() as u32 {
-        next.push(next_of(paths, &trees, outside, t))?;
+        let inner = pass(paths, &mut stack, t)?;
+        next.push(next_of(paths, &trees, outside, inner, t))?;
     }
     Ok(next)
 }
@@ -150,13 +154,21 @@ fn outer(paths: &[&Path], trees: &[&Path], outside: Option<u32>, name: &[u8]) ->
     }
 }
 
-/// The innermost tree over a name, other than that of the name; `outside` is that over the root.
-fn over_name(paths: &[&Path], trees: &[&Path], outside: Option<u32>, name: &[u8]) -> Option<u32>
+/// The innermost tree over a name, other than that of the name; `outside` is that over the root, and `inner` that which the name
+/// spells before a slash.
+fn over_name(
+    paths: &[&Path],
+    trees: &[&Path],
+    outside: Option<u32>,
+    inner: Option<u32>,
+    name: &[u8],
+) -> Option<u32>
     requires { AreTrees (map (λ path. path.now) paths.now) (map (λ tree. tree.now) trees.now) }
     ensures { (root : List ℕ) → Finds root (map (λ path. path.now) paths.now) (IsOverText (top_of root)) outside
+        → Finds root (map (λ path. path.now) paths.now) (IsInner name.now) inner
         → Finds root (map (λ path. path.now) paths.now) (IsOverName (top_of root) name.now) result }
 {
-    match inner(paths, trees, name) {
+    match inner {
         Some(u) => Some(u),
         None => outer(paths, trees, outside, name),
     }
@@ -174,26 +186,45 @@ fn own(paths: &[&Path], trees: &[&Path], path: &Path) -> Option<u32>
     }
 }
 
-/// The nearest tree over a path, other than itself; `outside` is that over the root.
-fn nearest(paths: &[&Path], trees: &[&Path], outside: Option<u32>, path: &Path) -> Option<u32>
+/// The nearest tree over a path, other than itself; `outside` is that over the root, and `inner` that which the path's name spells
+/// before a slash.
+fn nearest(
+    paths: &[&Path],
+    trees: &[&Path],
+    outside: Option<u32>,
+    inner: Option<u32>,
+    path: &Path,
+) -> Option<u32>
     requires { AreTrees (map (λ path. path.now) paths.now) (map (λ tree. tree.now) trees.now) }
     ensures { (root : List ℕ) → Finds root (map (λ path. path.now) paths.now) (IsOverText (top_of root)) outside
+        → Finds root (map (λ path. path.now) paths.now) (IsInner path.now.name) inner
         → Finds root (map (λ path. path.now) paths.now) (IsOverPath root path.now) result }
 {
+    if trees.is_empty() {
+        return None;
+    }
     match own(paths, trees, path) {
         Some(u) => Some(u),
-        None => over_name(paths, trees, outside, path.name.as_bytes()),
+        None => over_name(paths, trees, outside, inner, path.name.as_bytes()),
     }
 }
 
-/// The number of the nearest tree over a path, or the path's own number where none is.
-fn next_of(paths: &[&Path], trees: &[&Path], outside: Option<u32>, t: u32) -> u32
+/// The number of the nearest tree over a path, or the path's own number where none is; `outside` is the innermost tree over the
+/// root, and `inner` that which the path's name spells before a slash.
+fn next_of(
+    paths: &[&Path],
+    trees: &[&Path],
+    outside: Option<u32>,
+    inner: Option<u32>,
+    t: u32,
+) -> u32
     requires trees { AreTrees (map (λ path. path.now) paths.now) (map (λ tree. tree.now) trees.now) }
     requires within { t < length paths.now }
     ensures { (root : List ℕ) → Finds root (map (λ path. path.now) paths.now) (IsOverText (top_of root)) outside
+        → Finds root (map (λ path. path.now) paths.now) (IsInner (path_at (map (λ path. path.now) paths.now) t).name) inner
         → IsNext root (map (λ path. path.now) paths.now) t result }
 {
-    match nearest(paths, trees, outside, paths[t as usize]) {
+    match nearest(paths, trees, outside, inner, paths[t as usize]) {
         Some(u) => u,
         None => t,
     }
