@@ -1,4 +1,5 @@
 pub mod AttachNodes
+pub mod Collected
 pub mod FootReading
 pub mod LineLemmas
 pub mod Named

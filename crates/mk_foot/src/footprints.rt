@@ -1,5 +1,5 @@
 //! Footprints: what the recipe of each target reads and writes.
-ghost use Rattle.std.specs.Prelude.{◌≡◌, [], IfOk, OnOk, fold, option_map};
+ghost use Rattle.std.specs.Prelude.{◌≡◌, [], IfOk, OnOk, fold, is_some, option_map};
 ghost use Rattle.std.specs.BTreeSet.{insert_key};
 ghost use Rattle.std.specs.List.Sorted.{IsStrictlySortedBy};
 ghost use Rattle.mk_path.specs.Paths.{path_cmp};
@@ -71,6 +71,13 @@ impl Footprints {
         self.by_target.get(target)
     }
 
+    /// Whether some line names a target.
+    pub fn has(&self, target: &Name) -> bool
+        ensures { result ≡ is_some (footprint_at self.now target.now) }
+    {
+        self.of(target).is_some()
+    }
+
     /// Unites what a line says with what the others of its target say. The only error is out of memory.
     pub(crate) fn add(&mut self, alloc: Global, line: Line) -> Result<(), AllocError>
         ensures { OnOk result (AddsLine self.old line self.new) }
@@ -82,21 +89,33 @@ impl Footprints {
                 writes: BTreeSet::new(alloc),
             },
         };
-        add_paths(&mut footprint.reads, line.reads)?;
-        add_paths(&mut footprint.writes, line.writes)?;
+        add_paths(alloc, &mut footprint.reads, line.reads)?;
+        add_paths(alloc, &mut footprint.writes, line.writes)?;
         self.by_target.insert(line.target, footprint)?;
         Ok(())
     }
 }
 
-/// Adds the paths that are not there yet.
-fn add_paths(paths: &mut BTreeSet<Path>, more: Vec<Path>) -> Result<(), AllocError>
+/// Adds the paths that are not there yet. The only error is out of memory.
+fn add_paths(alloc: Global, paths: &mut BTreeSet<Path>, more: Vec<Path>) -> Result<(), AllocError>
     ensures { OnOk result (paths.new.keys ≡ fold (insert_key path_cmp) paths.old.keys more.items) }
 {
+    if paths.is_empty() {
+        *paths = collected(alloc, more)?;
+        return Ok(());
+    }
     for path in more {
         paths.insert(path)?;
     }
     Ok(())
+}
+
+/// The paths as a set. They are put in order at once: that is faster than to put in one by one. The only error is out of
+/// memory.
+fn collected(alloc: Global, paths: Vec<Path>) -> Result<BTreeSet<Path>, AllocError>
+    ensures { IfOk result (λ set. set.keys ≡ fold (insert_key path_cmp) [] paths.items) }
+{
+    paths.into_iter().collect(alloc)
 }
 
 /// The paths of a set, rising.

@@ -63,7 +63,7 @@ fn paths_in(alloc: Global, values: &[Value], root: &Root) -> Result<Option<Vec<P
     ensures { IfOk result (λ paths.
         option_map (λ list. list.items) paths ≡ spec.paths_in root.now (items_view values.now)) }
 {
-    let mut paths = Vec::new(alloc);
+    let mut paths = Vec::with_capacity(alloc, values.len())?;
     for value in values {
         match path_of(alloc, value, root)? {
             Some(path) => paths.push(path)?,

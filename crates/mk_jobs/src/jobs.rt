@@ -1,5 +1,6 @@
 //! Jobs: a plan, and what each of its recipes may read and write.
-ghost use Rattle.std.specs.Prelude.{ℕ, ◌≡◌, ◌<◌, ◌≤◌, ◌*◌, ◌↔◌, ◌⊎◌, [], IfErr, IfOk, IfSome, IsSome, IsTrue, Some, false, get_or, length};
+ghost use Rattle.std.specs.Prelude.{ℕ, ◌≡◌, ◌<◌, ◌≤◌, ◌*◌, ◌↔◌, ◌⊎◌, [], Contains, IfErr, IfOk, IfSome, IsSome, IsTrue, Some, false, get_or, length};
+ghost use Rattle.std.specs.List.Sorted.{IsNonDecreasing};
 ghost use Rattle.mk_path.specs.Bits.{HasBit};
 ghost use Rattle.mk_path.specs.Uses.{IsLeastOverlap, Reaches, path_of, paths_of};
 ghost use Rattle.mk_jobs.specs.Numbered.{number_of};
@@ -88,9 +89,9 @@ impl Jobs {
         }
     }
 
-    /// How many nodes there are, at most 20,000; they have at most 200,000 prerequisites together. Prerequisites have
-    /// smaller numbers than what needs them, the name of each path has a byte, and no recipe writes the name of a node but
-    /// its own.
+    /// How many nodes there are, at most `NODE_LIMIT`; they have at most `EDGE_LIMIT` prerequisites together.
+    /// Prerequisites have smaller numbers than what needs them, the name of each path has a byte, and no recipe writes
+    /// the name of a node except its own.
     pub fn count(&self) -> u32
         ensures count { result ≡ node_count self.now }
         ensures few { result ≤ node_limit }
@@ -126,12 +127,21 @@ impl Jobs {
         self.plan.prerequisites(n)
     }
 
+    /// The numbers of what a node needs, rising. Its number must be below the count of nodes.
+    pub fn needs(&self, n: u32) -> &[u32]
+        requires { n < node_count self.now }
+        ensures rising { IsNonDecreasing result.now }
+        ensures same { (p : ℕ) → Contains result.now p ↔ IsPrerequisite self.now p n }
+    {
+        self.needs.row(n as usize)
+    }
+
     /// Whether node n needs node p at once. n must be below the count of nodes.
     pub fn is_prerequisite(&self, p: u32, n: u32) -> bool
         requires { n < node_count self.now }
         ensures { IsTrue result ↔ IsPrerequisite self.now p n }
     {
-        self.needs.row(n as usize).binary_search(&p).is_ok()
+        self.needs(n).binary_search(&p).is_ok()
     }
 
     /// What makes a node's name. Its number must be below the count of nodes.

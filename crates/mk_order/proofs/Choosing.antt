@@ -1,66 +1,68 @@
--- The least of a list of nodes that is a or has a before it, and a chain that is built from its end.
-use Rattle.std.proofs.Common.{ℕ, ◌≡◌, ◌<◌, ◌≤◌, List, [], ◌∷◌, ◌++◌, reverse, Option, Some, None, MatchOption, IfSome, IfNone, Contains, refl, sym, ap, subst, ◌∙◌, inl, inr, arith}
+-- The least of the prerequisites of a node that is a or has a before it, and a chain that is built from its end.
+use Rattle.std.proofs.Common.{ℕ, ◌≡◌, ◌<◌, ◌≤◌, ◌+◌, ◌-◌, ◌↔◌, List, [], ◌∷◌, ◌++◌, reverse, drop, get_or, length, Contains, refl, sym, ap, subst, ◌∙◌, inl, inr, arith}
+use Rattle.std.specs.List.Sorted.{IsNonDecreasing}
 use Rattle.std.proofs.lemmas.Bool.{cases_lt}
-use Rattle.std.proofs.lemmas.List.{reverse-append}
-use Rattle.std.proofs.lemmas.List.Elements.{Contains-append_left, Contains-push, Contains-push_cases}
-use Rattle.mk_jobs.specs.Jobs.{Jobs, Before, IsValid, node_count, prerequisites_of}
+use Rattle.std.proofs.lemmas.List.{get_or-drop, get_or_default, length-drop, reverse-append}
+use Rattle.mk_jobs.specs.Jobs.{Jobs, Before, IsPrerequisite, IsValid, node_count}
 use Rattle.mk_jobs.specs.Chains.{last_of}
 use Rattle.mk_jobs.proofs.JobsLemmas.{before_less}
-use Rattle.mk_order.specs.Chosen.{IsLeastFrom, AreLeastFrom, IsChosen}
+use Rattle.mk_order.specs.Chosen.{IsFirstFrom, IsLeastFrom, AreLeastFrom, IsChosen, NoneFrom}
 use Rattle.mk_order.specs.Paths.{IsFrom}
 use Rattle.mk_order.proofs.Edges.{prerequisite_from}
 
--- p is the least of these nodes that is a or has a before it
-pub record LeastOf (jobs : Jobs) (a : ℕ) (nodes : List ℕ) (p : ℕ) : Type 0 where
-  pub there : Contains nodes p
-  pub from : IsFrom jobs a p
-  pub least : (q : ℕ) → Contains nodes q → IsFrom jobs a q → p ≤ q
+-- what is a or has a before it is not less than a
+from_not_less : (jobs : Jobs) (a q : ℕ) → IsValid jobs → IsFrom jobs a q → a ≤ q
+from_not_less jobs a q valid (inl same) = omega (arith, same)
+from_not_less jobs a q valid (inr before) = omega (arith, before_less valid before)
 
--- the least of them, or there is none
-abbrev pub IsLeastOf : Jobs → ℕ → List ℕ → Option ℕ → Type 0
-IsLeastOf jobs a nodes None = (q : ℕ) → Contains nodes q → IsFrom jobs a q → ⊥
-IsLeastOf jobs a nodes (Some p) = LeastOf jobs a nodes p
+-- the prerequisites of a node, rising, cut where those begin that are greater than a
+module _ (jobs : Jobs) (a x place : ℕ) (needs : List ℕ) (valid : IsValid jobs) (rising : IsNonDecreasing needs) (same : (p : ℕ) → Contains needs p ↔ IsPrerequisite jobs p x)
+    (less : (k : ℕ) → k < place → get_or needs k 0 < a) where
+  -- one that is a or has a before it stands behind the cut
+  behind_cut : (q : ℕ) → IsPrerequisite jobs q x → IsFrom jobs a q → (k : ℕ) × (k < length (drop place needs)) × (get_or (drop place needs) k 0 ≡ q)
+  behind_cut q edge from =
+      let there = (same q).1 edge in
+      let here : get_or needs there.0 0 ≡ q = get_or_default needs there.0 0 q there.1 ∙ there.2 in
+      let far = from_not_less jobs a q valid from in
+      elim (cases_lt there.0 place) [
+        | inl before ↦ absurd (let below = less there.0 before in omega (arith, below, here, far))
+        | inr after ↦ (
+          there.0 - place,
+          omega (arith, there.1, after, length-drop place needs),
+          get_or-drop place needs (there.0 - place) 0 ∙ ap (λ k. get_or needs k 0) (omega (arith, after)) ∙ here,
+        )
+      ]
 
--- a node more, which is less than the least so far
-pub least_taken : (jobs : Jobs) (a p : ℕ) (nodes : List ℕ) (o : Option ℕ) → IsLeastOf jobs a nodes o → IsFrom jobs a p → IfSome o (λ q. p < q)
-    → LeastOf jobs a (nodes ++ p ∷ []) p
-least_taken jobs a p nodes None none from less = record {
-  there = Contains-push nodes p;
-  from = from;
-  least = λ q there q_from. elim (Contains-push_cases nodes p q there) [ inl before ↦ absurd (none q before q_from) | inr same ↦ omega (arith, same) ];
-}
-least_taken jobs a p nodes (Some r) is from less = record {
-  there = Contains-push nodes p;
-  from = from;
-  least = λ q there q_from. elim (Contains-push_cases nodes p q there) [ inl before ↦ omega (arith, is.least q before q_from, less) | inr same ↦ omega (arith, same) ];
-}
+  -- the first of those behind the cut is the least of all
+  pub least_behind : (p : ℕ) → IsFirstFrom jobs a (drop place needs) p → IsLeastFrom jobs a p x
+  least_behind p first =
+      let long = length-drop place needs in
+      let is : get_or needs (place + first.place) 0 ≡ p = sym (get_or-drop place needs first.place 0) ∙ first.is in
+      let inside : place + first.place < length needs = omega (arith, first.there, long) in
+      record {
+        edge = (same p).0 (place + first.place, inside, get_or_default needs (place + first.place) p 0 inside ∙ is);
+        from = first.from;
+        least = λ q edge from.
+            let there = behind_cut q edge from in
+            elim (cases_lt there.0 first.place) [
+              | inl before ↦ absurd (first.first there.0 before (subst (IsFrom jobs a) (sym there.2) from))
+              | inr after ↦
+                  let at : get_or needs (place + there.0) 0 ≡ q = sym (get_or-drop place needs there.0 0) ∙ there.2 in
+                  let up = rising (place + first.place) (place + there.0) 0 (omega (arith, after)) (omega (arith, there.1, long)) in
+                  omega (arith, up, is, at)
+            ];
+      }
 
--- a node more, which is none that is looked for, or not less
-pub least_kept : (jobs : Jobs) (a p : ℕ) (nodes : List ℕ) (o : Option ℕ) → IsLeastOf jobs a nodes o
-    → (IsFrom jobs a p → MatchOption o ⊥ (λ q. q ≤ p)) → IsLeastOf jobs a (nodes ++ p ∷ []) o
-least_kept jobs a p nodes None none more = λ q there q_from. elim (Contains-push_cases nodes p q there) [
-  | inl before ↦ none q before q_from
-  | inr same ↦ more (subst (IsFrom jobs a) (sym same) q_from)
-]
-least_kept jobs a p nodes (Some r) is more = record {
-  there = Contains-append_left nodes (p ∷ []) r is.there;
-  from = is.from;
-  least = λ q there q_from. elim (Contains-push_cases nodes p q there) [
-    | inl before ↦ is.least q before q_from
-    | inr same ↦ let less : r ≤ p = more (subst (IsFrom jobs a) (sym same) q_from) in omega (arith, less, same)
-  ];
-}
+  -- where there is none behind the cut, nothing comes before the node
+  pub none_behind : NoneFrom jobs a (drop place needs) (length (drop place needs)) → Before jobs a x → ⊥
+  none_behind none before =
+      let last = prerequisite_from jobs a x before in
+      let there = behind_cut last.node last.edge last.from in
+      none there.0 there.1 (subst (IsFrom jobs a) (sym there.2) last.from)
 
--- a number that is not less than the least so far
-pub not_less : (p : ℕ) (o : Option ℕ) → (IfSome o (λ q. p < q) → ⊥) → MatchOption o ⊥ (λ q. q ≤ p)
-not_less p None none = none tt
-not_less p (Some q) more = elim (cases_lt p q) [ inl less ↦ absurd (more less) | inr other ↦ other ]
-
--- of all prerequisites of a node
-pub least_of_all : (jobs : Jobs) (a x : ℕ) (o : Option ℕ) → IsLeastOf jobs a (prerequisites_of jobs x) o
-    → (IfSome o (λ p. IsLeastFrom jobs a p x)) × IfNone o (Before jobs a x → ⊥)
-least_of_all jobs a x None none = (tt, λ before. let last = prerequisite_from jobs a x before in none last.node last.edge last.from)
-least_of_all jobs a x (Some p) is = (record { edge = is.there; from = is.from; least = is.least }, tt)
+-- a prerequisite that is a itself is the least
+pub least_itself : (jobs : Jobs) (a x : ℕ) → IsValid jobs → IsPrerequisite jobs a x → IsLeastFrom jobs a a x
+least_itself jobs a x valid edge = record { edge = edge; from = inl refl; least = λ q _ from. from_not_less jobs a q valid from }
 
 -- a chain from a front node to b, backwards
 pub record IsBuilt (jobs : Jobs) (a b front : ℕ) (nodes : List ℕ) : Type 0 where

@@ -1,5 +1,5 @@
 -- Which of several chains of edges is chosen.
-use Rattle.std.specs.Prelude.{ℕ, ◌≡◌, ◌≤◌, List, [], ◌∷◌}
+use Rattle.std.specs.Prelude.{ℕ, ◌≡◌, ◌<◌, ◌≤◌, List, [], ◌∷◌, get_or, length}
 use Rattle.mk_jobs.specs.Jobs.{Jobs, IsPrerequisite, IsValid}
 use Rattle.mk_jobs.specs.Chains.{last_of, ChainTo}
 use Rattle.mk_order.specs.Paths.{IsFrom}
@@ -9,6 +9,18 @@ pub record IsLeastFrom (jobs : Jobs) (a p x : ℕ) : Type 0 where
   pub edge : IsPrerequisite jobs p x
   pub from : IsFrom jobs a p
   pub least : (q : ℕ) → IsPrerequisite jobs q x → IsFrom jobs a q → p ≤ q
+
+-- none of the first of some nodes is a or has a before it
+abbrev pub NoneFrom : Jobs → ℕ → List ℕ → ℕ → Type 0
+NoneFrom jobs a nodes end = (k : ℕ) → k < end → IsFrom jobs a (get_or nodes k 0) → ⊥
+
+-- p is the first of some nodes that is a or has a before it
+pub record IsFirstFrom (jobs : Jobs) (a : ℕ) (nodes : List ℕ) (p : ℕ) : Type 0 where
+  pub place : ℕ
+  pub there : place < length nodes
+  pub is : get_or nodes place 0 ≡ p
+  pub from : IsFrom jobs a p
+  pub first : NoneFrom jobs a nodes place
 
 -- each of these nodes has that prerequisite right in front of it
 abbrev pub AreLeastFrom : Jobs → ℕ → ℕ → List ℕ → Type 0

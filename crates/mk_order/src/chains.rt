@@ -1,8 +1,8 @@
 //! Chains of edges from one node to another.
-ghost use Rattle.std.specs.Prelude.{◌≡◌, ◌<◌, ◌↔◌, IfNone, IfOk, IfSome, IsSome, IsTrue};
+ghost use Rattle.std.specs.Prelude.{◌≡◌, ◌<◌, ◌↔◌, All, IfNone, IfOk, IfSome, IsSome, IsTrue, length};
 ghost use Rattle.mk_jobs.specs.Jobs as spec;
 ghost use Rattle.mk_jobs.specs.Jobs.{IsValid, node_count};
-ghost use Rattle.mk_order.specs.Chosen.{IsChosen, IsLeastFrom};
+ghost use Rattle.mk_order.specs.Chosen.{IsChosen, IsFirstFrom, IsLeastFrom, NoneFrom};
 ghost use Rattle.mk_order.specs.Paths.{IsFrom};
 
 use crate::before::Before;
@@ -51,20 +51,27 @@ fn least_from<B: Before>(jobs: &Jobs, before: &mut B, a: u32, x: u32) -> Option<
     ensures none { IfNone result (¬ spec.Before jobs.now a x) }
     ensures keeps { B.jobs before.new ≡ B.jobs before.old }
 {
-    let mut least = None;
-    for &p in jobs.prerequisites(x) {
-        if is_less(p, least) && is_from(before, a, p) {
-            least = Some(p);
-        }
+    let needs = jobs.needs(x);
+    match needs.binary_search(&a) {
+        Ok(_) => Some(a),
+        Err(place) => first_from(before, a, &needs[place..]),
     }
-    least
 }
 
-/// Whether a number is less than the other, if there is another.
-fn is_less(p: u32, other: Option<u32>) -> bool
-    ensures { IsTrue result ↔ IfSome other (λ q. p < q) }
+/// The first of some nodes to which a itself, or a chain from a, leads, if there is one.
+fn first_from<B: Before>(before: &mut B, a: u32, nodes: &[u32]) -> Option<u32>
+    requires first { a < node_count (B.jobs before.old) }
+    requires all { All (λ p. p < node_count (B.jobs before.old)) nodes.now }
+    ensures some { IfSome result (IsFirstFrom (B.jobs before.old) a nodes.now) }
+    ensures none { IfNone result (NoneFrom (B.jobs before.old) a nodes.now (length nodes.now)) }
+    ensures keeps { B.jobs before.new ≡ B.jobs before.old }
 {
-    other.is_none_or(|q| p < q)
+    for &p in nodes {
+        if is_from(before, a, p) {
+            return Some(p);
+        }
+    }
+    None
 }
 
 /// Whether x is a or has a before it.

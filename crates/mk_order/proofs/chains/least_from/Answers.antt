@@ -1,62 +1,59 @@
-use Rattle.std.proofs.Common.{ℕ, ◌≡◌, ◌<◌, ◌+◌, ◌∙◌, ◌∷◌, [], ◌++◌, take, get_or, sym, ap, subst, All, List, Option, Some}
-use Rattle.std.proofs.lemmas.Bool.{both_ways}
-use Rattle.std.proofs.lemmas.List.{take_more, take_all}
-use Rattle.mk_jobs.specs.Jobs.{Jobs, node_count}
-use Rattle.mk_order.specs.Paths.{IsFrom}
-use Rattle.mk_order.proofs.Edges.{all_below}
-use Rattle.mk_order.proofs.Choosing.{IsLeastOf, least_taken, least_kept, least_of_all, not_less}
+use Rattle.std.proofs.Common.{ℕ, ◌≡◌, ◌<◌, ◌+◌, ◌-◌, ◌∙◌, List, Option, None, Some, Ok, Err, IfNone, IfSome, drop, get_or, length, take, ap, sym, subst, arith}
+use Rattle.std.proofs.lemmas.List.{get_or-drop, get_or_default, length-drop, take_rest}
+use Rattle.std.proofs.lemmas.List.Elements.{Contains-get_or}
+use Rattle.std.proofs.lemmas.List.Sorted.{searched}
+use Rattle.mk_jobs.specs.Jobs.{Before, Jobs, node_count}
+use Rattle.mk_order.specs.Chosen.{IsFirstFrom, IsLeastFrom, NoneFrom}
+use Rattle.mk_order.proofs.Choosing.{least_behind, least_itself, none_behind}
 use Rattle.mk_order.proofs.chains.least_from.Goals as goal
-use Rattle.mk_order.proofs.chains.least_from.Goals.{then-is_less+then-is_from, else-is_less, else-is_less-via-then-is_less+else-is_from, else-is_less-via-else-is_less}
 
-pub is_from-requires-clause-second : goal.is_from-requires-clause-second
-is_from-requires-clause-second g c =
-    let all = all_below c.args.jobs.now c.args.x (node_count c.args.jobs.now) c.requires.valid c.requires.last in
-    let here = subst (All (λ p. p < node_count c.args.jobs.now)) (sym c.prerequisites-p-items.ensures) all c.loop-p.p-index 0 c.loop-p-test.true in
-    subst (λ (jobs : Jobs). get_or c.prerequisites-p-items.result.now c.loop-p.p-index 0 < node_count jobs) (sym c.loop-p.invariant.1) here
+some_of : (o : Option ℕ) (P Q : ℕ → Type 0) → IfSome o P → ((p : ℕ) → P p → Q p) → IfSome o Q
+some_of None P Q found on = tt
+some_of (Some p) P Q found on = on p found
 
-pub loop-p-preserved : goal.loop-p-preserved
-loop-p-preserved g c =
+none_of : (o : Option ℕ) (A B : Type 0) → IfNone o A → (A → B) → IfNone o B
+none_of None A B found on = on found
+none_of (Some p) A B found on = tt
+
+pub first_from-requires-clause-all : goal.first_from-requires-clause-all
+first_from-requires-clause-all g c = λ k d at.
+    let needs = c.needs-needs.result.now in
+    let place = c.in-Err.place in
+    let rest : take (length needs - place) (drop place needs) ≡ drop place needs = take_rest needs place in
+    let short : k < length (drop place needs) = subst (λ (nodes : List ℕ). k < length nodes) rest at in
+    let here : get_or (take (length needs - place) (drop place needs)) k d ≡ get_or needs (place + k) d = ap (λ (nodes : List ℕ). get_or nodes k d) rest ∙ get_or-drop place needs k d in
+    let inside : place + k < length needs = omega (arith, short, length-drop place needs) in
+    let small = c.requires.valid.smaller c.args.x (get_or needs (place + k) d) ((c.needs-needs.ensures.same (get_or needs (place + k) d)).0 (Contains-get_or needs (place + k) d inside)) in
+    subst (λ (jobs : Jobs). get_or (take (length needs - place) (drop place needs)) k d < node_count jobs) (sym c.requires.same) (omega (arith, here, small, c.requires.last))
+
+pub returns-in-Ok-clause-some : goal.returns-in-Ok-clause-some
+returns-in-Ok-clause-some g c =
+    let needs = c.needs-needs.result.now in
+    let place = c.in-Ok.field-0 in
+    let at = searched needs c.args.a (Ok place) c.in-Ok.ensures.position (λ i j le inside. c.needs-needs.ensures.rising i j 0 le inside) in
+    least_itself c.args.jobs.now c.args.a c.args.x c.requires.valid ((c.needs-needs.ensures.same c.args.a).0 (place, at.0, get_or_default needs place c.args.a 0 at.0 ∙ at.1))
+
+pub returns-in-Err-clause-some : goal.returns-in-Err-clause-some
+returns-in-Err-clause-some g c =
     let jobs = c.args.jobs.now in
-    let a = c.args.a in
-    let nodes = c.prerequisites-p-items.result.now in
-    let i = c.loop-p.p-index in
-    let p = get_or nodes i 0 in
-    let least = c.loop-p.least in
-    let so_far = c.loop-p.invariant.0 in
-    let same = c.loop-p.invariant.1 in
-    let more = take_more nodes i 0 c.loop-p-test.true in
-    let step : (o : Option ℕ) → c.if-is_less.least ≡ o → IsLeastOf jobs a (take i nodes ++ p ∷ []) o → IsLeastOf jobs a (take (i + 1) nodes) c.if-is_less.least =
-    λ o is found. subst (IsLeastOf jobs a (take (i + 1) nodes)) (sym is) (subst (λ (ns : List ℕ). IsLeastOf jobs a ns o) (sym more) found) in
-    elim c.if-is_less.branch [
-      | then-is_less+then-is_from w ↦
-          let from = subst (λ (j : Jobs). IsFrom j a p) same (w.is_from.ensures.exact.0 w.if-is_from.true) in (
-            step (Some p) w.least-is (least_taken jobs a p (take i nodes) least so_far from (c.is_less.ensures.0 w.if-is_less.true)),
-            ap g.B.Before.jobs w.before-is ∙ w.is_from.ensures.keeps ∙ same,
-          )
-      | else-is_less w ↦ elim w.else-is_less.branch [
-        | else-is_less-via-then-is_less+else-is_from w' ↦
-            let not_from = λ (from : IsFrom jobs a p). both_ways w'.is_from.result w'.if-is_from.false (w'.is_from.ensures.exact.1 (subst (λ (j : Jobs). IsFrom j a p) (sym same) from)) in (
-              step least w.least-is (least_kept jobs a p (take i nodes) least so_far (λ from. absurd (not_from from))),
-              ap g.B.Before.jobs (w.before-is ∙ w'.before-is) ∙ w'.is_from.ensures.keeps ∙ same,
-            )
-        | else-is_less-via-else-is_less w' ↦
-            let other = not_less p least (λ less. both_ways c.is_less.result w'.if-is_less.false (c.is_less.ensures.1 less)) in (
-              step least w.least-is (least_kept jobs a p (take i nodes) least so_far (λ from. other)),
-              ap g.B.Before.jobs (w.before-is ∙ w'.before-is) ∙ same,
-            )
-      ]
-    ]
+    let needs = c.needs-needs.result.now in
+    let place = c.in-Err.place in
+    let rest = take (length needs - place) (drop place needs) in
+    let at = searched needs c.args.a (Err place) c.in-Err.ensures.position (λ i j le inside. c.needs-needs.ensures.rising i j 0 le inside) in
+    some_of c.first_from.result (IsFirstFrom (g.B.Before.jobs c.args.before.now) c.args.a rest) (λ p. IsLeastFrom jobs c.args.a p c.args.x) c.first_from.ensures.some
+    (λ p first.
+    least_behind jobs c.args.a c.args.x place needs c.requires.valid c.needs-needs.ensures.rising c.needs-needs.ensures.same at.1 p
+    (subst (λ (nodes : List ℕ). IsFirstFrom jobs c.args.a nodes p) (take_rest needs place) (subst (λ (j : Jobs). IsFirstFrom j c.args.a rest p) c.requires.same first)))
 
-pub returns-clause-some : goal.returns-clause-some
-returns-clause-some g c =
-    let nodes = c.prerequisites-p-items.result.now in
-    let all = take_all c.loop-p.p-index nodes c.loop-p-test.false ∙ c.prerequisites-p-items.ensures in
-    let least = subst (λ (ns : List ℕ). IsLeastOf c.args.jobs.now c.args.a ns c.loop-p.least) all c.loop-p.invariant.0 in
-    (least_of_all c.args.jobs.now c.args.a c.args.x c.loop-p.least least).0
-
-pub returns-clause-none : goal.returns-clause-none
-returns-clause-none g c =
-    let nodes = c.prerequisites-p-items.result.now in
-    let all = take_all c.loop-p.p-index nodes c.loop-p-test.false ∙ c.prerequisites-p-items.ensures in
-    let least = subst (λ (ns : List ℕ). IsLeastOf c.args.jobs.now c.args.a ns c.loop-p.least) all c.loop-p.invariant.0 in
-    (least_of_all c.args.jobs.now c.args.a c.args.x c.loop-p.least least).1
+pub returns-in-Err-clause-none : goal.returns-in-Err-clause-none
+returns-in-Err-clause-none g c =
+    let jobs = c.args.jobs.now in
+    let needs = c.needs-needs.result.now in
+    let place = c.in-Err.place in
+    let rest = take (length needs - place) (drop place needs) in
+    let at = searched needs c.args.a (Err place) c.in-Err.ensures.position (λ i j le inside. c.needs-needs.ensures.rising i j 0 le inside) in
+    none_of c.first_from.result (NoneFrom (g.B.Before.jobs c.args.before.now) c.args.a rest (length rest)) (Before jobs c.args.a c.args.x → ⊥) c.first_from.ensures.none
+    (λ none.
+    none_behind jobs c.args.a c.args.x place needs c.requires.valid c.needs-needs.ensures.rising c.needs-needs.ensures.same at.1
+    (subst (λ (nodes : List ℕ). NoneFrom jobs c.args.a nodes (length nodes)) (take_rest needs place)
+    (subst (λ (j : Jobs). NoneFrom j c.args.a rest (length rest)) c.requires.same none)))
