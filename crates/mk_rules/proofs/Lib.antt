@@ -1,3 +1,4 @@
+pub mod Beginning
 pub mod BothTexts
 pub mod EntryAnswers
 pub mod Firsts

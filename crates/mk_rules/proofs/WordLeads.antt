@@ -1,5 +1,5 @@
 -- What the words of an include line lead to.
-use Rattle.std.proofs.Common.{◌≡◌, ℕ, suc, ◌+◌, ◌-◌, ◌<◌, Bool, true, false, if◌then◌else◌, List, [], ◌∷◌, Option, None, Some, Result, Ok, Err, arith, refl, sym, ◌∙◌, subst, ap}
+use Rattle.std.proofs.Common.{◌≡◌, ℕ, suc, ◌+◌, ◌-◌, ◌<◌, Bool, true, false, if◌then◌else◌, List, [], ◌∷◌, Option, None, Some, Result, Ok, Err, arith, refl, sym, subst}
 use Rattle.std.specs.Prelude.{nat_le, ◌==◌}
 use Rattle.mk_name.specs.Gives.{Halts, HaltsAmong}
 use Rattle.mk_name.specs.Names.{Name}

@@ -1,4 +1,5 @@
 pub mod Before
+pub mod Begun
 pub mod Book
 pub mod Entries
 pub mod Hashing

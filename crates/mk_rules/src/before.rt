@@ -1,5 +1,5 @@
 //! What is kept of the macros before an include line.
-ghost use Rattle.std.specs.Prelude.{◌≡◌, IfOk, IfNone};
+ghost use Rattle.std.specs.Prelude.{◌≡◌, IfOk, IfNone, IfSome};
 ghost use Rattle.mk_macro.specs.Macros as specs;
 ghost use Rattle.mk_macro.specs.Macros.{macros_of};
 ghost use Rattle.mk_rules.specs.Before.{IsBefore};
@@ -47,8 +47,9 @@ impl Before {
     /// Makes the macros those before the line; or leaves them, where those are not kept, and gives how many
     /// include lines began before it.
     pub(crate) fn take_back(&mut self, macros: &mut Macros) -> Option<usize>
-        ensures { IfNone result ((first : specs.Macros) → IsBefore self.old macros.old first
+        ensures taken_back { IfNone result ((first : specs.Macros) → IsBefore self.old macros.old first
             → macros_of macros.new ≡ first) }
+        ensures left { IfSome result (λ begun. macros_of macros.new ≡ macros_of macros.old) }
     {
         match mem::replace(self, Before::Gone(0)) {
             Before::Same(_) => None,

@@ -4,7 +4,8 @@
 //!   include lines may name, the macros of the command line and the root; it gives the
 //!   [`rulebook::Rulebook`], or the first fault, and leaves the macros behind the lines.
 //!   `specs/Reading.antt` says what lines lead to, one after another and inside one another;
-//!   `specs/Entries.antt` what an entry says; `specs/Placed.antt` where a fault is reported.
+//!   `specs/Begun.antt` what is left of the macros where memory runs out; `specs/Entries.antt` what an
+//!   entry says; `specs/Placed.antt` where a fault is reported.
 //! - The rulebook answers what the target rules, the inference rules and the special targets say of a name
 //!   (POSIX.1-2024 XCU make, "Target Rules", "Inference Rules", "Special Targets"), all read off the list
 //!   of entries: `specs/Book.antt`, and `specs/Special.antt` for names with a meaning of their own.

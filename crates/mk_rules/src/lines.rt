@@ -2,13 +2,14 @@
 //!
 //! The calls go round from the lines of a text to a line, its words, and the lines of the text that a word
 //! names. Each round takes one from `room`, so they never lie deeper than that.
-ghost use Rattle.std.specs.Prelude.{◌≡◌, ◌<◌, ◌+◌, map, suc, OnOk};
+ghost use Rattle.std.specs.Prelude.{◌≡◌, ◌<◌, ◌+◌, map, suc, IfErr, OnErr, OnOk};
 ghost use Rattle.mk_macro.specs.Macros as specs;
 ghost use Rattle.mk_macro.specs.Macros.{macros_of};
 ghost use Rattle.mk_text.specs.LogicalLine.{parts_of};
 ghost use Rattle.mk_include.specs.Includes.{texts_of, reported_in};
 ghost use Rattle.mk_include.specs.Words.{include_limit};
 ghost use Rattle.mk_rules.specs.Before.{IsBefore};
+ghost use Rattle.mk_rules.specs.Begun.{Begun, IfMemory, IncludeBegun, TextBegun, WordBegun, line_begun};
 ghost use Rattle.mk_rules.specs.Placed.{placed};
 ghost use Rattle.mk_rules.specs.Reading.{AssignmentSays, EntryLineSays, IncludeSays, Leads, Point, Steps, TextSays, WordSays, line_says, point};
 
@@ -56,8 +57,9 @@ impl<'r, 't> Reader<'r, 't> {
         macros: &mut Macros,
         so_far: &mut SoFar,
     ) -> Result<(), Halt>
-        ensures { Leads result (point so_far.new.rules.items so_far.new.taken macros.new)
+        ensures leads { Leads result (point so_far.new.rules.items so_far.new.taken macros.new)
             (AssignmentSays (point so_far.old.rules.items so_far.old.taken macros.old) placed.now) }
+        ensures unchanged { OnErr result (macros_of macros.new ≡ macros_of macros.old) }
     {
         match macros.assign(self.alloc, placed.line) {
             Ok(()) => Ok(()),
@@ -98,9 +100,14 @@ impl<'r, 't> Reader<'r, 't> {
     ) -> Result<(), Halt>
         requires room { 0 < room }
         requires taken { so_far.old.taken < include_limit }
-        ensures { Leads result (point so_far.new.rules.items so_far.new.taken macros.new)
+        ensures leads { Leads result (point so_far.new.rules.items so_far.new.taken macros.new)
             (TextSays (line_says self.now.root.now (texts_of self.now.includes.now) room)
             (point so_far.old.rules.items (so_far.old.taken + 1) macros.old) name (reported_in name cut.now)) }
+        ensures begun { IfErr result (λ halt. IfMemory halt (TextBegun
+            (line_begun self.now.root.now (texts_of self.now.includes.now) room)
+            (line_says self.now.root.now (texts_of self.now.includes.now) room)
+            (point so_far.old.rules.items (so_far.old.taken + 1) macros.old) name
+            (reported_in name cut.now) (macros_of macros.new))) }
     {
         so_far.taken += 1;
         let lines = cut.lines(self.alloc, &name)?;
@@ -125,6 +132,13 @@ impl<'r, 't> Reader<'r, 't> {
             (WordSays self.now.root.now (texts_of self.now.includes.now) hyphen room
             (line_says self.now.root.now (texts_of self.now.includes.now) room) placed.now first
             (point so_far.old.rules.items so_far.old.taken macros.old) word.now) }
+        ensures begun { (first : specs.Macros) → IsBefore before.old macros.old first
+            → IfErr result (λ halt. IfMemory halt (WordBegun self.now.root.now
+            (texts_of self.now.includes.now) hyphen room
+            (line_begun self.now.root.now (texts_of self.now.includes.now) room)
+            (line_says self.now.root.now (texts_of self.now.includes.now) room) first
+            (point so_far.old.rules.items so_far.old.taken macros.old) word.now
+            (macros_of macros.new))) }
         ensures before { OnOk result ((first : specs.Macros) → IsBefore before.old macros.old first
             → IsBefore before.new macros.new first) }
     {
@@ -157,11 +171,19 @@ impl<'r, 't> Reader<'r, 't> {
         macros: &mut Macros,
         so_far: &mut SoFar,
     ) -> Result<(), Halt>
-        ensures { Leads result (point so_far.new.rules.items so_far.new.taken macros.new)
+        ensures leads { Leads result (point so_far.new.rules.items so_far.new.taken macros.new)
             (λ answer. Steps (WordSays self.now.root.now (texts_of self.now.includes.now) hyphen room
             (line_says self.now.root.now (texts_of self.now.includes.now) room) placed.now
             (macros_of macros.old)) (point so_far.old.rules.items so_far.old.taken macros.old)
             (map (λ word. word.now) words.now) answer) }
+        ensures begun { IfErr result (λ halt. IfMemory halt (Begun
+            (WordBegun self.now.root.now (texts_of self.now.includes.now) hyphen room
+            (line_begun self.now.root.now (texts_of self.now.includes.now) room)
+            (line_says self.now.root.now (texts_of self.now.includes.now) room) (macros_of macros.old))
+            (WordSays self.now.root.now (texts_of self.now.includes.now) hyphen room
+            (line_says self.now.root.now (texts_of self.now.includes.now) room) placed.now
+            (macros_of macros.old)) (point so_far.old.rules.items so_far.old.taken macros.old)
+            (map (λ word. word.now) words.now) (macros_of macros.new))) }
     {
         let begun = so_far.begun;
         so_far.begun = begun.saturating_add(1);
@@ -182,10 +204,16 @@ impl<'r, 't> Reader<'r, 't> {
         macros: &mut Macros,
         so_far: &mut SoFar,
     ) -> Result<(), Halt>
-        ensures { Leads result (point so_far.new.rules.items so_far.new.taken macros.new)
+        ensures leads { Leads result (point so_far.new.rules.items so_far.new.taken macros.new)
             (IncludeSays self.now.root.now (texts_of self.now.includes.now) room
             (line_says self.now.root.now (texts_of self.now.includes.now) room) parts.now
             (point so_far.old.rules.items so_far.old.taken macros.old) placed.now) }
+        ensures begun { IfErr result (λ halt. IfMemory halt (IncludeBegun self.now.root.now
+            (texts_of self.now.includes.now) room
+            (line_begun self.now.root.now (texts_of self.now.includes.now) room)
+            (line_says self.now.root.now (texts_of self.now.includes.now) room) parts.now
+            (point so_far.old.rules.items so_far.old.taken macros.old) placed.now
+            (macros_of macros.new))) }
     {
         match macros.expand(self.alloc, parts.rest()) {
             Ok(text) => {
@@ -205,9 +233,13 @@ impl<'r, 't> Reader<'r, 't> {
         macros: &mut Macros,
         so_far: &mut SoFar,
     ) -> Result<(), Halt>
-        ensures { Leads result (point so_far.new.rules.items so_far.new.taken macros.new)
+        ensures leads { Leads result (point so_far.new.rules.items so_far.new.taken macros.new)
             (line_says self.now.root.now (texts_of self.now.includes.now) (suc room)
             (point so_far.old.rules.items so_far.old.taken macros.old) placed.now) }
+        ensures begun { IfErr result (λ halt. IfMemory halt (line_begun self.now.root.now
+            (texts_of self.now.includes.now) (suc room)
+            (point so_far.old.rules.items so_far.old.taken macros.old) placed.now
+            (macros_of macros.new))) }
     {
         match placed.line.parts() {
             Parts::Assign(_) => self.read_assignment(placed, macros, so_far),
@@ -227,10 +259,15 @@ impl<'r, 't> Reader<'r, 't> {
         macros: &mut Macros,
         so_far: &mut SoFar,
     ) -> Result<(), Halt>
-        ensures { Leads result (point so_far.new.rules.items so_far.new.taken macros.new)
+        ensures leads { Leads result (point so_far.new.rules.items so_far.new.taken macros.new)
             (λ answer. Steps (line_says self.now.root.now (texts_of self.now.includes.now) (suc room))
             (point so_far.old.rules.items so_far.old.taken macros.old) (placed source.now lines.now)
             answer) }
+        ensures begun { IfErr result (λ halt. IfMemory halt (Begun
+            (line_begun self.now.root.now (texts_of self.now.includes.now) (suc room))
+            (line_says self.now.root.now (texts_of self.now.includes.now) (suc room))
+            (point so_far.old.rules.items so_far.old.taken macros.old) (placed source.now lines.now)
+            (macros_of macros.new))) }
     {
         for (i, line) in lines.iter().enumerate() {
             let placed = Placed {

@@ -1,10 +1,11 @@
 //! The lines of the makefiles, read one after another.
-ghost use Rattle.std.specs.Prelude.{◌≡◌, [], suc};
+ghost use Rattle.std.specs.Prelude.{◌≡◌, [], suc, IfErr};
 ghost use Rattle.std.specs.Result.{result_map_both};
 ghost use Rattle.mk_name.specs.Gives.{Answers};
 ghost use Rattle.mk_macro.specs.Macros.{macros_of};
 ghost use Rattle.mk_macro.specs.Answers.{AnswersLeft};
 ghost use Rattle.mk_include.specs.Includes.{texts_of};
+ghost use Rattle.mk_rules.specs.Begun.{IfMemory, LinesBegun};
 ghost use Rattle.mk_rules.specs.Placed.{all_lines};
 ghost use Rattle.mk_rules.specs.Reading.{AnswersEntries, BookSays, LinesSay, MakefilesSay};
 
@@ -31,9 +32,12 @@ fn read_both(
 ) -> Result<(), Halt>
     requires empty { so_far.old.rules.items ≡ [] }
     requires untaken { so_far.old.taken ≡ 0 }
-    ensures { Answers (result_map_both (λ _. so_far.new.rules.items) (λ halt. halt) result)
+    ensures says { Answers (result_map_both (λ _. so_far.new.rules.items) (λ halt. halt) result)
         (λ answer. LinesSay reader.now.root.now (texts_of reader.now.includes.now)
         (macros_of macros.old) (all_lines base.now makefile.now) answer (macros_of macros.new)) }
+    ensures begun { IfErr result (λ halt. IfMemory halt (LinesBegun reader.now.root.now
+        (texts_of reader.now.includes.now) (macros_of macros.old) (all_lines base.now makefile.now)
+        (macros_of macros.new))) }
 {
     reader.read_lines(DEPTH_LIMIT, &Source::Base, base, macros, so_far)?;
     reader.read_lines(DEPTH_LIMIT, &Source::Makefile, makefile, macros, so_far)
@@ -48,9 +52,12 @@ fn read_once(
     macros: &mut Macros,
     again: &mut Option<usize>,
 ) -> Result<Vec<Rule>, Halt>
-    ensures { AnswersEntries result (λ answer. LinesSay reader.now.root.now
+    ensures says { AnswersEntries result (λ answer. LinesSay reader.now.root.now
         (texts_of reader.now.includes.now) (macros_of macros.old) (all_lines base.now makefile.now)
         answer (macros_of macros.new)) }
+    ensures begun { IfErr result (λ halt. IfMemory halt (LinesBegun reader.now.root.now
+        (texts_of reader.now.includes.now) (macros_of macros.old) (all_lines base.now makefile.now)
+        (macros_of macros.new))) }
 {
     let mut so_far = SoFar {
         rules: Vec::new(reader.alloc),
@@ -76,8 +83,10 @@ fn read_all(
     macros: &mut Macros,
     root: &Root,
 ) -> Result<Vec<Rule>, Halt>
-    ensures { AnswersEntries result (λ answer. LinesSay root.now (texts_of includes.now)
+    ensures says { AnswersEntries result (λ answer. LinesSay root.now (texts_of includes.now)
         (macros_of macros.old) (all_lines base.now makefile.now) answer (macros_of macros.new)) }
+    ensures begun { IfErr result (λ halt. IfMemory halt (LinesBegun root.now (texts_of includes.now)
+        (macros_of macros.old) (all_lines base.now makefile.now) (macros_of macros.new))) }
 {
     let first = macros.copy()?;
     let mut again = None;
@@ -139,7 +148,7 @@ fn checked(alloc: Global, book: Rulebook) -> Result<Rulebook, Halt>
 /// The macros are left as the lines say: after a refused line those before it, and so after a bad word of
 /// an include line without what the texts of its earlier words assigned; after a fault of an included
 /// text's own lines those before the word that names it; after `TwoRecipes` and after success those behind
-/// all lines.
+/// all lines; and after out of memory those behind some beginning of the lines.
 pub fn read_rules(
     alloc: Global,
     base: &[Line],
@@ -148,8 +157,10 @@ pub fn read_rules(
     macros: &mut Macros,
     root: &Root,
 ) -> Result<Rulebook, Halt>
-    ensures { Answers result (λ answer. MakefilesSay root.now (texts_of includes.now)
+    ensures says { Answers result (λ answer. MakefilesSay root.now (texts_of includes.now)
         (macros_of macros.old) (all_lines base.now makefile.now) answer (macros_of macros.new)) }
+    ensures begun { IfErr result (λ halt. IfMemory halt (LinesBegun root.now (texts_of includes.now)
+        (macros_of macros.old) (all_lines base.now makefile.now) (macros_of macros.new))) }
 {
     let rules = read_all(alloc, base, makefile, includes, macros, root)?;
     let book = Rulebook::new(alloc, rules)?;
