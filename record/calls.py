@@ -2,13 +2,13 @@
 
 import os
 import re
-from typing import Callable, Optional, Tuple
+from typing import Callable, Dict, NamedTuple, Tuple
 
 from record import shelltext
 from record.lives import Life
 from record.names import Found, Inode
 from record.replay import DEVICES, Replay
-from record.strace import Call, folders, is_cut, texts
+from record.strace import Call, first_text, folders, is_cut, remembered, texts
 
 WRITING = re.compile(r"O_WRONLY|O_RDWR|O_TRUNC|O_CREAT")
 LOOKS = {"stat", "lstat", "access", "getxattr", "lgetxattr", "listxattr", "llistxattr", "statfs", "newfstatat",
@@ -20,6 +20,32 @@ TIMES = {"utime", "utimes", "utimensat", "futimesat"}
 # After these, what a process opens is not what the trace names, or is not in the trace at all.
 HIDING = {"chroot", "pivot_root", "mount", "move_mount", "umount", "umount2", "setns", "open_by_handle_at", "io_uring_setup"}
 TEXT_END = re.compile(r'^.*"(?:[^"\\]|\\.)*"', re.S)
+
+
+class Spelled(NamedTuple):
+    """The first path of a call's arguments: the folder that it starts from, the path, and the folder that the process is in."""
+
+    base: str
+    path: str
+    folder: str
+
+
+@remembered
+def spelled(args: str) -> Spelled:
+    """What the arguments of an *at-call say of their first path."""
+    word = first_text(args)
+    where = folders(args.split('"', 1)[0])
+    base = where[0] if where else ""
+    folder = base if args.startswith("AT_FDCWD") else ""
+    if base and not word and (word is None or "AT_EMPTY_PATH" in args or "NULL" in args):
+        return Spelled("", base, folder)
+    return Spelled(base, word or "", folder)
+
+
+@remembered
+def flags_of(args: str) -> str:
+    """What stands behind the path of an open."""
+    return TEXT_END.sub("", args)
 
 
 class Calls(Replay):
@@ -36,13 +62,9 @@ class Calls(Replay):
             return
         if life.is_wrapper and name != "execve":
             return
-        handler: Optional[Callable[[Life, Call, bool], None]] = getattr(self, "on_" + name, None)
+        handler = HANDLERS.get(name)
         if handler is not None:
-            handler(life, call, ok)
-        elif name in LOOKS:
-            self.on_look(life, call, ok)
-        elif name in CHANGES:
-            self.on_change(life, call, ok)
+            handler(self, life, call, ok)
         elif name in HIDING and ok:
             self.holes.append("files that are opened after %s are not seen: %s" % (name, " ".join(life.argv)[:100]))
         elif name in ("connect", "bind"):
@@ -51,15 +73,10 @@ class Calls(Replay):
 
     def base_and_path(self, life: Life, call: Call) -> Tuple[str, str]:
         """The folder that the first path of an *at-call starts from, and the path."""
-        words = texts(call.args)
-        path = words[0] if words else ""
-        where = folders(call.args.split('"', 1)[0])
-        base = where[0] if where else ""
-        if base and call.args.startswith("AT_FDCWD"):
-            life.folder = base
-        if base and not path and (not words or "AT_EMPTY_PATH" in call.args or "NULL" in call.args):
-            return "", base
-        return base, path
+        found = spelled(call.args)
+        if found.folder:
+            life.folder = found.folder
+        return found.base, found.path
 
     def on_look(self, life: Life, call: Call, ok: bool) -> None:
         base, path = self.base_and_path(life, call)
@@ -69,21 +86,23 @@ class Calls(Replay):
         plain = path if call.name == "stat" or (call.name == "newfstatat" and follow and not path.startswith("/")) else ""
         link = call.name.startswith("readlink") and ok
         found = self.look(life, path, ok or call.error == "EINVAL", follow, "R" if link else "S", base, plain)
-        if shelltext.looks_at_links(life.argv):
+        traits = life.traits()
+        if traits.looks_at_links:
             self.put(life, "h", found.path)
-        if life.is_query or shelltext.is_interpreter(life.argv) or self.ages(life):
+        if life.is_query or traits.is_interpreter or self.ages(life):
             is_folder = found.inode is not None and found.inode.kind == "d"
             if not is_folder or path != "." and not path.startswith("/") or shelltext.names_here(life.argv):
                 self.put(life, "A", found.path)
 
     def on_execve(self, life: Life, call: Call, ok: bool) -> None:
-        words = texts(call.args)
-        if not words:
+        program = first_text(call.args)
+        if program is None:
             return
         if not ok:
             if not life.is_wrapper:
-                self.look(life, words[0], False, True)
+                self.look(life, program, False, True)
             return
+        words = texts(call.args)
         argv = words[1:]
         was_wrapper, was_make = life.is_wrapper, life.is_make
         forked = was_wrapper and not life.ran
@@ -134,7 +153,7 @@ class Calls(Replay):
         base, path = self.base_and_path(life, call)
         if ok and DEVICES.match(path) and call.opened.startswith("/") and not DEVICES.match(call.opened):
             base, path = "", call.opened
-        flags = TEXT_END.sub("", call.args)
+        flags = flags_of(call.args)
         changes = call.name == "creat" or bool(WRITING.search(flags))
         if "O_TMPFILE" in flags or not path:
             return
@@ -149,7 +168,8 @@ class Calls(Replay):
             self.holes.append("a name leads to another file than the record says: %s is %s, and not %s" % (path, call.opened, found.path))
         if not changes:
             folder = found.inode is not None and found.inode.kind == "d"
-            self.look(life, path, True, follow, "S" if folder else "R", base)
+            self.put_links(life, found)
+            self.put_look(life, found, True, "S" if folder else "R")
             return
         if "O_EXCL" in flags:
             self.fresh.add(found.path)
@@ -313,3 +333,11 @@ class Calls(Replay):
             self.put(life, "t" if call.name in TIMES else "m", found.path)
         else:
             self.write(life, found, False)
+
+
+Handler = Callable[[Calls, Life, Call, bool], None]
+HANDLERS: Dict[str, Handler] = {
+    **dict.fromkeys(CHANGES, Calls.on_change),
+    **dict.fromkeys(LOOKS, Calls.on_look),
+    **{name[len("on_"):]: handler for name, handler in vars(Calls).items() if name.startswith("on_")},
+}

@@ -45,11 +45,23 @@ def parents(path: str) -> List[str]:
     return found
 
 
+def parents_of_all(paths: Set[str]) -> Set[str]:
+    """The folders above some paths."""
+    found: Set[str] = set()
+    for path in paths:
+        while path not in ("/", ""):
+            path = os.path.dirname(path)
+            if path in found:
+                break
+            found.add(path)
+    return found
+
+
 def gather(builder: "Builder") -> Dict[str, Folder]:
     """All folders that recipes make or remove, with who uses them."""
     table = {p: Folder() for p in builder.made | builder.tried}
     renamed = {p for p in builder.build.writers if p in builder.made}
-    for at, events in each(builder):
+    for at, events in each(builder) if table else ():
         touched: Set[str] = set()
         for kind, path, place in events:
             path = path.split("\0")[0]
@@ -58,10 +70,9 @@ def gather(builder: "Builder") -> Dict[str, Folder]:
                 note(folder, at, kind, place)
             if kind in "RSWCDMTEXUL" and not path.endswith("/"):
                 touched.add(path)
-        for path in touched:
-            for above in parents(path):
-                if above in table:
-                    table[above].users.add(at)
+        for above in parents_of_all(touched):
+            if above in table:
+                table[above].users.add(at)
     for path in renamed:
         table[path].created |= set()
     return table
@@ -197,8 +208,10 @@ def add_times(builder: "Builder") -> None:
     wanted = builder.timed
     for at, events in each(builder):
         for kind, path, _ in events:
+            if kind not in "CDXt":
+                continue
             where = path if kind == "t" else os.path.dirname(path.rstrip("/"))
-            if kind in "CDXt" and where in wanted:
+            if where in wanted:
                 builder.timers.setdefault(where, set()).add(at)
     for where, changers in builder.timers.items():
         for at in wanted[where]:
@@ -221,8 +234,10 @@ def add_modes(builder: "Builder") -> None:
     counted: Dict[str, Set[int]] = {}
     for at, events in table:
         for kind, path, _ in events:
+            if kind not in "HX" and not (kind == "C" and path.endswith("/")):
+                continue
             where = path if kind == "H" else os.path.dirname(path.rstrip("/"))
-            if where in links and (kind in "HX" or kind == "C" and path.endswith("/")):
+            if where in links:
                 counted.setdefault(where, set()).add(at)
     for at, events in table:
         for kind, path, _ in events:

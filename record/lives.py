@@ -13,6 +13,8 @@ the trace is kept. Kinds:
 from dataclasses import dataclass, field
 from typing import Dict, Iterable, List, Optional, Tuple
 
+from record.shelltext import Traits
+
 Key = Tuple[str, str]
 
 
@@ -51,6 +53,13 @@ class Life:
     adopted: bool = False
     children: List["Life"] = field(default_factory=list)
     threads: List["Life"] = field(default_factory=list)  # those that change their folder together, with this one
+    known: Optional[Traits] = None
+
+    def traits(self) -> Traits:
+        """What the words say of its looks."""
+        if self.known is None or self.known.argv is not self.argv:
+            self.known = Traits(self.argv)
+        return self.known
 
     def join_threads(self, other: "Life") -> None:
         """Another life is a thread of this one."""

@@ -8,7 +8,7 @@ import os
 import stat
 from dataclasses import dataclass, field
 from pathlib import Path
-from typing import Dict, Iterable, List, Optional, Tuple
+from typing import Dict, Iterable, List, Optional, Set, Tuple
 
 LINK_LIMIT = 40
 
@@ -55,11 +55,24 @@ class Found:
     missing: str = ""
 
 
+@dataclass
+class Where:
+    """Where the spelling of a folder leads: the folder, its real path, the links on the way, the first name that is not there, and
+    which names the disk does not have in it."""
+
+    node: Optional[Inode]
+    path: str
+    links: List[str]
+    missing: str
+    absent: Set[str] = field(default_factory=set)
+
+
 class Names:
     """The name space; see the module."""
 
     def __init__(self) -> None:
         self.root = Inode("d")
+        self.wheres: Dict[str, Where] = {}  # by spelling; they hold until a folder or a link comes or goes
         self.before: Dict[str, str] = {}
         self.tops: List[str] = []
 
@@ -108,33 +121,43 @@ class Names:
             node = child
         return node
 
-    @staticmethod
-    def put(folder: Inode, name: str, child: Inode) -> None:
+    def put(self, folder: Inode, name: str, child: Inode) -> None:
         """Gives a node a name."""
+        self.forget(child)
+        self.forget(folder.entries.get(name))
         folder.entries[name] = child
         if child.kind == "d":
             child.parent, child.name = folder, name
         else:
             child.names.append((folder, name))
 
-    @staticmethod
-    def take(folder: Inode, name: str) -> Optional[Inode]:
+    def take(self, folder: Inode, name: str) -> Optional[Inode]:
         """Takes a name away."""
         child = folder.entries.pop(name, None)
+        self.forget(child)
         if child is not None and child.kind != "d":
             child.names = [(f, n) for f, n in child.names if not (f is folder and n == name)]
         return child
+
+    def forget(self, changed: Optional[Inode]) -> None:
+        """A node gets or loses a name: where it is a folder or a link, spellings lead elsewhere."""
+        if changed is not None and changed.kind != "f":
+            self.wheres.clear()
 
     def child_of(self, folder: Inode, name: str) -> Optional[Inode]:
         """What a folder has under a name; outside of the walked folders the disk says it."""
         child = folder.entries.get(name)
         if child is None and not self.is_walked(folder):
-            path = join(folder.path(), name)
-            try:
-                child = self.made_of(os.lstat(path), path, {})
-            except OSError:
-                return None
-            self.put(folder, name, child)
+            child = self.ask(folder, name, join(folder.path(), name))
+        return child
+
+    def ask(self, folder: Inode, name: str, path: str) -> Optional[Inode]:
+        """What the disk has under a name, now in the model."""
+        try:
+            child = self.made_of(os.lstat(path), path, {})
+        except OSError:
+            return None
+        self.put(folder, name, child)
         return child
 
     @staticmethod
@@ -144,11 +167,40 @@ class Names:
 
     def find(self, base: str, path: str, follow: bool) -> Found:
         """Follows a path from a folder; `follow`: the last name too, where it is a link."""
-        todo = [p for p in join(base, path).split("/") if p not in ("", ".")]
-        if path.endswith("/"):
-            follow = True
-        if path.startswith("/"):
-            todo = [p for p in path.split("/") if p not in ("", ".")]
+        whole = path if path.startswith("/") else join(base, path)
+        spelled, _, name = whole.rpartition("/")
+        if name in ("", ".", ".."):
+            return self.walk_along(whole, follow or path.endswith("/"))
+        where = self.wheres.get(spelled) or self.where(spelled)
+        here = join(where.path, name)
+        if where.node is None:
+            return Found(here, None, None, "", list(where.links), where.missing)
+        child = where.node.entries.get(name) or self.ask_once(where, where.node, name, here)
+        if child is not None and child.kind == "l" and follow:
+            return self.walk_along(whole, True)
+        return Found(here, child, where.node, name, list(where.links), "" if child else here)
+
+    def where(self, spelled: str) -> Where:
+        """Where the spelling of a folder leads. It is kept, but not where a file or a ring of links stands in the way."""
+        found = self.walk_along(spelled, True)
+        node = found.inode if found.inode is not None and found.inode.kind == "d" else None
+        where = Where(node, found.path, found.links, found.missing or found.path)
+        if node is not None or self.walk_along(where.missing, False).inode is None:
+            self.wheres[spelled] = where
+        return where
+
+    def ask_once(self, where: Where, folder: Inode, name: str, path: str) -> Optional[Inode]:
+        """What the disk has under a name of a folder that was not walked; it is asked once for a name that is absent."""
+        if self.is_walked(folder) or name in where.absent:
+            return None
+        child = self.ask(folder, name, path)
+        if child is None:
+            where.absent.add(name)
+        return child
+
+    def walk_along(self, path: str, follow: bool) -> Found:
+        """Follows a path from the root, name by name."""
+        todo = [p for p in path.split("/") if p not in ("", ".")]
         todo.reverse()
         node, links, hops = self.root, [], 0
         while todo:

@@ -59,11 +59,13 @@ class Replay:
 
     def ages(self, life: Life) -> bool:
         """Whether the process may compare ages."""
-        key = "\0".join(life.argv[:8])
-        known = self.aged.get(key)
-        if known is None:
-            known = self.aged[key] = shelltext.compares_ages(life.argv, life.folder)
-        return known
+        traits = life.traits()
+        if traits.ages is None:
+            key = "\0".join(life.argv[:8])
+            if key not in self.aged:
+                self.aged[key] = shelltext.compares_ages(life.argv, life.folder)
+            traits.ages = self.aged[key]
+        return traits.ages
 
     @staticmethod
     def inherit(child: Life, parent: Life) -> None:
@@ -90,15 +92,15 @@ class Replay:
 
     def take(self, event: Event) -> None:
         """One event of a process that is known."""
-        if isinstance(event, Unread):
+        if isinstance(event, Call):
+            self.call(self.life(event.pid), event)
+        elif isinstance(event, Unread):
             self.holes.append("a line of the trace cannot be read: " + event.text[:200])
         elif isinstance(event, Begun):
             self.life(event.pid)
             self.begun.append(event.pid)
-        elif isinstance(event, Ended):
-            self.life(event.pid).died = self.place
         else:
-            self.call(self.life(event.pid), event)
+            self.life(event.pid).died = self.place
 
     def child(self, parent: Life, pid: int, is_thread: bool) -> None:
         """A process has started another, or a thread, which is in one folder with it at all times."""
@@ -136,21 +138,29 @@ class Replay:
 
     def found(self, life: Life, path: str, follow: bool, base: str = "", word: str = "") -> Found:
         found = self.names.find(base or life.folder, own_path(life, path), follow)
+        self.put_links(life, found, word)
+        return found
+
+    def put_links(self, life: Life, found: Found, word: str = "") -> None:
+        """Links on the way are read."""
         for link in found.links:
             self.put(life, "R", link, word)
-        return found
 
     def look(self, life: Life, path: str, ok: bool, follow: bool, kind: str = "S", base: str = "", word: str = "") -> Found:
         found = self.found(life, path, follow, base, word)
+        self.put_look(life, found, ok, kind, word)
+        return found
+
+    def put_look(self, life: Life, found: Found, ok: bool, kind: str, word: str = "") -> None:
+        """A look at what was found."""
         if ok and found.inode is None and found.folder is not None and self.names.is_walked(found.folder):
             self.names.put(found.folder, found.name, Inode("f"))
-        if kind == "S" and not life.is_make and shelltext.makes(life.argv, found.path):
+        if kind == "S" and not life.is_make and life.traits().makes_folders and shelltext.makes(life.argv, found.path):
             self.put(life, "K", found.path)
         else:
             self.put(life, kind if ok else "N", found.path, word)
         if not ok and found.missing and found.missing != found.path:
             self.put(life, "P", found.missing)
-        return found
 
     def write(self, life: Life, found: Found, created: bool) -> None:
         if found.inode is None and found.folder is not None:

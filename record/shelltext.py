@@ -3,7 +3,7 @@
 import fnmatch
 import os
 import re
-from typing import Iterable, List
+from typing import Iterable, List, Optional
 
 SHELLS = ("sh", "dash", "bash", "ksh", "zsh", "ash")
 NINJA = re.compile(r"(?:ninja|ninja-build|samu|samurai)(?:[-.\d]*)$")
@@ -71,14 +71,19 @@ def is_quiet_mkdir(argv: List[str]) -> bool:
     return name in ("install", "ginstall") and not loud and any(w == "--directory" or re.match(r"-[a-zA-Z]*[dD]", w) for w in words)
 
 
-def makes(argv: List[str], folder: str) -> bool:
-    """Whether a script that builds carry makes this folder for itself, and needs no more than that it is there."""
+def maker_at(argv: List[str]) -> int:
+    """Where the words behind the first name a script that builds carry, which makes folders for itself; -1 where none does."""
     name, words = base_name(argv), argv[1:]
     if name not in SHELLS and name != "cmake":
-        return False
-    at = next((n for n, w in enumerate(words) if os.path.basename(w) in MAKERS), -1)
+        return -1
     if name == "cmake" and words[:2] == ["-E", "make_directory"]:
-        at = 1
+        return 1
+    return next((n for n, w in enumerate(words) if os.path.basename(w) in MAKERS), -1)
+
+
+def makes(argv: List[str], folder: str) -> bool:
+    """Whether such a script makes this folder for itself, and needs no more than that it is there."""
+    at, words = maker_at(argv), argv[1:]
     if at < 0:
         return False
     if os.path.basename(words[at]) == "libtool":
@@ -148,6 +153,17 @@ def looks_at_links(argv: List[str]) -> bool:
     if name in ("find", "tar", "rsync", "cpio"):
         return name != "find" or bool(re.search(r"-links|-printf|-ls|-samefile", text))
     return bool(INTERPRETERS.match(name)) and "-c" not in argv[:1] and ("stat" in text)
+
+
+class Traits:
+    """What the words of a process say of all its looks, found once for the words."""
+
+    def __init__(self, argv: List[str]) -> None:
+        self.argv = argv
+        self.makes_folders = maker_at(argv) >= 0
+        self.looks_at_links = looks_at_links(argv)
+        self.is_interpreter = is_interpreter(argv)
+        self.ages: Optional[bool] = None  # whether it compares ages, as far as that was asked
 
 
 def matches(name: str, pattern: str) -> bool:

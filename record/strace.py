@@ -4,28 +4,32 @@ import mmap
 import os
 import re
 from dataclasses import dataclass
+from functools import lru_cache
 from pathlib import Path
-from typing import Dict, Iterable, Iterator, List, Optional, Union
+from typing import Callable, Dict, Iterable, Iterator, List, NamedTuple, Optional, TypeVar, Union
 
-LINE = re.compile(r"(\d+) +(.*)", re.S)
+KEPT, SHORT = 1 << 14, 1000  # how many texts are remembered, and how long they are at most
+Answer = TypeVar("Answer")
 CALL = re.compile(r"(\w+)\((.*)\)\s+= (-?\d+|\?)(?:<((?:[^<>\\]|\\.)*)>)?(?: (E\w+))?(?: \(.*\))?$", re.S)
 ESCAPE = re.compile(r"\\([0-7]{1,3}|x[0-9a-f]{2}|.)", re.S)
 TEXT = re.compile(r'"((?:[^"\\]|\\.)*)"(\.\.\.)?')
 FOLDER = re.compile(r"(?:AT_FDCWD|\d+)<((?:[^<>\\]|\\.)*)>")
 SYSTEM = ["usr", "lib", "lib32", "lib64", "etc", "bin", "sbin"]
 AT = r"(?:AT_FDCWD<[^>]*>, )?"
-LOOKING = r'\d+ +(?:openat|open|access|faccessat2?|newfstatat|stat|lstat|statx|readlink|readlinkat|statfs)\(' + AT + r'"FOLDERS[^"]*"[^"]*(?:"[^"]*"[^"]*)? = (?:\d|-1 E(?:NO|INVAL))|\d+ +newfstatat\(\d+<[^>]*>, "", [^"]* = 0$'
-CHANGING = (
-    r'\d+ +(?:open|openat2?)\(' + AT + r'"FOLDERS[^"]*", [^\n]*(?:O_WRONLY|O_RDWR|O_CREAT|O_TRUNC)'
-    r'|\d+ +(?:creat|rename\w*|unlink\w*|rmdir|mkdir\w*|mknod\w*|link\w*|symlink\w*|truncate|[fl]?ch(?:mod|own)\w*|utime\w*|futimesat)\([^\n]*"FOLDERS')
-# What each line that changes something has: a look for these words is quick, and few lines have one.
-CHANGING_WORDS = (b"O_WRONLY", b"O_RDWR", b"O_CREAT", b"O_TRUNC", b" creat(", b" rename", b" unlink", b" rmdir(", b" mkdir", b" mknod", b" link", b" symlink",
-                  b" truncate(", b" chmod", b" fchmod", b" chown", b" fchown", b" lchown", b" utime", b" futimesat(")
+# Common calls stand first, and a line with one text is tried before one with two: a trace has a thousand looks for each change.
+RESULT = r" = (?:\d|-1 E(?:NO|INVAL))"
+LOOKING = (
+    r"\d+ +(?:readlink(?:at)?|open(?:at)?|newfstatat|access|faccessat2?|statx?|lstat|statfs)\(" + AT + r'"FOLDERS[^"]*"'
+    r'(?:[^"]*' + RESULT + r'|[^"]*"[^"]*"[^"]*' + RESULT + r')|\d+ +newfstatat\(\d+<[^>]*>, "", [^"]* = 0$')
+NAMES = r"(?:creat|rename\w*|unlink\w*|rmdir|mkdir\w*|mknod\w*|link\w*|symlink\w*|truncate|[fl]?ch(?:mod|own)\w*|utime\w*|futimesat)\("
+FLAGS = r"O_(?:WRONLY|RDWR|CREAT|TRUNC)"
+CHANGING = r"\d+ +(?:open|openat2?)\(" + AT + r'"FOLDERS(?:[^"\\]|\\.)*", [^\n]*' + FLAGS + r"|\d+ +" + NAMES + r'[^\n]*"FOLDERS'
+# What each line that changes something has: a look for these is quick, and few lines have one.
+MARKS = [re.compile(FLAGS.encode()), re.compile((r"\n\d+ +" + NAMES).encode())]
 PLAIN = {"n": "\n", "t": "\t", "r": "\r", "v": "\v", "f": "\f"}
 
 
-@dataclass(frozen=True)
-class Call:
+class Call(NamedTuple):
     """One finished system call: `error` is empty where it succeeded, `opened` is what stands behind a descriptor that it gave."""
 
     pid: int
@@ -34,6 +38,16 @@ class Call:
     result: int
     error: str
     opened: str = ""
+
+
+class Said(NamedTuple):
+    """What the text of a call says; no result where it never returned."""
+
+    name: str
+    args: str
+    result: Optional[int]
+    error: str
+    opened: str
 
 
 @dataclass(frozen=True)
@@ -76,6 +90,28 @@ def unescape(text: str) -> str:
     return ESCAPE.sub(one, text).encode("latin-1", "replace").decode("utf-8", "surrogateescape")
 
 
+def remembered(function: Callable[[str], Answer]) -> Callable[[str], Answer]:
+    """A function that keeps its answers for short texts: in a trace most come again, word for word."""
+    kept = lru_cache(KEPT)(function)
+    return lambda text: kept(text) if len(text) < SHORT else function(text)
+
+
+@remembered
+def said(text: str) -> Optional[Said]:
+    """A call that stands in a text; None where it is none."""
+    call = CALL.match(text)
+    if call is None:
+        return None
+    name, args, result, opened, error = call.groups()
+    return Said(name, args, None if result == "?" else int(result), error or "", unescape(opened or ""))
+
+
+def first_text(args: str) -> Optional[str]:
+    """The first quoted text of a call's arguments."""
+    match = TEXT.search(args)
+    return None if match is None else unescape(match.group(1))
+
+
 def texts(args: str) -> List[str]:
     """The quoted texts of a call's arguments, in order."""
     return [unescape(match.group(1)) for match in TEXT.finditer(args)]
@@ -94,16 +130,17 @@ def folders(args: str) -> List[str]:
 MAKES_PROCESS = ("clone", "clone3", "fork", "vfork")
 
 
+def line_at(trace: mmap.mmap, at: int) -> bytes:
+    """The line around a place of the trace."""
+    end = trace.find(b"\n", at)
+    return trace[trace.rfind(b"\n", 0, at) + 1:end if end >= 0 else len(trace)]
+
+
 def has_change(trace: mmap.mmap, changes: "re.Pattern[bytes]") -> bool:
     """Whether a line of the trace matches `changes`."""
-    for word in CHANGING_WORDS:
-        at = trace.find(word)
-        while at >= 0:
-            end = trace.find(b"\n", at)
-            if changes.match(trace[trace.rfind(b"\n", 0, at) + 1:end if end >= 0 else len(trace)]):
-                return True
-            at = trace.find(word, end) if end >= 0 else -1
-    return False
+    if changes.match(line_at(trace, 0)):
+        return True
+    return any(changes.match(line_at(trace, mark.end() - 1)) for marks in MARKS for mark in marks.finditer(trace))
 
 
 def skipping(trace: Path, tops: List[str]) -> "Optional[re.Pattern[str]]":
@@ -128,12 +165,12 @@ def read_trace(lines: Iterable[str], skip: "Optional[re.Pattern[str]]" = None) -
     for line in lines:
         if skip is not None and skip.match(line):
             continue
-        match = LINE.match(line.rstrip("\n"))
-        if not match:
+        number, _, text = line.partition(" ")
+        if not number.isdecimal():
             if line.strip():
                 yield Unread(line.strip())
             continue
-        pid, text = int(match.group(1)), match.group(2).strip()
+        pid, text = int(number), text.strip()
         if text.startswith("+++"):
             if "superseded" not in text:
                 yield Ended(pid)
@@ -152,11 +189,10 @@ def read_trace(lines: Iterable[str], skip: "Optional[re.Pattern[str]]" = None) -
                     yield Unread(line.strip())
                 continue
             text = begun + text[text.index("resumed>") + len("resumed>"):]
-        call = CALL.match(text)
+        call = said(text)
         if call is None:
             if not text.endswith("= ?"):
                 yield Unread(line.strip())
             continue
-        name, args, result, opened, error = call.groups()
-        if result != "?":
-            yield Call(pid, name, args, int(result), error or "", unescape(opened or ""))
+        if call.result is not None:
+            yield Call(pid, call.name, call.args, call.result, call.error, call.opened)

@@ -140,7 +140,7 @@ GRAPH: List[Guard] = [
 AGES: List[Guard] = [
     Guard("ages: of inner makes", "ages.py", "            inner_ages(builder, at, work)\n", "", small("ages_in_an_inner_make"), YES),
     Guard("ages: by the words of a program", "ages.py", "            ages_by_words(builder, at, work)\n", "", case("ages-test"), YES),
-    Guard("ages: queries", "calls.py", "if life.is_query or shelltext", "if shelltext", case("ages-query"), YES),
+    Guard("ages: queries", "calls.py", "if life.is_query or traits", "if traits", case("ages-query"), YES),
     Guard("ages: of folders, by what is in them", "ages.py", " | builder.timers.get(path, set())", "", small("age_of_a_folder"), YES),
 ]
 OWNERS: List[Guard] = [
