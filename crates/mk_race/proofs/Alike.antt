@@ -15,13 +15,12 @@ runs_alike texts footprints prepared build determinate opening tie limit other a
     determinate opening tie limit other a b (store_agrees texts footprints prepared opening build agrees)
 
 -- where the answer on the jobs of a build makes them determinate, no schedule of the build shows
-pub headline_of : {E : Type 0} (texts : Texts) (footprints : List ℕ) (prepared : Prepared) (result : Result Answer E)
-    → IsPrepared texts footprints (Ok prepared) → IfOk result (λ answer. IsSafe answer → IsDeterminate prepared.jobs)
-    → IfOk result (λ answer. IsSafe answer → NoScheduleShows texts footprints)
-headline_of texts footprints prepared (Ok answer) build determinate = λ safe. record {
+pub headline_of : {E : Type 0} (prepared : Prepared) (result : Result Answer E) → IfOk result (λ answer. IsSafe answer → IsDeterminate prepared.jobs)
+    → IfOk result (λ answer. (texts : Texts) (footprints : List ℕ) → IsPrepared texts footprints (Ok prepared) → IsSafe answer → NoScheduleShows texts footprints)
+headline_of prepared (Ok answer) determinate = λ texts footprints build safe. record {
   prepared = prepared;
   build = build;
   only = λ other is. build_is_one texts footprints prepared other build is;
   alike = runs_alike texts footprints prepared build (determinate safe);
 }
-headline_of texts footprints prepared (Err error) build determinate = tt
+headline_of prepared (Err error) determinate = tt

@@ -5,6 +5,7 @@ mod Fixings
 mod GoalsLemmas
 mod InOrder
 mod Listed
+mod Noting
 mod OfTasks
 mod OneBuild
 mod ProofTexts

@@ -46,7 +46,7 @@ shows_on texts footprints text prepared accepted build (Ok proof, read, judged) 
 shows_on texts footprints text prepared accepted build (Err reported, read, same) holds = cc
 
 -- so it is where the jobs answer
-pub answer_shows : (texts : Texts) (footprints text : List ℕ) (prepared : Prepared) (result : Result Bool Halt) → IsPrepared texts footprints (Ok prepared)
-    → Answers result (IsVerifiedOn prepared.jobs text) → IfOk result (λ accepted. IsTrue accepted → ProofShows texts footprints text)
-answer_shows texts footprints text prepared (Ok accepted) build verified = shows_on texts footprints text prepared accepted build verified
-answer_shows texts footprints text prepared (Err halt) build verified = tt
+pub answer_shows : (prepared : Prepared) (text : List ℕ) (result : Result Bool Halt) → Answers result (IsVerifiedOn prepared.jobs text)
+    → IfOk result (λ accepted. (texts : Texts) (footprints : List ℕ) → IsPrepared texts footprints (Ok prepared) → IsTrue accepted → ProofShows texts footprints text)
+answer_shows prepared text (Ok accepted) verified = λ texts footprints build. shows_on texts footprints text prepared accepted build verified
+answer_shows prepared text (Err halt) verified = tt

@@ -9,4 +9,5 @@ pub mod Settings
 pub mod Stages
 pub mod Tasked
 pub mod TasksFixed
+pub mod Unused
 pub mod Verified

@@ -1,11 +1,11 @@
 //! From the texts of a build to the answer whether it may run its recipes side by side.
-ghost use Rattle.std.specs.Prelude.{◌≡◌, IfOk};
+ghost use Rattle.std.specs.Prelude.{ℕ, ◌≡◌, IfOk, List, Ok};
 ghost use Rattle.mk_name.specs.Reported.{Reported};
 ghost use Rattle.mk_name.specs.declared.fault.Halt.TheVariants as halts;
 ghost use Rattle.mk_report.specs.declared.answer.Answer.TheVariants as answers;
 ghost use Rattle.mk_sched.specs.Laws.{IsDeterminate};
 ghost use Rattle.mk_race.specs.Judged.{HoldsOfRace, HoldsOfSafe, IsAnswered, IsDecided, IsSafe, NoScheduleShows};
-ghost use Rattle.mk_race.specs.Stages.{texts_of};
+ghost use Rattle.mk_race.specs.Stages.{IsPrepared, Texts, texts_of};
 
 use crate::input::Input;
 use crate::preparing::{Prepared, prepare};
@@ -31,9 +31,21 @@ pub fn judge(alloc: Global, input: &Input<'_>) -> Result<Answer, AllocError>
     ensures holds { IfOk result HoldsOfRace }
 {
     match prepare(alloc, input) {
-        Ok(Prepared { jobs, .. }) => decided(alloc, jobs),
+        Ok(prepared) => judge_prepared(alloc, prepared),
         Err(halt) => refused(halt),
     }
+}
+
+/// The answer of a build of these jobs, as [`judge`] gives it. The only error is out of memory.
+pub fn judge_prepared(alloc: Global, prepared: Prepared) -> Result<Answer, AllocError>
+    ensures answer { IfOk result (IsDecided prepared.jobs) }
+    // The headline: no schedule shows of any texts that mean this build, where the answer is that it is safe.
+    ensures headline { IfOk result (λ answer. (texts : Texts) (footprints : List ℕ)
+        → IsPrepared texts footprints (Ok prepared) → IsSafe answer → NoScheduleShows texts footprints) }
+    ensures determinate { IfOk result HoldsOfSafe }
+    ensures holds { IfOk result HoldsOfRace }
+{
+    decided(alloc, prepared.jobs)
 }
 
 /// What is decided of jobs, with them. The only error is out of memory.

@@ -41,11 +41,12 @@ pub fn replay_log(
         (IsPlayed (texts_of input.now) input.now.footprints.now log.now limit tie) }
 {
     let prepared = prepare(alloc, input)?;
-    replay_on(alloc, &prepared, log, limit, tie)
+    replay_prepared(alloc, &prepared, log, limit, tie)
 }
 
-/// Replays a log on the jobs of a build.
-fn replay_on(
+/// Replays a log against a build of these jobs, as [`replay_log`] does. The first fault is that of the log. The only other
+/// error is out of memory.
+pub fn replay_prepared(
     alloc: Global,
     prepared: &Prepared,
     log: &[u8],

@@ -1,11 +1,11 @@
 //! From the texts of a build and of a proof to whether the proof is accepted.
-ghost use Rattle.std.specs.Prelude.{IfOk, IsTrue};
+ghost use Rattle.std.specs.Prelude.{ℕ, IfOk, IsTrue, List, Ok};
 ghost use Rattle.mk_name.specs.Gives.{Answers};
-ghost use Rattle.mk_race.specs.Stages.{texts_of};
+ghost use Rattle.mk_race.specs.Stages.{IsPrepared, Texts, texts_of};
 ghost use Rattle.mk_race.specs.Verified.{IsJudged, IsVerified, IsVerifiedOn, ProofShows};
 
 use crate::input::Input;
-use crate::preparing::prepare;
+use crate::preparing::{Prepared, prepare};
 use mk_cert::accepting::{accept, accept_trace};
 use mk_jobs::jobs::Jobs;
 use mk_name::fault::Halt;
@@ -27,6 +27,17 @@ pub fn verify_proof(alloc: Global, input: &Input<'_>, proof: &[u8]) -> Result<bo
         → ProofShows (texts_of input.now) input.now.footprints.now proof.now) }
 {
     let prepared = prepare(alloc, input)?;
+    verify_prepared(alloc, &prepared, proof)
+}
+
+/// Whether a proof is accepted for a build of these jobs, as [`verify_proof`] says it. The first fault is that of the proof. The
+/// only other error is out of memory.
+pub fn verify_prepared(alloc: Global, prepared: &Prepared, proof: &[u8]) -> Result<bool, Halt>
+    ensures answer { Answers result (IsVerifiedOn prepared.now.jobs proof.now) }
+    // The headline: what an accepted proof shows is so of any texts that mean this build.
+    ensures shows { IfOk result (λ accepted. (texts : Texts) (footprints : List ℕ)
+        → IsPrepared texts footprints (Ok prepared.now) → IsTrue accepted → ProofShows texts footprints proof.now) }
+{
     verify_on(alloc, &prepared.jobs, proof)
 }
 

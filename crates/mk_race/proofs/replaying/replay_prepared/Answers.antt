@@ -3,7 +3,7 @@ use Rattle.std.proofs.lemmas.Result.{err_from_is_err_and}
 use Rattle.mk_log.specs.Logs.{Log}
 use Rattle.mk_race.specs.declared.replaying.Played.TheVariants.{Allowed, NotAllowed}
 use Rattle.mk_race.proofs.Staging.{log_unread, played}
-use Rattle.mk_race.proofs.replaying.replay_on.Goals as goal
+use Rattle.mk_race.proofs.replaying.replay_prepared.Goals as goal
 
 pub returns-in_err-log : goal.returns-in_err-log
 returns-in_err-log c =

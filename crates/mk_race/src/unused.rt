@@ -1,0 +1,186 @@
+//! The jobs of a build, with its footprints that lie unused.
+//!
+//! A recorder that ran another makefile, or that spells a target in another way, writes footprints that no recipe of this
+//! build takes. Where such a target is a node that nothing makes, a race may hide behind it: so it is noted, or refused.
+ghost use Rattle.std.specs.Prelude.{◌≡◌, ◌++◌, ◌<◌, IfOk, Ok, OnOk};
+ghost use Rattle.std.specs.Option.{option_to_list};
+ghost use Rattle.mk_name.specs.Gives.{Answers, Gives};
+ghost use Rattle.mk_jobs.specs.Jobs.{node_at, node_count};
+ghost use Rattle.mk_name.specs.declared.fault.Halt.TheVariants as halts;
+ghost use Rattle.mk_race.specs.Stages.{IsPrepared, texts_of};
+ghost use Rattle.mk_race.specs.Unused as spec;
+
+use crate::input::Input;
+use crate::planning::{Planned, plan_of};
+use crate::preparing::{Prepared, jobs_with};
+use mk_foot::footprints::Footprints;
+use mk_foot::reading::read_footprints;
+use mk_jobs::jobs::Jobs;
+use mk_jobs::plan::Plan;
+use mk_jobs::recipe::has_recipe;
+use mk_name::fault::{Fault, Halt, Kind, Source};
+use mk_name::name::Name;
+use mk_rules::rulebook::Rulebook;
+use mk_text::root::Root;
+use std::alloc::{AllocError, Global};
+
+/// The nodes that nothing makes, though their names are targets of footprints: the first of them, and how many they are.
+#[derive(Debug, Drop)]
+pub struct Unused {
+    /// The number of the first.
+    pub node: u32,
+    /// The name of the first.
+    pub name: Name,
+    /// How many they are, at least one.
+    pub count: usize,
+}
+
+/// The jobs of a build, and its footprints that lie unused, where there are any.
+#[derive(Debug, Drop)]
+pub struct Noted {
+    pub prepared: Prepared,
+    pub unused: Option<Unused>,
+}
+
+/// The jobs of a build as [`prepare`](crate::prepare) gives them, with its footprints that lie unused.
+///
+/// The first fault is that of the jobs, and then, where it is strict, `UnusedFootprint` in the jobs at the first node that
+/// nothing makes though its name is a footprint's target, which it names. The only other error is out of memory.
+pub fn prepare_noting(alloc: Global, input: &Input<'_>, strict: bool) -> Result<Noted, Halt>
+    ensures answer { Answers result (spec.IsNotedBy strict (texts_of input.now) input.now.footprints.now) }
+    ensures prepared { IfOk result (λ noted. IsPrepared (texts_of input.now) input.now.footprints.now (Ok noted.prepared)) }
+{
+    let noted = noted_of(alloc, input)?;
+    if strict {
+        return strictly(alloc, noted);
+    }
+    Ok(noted)
+}
+
+/// The jobs of a build, where no footprints lie unused; else the fault of these.
+fn strictly(alloc: Global, noted: Noted) -> Result<Noted, Halt>
+    ensures { Gives result (spec.strictly noted noted.unused) }
+{
+    let Noted { prepared, unused } = noted;
+    match unused {
+        Some(unused) => Err(unused_fault(alloc, unused)?),
+        None => Ok(Noted {
+            prepared,
+            unused: None,
+        }),
+    }
+}
+
+/// The fault of footprints that lie unused. The only error is out of memory.
+fn unused_fault(alloc: Global, unused: Unused) -> Result<Halt, AllocError>
+    ensures { IfOk result (λ halt. halt ≡ halts.Fault (spec.unused_fault unused)) }
+{
+    let place = u64::from(unused.node);
+    let fault = Fault::naming(
+        alloc,
+        Kind::UnusedFootprint,
+        Source::Jobs,
+        place,
+        unused.name,
+    )?;
+    Ok(Halt::Fault(fault))
+}
+
+/// The jobs of a build, with its footprints that lie unused.
+fn noted_of(alloc: Global, input: &Input<'_>) -> Result<Noted, Halt>
+    ensures { Answers result (spec.IsNoted (texts_of input.now) input.now.footprints.now) }
+{
+    let planned = plan_of(alloc, input)?;
+    let Planned {
+        root,
+        listing,
+        book,
+        plan,
+    } = planned;
+    let noted = jobs_noted(alloc, &root, &book, plan, input.footprints)?;
+    let (jobs, unused) = noted;
+    let prepared = Prepared {
+        root,
+        listing,
+        jobs,
+    };
+    Ok(Noted { prepared, unused })
+}
+
+/// The jobs of a plan, whose book this is, with the footprints of a text, and what is said of those that lie unused.
+fn jobs_noted(
+    alloc: Global,
+    root: &Root,
+    book: &Rulebook,
+    plan: Plan,
+    footprints: &[u8],
+) -> Result<(Jobs, Option<Unused>), Halt>
+    ensures { Answers result (spec.AreNoted root.now book.now plan footprints.now) }
+{
+    let footprints = read_footprints(alloc, footprints, root)?;
+    let jobs = jobs_with(alloc, plan, book, &footprints)?;
+    let unused = unused_by(alloc, &jobs, &footprints)?;
+    Ok((jobs, unused))
+}
+
+/// What is said of the nodes of jobs that nothing makes though their names are targets of these footprints. The only error is
+/// out of memory.
+fn unused_by(
+    alloc: Global,
+    jobs: &Jobs,
+    footprints: &Footprints,
+) -> Result<Option<Unused>, AllocError>
+    ensures { IfOk result (spec.AreSaidBy jobs.now (spec.unused_in footprints.now jobs.now.plan.nodes)) }
+{
+    let numbers = unused_in(alloc, jobs, footprints)?;
+    match numbers.first() {
+        Some(first) => {
+            let name = jobs.name(*first).copy(alloc)?;
+            Ok(Some(Unused {
+                node: *first,
+                name,
+                count: numbers.len(),
+            }))
+        }
+        None => Ok(None),
+    }
+}
+
+/// The numbers of these nodes, rising. The only error is out of memory.
+fn unused_in(alloc: Global, jobs: &Jobs, footprints: &Footprints) -> Result<Vec<u32>, AllocError>
+    ensures { IfOk result (λ numbers. numbers.items ≡ spec.unused_in footprints.now jobs.now.plan.nodes) }
+{
+    let mut numbers = Vec::new(alloc);
+    for n in 0..jobs.count() {
+        add_unused(&mut numbers, jobs, n, footprints)?;
+    }
+    Ok(numbers)
+}
+
+/// Adds the number of a node, where nothing makes it though its name is a target of these footprints.
+fn add_unused(
+    numbers: &mut Vec<u32>,
+    jobs: &Jobs,
+    n: u32,
+    footprints: &Footprints,
+) -> Result<(), AllocError>
+    requires { n < node_count jobs.now }
+    ensures { OnOk result (numbers.new.items ≡ numbers.old.items
+        ++ option_to_list (spec.unused_number footprints.now (n, node_at jobs.now n))) }
+{
+    if is_unused(jobs, n, footprints) {
+        numbers.push(n)?;
+    }
+    Ok(())
+}
+
+/// Whether nothing makes a node, though its name is a target of these footprints.
+fn is_unused(jobs: &Jobs, n: u32, footprints: &Footprints) -> bool
+    requires { n < node_count jobs.now }
+    ensures { result ≡ spec.is_unused footprints.now (node_at jobs.now n) }
+{
+    if has_recipe(jobs.maker(n)) {
+        return false;
+    }
+    footprints.has(jobs.name(n))
+}
