@@ -195,6 +195,16 @@ def trees_beside(part):
     return footprints([beside + [f"{folder}u{i}" for i in range(int(5_000 * part))]])
 
 
+def looks_beside(part):
+    """5,000 looks 1,990 folders deep, of a recipe that reads the outermost folder and a tree beside each of the others."""
+    folder = "d/" * 1_989
+    beside = ["d/" * depth + "d$/" for depth in range(1_988)]
+    looks = [{"do": "look", "node": "t0000", "path": f"{folder}u{i}", "bytes": None} for i in range(int(5_000 * part))]
+    log = [{"do": "skip", "node": "s"}, {"do": "start", "node": "t0000"}, *looks, {"do": "finish", "node": "t0000"}]
+    texts = footprints([["d/", *beside]])
+    return {**texts, "log": texts["log"] + "".join(json.dumps(it) + "\n" for it in log)}
+
+
 def in_no_order(part):
     """Nearly 1,000,000 footprint paths of 19,990 recipes, each of four letters and in no order."""
     numbers = random.Random(7)
@@ -321,6 +331,7 @@ INPUTS = {
     "trees and files that lie deep": deep_trees,
     "looks below trees that lie deep": deep_looks,
     "trees beside each folder of deep files": trees_beside,
+    "looks where a tree lies beside each folder": looks_beside,
     "paths in no order": in_no_order,
     "one line of continued lines": one_line,
     "one long command and further key": one_command,
