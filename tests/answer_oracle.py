@@ -80,6 +80,7 @@ class Jobs:
                 raise Fault("MissingFootprint", name).at(b"jobs", number)
             self.footprints[number] = footprints[name]
             self.refuse_foreign(number, name)
+        self.unused = [name for name in plan.order if plan.makers[name] == b"plain" and name in footprints]
 
     def is_idle(self, name):
         return name in self.plan.listing and name not in self.plan.book.phony and not self.plan.prerequisites[name]
@@ -90,6 +91,14 @@ class Jobs:
         taken = [it for it in others if any(covers(self.plan.root, path, Path(it, False)) for path in self.footprints[number].writes)]
         if taken:
             raise Fault("WritesTarget", name, min(taken)).at(b"jobs", number)
+
+    def note(self):
+        """What is noted of footprints that lie unused, or nothing."""
+        return oracle.note_of([shown(it) for it in self.unused])
+
+    def refuse_unused(self):
+        if self.unused:
+            raise Fault("UnusedFootprint", self.unused[0]).at(b"jobs", self.numbers[self.unused[0]])
 
     def clashes(self):
         for first, second in itertools.combinations(self.footprints, 2):
@@ -195,8 +204,29 @@ class Answer:
         yield [b"end"]
 
 
+def jobs_of(plan, footprints):
+    return Jobs(plan, read_footprints(footprints, plan.root))
+
+
 def answer_of(plan, footprints):
-    return Answer(Jobs(plan, read_footprints(footprints, plan.root)))
+    return Answer(jobs_of(plan, footprints))
+
+
+def note(texts, footprints):
+    """What `race check`, `race verify` and `race replay` note of a build."""
+    try:
+        return jobs_of(language.read_build(*texts), footprints).note()
+    except Fault:
+        return b""
+
+
+def refusal_of_unused(texts, footprints):
+    """What they say with --strict in place of their answer, or None."""
+    try:
+        jobs_of(language.read_build(*texts), footprints).refuse_unused()
+    except Fault as fault:
+        return 2, fault.report()
+    return None
 
 
 def order(*texts):

@@ -11,6 +11,7 @@ import importlib.util
 import mmap
 import os
 import pathlib
+import re
 import resource
 import shutil
 import signal
@@ -40,6 +41,7 @@ NAMED = """
     cases/tasks/check/safe cases/tasks/check/race cases/tasks/check/print-certificate cases/tasks/list/races
     cases/tasks/fix/lines cases/tasks/fix/nothing-to-fix cases/tasks/fix/print-certificate
     cases/tasks/verify/certificate cases/tasks/faults/label-twice
+    cases/unused/check-notes cases/unused/check-is-strict cases/unused/verify-notes cases/unused/replay-notes
 """.split()
 PROCESSES = len(os.sched_getaffinity(0))
 # A run that takes more seconds of a processor is ended.
@@ -49,6 +51,7 @@ STATUS = struct.Struct("i")
 MARKS_BYTES = 8192
 KINDS = ("memory", "open", "read", "write")
 OUT_OF_MEMORY = b"race: out of memory\n"
+NOTE = re.compile(rb"race: note: nothing makes \S+ here, though its footprint says what its recipe does \((1 such target|([2-9]|[1-9]\d+) such targets)\); see --base\n")
 
 Run = collections.namedtuple("Run", "status stdout stderr calls met changing what")
 
@@ -76,11 +79,17 @@ def seen(ran):
     return f"status {ran.status}, output {test.shown(ran.stdout[:80])}, errors {test.shown(ran.stderr[:80])}"
 
 
+def notes_no_more(words, ran):
+    """Whether standard error has nothing, or the note of footprints that lie unused where these words may have one."""
+    noting = words[0] in ("check", "verify", "replay") and not {"--tasks", "--strict"} & set(words)
+    return not ran.stderr or noting and bool(NOTE.fullmatch(ran.stderr))
+
+
 def is_refusal(ran):
-    """Whether a run reported a fault of its input, in the form of a refusal and with its status."""
+    """Whether standard output reports a fault of the input, in the form of a refusal and with its status."""
     lines = ran.stdout.split(b"\n")
     whole = lines[0] == b"refused" and lines[-1] == b"" and len(lines) >= 4
-    return ran.status == 2 and not ran.stderr and whole and lines[1][:1] == b"F" and lines[2][:3] == b"at "
+    return ran.status == 2 and whole and lines[1][:1] == b"F" and lines[2][:3] == b"at "
 
 
 def bound_time(process):

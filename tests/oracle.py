@@ -71,6 +71,13 @@ def unhex(digits):
     return bytes.fromhex(digits.decode())
 
 
+def note_of(names):
+    """The note of footprints whose targets are these names, as they are shown, or nothing."""
+    count = b"1 such target" if len(names) == 1 else b"%d such targets" % len(names)
+    said = b"race: note: nothing makes %s here, though its footprint says what its recipe does (%s); see --base\n"
+    return said % (names[0], count) if names else b""
+
+
 class Build:
     """The graph, and what each recipe reads and writes."""
 
@@ -83,14 +90,21 @@ class Build:
         # (the makefiles that are looked at here name their phony targets without macros)
         self.phony = {plain(root, it) for words in re.findall(rb"(?m)^\.PHONY:(.*)", makefile) for it in words.split()}
         self.reads, self.writes = collections.defaultdict(list), collections.defaultdict(list)
+        targets = set()
         for line in filter(None, footprints.splitlines()):
             it = json.loads(line)
+            targets.add(plain(root, it["target"].encode()))
             number = self.numbers.get(plain(root, it["target"].encode()))
             node = self.nodes[number] if number is not None else None
             if node is None or node.name in self.listed and node.name not in self.phony and not node.before:
                 continue
             self.reads[node.name] += [path.encode() for path in it["reads"]]
             self.writes[node.name] += [path.encode() for path in it["writes"]]
+        self.unused = [node.name for node in self.nodes if not node.recipe and node.name in targets]
+
+    def note(self):
+        """What `race verify` and `race replay` note of this build."""
+        return note_of(self.unused)
 
     def covers(self, path, name):
         """Whether a path of a footprint is that name, or a folder that ends in a slash and has it below."""

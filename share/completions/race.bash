@@ -30,7 +30,7 @@ _race() {
       --footprints) mapfile -t COMPREPLY < <(compgen -f -- "$word"); return ;;
       --tasks) mapfile -t COMPREPLY < <(compgen -f -- "$word"); return ;;
     esac
-    case $word in -*) mapfile -t COMPREPLY < <(compgen -W "--makefile --listing --root --base --posix-base --includes --footprints --tasks --print-proof -h --help" -- "$word"); return ;; esac
+    case $word in -*) mapfile -t COMPREPLY < <(compgen -W "--makefile --listing --root --base --posix-base --includes --footprints --tasks --print-proof --strict -h --help" -- "$word"); return ;; esac
     mapfile -t COMPREPLY < <(compgen -f -- "$word") ;;
   'race verify')
     case $before in
@@ -43,7 +43,7 @@ _race() {
       --tasks) mapfile -t COMPREPLY < <(compgen -f -- "$word"); return ;;
       --proof) mapfile -t COMPREPLY < <(compgen -f -- "$word"); return ;;
     esac
-    case $word in -*) mapfile -t COMPREPLY < <(compgen -W "--makefile --listing --root --base --posix-base --includes --footprints --tasks --proof -h --help" -- "$word"); return ;; esac
+    case $word in -*) mapfile -t COMPREPLY < <(compgen -W "--makefile --listing --root --base --posix-base --includes --footprints --tasks --proof --strict -h --help" -- "$word"); return ;; esac
     mapfile -t COMPREPLY < <(compgen -f -- "$word") ;;
   'race replay')
     case $before in
@@ -56,7 +56,7 @@ _race() {
       --log) mapfile -t COMPREPLY < <(compgen -f -- "$word"); return ;;
       --limit) COMPREPLY=(); return ;;
     esac
-    case $word in -*) mapfile -t COMPREPLY < <(compgen -W "--makefile --listing --root --base --posix-base --includes --footprints --log --limit --tie -h --help" -- "$word"); return ;; esac
+    case $word in -*) mapfile -t COMPREPLY < <(compgen -W "--makefile --listing --root --base --posix-base --includes --footprints --log --limit --tie --strict -h --help" -- "$word"); return ;; esac
     mapfile -t COMPREPLY < <(compgen -f -- "$word") ;;
   'race serialise')
     case $before in

@@ -29,6 +29,7 @@ complete -c race -n '__fish_seen_subcommand_from check' -l includes -r -F -d 'Th
 complete -c race -n '__fish_seen_subcommand_from check' -l footprints -r -F -d 'What the recipes read and write, one object of JSON a line'
 complete -c race -n '__fish_seen_subcommand_from check' -l tasks -r -F -d 'What tasks wait for, read and write, one object of JSON a line'
 complete -c race -n '__fish_seen_subcommand_from check' -l print-proof -d 'Print the certificate or the trace in place of the report'
+complete -c race -n '__fish_seen_subcommand_from check' -l strict -d 'Refuse footprints whose target is a file that nothing makes here'
 complete -c race -n '__fish_seen_subcommand_from check' -s h -l help -d 'Print help'
 
 complete -c race -n '__fish_seen_subcommand_from verify' -l makefile -r -F -d 'The makefile'
@@ -40,6 +41,7 @@ complete -c race -n '__fish_seen_subcommand_from verify' -l includes -r -F -d 'T
 complete -c race -n '__fish_seen_subcommand_from verify' -l footprints -r -F -d 'What the recipes read and write, one object of JSON a line'
 complete -c race -n '__fish_seen_subcommand_from verify' -l tasks -r -F -d 'What tasks wait for, read and write, one object of JSON a line'
 complete -c race -n '__fish_seen_subcommand_from verify' -l proof -r -F -d 'A certificate or a trace, by the numbers of race order'
+complete -c race -n '__fish_seen_subcommand_from verify' -l strict -d 'Refuse footprints whose target is a file that nothing makes here'
 complete -c race -n '__fish_seen_subcommand_from verify' -s h -l help -d 'Print help'
 
 complete -c race -n '__fish_seen_subcommand_from replay' -l makefile -r -F -d 'The makefile'
@@ -52,6 +54,7 @@ complete -c race -n '__fish_seen_subcommand_from replay' -l footprints -r -F -d 
 complete -c race -n '__fish_seen_subcommand_from replay' -l log -r -F -d 'The files that are there and what happened, a JSON object a line'
 complete -c race -n '__fish_seen_subcommand_from replay' -l limit -x -d 'How many recipes may run at once, from 1 to 65535; without it 1'
 complete -c race -n '__fish_seen_subcommand_from replay' -l tie -d 'Files of equal times count as newer'
+complete -c race -n '__fish_seen_subcommand_from replay' -l strict -d 'Refuse footprints whose target is a file that nothing makes here'
 complete -c race -n '__fish_seen_subcommand_from replay' -s h -l help -d 'Print help'
 
 complete -c race -n '__fish_seen_subcommand_from serialise' -l makefile -r -F -d 'The makefile'

@@ -10,7 +10,7 @@ use Rattle.mk_race.specs.Stages.{IsPlanned, Texts}
 use Rattle.mk_race.specs.declared.planning.Planned.{Planned}
 use Rattle.mk_race.specs.declared.replaying.Played.{Played}
 use Rattle.mk_race.specs.declared.replaying.Played.TheVariants.{Allowed, NotAllowed}
-use Rattle.mk_program.specs.Answers.{IsOrderAnswer, IsReplayAnswer, IsVerifyAnswer, SaysVerdict, status_of, verdict_status, verdict_text}
+use Rattle.mk_program.specs.Answers.{IsNotedReplay, IsNotedVerify, IsOrderAnswer, IsReplayAnswer, SaysVerdict, status_of, verdict_status, verdict_text}
 use Rattle.mk_program.specs.Includes.{Pair}
 use Rattle.mk_program.specs.PlanText.{plan_text}
 use Rattle.mk_program.specs.OutcomeText.{IsOutcomeText}
@@ -25,13 +25,13 @@ pub texts_are : (root root' : List ℕ) (operands operands' : List (List ℕ)) (
 texts_are root root' operands operands' base base' makefile makefile' listing listing' includes r o b m l x y is_x is_y = cc
 
 -- the answer to a replay over what was read is the one over the texts
-pub replay_reported : (old new : Texts) (footprints footprints' log log' : List ℕ) (limit : ℕ) (tie : Bool) (status : Status) (text : List ℕ)
-    → old ≡ new → footprints ≡ footprints' → log ≡ log' → IsReplayAnswer old footprints log limit tie status text
-    → IsReplayAnswer new footprints' log' limit tie status text
-replay_reported old new footprints footprints' log log' limit tie status text t f l h =
-    subst (λ (x : List ℕ). IsReplayAnswer new footprints' x limit tie status text) l
-    (subst (λ (x : List ℕ). IsReplayAnswer new x log limit tie status text) f
-    (subst (λ (x : Texts). IsReplayAnswer x footprints log limit tie status text) t h))
+pub replay_reported : (old new : Texts) (footprints footprints' log log' : List ℕ) (strict : Bool) (limit : ℕ) (tie : Bool) (status : Status) (text note : List ℕ)
+    → old ≡ new → footprints ≡ footprints' → log ≡ log' → IsNotedReplay strict old footprints log limit tie status text note
+    → IsNotedReplay strict new footprints' log' limit tie status text note
+replay_reported old new footprints footprints' log log' strict limit tie status text note t f l h =
+    subst (λ (x : List ℕ). IsNotedReplay strict new footprints' x limit tie status text note) l
+    (subst (λ (x : List ℕ). IsNotedReplay strict new x log limit tie status text note) f
+    (subst (λ (x : Texts). IsNotedReplay strict x footprints log limit tie status text note) t h))
 
 -- the report of the fault of a replay is its answer
 pub refused_is : (texts : Texts) (footprints log : List ℕ) (limit limit' : ℕ) (tie : Bool) (halt : Halt) (fault : Reported) (status : Status) (text : List ℕ)
@@ -70,13 +70,13 @@ pub plan_is : (texts : Texts) (planned : Planned) (status : Status) (text : List
 plan_is texts planned status text is ends reported = rw ends (planned, is, reported)
 
 -- the answer to a proof over what was read is the one over the texts
-pub verify_reported : (old new : Texts) (footprints footprints' proof proof' : List ℕ) (status : Status) (text : List ℕ)
-    → old ≡ new → footprints ≡ footprints' → proof ≡ proof' → IsVerifyAnswer old footprints proof status text
-    → IsVerifyAnswer new footprints' proof' status text
-verify_reported old new footprints footprints' proof proof' status text t f p h =
-    subst (λ (x : List ℕ). IsVerifyAnswer new footprints' x status text) p
-    (subst (λ (x : List ℕ). IsVerifyAnswer new x proof status text) f
-    (subst (λ (x : Texts). IsVerifyAnswer x footprints proof status text) t h))
+pub verify_reported : (old new : Texts) (footprints footprints' proof proof' : List ℕ) (strict : Bool) (status : Status) (text note : List ℕ)
+    → old ≡ new → footprints ≡ footprints' → proof ≡ proof' → IsNotedVerify strict old footprints proof status text note
+    → IsNotedVerify strict new footprints' proof' status text note
+verify_reported old new footprints footprints' proof proof' strict status text note t f p h =
+    subst (λ (x : List ℕ). IsNotedVerify strict new footprints' x status text note) p
+    (subst (λ (x : List ℕ). IsNotedVerify strict new x proof status text note) f
+    (subst (λ (x : Texts). IsNotedVerify strict x footprints proof status text note) t h))
 
 -- the report of the fault of a proof is its answer
 pub unverified_is : (Is : Result Bool Reported → Type 0) (Shown : Type 0) (halt : Halt) (fault : Reported) (status : Status) (text : List ℕ)

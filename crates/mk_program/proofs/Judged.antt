@@ -1,5 +1,5 @@
 -- Lemmas on the answers to a check.
-use Rattle.std.proofs.Common.{◌≡◌, ◌≢◌, ◌∙◌, ◌==◌, inl, inr, ℕ, Bool, false, List, [], ◌++◌, Option, Some, None, ap, subst, sym, refl, codes, slice_index_or}
+use Rattle.std.proofs.Common.{◌≡◌, ◌≢◌, ◌∙◌, ◌==◌, inl, inr, ℕ, Bool, false, List, [], ◌++◌, Option, Some, None, Ok, Err, ap, subst, sym, refl, codes, slice_index_or}
 use Rattle.std.proofs.lemmas.Bool.{false≢true}
 use Rattle.std.proofs.lemmas.List.Elements.{All-cons, All-head, All-nil}
 use Rattle.std.specs.Borrow.{Bor}
@@ -7,10 +7,10 @@ use Rattle.clap.specs.Words.{Row, Text}
 use Rattle.mk_report.specs.Reports.{IsReport}
 use Rattle.mk_report.specs.declared.answer.Answer.{Answer as Judged}
 use Rattle.mk_report.specs.declared.answer.Answer.TheVariants as judged
-use Rattle.mk_race.specs.Judged.{HoldsOfRace, IsSafe}
+use Rattle.mk_race.specs.Judged.{HoldsOfRace, IsSafe, NoScheduleShows}
 use Rattle.mk_race.specs.Stages.{Texts}
 use Rattle.mk_race.specs.Tasked as tasked
-use Rattle.mk_program.specs.Answers.{AskToCheck, IsAnswerTo, IsCheckAnswer, IsTasksAnswer, SaysJudged, SaysSafe, judged_status}
+use Rattle.mk_program.specs.Answers.{AskToCheck, IsAnswerTo, IsNotedCheck, IsTasksAnswer, SaysJudged, SaysSafe, judged_status}
 use Rattle.mk_program.specs.CommandLine.{Asks, IsQuestion, asked}
 use Rattle.mk_program.specs.Includes.{Pair}
 use Rattle.mk_program.specs.Inputs.{Hold, IsLeftOut}
@@ -26,10 +26,16 @@ use Rattle.mk_program.specs.declared.statuses.Status.{Status}
 use Rattle.mk_program.specs.declared.statuses.Status.TheVariants.{Done, Failed, No, Refused}
 
 -- the answer to a check over what was read is the one over the texts
-pub check_reported : (old new : Texts) (footprints footprints' : List ℕ) (proof : Bool) (status : Status) (text : List ℕ)
-    → old ≡ new → footprints ≡ footprints' → IsCheckAnswer old footprints proof status text → IsCheckAnswer new footprints' proof status text
-check_reported old new footprints footprints' proof status text t f h =
-    subst (λ (x : List ℕ). IsCheckAnswer new x proof status text) f (subst (λ (x : Texts). IsCheckAnswer x footprints proof status text) t h)
+pub check_reported : (old new : Texts) (footprints footprints' : List ℕ) (strict proof : Bool) (status : Status) (text note : List ℕ)
+    → old ≡ new → footprints ≡ footprints' → IsNotedCheck strict old footprints proof status text note → IsNotedCheck strict new footprints' proof status text note
+check_reported old new footprints footprints' strict proof status text note t f h =
+    subst (λ (x : List ℕ). IsNotedCheck strict new x proof status text note) f (subst (λ (x : Texts). IsNotedCheck strict x footprints proof status text note) t h)
+
+-- a build that is said to be safe is
+noted_safe : (strict : Bool) (texts : Texts) (footprints : List ℕ) (proof : Bool) (text note : List ℕ) → IsNotedCheck strict texts footprints proof Done text note
+    → NoScheduleShows texts footprints
+noted_safe strict texts footprints proof text note (Ok noted, is, says) = says.0.headline
+noted_safe strict texts footprints proof text note (Err reported, is, says) = absurd (let e : ◌≡◌ {A = Status} Done Refused = says.0 in cc)
 
 -- what is reported of a build or of tasks that were judged is their answer
 pub judged_is : (Is : Judged → Type 0) (Headline : Type 0) (answer : Judged) (proof : Bool) (status : Status) (text : List ℕ)
@@ -100,39 +106,49 @@ question_safe questions.List path root files answer asks reported tasks opened =
 question_safe (questions.Fix proof) path root files answer asks reported tasks opened = absurd (not_check (codes "fix") asks.0 asks.2 asks.3.0 refl)
 
 -- what is reported of a safe build, or of safe tasks, says that no schedule shows
-pub says_safe : (words : List (Bor Text)) (files : List ℕ → Option (List ℕ)) (text : List ℕ) → AskToCheck (asked words)
-    → IsAnswerTo words files Done text → SaysSafe words files
-says_safe words files text check (requests.Order build, asks, answer) = absurd (other (asked words) check asks)
+pub says_safe : (words : List (Bor Text)) (files : List ℕ → Option (List ℕ)) (text note : List ℕ) → AskToCheck (asked words)
+    → IsAnswerTo words files Done text note → SaysSafe words files
+says_safe words files text note check (requests.Order build, asks, answer) = absurd (other (asked words) check asks)
   where
     other : (o : Option (Text × List Row)) → AskToCheck o → Asks (requests.Order build) o → ⊥
     other None check asks = absurd check
     other (Some found) check asks = not_check (codes "order") found.0 check asks.0 refl
-says_safe words files text check (requests.Check args, asks, answer) =
-    inl (args, asks, λ includes texts opened held. (answer includes texts opened held).headline)
-says_safe words files text check (requests.Verify args, asks, answer) = absurd (other (asked words) check asks)
+says_safe words files text note check (requests.Check args, asks, answer) =
+    inl (
+      args,
+      asks,
+      λ includes texts opened held.
+          noted_safe args.build.strict _ (texts inputs.Footprints) args.print_proof text note (answer includes texts opened held),
+    )
+says_safe words files text note check (requests.Verify args, asks, answer) = absurd (other (asked words) check asks)
   where
     other : (o : Option (Text × List Row)) → AskToCheck o → Asks (requests.Verify args) o → ⊥
     other None check asks = absurd check
     other (Some found) check asks = not_check (codes "verify") found.0 check asks.0 refl
-says_safe words files text check (requests.Replay args, asks, answer) = absurd (other (asked words) check asks)
+says_safe words files text note check (requests.Replay args, asks, answer) = absurd (other (asked words) check asks)
   where
     other : (o : Option (Text × List Row)) → AskToCheck o → Asks (requests.Replay args) o → ⊥
     other None check asks = absurd check
     other (Some found) check asks = not_check (codes "replay") found.0 check asks.0 refl
-says_safe words files text check (requests.Serialise args, asks, answer) = absurd (other (asked words) check asks)
+says_safe words files text note check (requests.Serialise args, asks, answer) = absurd (other (asked words) check asks)
   where
     other : (o : Option (Text × List Row)) → AskToCheck o → Asks (requests.Serialise args) o → ⊥
     other None check asks = absurd check
     other (Some found) check asks = not_check (codes "serialise") found.0 check asks.0 refl
-says_safe words files text check (requests.List args, asks, answer) = absurd (other (asked words) check asks)
+says_safe words files text note check (requests.List args, asks, answer) = absurd (other (asked words) check asks)
   where
     other : (o : Option (Text × List Row)) → AskToCheck o → Asks (requests.List args) o → ⊥
     other None check asks = absurd check
     other (Some found) check asks = not_check (codes "list") found.0 check asks.0 refl
-says_safe words files text check (requests.Fix args, asks, answer) = absurd (other (asked words) check asks)
+says_safe words files text note check (requests.Fix args, asks, answer) = absurd (other (asked words) check asks)
   where
     other : (o : Option (Text × List Row)) → AskToCheck o → Asks (requests.Fix args) o → ⊥
     other None check asks = absurd check
     other (Some found) check asks = not_check (codes "fix") found.0 check asks.0 refl
-says_safe words files text check (requests.Tasks args, asks, answer) =
-    inr (args, asks, question_safe args.question args.tasks args.root files text (question_asked (asked words) args check asks) answer)
+says_safe words files text note check (requests.Tasks args, asks, answer) =
+    inr (
+      args,
+      asks,
+      question_safe args.question args.tasks args.root files text (question_asked (asked words) args check asks)
+          (λ includes texts opened held. (answer includes texts opened held).0),
+    )

@@ -1,5 +1,5 @@
 -- What the program answers to a request, over what the files hold, and what it writes of that.
-use Rattle.std.specs.Prelude.{◌≡◌, ◌⊎◌, ℕ, Bool, true, false, List, [], ◌∷◌, Result, Ok, Err, Option, None, Some, map, codes, if◌then◌else◌}
+use Rattle.std.specs.Prelude.{◌≡◌, ◌≢◌, ◌⊎◌, ℕ, Bool, true, false, List, [], ◌∷◌, Result, Ok, Err, Option, None, Some, IsSome, map, codes, if◌then◌else◌}
 use Rattle.std.specs.Borrow.{Bor}
 use Rattle.std.specs.Io.KnownBytes.{Appends}
 use Rattle.clap.specs.Words.{Row, Text}
@@ -39,6 +39,7 @@ use Rattle.mk_program.specs.CommandLine.{Asks, HasMistake, asked, wrong}
 use Rattle.mk_program.specs.Files.{Files}
 use Rattle.mk_program.specs.Includes.{IncludesMayBeRead, IncludesMayFail, Pair, includes_in}
 use Rattle.mk_program.specs.Inputs.{Hold, InputsMayBeRead, IsShortOr, IsUnread}
+use Rattle.mk_program.specs.Noting.{SaysNoting}
 use Rattle.mk_program.specs.OrderText.{IsNoText, IsOrderText, order_status}
 use Rattle.mk_program.specs.OutcomeText.{IsOutcomeText}
 use Rattle.mk_program.specs.PlanText.{plan_text}
@@ -242,28 +243,41 @@ IsTasksAnswer (questions.Verify proof) root text status answer = IsTaskVerifyAns
 IsTasksAnswer questions.List root text status answer = IsTaskListAnswer root (text inputs.Tasks) status answer
 IsTasksAnswer (questions.Fix print_proof) root text status answer = IsTaskFixAnswer root (text inputs.Tasks) print_proof status answer
 
--- the answer to a request, over the texts of its includes and of its inputs
-abbrev pub IsAnswerOver : Request → List Pair → (InputFile → List ℕ) → Status → List ℕ → Type 0
-IsAnswerOver (requests.Order build) includes text status answer = IsOrderAnswer (texts_for build includes text) status answer
-IsAnswerOver (requests.Check check) includes text status answer =
-    IsCheckAnswer (texts_for check.build includes text) (text inputs.Footprints) check.print_proof status answer
-IsAnswerOver (requests.Verify verify) includes text status answer =
-    IsVerifyAnswer (texts_for verify.build includes text) (text inputs.Footprints) (text inputs.Proof) status answer
-IsAnswerOver (requests.Replay replay) includes text status answer =
-    IsReplayAnswer (texts_for replay.build includes text) (text inputs.Footprints) (text inputs.Log) replay.limit replay.tie status answer
-IsAnswerOver (requests.Serialise replay) includes text status answer =
-    IsSerialiseAnswer (texts_for replay.build includes text) (text inputs.Footprints) (text inputs.Log) replay.limit replay.tie status answer
-IsAnswerOver (requests.List list) includes text status answer =
-    IsListAnswer (texts_for list.build includes text) (text inputs.Footprints) status answer
-IsAnswerOver (requests.Fix fix) includes text status answer =
-    IsFixAnswer (texts_for fix.build includes text) (text inputs.Footprints) fix.print_proof status answer
-IsAnswerOver (requests.Tasks asked) includes text status answer = IsTasksAnswer asked.question asked.root.now text status answer
+-- the answers of a build whose footprints may lie unused, each with its note: to a check, to a proof and to a log
+abbrev pub IsNotedCheck : Bool → Texts → List ℕ → Bool → Status → List ℕ → List ℕ → Type 0
+IsNotedCheck strict texts footprints proof = SaysNoting strict texts footprints (IsCheckAnswer texts footprints proof)
 
--- the answer to a request, over what its files hold
-abbrev pub IsAnswer : Request → (List ℕ → Option (List ℕ)) → Status → List ℕ → Type 0
-IsAnswer request files status answer =
+abbrev pub IsNotedVerify : Bool → Texts → List ℕ → List ℕ → Status → List ℕ → List ℕ → Type 0
+IsNotedVerify strict texts footprints proof = SaysNoting strict texts footprints (IsVerifyAnswer texts footprints proof)
+
+abbrev pub IsNotedReplay : Bool → Texts → List ℕ → List ℕ → ℕ → Bool → Status → List ℕ → List ℕ → Type 0
+IsNotedReplay strict texts footprints log limit tie = SaysNoting strict texts footprints (IsReplayAnswer texts footprints log limit tie)
+
+-- the answer to a request and its note, which may be empty, over the texts of its includes and of its inputs
+abbrev pub IsAnswerOver : Request → List Pair → (InputFile → List ℕ) → Status → List ℕ → List ℕ → Type 0
+IsAnswerOver (requests.Order build) includes text status answer note = IsOrderAnswer (texts_for build includes text) status answer × (note ≡ [])
+IsAnswerOver (requests.Check check) includes text status answer note =
+    IsNotedCheck check.build.strict (texts_for check.build includes text) (text inputs.Footprints) check.print_proof status answer note
+IsAnswerOver (requests.Verify verify) includes text status answer note =
+    IsNotedVerify verify.build.strict (texts_for verify.build includes text) (text inputs.Footprints) (text inputs.Proof) status answer note
+IsAnswerOver (requests.Replay replay) includes text status answer note =
+    IsNotedReplay replay.build.strict (texts_for replay.build includes text) (text inputs.Footprints) (text inputs.Log) replay.limit replay.tie
+    status answer note
+IsAnswerOver (requests.Serialise replay) includes text status answer note =
+    IsSerialiseAnswer (texts_for replay.build includes text) (text inputs.Footprints) (text inputs.Log) replay.limit replay.tie status answer
+    × (note ≡ [])
+IsAnswerOver (requests.List list) includes text status answer note =
+    IsListAnswer (texts_for list.build includes text) (text inputs.Footprints) status answer × (note ≡ [])
+IsAnswerOver (requests.Fix fix) includes text status answer note =
+    IsFixAnswer (texts_for fix.build includes text) (text inputs.Footprints) fix.print_proof status answer × (note ≡ [])
+IsAnswerOver (requests.Tasks asked) includes text status answer note =
+    IsTasksAnswer asked.question asked.root.now text status answer × (note ≡ [])
+
+-- the answer to a request and its note, over what its files hold
+abbrev pub IsAnswer : Request → (List ℕ → Option (List ℕ)) → Status → List ℕ → List ℕ → Type 0
+IsAnswer request files status answer note =
     (includes : List Pair) (text : InputFile → List ℕ) → includes_in files (includes_path request) ≡ Some includes → Hold files (inputs_of request) text
-    → IsAnswerOver request includes text status answer
+    → IsAnswerOver request includes text status answer note
 
 -- the words ask to check a build or tasks
 abbrev pub AskToCheck : Option (Text × List Row) → Type 0
@@ -287,17 +301,26 @@ SaysSafe words files =
     ((check : CheckArgs) × Asks (requests.Check check) (asked words) × IsSafeBuild check files)
     ⊎ ((tasks : TaskArgs) × Asks (requests.Tasks tasks) (asked words) × AreSafeTasks tasks files)
 
--- the answer to what these words ask
-abbrev pub IsAnswerTo : List (Bor Text) → (List ℕ → Option (List ℕ)) → Status → List ℕ → Type 0
-IsAnswerTo words files status answer = (request : Request) × Asks request (asked words) × IsAnswer request files status answer
+-- the answer to what these words ask, and its note
+abbrev pub IsAnswerTo : List (Bor Text) → (List ℕ → Option (List ℕ)) → Status → List ℕ → List ℕ → Type 0
+IsAnswerTo words files status answer note = (request : Request) × Asks request (asked words) × IsAnswer request files status answer note
 
--- it was written behind what stood there
+-- the answer was written behind what stood there
 abbrev pub WritesAnswer : List (Bor Text) → (List ℕ → Option (List ℕ)) → Status → Option (List ℕ) → Option (List ℕ) → Type 0
-WritesAnswer words files status old new = (text : List ℕ) × Appends old new text × IsAnswerTo words files status text
+WritesAnswer words files status old new = (text note : List ℕ) × Appends old new text × IsAnswerTo words files status text note
 
 -- a beginning of it was written there, and nothing else
 abbrev pub WritesBeginning : List (Bor Text) → (List ℕ → Option (List ℕ)) → Option (List ℕ) → Option (List ℕ) → Type 0
-WritesBeginning words files old new = (status : Status) × (text : List ℕ) × AppendsBeginning old new text × IsAnswerTo words files status text
+WritesBeginning words files old new = (status : Status) × (text note : List ℕ) × AppendsBeginning old new text × IsAnswerTo words files status text note
+
+-- and its note behind what stood on another device
+abbrev pub WritesNote : List (Bor Text) → (List ℕ → Option (List ℕ)) → Status → Option (List ℕ) → Option (List ℕ) → Option (List ℕ) → Option (List ℕ) → Type 0
+WritesNote words files status old new before after =
+    (text note : List ℕ) × Appends old new text × Appends before after note × IsAnswerTo words files status text note
+
+-- it has a note that is not empty
+abbrev pub HasNote : List (Bor Text) → (List ℕ → Option (List ℕ)) → Status → Type 0
+HasNote words files status = (text note : List ℕ) × (note ≢ []) × IsAnswerTo words files status text note
 
 -- the log in serial order that a request is to write has a name that is no text, over the texts of its includes and of its inputs
 abbrev pub IsNoTextOver : Request → List Pair → (InputFile → List ℕ) → Type 0

@@ -47,10 +47,10 @@ abbrev pub order_app : App
 order_app = with_build true (new_app (codes "order"))
 
 abbrev pub check_app : App
-check_app = with_rule (with_tasks (new_app (codes "check"))) (flag (codes "print-proof"))
+check_app = with_rule (with_rule (with_tasks (new_app (codes "check"))) (flag (codes "print-proof"))) (flag (codes "strict"))
 
 abbrev pub verify_app : App
-verify_app = with_rule (with_tasks (new_app (codes "verify"))) (option true (codes "proof"))
+verify_app = with_rule (with_rule (with_tasks (new_app (codes "verify"))) (option true (codes "proof"))) (flag (codes "strict"))
 
 -- how many recipes may run at once
 abbrev pub limit : Rule
@@ -67,7 +67,7 @@ with_log app =
     (option true (codes "footprints"))) (option true (codes "log"))) limit) tie
 
 abbrev pub replay_app : App
-replay_app = with_log (new_app (codes "replay"))
+replay_app = with_rule (with_log (new_app (codes "replay"))) (flag (codes "strict"))
 
 abbrev pub serialise_app : App
 serialise_app = with_log (new_app (codes "serialise"))
@@ -108,12 +108,12 @@ is_given id rows = is_some (first_of id rows)
 abbrev pub has_two_bases : List Row → Bool
 has_two_bases rows = is_true (first_of (codes "posix-base") rows) && is_given (codes "base") rows
 
--- a file or an operand of a build is given
+-- a file, an operand or a flag of a build is given
 abbrev pub has_build : List Row → Bool
 has_build rows =
     is_given (codes "makefile") rows || is_given (codes "listing") rows || is_given (codes "base") rows
     || is_true (first_of (codes "posix-base") rows) || is_given (codes "includes") rows || is_given (codes "footprints") rows
-    || is_given (codes "operands") rows
+    || is_given (codes "operands") rows || is_true (first_of (codes "strict") rows)
 
 -- tasks are named beside a build
 abbrev pub has_both : List Row → Bool
@@ -157,6 +157,7 @@ pub record HasValues (build : BuildArgs) (rows : List Row) : Type 0 where
   pub listing : build.listing.now ≡ value_of (codes "listing") rows
   pub root : build.root.now ≡ value_of (codes "root") rows
   pub operands : map (λ word. word.now) build.operands.items ≡ operands_of rows
+  pub strict : build.strict ≡ is_true (first_of (codes "strict") rows)
 
 -- the limit that a value writes, a number from 1 to 65,535; without a value it is 1
 abbrev pub IsLimit : Option Text → ℕ → Type 0

@@ -4,6 +4,7 @@ pub mod Failures
 pub mod Files
 pub mod Includes
 pub mod Inputs
+pub mod Noting
 pub mod OrderText
 pub mod OutcomeText
 pub mod PlanText

@@ -1,12 +1,13 @@
 //! The answers to requests.
-ghost use Rattle.std.specs.Prelude.{◌≡◌, ◌≢◌, IfErr, IfOk, List, OnOk, map, ℕ};
+ghost use Rattle.std.specs.Prelude.{◌≡◌, ◌≢◌, IfErr, IfOk, List, Ok, OnOk, map, ℕ};
 ghost use Rattle.mk_name.specs.Shown.{refused_text};
 ghost use Rattle.mk_name.specs.Reported.{Reported};
 ghost use Rattle.mk_name.specs.declared.fault.Halt.TheVariants as halts;
-ghost use Rattle.mk_race.specs.Stages.{texts_of};
+ghost use Rattle.mk_race.specs.Stages.{IsPrepared, Texts, texts_of};
 ghost use Rattle.mk_program.specs.Answers as spec;
 ghost use Rattle.mk_program.specs.Includes.{shown};
 ghost use Rattle.mk_program.specs.Inputs.{AreTexts};
+ghost use Rattle.mk_program.specs.Noting.{note_of};
 ghost use Rattle.mk_program.specs.OrderText.{IsUnreported};
 ghost use Rattle.mk_program.specs.OutcomeText.{IsOutcomeText};
 ghost use Rattle.mk_program.specs.PlanText.{plan_text as text_of_plan};
@@ -17,6 +18,7 @@ use crate::fixing::fix_answer;
 use crate::includes::{IncludeText, pairs_of, read_includes};
 use crate::inputs::{InputText, read_inputs, text_of};
 use crate::listing::list_answer;
+use crate::noting::{Reply, refused_reply, with_note, without_note};
 use crate::openers::Opener;
 use crate::outcome_lines::outcome_text;
 use crate::plan_lines::plan_text;
@@ -30,8 +32,10 @@ use mk_name::fault::{Fault, Halt};
 use mk_name::report::refused_report;
 use mk_race::input::Input;
 use mk_race::planning::plan_of;
-use mk_race::replaying::{Played, replay_log};
-use mk_race::verifying::verify_proof;
+use mk_race::preparing::Prepared;
+use mk_race::replaying::{Played, replay_prepared};
+use mk_race::unused::{Noted, prepare_noting};
+use mk_race::verifying::verify_prepared;
 use std::alloc::{AllocError, Global};
 
 /// What the program says, and how it ends where that is written.
@@ -41,18 +45,18 @@ pub struct Answer {
     pub text: Vec<u8>,
 }
 
-/// The answer to a request. The includes are read first; then all other files are opened before any of them is read, and
-/// read before anything is said.
+/// The answer to a request, and its note. The includes are read first; then all other files are opened before any of them is
+/// read, and read before anything is said.
 pub fn answer_of<P: Opener>(
     alloc: Global,
     request: &Request<'_>,
     opener: &mut P,
-) -> Result<Answer, Failure>
-    ensures status { IfOk result (λ answer. answer.status ≢ Status.Failed) }
+) -> Result<Reply, Failure>
+    ensures status { IfOk result (λ reply. reply.answer.status ≢ Status.Failed) }
     ensures read { OnOk result (spec.MayAllBeRead (P.files opener.old) request.now) }
     ensures failure { IfErr result (spec.IsRequestFailure (P.files opener.old) request.now) }
-    ensures answer { IfOk result (λ answer.
-        spec.IsAnswer request.now (P.files opener.old).text answer.status answer.text.items) }
+    ensures answer { IfOk result (λ reply. spec.IsAnswer request.now (P.files opener.old).text
+        reply.answer.status reply.answer.text.items reply.note.items) }
 {
     let included = read_includes(alloc, opener, includes_path(request))?;
     let inputs = inputs_of(alloc, request)?;
@@ -60,46 +64,62 @@ pub fn answer_of<P: Opener>(
     answer_with(alloc, request, included.as_slice(), texts.as_slice())
 }
 
-/// The answer to a request over the texts of its includes and of its inputs.
+/// The answer to a request over the texts of its includes and of its inputs, and its note.
 fn answer_with(
     alloc: Global,
     request: &Request<'_>,
     included: &[IncludeText],
     texts: &[InputText],
-) -> Result<Answer, Failure>
-    ensures status { IfOk result (λ answer. answer.status ≢ Status.Failed) }
+) -> Result<Reply, Failure>
+    ensures status { IfOk result (λ reply. reply.answer.status ≢ Status.Failed) }
     ensures failure { IfErr result (IsUnreported ((text : InputFile → List ℕ) → AreTexts texts.now text
         → spec.IsNoTextOver request.now (shown included.now) text)) }
-    ensures answer { IfOk result (λ answer. (text : InputFile → List ℕ) → AreTexts texts.now text
-        → spec.IsAnswerOver request.now (shown included.now) text answer.status answer.text.items) }
+    ensures answer { IfOk result (λ reply. (text : InputFile → List ℕ) → AreTexts texts.now text
+        → spec.IsAnswerOver request.now (shown included.now) text
+        reply.answer.status reply.answer.text.items reply.note.items) }
 {
     let pairs = pairs_of(alloc, included)?;
     answer_over(alloc, request, pairs.as_slice(), texts)
 }
 
-/// The answer to a request over the pairs of its includes and the texts of its inputs.
+/// The answer to a request over the pairs of its includes and the texts of its inputs, and its note.
 fn answer_over(
     alloc: Global,
     request: &Request<'_>,
     includes: &[(&[u8], &[u8])],
     texts: &[InputText],
-) -> Result<Answer, Failure>
-    ensures status { IfOk result (λ answer. answer.status ≢ Status.Failed) }
+) -> Result<Reply, Failure>
+    ensures status { IfOk result (λ reply. reply.answer.status ≢ Status.Failed) }
     ensures failure { IfErr result (IsUnreported ((text : InputFile → List ℕ) → AreTexts texts.now text
         → spec.IsNoTextOver request.now (map (λ pair. (pair.0.now, pair.1.now)) includes.now) text)) }
-    ensures answer { IfOk result (λ answer. (text : InputFile → List ℕ) → AreTexts texts.now text
+    ensures answer { IfOk result (λ reply. (text : InputFile → List ℕ) → AreTexts texts.now text
         → spec.IsAnswerOver request.now (map (λ pair. (pair.0.now, pair.1.now)) includes.now) text
-        answer.status answer.text.items) }
+        reply.answer.status reply.answer.text.items reply.note.items) }
 {
     match request {
-        Request::Order(build) => Ok(order_answer(alloc, build, includes, texts)?),
         Request::Check(check) => Ok(check_answer(alloc, check, includes, texts)?),
         Request::Verify(verify) => Ok(verify_answer(alloc, verify, includes, texts)?),
         Request::Replay(replay) => Ok(replay_answer(alloc, replay, includes, texts)?),
-        Request::Serialise(replay) => serialise_answer(alloc, replay, includes, texts),
-        Request::List(list) => Ok(list_answer(alloc, list, includes, texts)?),
-        Request::Fix(fix) => Ok(fix_answer(alloc, fix, includes, texts)?),
-        Request::Tasks(args) => Ok(tasks_answer(alloc, args, texts)?),
+        Request::Order(build) => {
+            let answer = order_answer(alloc, build, includes, texts)?;
+            Ok(without_note(alloc, answer))
+        }
+        Request::Serialise(replay) => {
+            let answer = serialise_answer(alloc, replay, includes, texts)?;
+            Ok(without_note(alloc, answer))
+        }
+        Request::List(list) => {
+            let answer = list_answer(alloc, list, includes, texts)?;
+            Ok(without_note(alloc, answer))
+        }
+        Request::Fix(fix) => {
+            let answer = fix_answer(alloc, fix, includes, texts)?;
+            Ok(without_note(alloc, answer))
+        }
+        Request::Tasks(args) => {
+            let answer = tasks_answer(alloc, args, texts)?;
+            Ok(without_note(alloc, answer))
+        }
     }
 }
 
@@ -122,43 +142,45 @@ fn order_answer(
     )
 }
 
-/// Whether a proof is accepted for a build, or why the inputs are refused.
+/// Whether a proof is accepted for a build, or why the inputs are refused; and the note.
 fn verify_answer(
     alloc: Global,
     verify: &VerifyArgs<'_>,
     includes: &[(&[u8], &[u8])],
     texts: &[InputText],
-) -> Result<Answer, AllocError>
-    ensures status { IfOk result (λ answer. answer.status ≢ Status.Failed) }
-    ensures answer { IfOk result (λ answer. (text : InputFile → List ℕ) → AreTexts texts.now text
-        → spec.IsVerifyAnswer (spec.texts_for verify.now.build
+) -> Result<Reply, AllocError>
+    ensures status { IfOk result (λ reply. reply.answer.status ≢ Status.Failed) }
+    ensures answer { IfOk result (λ reply. (text : InputFile → List ℕ) → AreTexts texts.now text
+        → spec.IsNotedVerify verify.now.build.strict (spec.texts_for verify.now.build
         (map (λ pair. (pair.0.now, pair.1.now)) includes.now) text) (text InputFile.Footprints)
-        (text InputFile.Proof) answer.status answer.text.items) }
+        (text InputFile.Proof) reply.answer.status reply.answer.text.items reply.note.items) }
 {
     let build = &verify.build;
     let operands = bytes_of(alloc, build.operands.as_slice())?;
     let input = input_of(build, operands.as_slice(), includes, texts);
-    verify_over(alloc, &input, text_of(texts, InputFile::Proof))
+    let proof = text_of(texts, InputFile::Proof);
+    verify_over(alloc, &input, build.strict, proof)
 }
 
-/// Whether a log is a run of a build, or why the inputs are refused.
+/// Whether a log is a run of a build, or why the inputs are refused; and the note.
 fn replay_answer(
     alloc: Global,
     replay: &ReplayArgs<'_>,
     includes: &[(&[u8], &[u8])],
     texts: &[InputText],
-) -> Result<Answer, AllocError>
-    ensures status { IfOk result (λ answer. answer.status ≢ Status.Failed) }
-    ensures answer { IfOk result (λ answer. (text : InputFile → List ℕ) → AreTexts texts.now text
-        → spec.IsReplayAnswer (spec.texts_for replay.now.build
+) -> Result<Reply, AllocError>
+    ensures status { IfOk result (λ reply. reply.answer.status ≢ Status.Failed) }
+    ensures answer { IfOk result (λ reply. (text : InputFile → List ℕ) → AreTexts texts.now text
+        → spec.IsNotedReplay replay.now.build.strict (spec.texts_for replay.now.build
         (map (λ pair. (pair.0.now, pair.1.now)) includes.now) text) (text InputFile.Footprints)
-        (text InputFile.Log) replay.now.limit replay.now.tie answer.status answer.text.items) }
+        (text InputFile.Log) replay.now.limit replay.now.tie
+        reply.answer.status reply.answer.text.items reply.note.items) }
 {
     let build = &replay.build;
     let operands = bytes_of(alloc, build.operands.as_slice())?;
     let input = input_of(build, operands.as_slice(), includes, texts);
     let log = text_of(texts, InputFile::Log);
-    replay_over(alloc, &input, log, replay.limit, replay.tie)
+    replay_over(alloc, &input, build.strict, log, replay.limit, replay.tie)
 }
 
 /// What a build is judged by: its root and operands as they were given, and the texts that were read.
@@ -210,31 +232,100 @@ fn order_over(alloc: Global, input: &Input<'_>) -> Result<Answer, AllocError>
     }
 }
 
-/// Whether a proof is accepted for a build, or the report of the first fault of both.
-fn verify_over(alloc: Global, input: &Input<'_>, proof: &[u8]) -> Result<Answer, AllocError>
-    ensures status { IfOk result (λ answer. answer.status ≢ Status.Failed) }
-    ensures answer { IfOk result (λ answer. spec.IsVerifyAnswer (texts_of input.now)
-        input.now.footprints.now proof.now answer.status answer.text.items) }
+/// Whether a proof is accepted for a build, or the report of the first fault of both; and the note.
+fn verify_over(
+    alloc: Global,
+    input: &Input<'_>,
+    strict: bool,
+    proof: &[u8],
+) -> Result<Reply, AllocError>
+    ensures status { IfOk result (λ reply. reply.answer.status ≢ Status.Failed) }
+    ensures answer { IfOk result (λ reply. spec.IsNotedVerify strict (texts_of input.now)
+        input.now.footprints.now proof.now reply.answer.status reply.answer.text.items reply.note.items) }
 {
-    match verify_proof(alloc, input, proof) {
+    match prepare_noting(alloc, input, strict) {
+        Ok(noted) => verify_noted(alloc, &noted, proof),
+        Err(halt) => refused_reply(alloc, halt),
+    }
+}
+
+/// Whether a proof is accepted for a build of these jobs, or the report of its fault; and the note of the build.
+fn verify_noted(alloc: Global, noted: &Noted, proof: &[u8]) -> Result<Reply, AllocError>
+    ensures status { IfOk result (λ reply. reply.answer.status ≢ Status.Failed) }
+    ensures answer { IfOk result (λ reply. (texts : Texts) (footprints : List ℕ)
+        → IsPrepared texts footprints (Ok noted.now.prepared) → spec.IsVerifyAnswer texts
+        footprints proof.now reply.answer.status reply.answer.text.items) }
+    ensures note { IfOk result (λ reply. reply.note.items ≡ note_of noted.now.unused) }
+{
+    let answer = verdict_of(alloc, &noted.prepared, proof)?;
+    with_note(alloc, answer, &noted.unused)
+}
+
+/// Whether a proof is accepted for a build of these jobs, or the report of its fault.
+fn verdict_of(alloc: Global, prepared: &Prepared, proof: &[u8]) -> Result<Answer, AllocError>
+    ensures status { IfOk result (λ answer. answer.status ≢ Status.Failed) }
+    ensures answer { IfOk result (λ answer. (texts : Texts) (footprints : List ℕ)
+        → IsPrepared texts footprints (Ok prepared.now) → spec.IsVerifyAnswer texts
+        footprints proof.now answer.status answer.text.items) }
+{
+    match verify_prepared(alloc, prepared, proof) {
         Ok(accepted) => verdict_answer(alloc, accepted),
         Err(halt) => refused(alloc, halt),
     }
 }
 
-/// What a log is to a build, or the report of the first fault of both.
+/// What a log is to a build, or the report of the first fault of both; and the note.
 fn replay_over(
     alloc: Global,
     input: &Input<'_>,
+    strict: bool,
+    log: &[u8],
+    limit: u16,
+    tie: bool,
+) -> Result<Reply, AllocError>
+    ensures status { IfOk result (λ reply. reply.answer.status ≢ Status.Failed) }
+    ensures answer { IfOk result (λ reply. spec.IsNotedReplay strict (texts_of input.now)
+        input.now.footprints.now log.now limit tie reply.answer.status reply.answer.text.items
+        reply.note.items) }
+{
+    match prepare_noting(alloc, input, strict) {
+        Ok(noted) => replay_noted(alloc, &noted, log, limit, tie),
+        Err(halt) => refused_reply(alloc, halt),
+    }
+}
+
+/// What a log is to a build of these jobs, or the report of its fault; and the note of the build.
+fn replay_noted(
+    alloc: Global,
+    noted: &Noted,
+    log: &[u8],
+    limit: u16,
+    tie: bool,
+) -> Result<Reply, AllocError>
+    ensures status { IfOk result (λ reply. reply.answer.status ≢ Status.Failed) }
+    ensures answer { IfOk result (λ reply. (texts : Texts) (footprints : List ℕ)
+        → IsPrepared texts footprints (Ok noted.now.prepared) → spec.IsReplayAnswer texts
+        footprints log.now limit tie reply.answer.status reply.answer.text.items) }
+    ensures note { IfOk result (λ reply. reply.note.items ≡ note_of noted.now.unused) }
+{
+    let answer = played_of(alloc, &noted.prepared, log, limit, tie)?;
+    with_note(alloc, answer, &noted.unused)
+}
+
+/// What a log is to a build of these jobs, or the report of its fault.
+fn played_of(
+    alloc: Global,
+    prepared: &Prepared,
     log: &[u8],
     limit: u16,
     tie: bool,
 ) -> Result<Answer, AllocError>
     ensures status { IfOk result (λ answer. answer.status ≢ Status.Failed) }
-    ensures answer { IfOk result (λ answer. spec.IsReplayAnswer (texts_of input.now)
-        input.now.footprints.now log.now limit tie answer.status answer.text.items) }
+    ensures answer { IfOk result (λ answer. (texts : Texts) (footprints : List ℕ)
+        → IsPrepared texts footprints (Ok prepared.now) → spec.IsReplayAnswer texts
+        footprints log.now limit tie answer.status answer.text.items) }
 {
-    match replay_log(alloc, input, log, u32::from(limit), tie) {
+    match replay_prepared(alloc, prepared, log, u32::from(limit), tie) {
         Ok(played) => outcome_answer(alloc, &played),
         Err(halt) => refused(alloc, halt),
     }

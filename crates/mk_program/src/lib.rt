@@ -17,7 +17,9 @@
 //! - `Inputs.antt`: that the files hold the texts of the inputs (`Hold`), and which input fails (`IsUnread`): the first that
 //!   cannot be opened, or, where all can, the first that cannot be read;
 //! - `PosixBase.antt`: the base makefile of `--posix-base`;
-//! - `Answers.antt`: the answer to a request over what its files hold (`IsAnswer`), and that it was written (`WritesAnswer`);
+//! - `Answers.antt`: the answer to a request and its note over what its files hold (`IsAnswer`), and that both were written
+//!   (`WritesAnswer`, `WritesNote`);
+//! - `Noting.antt`: the note of footprints that lie unused, and what is said with it (`SaysNoting`);
 //! - `PlanText.antt`, `OutcomeText.antt` and `OrderText.antt`: the texts of `race order`, of `race replay` and of `race serialise`;
 //! - `Failures.antt` and `Statuses.antt`: the line of a failure, and the statuses as numbers.
 //!
@@ -32,6 +34,7 @@ mod fixing;
 mod includes;
 mod inputs;
 mod listing;
+mod noting;
 mod openers;
 mod order_lines;
 mod outcome_lines;

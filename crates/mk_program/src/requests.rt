@@ -7,7 +7,8 @@ use crate::inputs::InputPath;
 use std::alloc::{AllocError, Global};
 
 /// What a build is read from: the paths of files, those of includes and of the base makefile where they are given, whether
-/// the base is the one that the standard lists, the root and the operands, as they were given.
+/// the base is the one that the standard lists, the root and the operands, as they were given; and whether footprints that
+/// lie unused are refused.
 #[derive(Drop)]
 pub struct BuildArgs<'a> {
     pub includes: Option<&'a str>,
@@ -17,6 +18,7 @@ pub struct BuildArgs<'a> {
     pub listing: &'a str,
     pub root: &'a str,
     pub operands: Vec<&'a str>,
+    pub strict: bool,
 }
 
 /// What is checked or fixed: a build, the path of its footprints, and whether the proof is printed in place of the report.

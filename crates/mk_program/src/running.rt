@@ -10,6 +10,7 @@ ghost use Rattle.mk_program.specs.Failures.{IsFailureReported};
 
 use crate::answers::{Answer, answer_of};
 use crate::failures::Failure;
+use crate::noting::{Reply, without_note};
 use crate::openers::Opener;
 use crate::statuses::Status;
 use crate::words::read_words;
@@ -18,7 +19,8 @@ use mk_device::device::{Broken, Outlet, write_all};
 use std::alloc::Global;
 
 /// Runs the program on the words of the command line, of which the first is its own name. The answer, the help or the
-/// version goes to `out`; what is wrong with the words, a device or memory to `err`, whose own failure is passed over.
+/// version goes to `out`; what is wrong with the words, a device or memory to `err`, whose own failure is passed over. So does
+/// the note of an answer, once that is written.
 /// Every file is opened and read to its end before anything is written: the includes first, one after another, and then
 /// the others, which are all opened before one of them is read.
 pub fn race_words<'a, P: Opener, O: Outlet, E: Outlet>(
@@ -54,12 +56,33 @@ pub fn race_words<'a, P: Opener, O: Outlet, E: Outlet>(
         × spec.IsFailureOf words.entry.now (P.files opener.old) failure
         × ((failure ≡ Failure.Write) ↔ (O.has_failed out.new ≡ true))
         × IsFailureReported failure (E.written err.old) (E.written err.new) }
-    ensures silent { result ≢ Status.Failed → err.new ≡ err.old }
+    // Else the note of the answer is written, where it has one: footprints lie unused and are not refused.
+    ensures note { wrong words.entry.now ≡ [] → result ≢ Status.Failed → E.has_failed err.new ≡ false
+        → spec.WritesNote words.entry.now (P.files opener.old).text result
+        (O.written out.old) (O.written out.new) (E.written err.old) (E.written err.new) }
+    ensures silent { result ≢ Status.Failed → (err.new ≡ err.old)
+        ⊎ ((wrong words.entry.now ≡ []) × spec.HasNote words.entry.now (P.files opener.old).text result) }
 {
     match answer_written(alloc, words, opener, out) {
-        Ok(status) => status,
+        Ok(reply) => {
+            write_note(reply.note.as_slice(), err);
+            reply.answer.status
+        }
         Err(failure) => fail(&failure, err),
     }
+}
+
+/// Writes a note, where it is not empty, on the standard error, whose failure is passed over. It needs no memory.
+fn write_note<E: Outlet>(note: &[u8], err: &mut E)
+    requires { E.has_failed err.old ≡ false }
+    ensures none { note.now ≡ [] → err.new ≡ err.old }
+    ensures written { E.has_failed err.new ≡ false → Appends (E.written err.old) (E.written err.new) note.now }
+{
+    if note.is_empty() {
+        return;
+    }
+    let written = write_all(err, note);
+    let _ = written;
 }
 
 /// Tells a failure by a line on the standard error, whose own failure is passed over, and says how the program ends. It needs
@@ -92,16 +115,18 @@ fn answer_written<'a, P: Opener, O: Outlet>(
     words: &'a [&'a str],
     opener: &mut P,
     out: &mut O,
-) -> Result<Status, Failure>
+) -> Result<Reply, Failure>
     requires { O.has_failed out.old ≡ false }
-    ensures status { IfOk result (λ status. status ≢ Status.Failed) }
-    ensures answer { wrong words.entry.now ≡ [] → IfOk result (λ status. spec.WritesAnswer
-        words.entry.now (P.files opener.old).text status (O.written out.old) (O.written out.new)) }
-    ensures refused { IfOk result (λ status. status ≡ Status.Refused → spec.WritesAnswer
-        words.entry.now (P.files opener.old).text status (O.written out.old) (O.written out.new)) }
-    ensures no { IfOk result (λ status. status ≡ Status.No → spec.WritesAnswer
-        words.entry.now (P.files opener.old).text status (O.written out.old) (O.written out.new)) }
+    ensures status { IfOk result (λ reply. reply.answer.status ≢ Status.Failed) }
+    ensures written { IfOk result (λ reply. Appends (O.written out.old) (O.written out.new) reply.answer.text.items) }
+    ensures answer { wrong words.entry.now ≡ [] → IfOk result (λ reply. spec.IsAnswerTo words.entry.now
+        (P.files opener.old).text reply.answer.status reply.answer.text.items reply.note.items) }
+    ensures refused { IfOk result (λ reply. reply.answer.status ≡ Status.Refused → spec.IsAnswerTo words.entry.now
+        (P.files opener.old).text reply.answer.status reply.answer.text.items reply.note.items) }
+    ensures no { IfOk result (λ reply. reply.answer.status ≡ Status.No → spec.IsAnswerTo words.entry.now
+        (P.files opener.old).text reply.answer.status reply.answer.text.items reply.note.items) }
     ensures usage { OnOk result (IsAnswerable (wrong words.entry.now)) }
+    ensures note { IfOk result (λ reply. reply.note.items ≢ [] → wrong words.entry.now ≡ []) }
     ensures read { wrong words.entry.now ≡ [] → IfOk result
         (λ _. spec.AreRead words.entry.now (P.files opener.old)) }
     ensures nothing { OnErr result (O.has_failed out.new ≡ false → out.new ≡ out.old) }
@@ -110,27 +135,28 @@ fn answer_written<'a, P: Opener, O: Outlet>(
     ensures write { IsErrOf result Failure.Write ↔ (O.has_failed out.new ≡ true) }
     ensures failure { IfErr result (spec.IsFailureOf words.entry.now (P.files opener.old)) }
 {
-    let answer = answer_to(alloc, words, opener)?;
-    match write_all(out, answer.text.as_slice()) {
-        Ok(()) => Ok(answer.status),
+    let reply = answer_to(alloc, words, opener)?;
+    match write_all(out, reply.answer.text.as_slice()) {
+        Ok(()) => Ok(reply),
         Err(_) => Err(Failure::Write),
     }
 }
 
-/// The answer to what the words ask, or the help or the version.
+/// The answer to what the words ask with its note, or the help or the version.
 fn answer_to<'a, P: Opener>(
     alloc: Global,
     words: &'a [&'a str],
     opener: &mut P,
-) -> Result<Answer, Failure>
-    ensures status { IfOk result (λ answer. answer.status ≢ Status.Failed) }
-    ensures answer { wrong words.entry.now ≡ [] → IfOk result (λ answer. spec.IsAnswerTo
-        words.entry.now (P.files opener.old).text answer.status answer.text.items) }
-    ensures refused { IfOk result (λ answer. answer.status ≡ Status.Refused → spec.IsAnswerTo
-        words.entry.now (P.files opener.old).text answer.status answer.text.items) }
-    ensures no { IfOk result (λ answer. answer.status ≡ Status.No → spec.IsAnswerTo
-        words.entry.now (P.files opener.old).text answer.status answer.text.items) }
+) -> Result<Reply, Failure>
+    ensures status { IfOk result (λ reply. reply.answer.status ≢ Status.Failed) }
+    ensures answer { wrong words.entry.now ≡ [] → IfOk result (λ reply. spec.IsAnswerTo words.entry.now
+        (P.files opener.old).text reply.answer.status reply.answer.text.items reply.note.items) }
+    ensures refused { IfOk result (λ reply. reply.answer.status ≡ Status.Refused → spec.IsAnswerTo words.entry.now
+        (P.files opener.old).text reply.answer.status reply.answer.text.items reply.note.items) }
+    ensures no { IfOk result (λ reply. reply.answer.status ≡ Status.No → spec.IsAnswerTo words.entry.now
+        (P.files opener.old).text reply.answer.status reply.answer.text.items reply.note.items) }
     ensures usage { OnOk result (IsAnswerable (wrong words.entry.now)) }
+    ensures note { IfOk result (λ reply. reply.note.items ≢ [] → wrong words.entry.now ≡ []) }
     ensures read { wrong words.entry.now ≡ [] → IfOk result
         (λ _. spec.AreRead words.entry.now (P.files opener.old)) }
     ensures write { IfErr result (λ failure. failure ≢ Failure.Write) }
@@ -143,8 +169,9 @@ fn answer_to<'a, P: Opener>(
 }
 
 /// The help or the version, where the words call for it.
-fn called_for(alloc: Global, error: &clap::Error) -> Result<Answer, Failure>
-    ensures status { IfOk result (λ answer. answer.status ≡ Status.Done) }
+fn called_for(alloc: Global, error: &clap::Error) -> Result<Reply, Failure>
+    ensures status { IfOk result (λ reply. reply.answer.status ≡ Status.Done) }
+    ensures note { IfOk result (λ reply. reply.note.items ≡ []) }
     ensures call { OnOk result (IsCall (kind_of error.now)) }
     ensures failure { IfErr result (λ failure. (failure ≡ Failure.Memory)
         ⊎ ((text : String Global) × (failure ≡ Failure.Usage text) × ¬ IsCall (kind_of error.now)
@@ -158,8 +185,9 @@ fn called_for(alloc: Global, error: &clap::Error) -> Result<Answer, Failure>
     if error.use_stderr() {
         return Err(Failure::Usage(String::from_str(alloc, text.trim_end())?));
     }
-    Ok(Answer {
+    let answer = Answer {
         status: Status::Done,
         text: text.into_bytes(),
-    })
+    };
+    Ok(without_note(alloc, answer))
 }

@@ -229,6 +229,7 @@ fn build_args<'a>(alloc: Global, found: &ArgMatches<'a>) -> Result<BuildArgs<'a>
         listing: found.get_str("listing").unwrap_or(""),
         root: found.get_str("root").unwrap_or(""),
         operands: Vec::from_slice(alloc, found.get_strs("operands").unwrap_or(&[]))?,
+        strict: is_true(found.get_str("strict")),
     })
 }
 

@@ -6,7 +6,7 @@ use Rattle.std.specs.Io.KnownBytes.{Appends}
 use Rattle.std.specs.Str.{bytes_eq}
 use Rattle.mk_program.specs.Answers.{IsAnswerTo, WritesAnswer}
 use Rattle.mk_program.specs.declared.statuses.Status.{Status}
-use Rattle.program_tests.specs.Shelf.{page_at}
+use Rattle.program_tests.specs.Shelf.{HasAnswer, page_at}
 use Rattle.program_tests.specs.declared.shelf.Book.{Book}
 use Rattle.program_tests.specs.declared.shelf.Page.{Page}
 
@@ -31,8 +31,8 @@ not_there books i path end so_far =
 
 -- what stands in an output that was empty is the answer that was written
 pub written_is : (words : List (Bor (List ℕ))) (files : List ℕ → Option (List ℕ)) (status : Status) (old new : Option (List ℕ)) (items : List ℕ)
-    → old ≡ Some [] → Some items ≡ new → WritesAnswer words files status old new → IsAnswerTo words files status items
+    → old ≡ Some [] → Some items ≡ new → WritesAnswer words files status old new → HasAnswer words files status items
 written_is words files status old new items empty all writes =
     let reported : Appends (Some []) (Some items) writes.0 =
-    subst (λ (o : Option (List ℕ)). Appends o (Some items) writes.0) empty (subst (λ (n : Option (List ℕ)). Appends old n writes.0) (sym all) writes.1) in
-    subst (λ (text : List ℕ). IsAnswerTo words files status text) (sym reported) writes.2
+    subst (λ (o : Option (List ℕ)). Appends o (Some items) writes.0) empty (subst (λ (n : Option (List ℕ)). Appends old n writes.0) (sym all) writes.2) in
+    (writes.1, subst (λ (text : List ℕ). IsAnswerTo words files status text writes.1) (sym reported) writes.3)

@@ -1,7 +1,10 @@
 -- What files in memory hold.
 use Rattle.std.specs.Prelude.{ℕ, Bool, true, false, List, [], ◌∷◌, Option, Some, None, if◌then◌else◌, is_some, option_and_then, option_map}
+use Rattle.std.specs.Borrow.{Bor}
 use Rattle.std.specs.Str.{bytes_eq}
+use Rattle.mk_program.specs.Answers.{IsAnswerTo}
 use Rattle.mk_program.specs.Files.{Files}
+use Rattle.mk_program.specs.declared.statuses.Status.{Status}
 use Rattle.program_tests.specs.declared.shelf.Book.{Book}
 use Rattle.program_tests.specs.declared.shelf.Page.{Page}
 use Rattle.program_tests.specs.declared.shelf.Page.TheVariants as pages
@@ -32,3 +35,7 @@ files_of books = record {
   opens = λ path. Some (is_some (page_at books path));
   reads = λ path. option_map is_readable (page_at books path);
 }
+
+-- these words have this answer over what the files hold, with some note
+abbrev pub HasAnswer : List (Bor (List ℕ)) → (List ℕ → Option (List ℕ)) → Status → List ℕ → Type 0
+HasAnswer words files status answer = (note : List ℕ) × IsAnswerTo words files status answer note

@@ -25,7 +25,7 @@ fn puts_logs_in_serial_order(rt: HostRuntime) {
 }
 
 #[test]
-fn reports_files_and_the_version(rt: HostRuntime) {
+fn reports_notes_files_and_the_version(rt: HostRuntime) {
     assert_eq!(rt; first_wrong(rt.alloc(), other_runs()), "");
 }
 

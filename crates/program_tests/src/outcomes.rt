@@ -1,8 +1,7 @@
 //! What runs of the program come to.
 ghost use Rattle.std.specs.Prelude.{◌≡◌, ◌≢◌, []};
-ghost use Rattle.mk_program.specs.Answers.{IsAnswerTo};
 ghost use Rattle.mk_program.specs.CommandLine.{wrong};
-ghost use Rattle.program_tests.specs.Shelf.{text_at};
+ghost use Rattle.program_tests.specs.Shelf.{HasAnswer, text_at};
 
 use crate::shelf::Shelf;
 use mk_device::sink::Sink;
@@ -20,9 +19,9 @@ pub struct Outcome {
 /// Runs the program on these words, over these files. What comes out is the answer to them, over what the files hold.
 pub fn run<'a>(alloc: Global, words: &'a [&'a str], shelf: Shelf<'_>) -> Outcome
     ensures answer { wrong words.entry.now ≡ [] → result.status ≢ Status.Failed
-        → IsAnswerTo words.entry.now (text_at shelf.entry.books.now) result.status result.out.items }
+        → HasAnswer words.entry.now (text_at shelf.entry.books.now) result.status result.out.items }
     ensures refused { result.status ≡ Status.Refused
-        → IsAnswerTo words.entry.now (text_at shelf.entry.books.now) result.status result.out.items }
+        → HasAnswer words.entry.now (text_at shelf.entry.books.now) result.status result.out.items }
 {
     let mut shelf = shelf;
     let mut out = Sink::new(Vec::new(alloc));

@@ -35,7 +35,7 @@ pub(crate) fn serial_logs() -> &'static [Case] {
     &SERIALISED
 }
 
-/// Files that cannot be opened, and the version.
+/// Footprints that lie unused, files that cannot be opened, and the version.
 pub(crate) fn other_runs() -> &'static [Case] {
     &OTHERS
 }
@@ -412,7 +412,31 @@ static SERIALISED: [Case; 5] = [
     },
 ];
 
-static OTHERS: [Case; 3] = [
+static OTHERS: [Case; 5] = [
+    Case {
+        about: "footprints of an object that nothing makes are noted behind the answer",
+        words: "race check --makefile makefile --listing listing --root /w --footprints footprints",
+        base: b"",
+        makefile: b"prog: a.o\n\tcc\na.o: a.y\n",
+        listing: b"a.y\n",
+        footprints: b"{\"target\":\"a.o\",\"reads\":[\"a.y\"],\"writes\":[\"a.o\"]}\n{\"target\":\"prog\",\"reads\":[\"a.o\"],\"writes\":[\"prog\"]}\n",
+        log: b"",
+        status: Status::Done,
+        out: b"safe\nnodes 3\nrecipes 1\nidle 0\nwaits 0\npairs 0\n",
+        err: b"race: note: nothing makes a.o here, though its footprint says what its recipe does (1 such target); see --base\n",
+    },
+    Case {
+        about: "they are refused where the words ask for that",
+        words: "race check --makefile makefile --listing listing --root /w --footprints footprints --strict",
+        base: b"",
+        makefile: b"prog: a.o\n\tcc\na.o: a.y\n",
+        listing: b"a.y\n",
+        footprints: b"{\"target\":\"a.o\",\"reads\":[\"a.y\"],\"writes\":[\"a.o\"]}\n{\"target\":\"prog\",\"reads\":[\"a.o\"],\"writes\":[\"prog\"]}\n",
+        log: b"",
+        status: Status::Refused,
+        out: b"refused\nF34 UnusedFootprint\nat jobs 1\nname a.o\n",
+        err: b"",
+    },
     Case {
         about: "a makefile that cannot be opened",
         words: "race order --makefile absent --listing listing --root /w",

@@ -18,7 +18,9 @@ pub(super) fn check_command<'a>(alloc: Global) -> Result<Command<'a>, AllocError
     let command = Command::new(alloc, "check")
         .about(help::CHECK_ABOUT)
         .after_help(help::CHECK_DETAILS);
-    with_tasks(alloc, command)?.arg(flag(alloc, "print-proof", help::PRINT_PROOF))
+    with_tasks(alloc, command)?
+        .arg(flag(alloc, "print-proof", help::PRINT_PROOF))?
+        .arg(flag(alloc, "strict", help::STRICT))
 }
 
 /// The check that these matches of the subcommand ask for. The only error is out of memory.

@@ -102,6 +102,9 @@ each means.
 With --print-proof the certificate or the trace comes in place of the report, as `race verify`
 reads it.
 
+Where FOOTPRINTS has a target that is a file of the build, and nothing makes it here, a note on
+standard error says so: a base or an included text may be missing. With --strict that is refused.
+
 With --tasks TASKS, which stands in place of MAKEFILE, LISTING, BASE, FILE, FOOTPRINTS and the
 operands, tasks are checked that another tool knows. TASKS is the path of a file that has for each
 task an object of JSON on a line of its own: its label, the labels of earlier tasks that have to
@@ -235,6 +238,8 @@ Statuses:
 
 pub const FIX_PROOF: &str = "Print the certificate of the fixed build in place of the lines";
 
+pub const STRICT: &str = "Refuse footprints whose target is a file that nothing makes here";
+
 pub const PRINT_PROOF: &str = "Print the certificate or the trace in place of the report";
 
 pub const VERIFY_ABOUT: &str =
@@ -266,7 +271,7 @@ The certificate rests on premises that race cannot see:
   - two names are two files, and a file that is written is newer than all others.
 
 What comes out is `accepted` or `not accepted`. Inputs that are refused give `refused`, the fault,
-its place and names.
+its place and names. The note and --strict are those of `race check`.
 
 Example:
   $ printf 'all: x y\\nx: s\\n\\tc\\ny: s x\\n\\tc\\n' > makefile
@@ -309,7 +314,8 @@ What comes out is `allowed complete`, or `allowed incomplete` where some NODE wa
 nor finished, and for each file that is then there a line `file NAME TIME HEX`, where HEX is `-`
 for a file without bytes. A log that is no run gives `not allowed NUMBER WORD at PLACE`: why, and
 which event, counted from 1, or 0 where the files are not those of LISTING. Inputs that are
-refused give `refused`, the fault, its place and names.
+refused give `refused`, the fault, its place and names. The note and --strict are those of
+`race check`.
 
 Example:
   $ printf 'a.o: a.c\\n\\tcc -c a.c\\n' > makefile

@@ -55,7 +55,7 @@ fn is_given<'a>(found: &ArgMatches<'a>, name: &str) -> bool
     found.get_str(name).is_some()
 }
 
-/// That tasks are named beside a file or an operand of a build: which of these is the first.
+/// That tasks are named beside a file, an operand or a flag of a build: which of these is the first.
 fn beside_tasks<'a>(found: &ArgMatches<'a>) -> Option<&'static str>
     ensures { is_some result ≡ spec.has_both (rows_of (found_of found.now)) }
 {
@@ -84,6 +84,9 @@ fn beside_tasks<'a>(found: &ArgMatches<'a>) -> Option<&'static str>
     }
     if is_given(found, "operands") {
         return Some("the argument '--tasks <TASKS>' cannot be used with '[OPERAND]...'");
+    }
+    if is_set(found, "strict") {
+        return Some("the argument '--tasks <TASKS>' cannot be used with '--strict'");
     }
     None
 }

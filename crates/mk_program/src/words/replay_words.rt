@@ -4,7 +4,7 @@ ghost use Rattle.clap.specs.Words.{app_of, found_of, rows_of, rule_of};
 ghost use Rattle.clap.specs.declared.builder.command.Command.TheViews.{out-Command as fields_of};
 ghost use Rattle.mk_program.specs.CommandLine as spec;
 
-use super::{build_args, help, is_true, option, with_build};
+use super::{build_args, flag, help, is_true, option, with_build};
 use crate::requests::ReplayArgs;
 use clap::builder::ValueParser;
 use clap::{Arg, ArgAction, ArgMatches, Command};
@@ -18,7 +18,7 @@ pub(super) fn replay_command<'a>(alloc: Global) -> Result<Command<'a>, AllocErro
     let command = Command::new(alloc, "replay")
         .about(help::REPLAY_ABOUT)
         .after_help(help::REPLAY_DETAILS);
-    with_log(alloc, command)
+    with_log(alloc, command)?.arg(flag(alloc, "strict", help::STRICT))
 }
 
 /// The command with the options and operands of those that read a log.

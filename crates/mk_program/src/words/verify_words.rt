@@ -5,7 +5,7 @@ ghost use Rattle.clap.specs.declared.builder.command.Command.TheViews.{out-Comma
 ghost use Rattle.mk_program.specs.CommandLine as spec;
 
 use super::task_words::with_tasks;
-use super::{build_args, help, option};
+use super::{build_args, flag, help, option};
 use crate::requests::VerifyArgs;
 use clap::{ArgMatches, Command};
 use std::alloc::{AllocError, Global};
@@ -18,7 +18,9 @@ pub(super) fn verify_command<'a>(alloc: Global) -> Result<Command<'a>, AllocErro
     let command = Command::new(alloc, "verify")
         .about(help::VERIFY_ABOUT)
         .after_help(help::VERIFY_DETAILS);
-    with_tasks(alloc, command)?.arg(option(alloc, "proof", "PROOF", help::PROOF, true))
+    with_tasks(alloc, command)?
+        .arg(option(alloc, "proof", "PROOF", help::PROOF, true))?
+        .arg(flag(alloc, "strict", help::STRICT))
 }
 
 /// The proof that these matches of the subcommand name. The only error is out of memory.

@@ -46,11 +46,11 @@ returns-clause-read g c =
     always_ok _ c.answer_with.result both
 
 pub returns-clause-answer : goal.returns-clause-answer
-returns-clause-answer g c = IfOk-weaker c.answer_with.result _ _ (λ answer over.
+returns-clause-answer g c = IfOk-weaker c.answer_with.result _ _ (λ reply over.
     over_files (g.P.Opener.files c.args.opener.now) (g.P.Opener.files c.read_includes.new.opener) c.read_includes.ensures.same _ _ c.includes_path.ensures
     (shown c.as_slice-2.result.now) (λ pairs is. ap shown c.as_slice-2.ensures.value ∙ c.in_ok-included.ensures.reported pairs is)
     c.as_slice.result.now _ (c.as_slice.ensures.value ∙ c.in_ok-inputs.ensures) c.as_slice-3.result.now _ c.as_slice-3.ensures.value c.in_ok-texts.ensures.reported
-    (λ pairs text. IsAnswerOver c.args.request.now pairs text answer.status answer.text.items) over) c.answer_with.ensures.answer
+    (λ pairs text. IsAnswerOver c.args.request.now pairs text reply.answer.status reply.answer.text.items reply.note.items) over) c.answer_with.ensures.answer
 
 pub returns-clause-failure : goal.returns-clause-failure
 returns-clause-failure g c = err_more _ _ c.answer_with.result (λ failure unreported. elim unreported [

@@ -1,12 +1,22 @@
+use Rattle.std.proofs.Common.{Ok}
 use Rattle.std.proofs.lemmas.Result.{IfOk-weaker}
-use Rattle.mk_program.proofs.Judged.{judged_ends, judged_is}
+use Rattle.mk_race.specs.Stages.{texts_of}
+use Rattle.mk_program.proofs.Answering.{refusal_not_failed}
+use Rattle.mk_program.proofs.Noted.{fault_noted}
+use Rattle.mk_program.proofs.Reported.{both_ok}
 use Rattle.mk_program.proofs.checking.check_over.Goals as goal
 
-pub returns-clause-status : goal.returns-clause-status
-returns-clause-status c =
-    IfOk-weaker c.judged_answer.result _ _ (λ answer h. judged_ends c.in_ok-judged.judged answer.status h.0) c.judged_answer.ensures
+pub returns-in-Ok-clause-answer : goal.returns-in-Ok-clause-answer
+returns-in-Ok-clause-answer c =
+    both_ok _ _ _ c.check_noted.result (λ reply says note.
+    (Ok c.in-Ok.noted, c.in-Ok.ensures.answer, (says (texts_of c.args.input.now) c.args.input.now.footprints.now c.in-Ok.ensures.prepared, note)))
+    c.check_noted.ensures.answer c.check_noted.ensures.note
 
-pub returns-clause-answer : goal.returns-clause-answer
-returns-clause-answer c =
-    IfOk-weaker c.judged_answer.result _ _ (λ answer h. judged_is _ _ c.in_ok-judged.judged c.args.proof
-    answer.status answer.text.items c.in_ok-judged.ensures.answer c.in_ok-judged.ensures.headline c.in_ok-judged.ensures.holds h.0 h.1) c.judged_answer.ensures
+pub returns-in-Err-clause-status : goal.returns-in-Err-clause-status
+returns-in-Err-clause-status c =
+    IfOk-weaker c.refused_reply.result _ _ (λ reply h. refusal_not_failed reply.answer.status h.2) c.refused_reply.ensures
+
+pub returns-in-Err-clause-answer : goal.returns-in-Err-clause-answer
+returns-in-Err-clause-answer c =
+    IfOk-weaker c.refused_reply.result _ _ (λ reply h. fault_noted _ c.args.strict (texts_of c.args.input.now) c.args.input.now.footprints.now
+    c.in-Err.halt h.0 _ _ _ c.in-Err.ensures.answer h.1 h.2 h.3 h.4) c.refused_reply.ensures

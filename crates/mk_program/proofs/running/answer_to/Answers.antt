@@ -43,3 +43,9 @@ returns-in-Ok-clause-read g c =
 
 pub returns-in-Err-clause-read : goal.returns-in-Err-clause-read
 returns-in-Err-clause-read g c = right_words _ c.args.words.now c.in-Err.error c.called_for.result _ c.in-Err.ensures.kinds c.called_for.ensures.memory
+
+pub returns-in-Ok-clause-note : goal.returns-in-Ok-clause-note
+returns-in-Ok-clause-note g c = IfOk-weaker c.answer_of.result _ _ (λ reply h some. c.in-Ok.ensures.kinds) c.answer_of.ensures.status
+
+pub returns-in-Err-clause-note : goal.returns-in-Err-clause-note
+returns-in-Err-clause-note g c = IfOk-weaker c.called_for.result _ _ (λ reply none some. absurd (some none)) c.called_for.ensures.note

@@ -10,9 +10,11 @@ pub returns-clause-app : goal.returns-clause-app
 returns-clause-app c =
     let named : app_of c.after_help-command.result ≡ new_app (codes "check") = search rules in
     let tasks = c.in_ok-with_tasks.ensures.app ∙ ap with_tasks named in
-    IfOk-weaker c.arg.result _ _ (λ new h. h.shape c.flag.ensures.local ∙ ap₂ with_rule tasks c.flag.ensures.rule) c.arg.ensures
+    let first = c.in_ok-arg.ensures.shape c.flag.ensures.local ∙ ap₂ with_rule tasks c.flag.ensures.rule in
+    IfOk-weaker c.arg-2.result _ _ (λ new h. h.shape c.flag-2.ensures.local ∙ ap₂ with_rule first c.flag-2.ensures.rule) c.arg-2.ensures
 
 pub returns-clause-local : goal.returns-clause-local
 returns-clause-local c =
     let own : (fields_of c.after_help-command.result).has_globals ≡ false = search rules in
-    IfOk-weaker c.arg.result _ _ (λ new h. stays _ _ _ h.globals c.flag.ensures.local ∙ c.in_ok-with_tasks.ensures.local ∙ own) c.arg.ensures
+    let first = stays _ _ _ c.in_ok-arg.ensures.globals c.flag.ensures.local in
+    IfOk-weaker c.arg-2.result _ _ (λ new h. stays _ _ _ h.globals c.flag-2.ensures.local ∙ first ∙ c.in_ok-with_tasks.ensures.local ∙ own) c.arg-2.ensures

@@ -1,0 +1,16 @@
+use Rattle.std.proofs.Common.{◌≢◌, subst, sym}
+use Rattle.std.proofs.lemmas.Result.{IfOk-weaker}
+use Rattle.mk_program.specs.Answers.{IsReplayAnswer}
+use Rattle.mk_program.specs.declared.answers.Answer.{Answer}
+use Rattle.mk_program.specs.declared.statuses.Status.TheVariants.{Failed}
+use Rattle.mk_program.proofs.answers.replay_noted.Goals as goal
+
+pub returns-clause-status : goal.returns-clause-status
+returns-clause-status c =
+    IfOk-weaker c.with_note.result _ _ (λ reply same. subst (λ (a : Answer). a.status ≢ Failed) (sym same) c.in_ok-answer.ensures.status) c.with_note.ensures.answer
+
+pub returns-clause-answer : goal.returns-clause-answer
+returns-clause-answer c =
+    IfOk-weaker c.with_note.result _ _ (λ reply same texts footprints is.
+    subst (λ (a : Answer). IsReplayAnswer texts footprints c.args.log.now c.args.limit c.args.tie a.status a.text.items) (sym same)
+    (c.in_ok-answer.ensures.answer texts footprints is)) c.with_note.ensures.answer
