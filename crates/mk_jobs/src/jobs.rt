@@ -1,6 +1,6 @@
 //! Jobs: a plan, and what each of its recipes may read and write.
-ghost use Rattle.std.specs.Prelude.{ℕ, ◌≡◌, ◌<◌, ◌≤◌, ◌*◌, ◌↔◌, ◌⊎◌, [], Contains, IfErr, IfOk, IfSome, IsSome, IsTrue, Some, false, get_or, length};
-ghost use Rattle.std.specs.List.Sorted.{IsNonDecreasing};
+ghost use Rattle.std.specs.Prelude.{ℕ, ◌≡◌, ◌<◌, ◌≤◌, ◌*◌, ◌↔◌, ◌⊎◌, [], IfErr, IfOk, IfSome, IsSome, IsTrue, Some, false, get_or, length};
+ghost use Rattle.std.specs.List.Sorted.{IsNonDecreasing, IsPermutation};
 ghost use Rattle.mk_path.specs.Bits.{HasBit};
 ghost use Rattle.mk_path.specs.Uses.{IsLeastOverlap, Reaches, path_of, paths_of};
 ghost use Rattle.mk_jobs.specs.Numbered.{number_of};
@@ -127,11 +127,12 @@ impl Jobs {
         self.plan.prerequisites(n)
     }
 
-    /// The numbers of what a node needs, rising. Its number must be below the count of nodes.
+    /// The numbers of what a node needs, each as often as its rule names it, rising. Its number must be below the count of
+    /// nodes.
     pub fn needs(&self, n: u32) -> &[u32]
         requires { n < node_count self.now }
         ensures rising { IsNonDecreasing result.now }
-        ensures same { (p : ℕ) → Contains result.now p ↔ IsPrerequisite self.now p n }
+        ensures all { IsPermutation (prerequisites_of self.now n) result.now }
     {
         self.needs.row(n as usize)
     }

@@ -1,6 +1,6 @@
 //! The prerequisites of each node, in rising order.
-ghost use Rattle.std.specs.Prelude.{ℕ, ◌↔◌, Contains, IfOk};
-ghost use Rattle.std.specs.List.Sorted.{IsNonDecreasing};
+ghost use Rattle.std.specs.Prelude.{IfOk};
+ghost use Rattle.std.specs.List.Sorted.{IsNonDecreasing, IsPermutation};
 ghost use Rattle.mk_jobs.specs.Needs.{AreNeeds};
 
 use crate::plan::Plan;
@@ -22,7 +22,7 @@ pub(crate) fn needs_of(alloc: Global, plan: &Plan) -> Result<Table, AllocError>
 /// Some numbers in order. The only error is out of memory.
 fn in_order(alloc: Global, numbers: &[u32]) -> Result<Vec<u32>, AllocError>
     ensures rising { IfOk result (λ row. IsNonDecreasing row.items) }
-    ensures same { IfOk result (λ row. (p : ℕ) → Contains row.items p ↔ Contains numbers.now p) }
+    ensures all { IfOk result (λ row. IsPermutation numbers.now row.items) }
 {
     let mut row = Vec::from_slice(alloc, numbers)?;
     row.sort_unstable();

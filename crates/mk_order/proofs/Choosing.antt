@@ -11,7 +11,7 @@ use Rattle.mk_order.specs.Paths.{IsFrom}
 use Rattle.mk_order.proofs.Edges.{prerequisite_from}
 
 -- what is a or has a before it is not less than a
-from_not_less : (jobs : Jobs) (a q : ℕ) → IsValid jobs → IsFrom jobs a q → a ≤ q
+pub from_not_less : (jobs : Jobs) (a q : ℕ) → IsValid jobs → IsFrom jobs a q → a ≤ q
 from_not_less jobs a q valid (inl same) = omega (arith, same)
 from_not_less jobs a q valid (inr before) = omega (arith, before_less valid before)
 

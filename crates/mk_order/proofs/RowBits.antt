@@ -1,5 +1,5 @@
 -- Bits of rows: merged, set, and found again in the table of rows.
-use Rattle.std.proofs.Common.{ℕ, ◌≡◌, ◌<◌, ◌≤◌, ◌/◌, ◌%◌, ◌↔◌, ◌⊎◌, List, [], ◌∷◌, ◌++◌, length, set, get_or, max, bit_or, All, sym, ap, subst, ◌∙◌, inl, inr, arith}
+use Rattle.std.proofs.Common.{ℕ, ◌≡◌, ◌<◌, ◌≤◌, ◌-◌, ◌/◌, ◌%◌, ◌↔◌, ◌⊎◌, List, [], ◌∷◌, ◌++◌, length, get_or, max, bit_or, All, sym, ap, subst, ◌∙◌, inl, inr, arith}
 use Rattle.std.specs.Int.{bit_at}
 use Rattle.std.specs.Simd.Lanes.{zip2}
 use Rattle.std.proofs.lemmas.Bool.{cases_lt, cases_eq}
@@ -8,7 +8,7 @@ use Rattle.std.proofs.lemmas.List.Elements.{Contains-append_left, Contains-push,
 use Rattle.std.proofs.lemmas.Nat.Bits.{bit_at_or, bit_at-lt, bit_at-zero}
 use Rattle.std.proofs.lemmas.Simd.{get_or-zip2, length-zip2}
 use Rattle.mk_path.specs.Bits.{HasBit}
-use Rattle.mk_order.specs.Bits.{IsReached, Gains, row_at}
+use Rattle.mk_order.specs.Bits.{Gathers, IsReached, block_nodes, row_at, row_words}
 
 -- a bit past the last word is not there
 no_bit : (row : List ℕ) (n : ℕ) → length row ≤ n / 64 → HasBit row n → ⊥
@@ -49,35 +49,42 @@ clear_bits row n clear has = elim (cases_lt (n / 64) (length row)) [
   | inr past ↦ no_bit row n past has
 ]
 
--- nothing is gained from no node
-pub gains_none : (width : ℕ) (done row : List ℕ) → Gains width done [] row row
-gains_none width done row = λ n. (λ has. inl has, λ has. elim has [ inl old ↦ old | inr reached ↦ absurd (omega (arith, reached.there.1)) ])
+-- a row without bits gathers no node
+pub gathers_none : (first : ℕ) (done row : List ℕ) → All (λ word. word ≡ 0) row → Gathers first done [] row
+gathers_none first done row clear = λ n within. (λ has. absurd (clear_bits row n clear has), λ reached. absurd (omega (arith, reached.there.1)))
 
-reached_before : (width : ℕ) (done nodes : List ℕ) (p n : ℕ) → IsReached width done nodes n → IsReached width done (nodes ++ p ∷ []) n
-reached_before width done nodes p n reached =
-    record { node = reached.node; there = Contains-append_left nodes (p ∷ []) reached.node reached.there; bit = reached.bit }
+reached_before : (first : ℕ) (done nodes : List ℕ) (p n : ℕ) → IsReached first done nodes n → IsReached first done (nodes ++ p ∷ []) n
+reached_before first done nodes p n reached = record {
+  node = reached.node;
+  there = Contains-append_left nodes (p ∷ []) reached.node reached.there;
+  inside = reached.inside;
+  bit = reached.bit;
+}
 
--- the bits of one node more
-pub gains_more : (width : ℕ) (done nodes old row merged new : List ℕ) (p : ℕ) → Gains width done nodes old row → merged ≡ zip2 bit_or row (row_at width done p)
-    → length row ≡ length (row_at width done p) → ((n : ℕ) → HasBit new n ↔ (HasBit merged n ⊎ (n ≡ p))) → Gains width done (nodes ++ p ∷ []) old new
-gains_more width done nodes old row merged new p gains is same set = λ n.
-    let both : HasBit merged n ↔ (HasBit row n ⊎ HasBit (row_at width done p) n) =
-    subst (λ (ws : List ℕ). HasBit ws n ↔ (HasBit row n ⊎ HasBit (row_at width done p) n)) (sym is) (merged_bits row (row_at width done p) n same) in (
-      λ has. elim ((set n).0 has) [
-        | inl there ↦ elim (both.0 there) [
-          | inl before ↦ elim ((gains n).0 before) [ inl first ↦ inl first | inr reached ↦ inr (reached_before width done nodes p n reached) ]
-          | inr bit ↦ inr (record { node = p; there = Contains-push nodes p; bit = inr bit })
-        ]
-        | inr one ↦ inr (record { node = p; there = Contains-push nodes p; bit = inl one })
-      ],
-      λ has. elim has [
-        | inl first ↦ (set n).1 (inl (both.1 (inl ((gains n).1 (inl first)))))
-        | inr reached ↦ elim (Contains-push_cases nodes p reached.node reached.there) [
-          | inl before ↦ (set n).1 (inl (both.1 (inl ((gains n).1 (inr (record { node = reached.node; there = before; bit = reached.bit }))))))
-          | inr last ↦ elim reached.bit [
-            | inl one ↦ (set n).1 (inr (one ∙ sym last))
-            | inr bit ↦ (set n).1 (inl (both.1 (inr (subst (λ x. HasBit (row_at width done x) n) (sym last) bit))))
-          ]
-        ]
-      ],
-    )
+-- one node more, and the bits of its row
+pub gathers_more : (first p : ℕ) (done nodes row new : List ℕ) → first ≤ p → Gathers first done nodes row
+    → ((n : ℕ) → n < block_nodes → HasBit new n ↔ ((HasBit row n ⊎ HasBit (row_at row_words done p) n) ⊎ (n ≡ p - first))) → Gathers first done (nodes ++ p ∷ []) new
+gathers_more first p done nodes row new inside gathers added = λ n within. (
+  λ has. elim ((added n within).0 has) [
+    | inl (inl before) ↦ reached_before first done nodes p n ((gathers n within).0 before)
+    | inl (inr bit) ↦ record { node = p; there = Contains-push nodes p; inside = inside; bit = inr bit }
+    | inr one ↦ record { node = p; there = Contains-push nodes p; inside = inside; bit = inl (omega (arith, one, inside)) }
+  ],
+  λ reached. elim (Contains-push_cases nodes p reached.node reached.there) [
+    | inl before ↦ (added n within).1 (inl (inl ((gathers n within).1 (record { node = reached.node; there = before; inside = reached.inside; bit = reached.bit }))))
+    | inr last ↦ elim reached.bit [
+      | inl one ↦ (added n within).1 (inr (omega (arith, one, last)))
+      | inr bit ↦ (added n within).1 (inl (inr (subst (λ x. HasBit (row_at row_words done x) n) (sym last) bit)))
+    ]
+  ],
+)
+
+-- a node in front of the block adds nothing
+pub gathers_same : (first p : ℕ) (done nodes row : List ℕ) → p < first → Gathers first done nodes row → Gathers first done (nodes ++ p ∷ []) row
+gathers_same first p done nodes row before gathers = λ n within. (
+  λ has. reached_before first done nodes p n ((gathers n within).0 has),
+  λ reached. elim (Contains-push_cases nodes p reached.node reached.there) [
+    | inl there ↦ (gathers n within).1 (record { node = reached.node; there = there; inside = reached.inside; bit = reached.bit })
+    | inr last ↦ let inside = reached.inside in absurd (omega (arith, last, inside, before))
+  ],
+)

@@ -1,6 +1,7 @@
-use Rattle.std.proofs.Common.{◌<◌, List, ℕ, Contains, sym, subst, arith}
-use Rattle.std.specs.List.Sorted.{IsNonDecreasing}
-use Rattle.mk_jobs.specs.Jobs.{Jobs, IsPrerequisite, node_count, prerequisites_of}
+use Rattle.std.proofs.Common.{◌<◌, sym, subst, arith}
+use Rattle.std.specs.List.Sorted.{IsNonDecreasing, IsPermutation}
+use Rattle.mk_jobs.specs.Plan.{node_at}
+use Rattle.mk_jobs.specs.Jobs.{Jobs, node_count, prerequisites_of}
 use Rattle.mk_jobs.proofs.jobs.Jobs.needs.Goals as goal
 
 pub row-requires : goal.row-requires
@@ -15,11 +16,9 @@ returns-clause-rising c =
     let below = subst (λ (jobs : Jobs). c.args.n < node_count jobs) (sym c.self.view_is) c.requires in
     subst IsNonDecreasing (sym c.row.ensures) (c.self.invariant.needed.rows c.args.n below).rising
 
-pub returns-clause-same : goal.returns-clause-same
+pub returns-clause-all : goal.returns-clause-all
 unfolding node_count prerequisites_of
-returns-clause-same c = λ p.
+returns-clause-all c =
     let below = subst (λ (jobs : Jobs). c.args.n < node_count jobs) (sym c.self.view_is) c.requires in
-    let needs = c.self.invariant.needed.rows c.args.n below in (
-      λ there. subst (λ (jobs : Jobs). IsPrerequisite jobs p c.args.n) c.self.view_is ((needs.same p).0 (subst (λ (row : List ℕ). Contains row p) c.row.ensures there)),
-      λ edge. subst (λ (row : List ℕ). Contains row p) (sym c.row.ensures) ((needs.same p).1 (subst (λ (jobs : Jobs). IsPrerequisite jobs p c.args.n) (sym c.self.view_is) edge)),
-    )
+    let all = (c.self.invariant.needed.rows c.args.n below).all in
+    subst (λ (jobs : Jobs). IsPermutation (prerequisites_of jobs c.args.n) c.row.result.now) c.self.view_is (subst (IsPermutation (node_at c.self.inside.plan.nodes c.args.n).prerequisites) (sym c.row.ensures) all)
