@@ -49,7 +49,7 @@ begins_between (suc k) (a ∷ x) (b ∷ p) within low high = elim (cases_order a
 ]
 
 -- a beginning does not stand after its text
-begins_before : (k : ℕ) (x : Name) → NotAfter (take k x) x
+pub begins_before : (k : ℕ) (x : Name) → NotAfter (take k x) x
 begins_before zero [] = λ after. cc
 begins_before zero (a ∷ x) = λ after. cc
 begins_before (suc k) [] = λ after. cc
@@ -65,7 +65,7 @@ less_names p q less = λ after.
     let more : path_cmp p q ≡ Greater = ap (λ o. ordering_then o (bool_cmp p.tree q.tree)) after in
     let no : Less ≡ Greater = sym less ∙ more in cc
 
-then_tied : (o : Ordering) → ordering_then o Equal ≡ Greater → o ≡ Greater
+pub then_tied : (o : Ordering) → ordering_then o Equal ≡ Greater → o ≡ Greater
 then_tied Less h = h
 then_tied Equal h = h
 then_tied Greater h = refl

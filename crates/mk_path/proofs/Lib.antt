@@ -10,6 +10,7 @@ pub mod Folders
 pub mod Found
 pub mod Halves
 pub mod Holding
+pub mod Leaps
 pub mod Marking
 pub mod Meeting
 pub mod Numbering

@@ -53,7 +53,7 @@ module _ (own : Name) (names : List Name) where
       ∙ place_either (λ x. not (same_name own x) && f x) (λ x. not (same_name own x) && g x) names
 
 -- the order of names
-less_from : (o : Ordering) → is_lt o ≡ true → o ≡ Less
+pub less_from : (o : Ordering) → is_lt o ≡ true → o ≡ Less
 less_from Less h = refl
 less_from Equal h = absurd (false≢true h)
 less_from Greater h = absurd (false≢true h)
