@@ -10,8 +10,9 @@ ghost use Rattle.mk_foot.specs.declared.foot_reader.Stop.{Stop};
 ghost use Rattle.mk_foot.specs.declared.foot_reader.Stop.TheVariants as stops;
 
 use crate::footprints::Footprints;
-use crate::json::is_blank;
 use crate::line::{Line, line_of};
+use crate::object::is_blank;
+use mk_json::Scratch;
 use mk_name::fault::{Fault, Halt, Kind, Source};
 use mk_text::lexical::split_line;
 use mk_text::root::Root;
@@ -40,9 +41,10 @@ impl From<AllocError> for Stop {
 
 /// Reads footprints that come in pieces, whatever the cuts between them. It keeps the footprints so far and the line that
 /// is open.
-#[derive(Debug, Drop)]
+#[derive(Drop)]
 pub struct FootReader {
     alloc: Global,
+    scratch: Scratch,
     footprints: Footprints,
     paths: usize,
     place: u64,
@@ -71,6 +73,7 @@ impl FootReader {
     {
         FootReader {
             alloc,
+            scratch: Scratch::new(alloc),
             footprints: Footprints::new(alloc, root),
             paths: 0,
             place: 0,
@@ -152,7 +155,15 @@ impl FootReader {
         }
         let place = self.place.saturating_add(1);
         let line = self.open_line.as_slice();
-        match add_text(&mut self.footprints, self.paths, self.alloc, line, place) {
+        let scratch = &mut self.scratch;
+        match add_text(
+            &mut self.footprints,
+            self.paths,
+            self.alloc,
+            line,
+            scratch,
+            place,
+        ) {
             Ok(paths) => {
                 self.paths = paths;
                 self.place = place;
@@ -170,13 +181,14 @@ fn add_text(
     paths: usize,
     alloc: Global,
     text: &[u8],
+    scratch: &mut Scratch,
     place: u64,
 ) -> Result<usize, Stop>
     ensures { (root : List ℕ) (ended : List (List ℕ)) → AreGood root ended footprints.old paths
         → place ≡ min (length ended + 1) greatest_place
         → AddsText root (ended ++ text.now ∷ []) result footprints.new }
 {
-    let Some(line) = line_at(alloc, text, place, footprints.root())? else {
+    let Some(line) = line_at(alloc, text, scratch, place, footprints.root())? else {
         return Ok(paths);
     };
     let count = with_paths(paths, &line);
@@ -188,7 +200,13 @@ fn add_text(
 }
 
 /// What a physical line says; nothing where it is blank. A bad line is a fault at its place.
-fn line_at(alloc: Global, text: &[u8], place: u64, root: &Root) -> Result<Option<Line>, Stop>
+fn line_at(
+    alloc: Global,
+    text: &[u8],
+    scratch: &mut Scratch,
+    place: u64,
+    root: &Root,
+) -> Result<Option<Line>, Stop>
     ensures ok { IfOk result (λ line. lines_in root.now text.now ≡ Some (option_to_list line)) }
     ensures bad { IfErr result (λ stop. stop ≢ stops.Memory → lines_in root.now text.now ≡ None) }
     ensures fault { IfErr result (λ stop. stop ≢ stops.Memory → stop ≡ stops.Fault Kind.BadFootprint place) }
@@ -196,7 +214,7 @@ fn line_at(alloc: Global, text: &[u8], place: u64, root: &Root) -> Result<Option
     if is_blank(text) {
         return Ok(None);
     }
-    match line_of(alloc, text, root)? {
+    match line_of(alloc, text, scratch, root)? {
         Some(line) => Ok(Some(line)),
         None => Err(Stop::Fault(Kind::BadFootprint, place)),
     }

@@ -13,7 +13,7 @@
 //! - `Attached.antt`: the jobs of a plan and footprints, and the first node at fault.
 //!
 //! Jobs themselves stand in `mk_jobs`, whose modules are passed on. `reading_laws` holds what is proved of footprints
-//! beside the calls. `json` has what the lines of footprints and those of logs share.
+//! beside the calls. `object` has what the lines of footprints, of tasks and of logs share.
 #![tactic(auto)]
 
 pub use mk_jobs::{jobs, laws, recipe};
@@ -21,8 +21,8 @@ pub use mk_jobs::{jobs, laws, recipe};
 pub mod attaching;
 pub mod foot_reader;
 pub mod footprints;
-pub mod json;
 pub mod line;
+pub mod object;
 mod owned;
 pub mod reading;
 pub mod reading_laws;

@@ -1,14 +1,16 @@
 //! One line of footprints: what the recipe of a target reads and writes, as an object of JSON.
 ghost use Rattle.std.specs.Prelude.{◌≡◌, IfOk, option_and_then, option_map};
-ghost use Rattle.serde_json.specs.View.{items_view, view};
+ghost use Rattle.mk_json.specs.Documents.{data_in, data_of, items_in};
 ghost use Rattle.mk_foot.specs.Json.{value_of};
 ghost use Rattle.mk_foot.specs.Lines as spec;
 
-use crate::json::{name_in, path_under, value_of};
+use crate::object::{name_in, path_under};
+use json::Value;
+use mk_json::members::text_in;
+use mk_json::{Document, Scratch};
 use mk_name::name::Name;
 use mk_path::path::Path;
 use mk_text::root::Root;
-use serde_json::Value;
 use std::alloc::{AllocError, Global};
 use std::marker::Model;
 
@@ -43,10 +45,10 @@ fn ends_in_slash(text: &[u8]) -> bool
 }
 
 /// The path of a value, if it is a text that spells one.
-fn path_of(alloc: Global, value: &Value, root: &Root) -> Result<Option<Path>, AllocError>
-    ensures { IfOk result (λ path. path ≡ spec.path_of root.now (view value.now)) }
+fn path_of(alloc: Global, value: &Value<'_>, root: &Root) -> Result<Option<Path>, AllocError>
+    ensures { IfOk result (λ path. path ≡ spec.path_of root.now (data_in value.now)) }
 {
-    let Some(text) = value.as_str() else {
+    let Some(text) = text_in(value) else {
         return Ok(None);
     };
     match name_in(alloc, text, root)? {
@@ -59,9 +61,13 @@ fn path_of(alloc: Global, value: &Value, root: &Root) -> Result<Option<Path>, Al
 }
 
 /// The paths of a list, if each of its items is one.
-fn paths_in(alloc: Global, values: &[Value], root: &Root) -> Result<Option<Vec<Path>>, AllocError>
+fn paths_in(
+    alloc: Global,
+    values: &[Value<'_>],
+    root: &Root,
+) -> Result<Option<Vec<Path>>, AllocError>
     ensures { IfOk result (λ paths.
-        option_map (λ list. list.items) paths ≡ spec.paths_in root.now (items_view values.now)) }
+        option_map (λ list. list.items) paths ≡ spec.paths_in root.now (items_in values.now)) }
 {
     let mut paths = Vec::with_capacity(alloc, values.len())?;
     for value in values {
@@ -77,22 +83,22 @@ fn paths_in(alloc: Global, values: &[Value], root: &Root) -> Result<Option<Vec<P
 /// no text that spells a path. A final `/` makes a tree of it. The only error is out of memory.
 pub fn paths_under(
     alloc: Global,
-    object: &Value,
+    object: &Document<'_>,
     key: &str,
     root: &Root,
 ) -> Result<Option<Vec<Path>>, AllocError>
     ensures { IfOk result (λ paths.
-        option_map (λ list. list.items) paths ≡ spec.paths_under root.now key.now (view object.now)) }
+        option_map (λ list. list.items) paths ≡ spec.paths_under root.now key.now (data_of object.now)) }
 {
-    match object.get(key).and_then(Value::as_array) {
-        Some(values) => paths_in(alloc, values.as_slice(), root),
+    match object.items(key) {
+        Some(values) => paths_in(alloc, values, root),
         None => Ok(None),
     }
 }
 
 /// The line that an object says.
-fn line_in(alloc: Global, object: &Value, root: &Root) -> Result<Option<Line>, AllocError>
-    ensures { IfOk result (λ line. line ≡ spec.line_in root.now (view object.now)) }
+fn line_in(alloc: Global, object: &Document<'_>, root: &Root) -> Result<Option<Line>, AllocError>
+    ensures { IfOk result (λ line. line ≡ spec.line_in root.now (data_of object.now)) }
 {
     let Some(target) = path_under(alloc, object, "target", root)? else {
         return Ok(None);
@@ -111,10 +117,15 @@ fn line_in(alloc: Global, object: &Value, root: &Root) -> Result<Option<Line>, A
 }
 
 /// The line of a text that is not blank; none where it is bad.
-pub(crate) fn line_of(alloc: Global, text: &[u8], root: &Root) -> Result<Option<Line>, AllocError>
+pub(crate) fn line_of(
+    alloc: Global,
+    text: &[u8],
+    scratch: &mut Scratch,
+    root: &Root,
+) -> Result<Option<Line>, AllocError>
     ensures { IfOk result (λ line. line ≡ option_and_then (spec.line_in root.now) (value_of text.now)) }
 {
-    match value_of(alloc, text)? {
+    match Document::read(alloc, text, scratch)? {
         Some(object) => line_in(alloc, &object, root),
         None => Ok(None),
     }

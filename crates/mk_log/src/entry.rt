@@ -6,7 +6,7 @@ ghost use Rattle.mk_json.specs.Documents.{data_of};
 ghost use Rattle.mk_log.specs.Entries as spec;
 
 use hex::FromHexError;
-use mk_foot::json::name_in;
+use mk_foot::object::path_under;
 use mk_jobs::jobs::Jobs;
 use mk_json::{Document, Scratch};
 use mk_name::name::Name;
@@ -71,21 +71,6 @@ fn time_under(object: &Document<'_>) -> Option<u64>
     ensures { result ≡ spec.time_under (data_of object.now) }
 {
     object.whole("time")
-}
-
-/// The name that the path under a key spells.
-fn path_under(
-    alloc: Global,
-    object: &Document<'_>,
-    key: &str,
-    root: &Root,
-) -> Result<Option<Name>, AllocError>
-    ensures { IfOk result (λ name. name ≡ lines.path_under root.now key.now (data_of object.now)) }
-{
-    match object.text(key) {
-        Some(text) => name_in(alloc, text, root),
-        None => Ok(None),
-    }
 }
 
 /// The number of the node whose name stands under the key `node`.

@@ -9,7 +9,7 @@ ghost use Rattle.mk_log.specs.declared.entry.Entry.TheVariants.{Holds};
 
 use crate::entry::{Entry, entry_of};
 use crate::log::Log;
-use mk_foot::json::is_blank;
+use mk_foot::object::is_blank;
 use mk_jobs::jobs::Jobs;
 use mk_json::Scratch;
 use mk_name::fault::{Fault, Halt, Kind, Source};

@@ -1,16 +1,17 @@
 //! One line of tasks: a label, what it stands behind, and what it reads and writes, as an object of JSON.
 ghost use Rattle.std.specs.Prelude.{◌≡◌, ◌∷◌, IfOk, option_and_then, option_map};
 ghost use Rattle.std.specs.List.{list_any};
-ghost use Rattle.serde_json.specs.View.{items_view, view};
 ghost use Rattle.mk_foot.specs.Lines as paths;
+ghost use Rattle.mk_json.specs.Documents.{data_in, data_of, items_in};
 ghost use Rattle.mk_task.specs.Lines as spec;
 
-use mk_foot::json::value_of;
+use json::Value;
 use mk_foot::line::paths_under;
+use mk_json::members::text_in;
+use mk_json::{Document, Scratch};
 use mk_name::name::Name;
 use mk_path::path::Path;
 use mk_text::root::Root;
-use serde_json::Value;
 use std::alloc::{AllocError, Global};
 use std::marker::Model;
 
@@ -51,19 +52,19 @@ fn label_in(alloc: Global, text: &str) -> Result<Option<Name>, AllocError>
 }
 
 /// The label of a value, if it is such a text.
-fn label_of(alloc: Global, value: &Value) -> Result<Option<Name>, AllocError>
-    ensures { IfOk result (λ label. label ≡ spec.label_of (view value.now)) }
+fn label_of(alloc: Global, value: &Value<'_>) -> Result<Option<Name>, AllocError>
+    ensures { IfOk result (λ label. label ≡ spec.label_of (data_in value.now)) }
 {
-    match value.as_str() {
+    match text_in(value) {
         Some(text) => label_in(alloc, text),
         None => Ok(None),
     }
 }
 
 /// The labels of a list, if each of its items is one.
-fn labels_in(alloc: Global, values: &[Value]) -> Result<Option<Vec<Name>>, AllocError>
+fn labels_in(alloc: Global, values: &[Value<'_>]) -> Result<Option<Vec<Name>>, AllocError>
     ensures { IfOk result (λ labels.
-        option_map (λ list. list.items) labels ≡ spec.labels_in (items_view values.now)) }
+        option_map (λ list. list.items) labels ≡ spec.labels_in (items_in values.now)) }
 {
     let mut labels = Vec::new(alloc);
     for value in values {
@@ -76,22 +77,22 @@ fn labels_in(alloc: Global, values: &[Value]) -> Result<Option<Vec<Name>>, Alloc
 }
 
 /// The label under the key `task`.
-fn own_label(alloc: Global, object: &Value) -> Result<Option<Name>, AllocError>
-    ensures { IfOk result (λ label. label ≡ option_and_then spec.label_of (spec.under_task (view object.now))) }
+fn own_label(alloc: Global, object: &Document<'_>) -> Result<Option<Name>, AllocError>
+    ensures { IfOk result (λ label. label ≡ option_and_then spec.label_of (spec.under_task (data_of object.now))) }
 {
-    match object.get("task") {
-        Some(value) => label_of(alloc, value),
+    match object.text("task") {
+        Some(text) => label_in(alloc, text),
         None => Ok(None),
     }
 }
 
 /// The labels of the list under the key `after`.
-fn labels_after(alloc: Global, object: &Value) -> Result<Option<Vec<Name>>, AllocError>
+fn labels_after(alloc: Global, object: &Document<'_>) -> Result<Option<Vec<Name>>, AllocError>
     ensures { IfOk result (λ labels. option_map (λ list. list.items) labels
-        ≡ option_and_then spec.labels_in (spec.under_after (view object.now))) }
+        ≡ option_and_then spec.labels_in (spec.under_after (data_of object.now))) }
 {
-    match object.get("after").and_then(Value::as_array) {
-        Some(values) => labels_in(alloc, values.as_slice()),
+    match object.items("after") {
+        Some(values) => labels_in(alloc, values),
         None => Ok(None),
     }
 }
@@ -111,9 +112,13 @@ fn has_everything(paths: &[Path]) -> bool
 }
 
 /// The paths of the list under the key `writes`, if none is the tree of everything.
-fn writes_in(alloc: Global, object: &Value, root: &Root) -> Result<Option<Vec<Path>>, AllocError>
+fn writes_in(
+    alloc: Global,
+    object: &Document<'_>,
+    root: &Root,
+) -> Result<Option<Vec<Path>>, AllocError>
     ensures { IfOk result (λ paths. option_map (λ list. list.items) paths
-        ≡ option_and_then spec.less_than_everything (spec.under_writes root.now (view object.now))) }
+        ≡ option_and_then spec.less_than_everything (spec.under_writes root.now (data_of object.now))) }
 {
     let Some(writes) = paths_under(alloc, object, "writes", root)? else {
         return Ok(None);
@@ -125,8 +130,8 @@ fn writes_in(alloc: Global, object: &Value, root: &Root) -> Result<Option<Vec<Pa
 }
 
 /// The line that an object says.
-fn line_in(alloc: Global, object: &Value, root: &Root) -> Result<Option<Line>, AllocError>
-    ensures { IfOk result (λ line. line ≡ spec.line_in root.now (view object.now)) }
+fn line_in(alloc: Global, object: &Document<'_>, root: &Root) -> Result<Option<Line>, AllocError>
+    ensures { IfOk result (λ line. line ≡ spec.line_in root.now (data_of object.now)) }
 {
     let Some(label) = own_label(alloc, object)? else {
         return Ok(None);
@@ -149,10 +154,15 @@ fn line_in(alloc: Global, object: &Value, root: &Root) -> Result<Option<Line>, A
 }
 
 /// The line of a text that is not blank; none where it is bad.
-pub(crate) fn line_of(alloc: Global, text: &[u8], root: &Root) -> Result<Option<Line>, AllocError>
+pub(crate) fn line_of(
+    alloc: Global,
+    text: &[u8],
+    scratch: &mut Scratch,
+    root: &Root,
+) -> Result<Option<Line>, AllocError>
     ensures { IfOk result (λ line. line ≡ spec.line_of root.now text.now) }
 {
-    match value_of(alloc, text)? {
+    match Document::read(alloc, text, scratch)? {
         Some(object) => line_in(alloc, &object, root),
         None => Ok(None),
     }

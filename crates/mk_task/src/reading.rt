@@ -9,8 +9,9 @@ ghost use Rattle.mk_task.specs.Tasks as spec;
 use crate::line::line_of;
 use crate::making::jobs_of;
 use crate::tasks::{Tally, Task};
-use mk_foot::json::is_blank;
+use mk_foot::object::is_blank;
 use mk_jobs::jobs::Jobs;
+use mk_json::Scratch;
 use mk_name::fault::{Fault, Halt, Kind, Source};
 use mk_text::lexical::split_line;
 use mk_text::root::Root;
@@ -41,11 +42,12 @@ fn tasks_in(alloc: Global, text: &[u8], root: &Root) -> Result<Vec<Task>, Halt>
     ensures fault { IfErr result (λ halt. Halts halt (spec.tasks_of root.now text.now)) }
 {
     let mut tally = Tally::new(alloc);
+    let mut scratch = Scratch::new(alloc);
     let mut place = 1;
     let mut rest = Some(text);
     'lines: while let Some(text) = rest {
         let (line, later) = split_line(text);
-        add_text(alloc, &mut tally, line, place, root)?;
+        add_text(alloc, &mut tally, line, &mut scratch, place, root)?;
         place = place.saturating_add(1);
         rest = later;
     }
@@ -58,6 +60,7 @@ fn add_text(
     alloc: Global,
     tally: &mut Tally,
     text: &[u8],
+    scratch: &mut Scratch,
     place: u64,
     root: &Root,
 ) -> Result<(), Halt>
@@ -70,7 +73,7 @@ fn add_text(
     if is_blank(text) {
         return Ok(());
     }
-    match line_of(alloc, text, root)? {
+    match line_of(alloc, text, scratch, root)? {
         Some(line) => tally.add(alloc, line, place),
         None => Err(bad(alloc, place)),
     }
