@@ -27,16 +27,16 @@ use crate::requests::{BuildArgs, ReplayArgs, Request, VerifyArgs, includes_path,
 use crate::serialising::serialise_answer;
 use crate::statuses::Status;
 use crate::tasks::tasks_answer;
-use mk_jobs::plan::Plan;
 use mk_name::fault::{Fault, Halt};
 use mk_name::report::refused_report;
 use mk_race::input::Input;
-use mk_race::planning::plan_of;
+use mk_race::planning::{Planned, plan_of};
 use mk_race::preparing::Prepared;
 use mk_race::replaying::{Played, replay_prepared};
 use mk_race::unused::{Noted, prepare_noting};
 use mk_race::verifying::verify_prepared;
 use std::alloc::{AllocError, Global};
+use std::mem::forget;
 
 /// What the program says, and how it ends where that is written.
 #[derive(Drop)]
@@ -227,7 +227,7 @@ fn order_over(alloc: Global, input: &Input<'_>) -> Result<Answer, AllocError>
         spec.IsOrderAnswer (texts_of input.now) answer.status answer.text.items) }
 {
     match plan_of(alloc, input) {
-        Ok(planned) => plan_answer(alloc, &planned.plan),
+        Ok(planned) => plan_answer(alloc, planned),
         Err(halt) => refused(alloc, halt),
     }
 }
@@ -331,14 +331,16 @@ fn played_of(
     }
 }
 
-/// A plan, reported.
-fn plan_answer(alloc: Global, plan: &Plan) -> Result<Answer, AllocError>
+/// A plan, reported. What it was made from is not freed piece by piece: the program ends with its answer, and its memory with it.
+fn plan_answer(alloc: Global, planned: Planned) -> Result<Answer, AllocError>
     ensures { IfOk result (λ answer. (answer.status ≡ Status.Done)
-        × (answer.text.items ≡ text_of_plan plan.now)) }
+        × (answer.text.items ≡ text_of_plan planned.plan)) }
 {
+    let text = plan_text(alloc, &planned.plan);
+    forget(planned);
     Ok(Answer {
         status: Status::Done,
-        text: plan_text(alloc, plan)?,
+        text: text?,
     })
 }
 
