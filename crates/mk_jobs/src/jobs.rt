@@ -1,8 +1,9 @@
 //! Jobs: a plan, and what each of its recipes may read and write.
-ghost use Rattle.std.specs.Prelude.{ℕ, ◌≡◌, ◌<◌, ◌≤◌, ◌*◌, ◌↔◌, ◌⊎◌, [], IfErr, IfOk, IfSome, IsSome, IsTrue, Some, false, get_or, length};
-ghost use Rattle.std.specs.List.Sorted.{IsNonDecreasing, IsPermutation};
+ghost use Rattle.std.specs.Prelude.{ℕ, ◌≡◌, ◌<◌, ◌≤◌, ◌*◌, ◌↔◌, ◌⊎◌, [], All, Contains, IfErr, IfOk, IfSome, IsSome, IsTrue, Some, false, get_or, length, true};
+ghost use Rattle.std.specs.List.Sorted.{IsNonDecreasing, IsPermutation, IsStrictlyIncreasing};
 ghost use Rattle.mk_path.specs.Bits.{HasBit};
-ghost use Rattle.mk_path.specs.Uses.{IsLeastOverlap, Reaches, path_of, paths_of};
+ghost use Rattle.mk_path.specs.Holders.{row_limit};
+ghost use Rattle.mk_path.specs.Uses.{AreAllPlaces, IsLeastOverlap, IsPlaceOf, Reaches, has_over, path_of};
 ghost use Rattle.mk_jobs.specs.Numbered.{number_of};
 ghost use Rattle.mk_jobs.specs.Plan.{names_of, node_limit};
 ghost use Rattle.mk_jobs.specs.Jobs.{Clash, IsNumberOf, IsPrerequisite, IsValid, is_listed, is_live, is_phony, maker_of, may_read, may_write, name_of, node_count, prerequisites_of, reads_of, writes_of};
@@ -20,7 +21,7 @@ use mk_path::index::{Index, Place};
 use mk_path::path::Path;
 use mk_path::table::Table;
 use mk_text::root::Root;
-use std::alloc::Global;
+use std::alloc::{AllocError, Global};
 use std::marker::Model;
 
 /// A plan, the root of its names, and for each node the paths that its footprints read and write. A node's number is its
@@ -256,15 +257,41 @@ impl Jobs {
             return None;
         }
         match self.index.overlap(a, b) {
-            Some(place) => Some(self.path_at(place)),
+            Some(place) => Some(self.path(place)),
             None => None,
         }
     }
 
-    /// The path at a place.
-    fn path_at(&self, place: Place) -> &Path
+    /// For each path that nodes read or write a place where it stands, in order of the paths. The only error is out of memory.
+    pub fn all_places(&self, alloc: Global) -> Result<Vec<Place>, AllocError>
+        ensures few { IfOk result (λ places. length places.items < row_limit) }
+        ensures nodes { IfOk result (λ places. All (λ place. place.node < node_count self.now) places.items) }
+        ensures all { IfOk result (λ places. AreAllPlaces (uses_of self.now) places.items) }
+    {
+        self.index.all_places(alloc)
+    }
+
+    /// The nodes that write the path at a place or a tree over it, or those that read one, rising. The only error is out of
+    /// memory.
+    pub fn users_over(
+        &self,
+        alloc: Global,
+        place: Place,
+        written: bool,
+    ) -> Result<Vec<u32>, AllocError>
         requires node { place.node < node_count self.now }
-        requires within { place.place < length (paths_of (uses_of self.now) place.node place.written) }
+        requires within { IsPlaceOf (uses_of self.now) place }
+        ensures rise { IfOk result (λ nodes. IsStrictlyIncreasing nodes.items) }
+        ensures over { IfOk result (λ nodes. (n : ℕ)
+            → Contains nodes.items n ↔ (has_over (uses_of self.now) n written (path_of (uses_of self.now) place) ≡ true)) }
+    {
+        self.index.users_over(alloc, place, written)
+    }
+
+    /// The path at a place.
+    pub fn path(&self, place: Place) -> &Path
+        requires node { place.node < node_count self.now }
+        requires within { IsPlaceOf (uses_of self.now) place }
         ensures { result.now ≡ path_of (uses_of self.now) place }
     {
         if place.written {

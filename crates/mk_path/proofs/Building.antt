@@ -1,5 +1,5 @@
 -- The index of rows of paths.
-use Rattle.std.proofs.Common.{ℕ, suc, zero, ◌≡◌, ◌<◌, ◌+◌, ◌↔◌, false, List, Vec, [], ◌∷◌, length, get_or, map, All, Contains, Less, refl, sym, ap, subst, ◌∙◌, inl, inr, arith}
+use Rattle.std.proofs.Common.{ℕ, suc, zero, ◌≡◌, ◌<◌, ◌+◌, ◌↔◌, false, Bool, true, List, Vec, [], ◌∷◌, length, get_or, map, All, Contains, Less, refl, sym, ap, subst, ◌∙◌, inl, inr, arith}
 use Rattle.std.specs.Prelude.{slice_get, unwrap_or}
 use Rattle.std.specs.Global.{Global}
 use Rattle.std.specs.List.Sorted.{IsStrictlySortedBy}
@@ -10,7 +10,7 @@ use Rattle.std.proofs.lemmas.List.Elements.{All-contains, All-nil, Contains-get_
 use Rattle.std.proofs.lemmas.Map.Keys.{Less-from_sorted}
 use Rattle.std.proofs.lemmas.Option.{unwrap_or-slice_get}
 use Rattle.mk_path.specs.declared.path.Path.{Path}
-use Rattle.mk_path.specs.Index.{Index, AreHolders, IsIndexed, IsNumberRow, IsWhole, path_at}
+use Rattle.mk_path.specs.Index.{Index, AreHolders, IsIndexed, IsNumberRow, IsWhole, holders_of, numbers_of, path_at}
 use Rattle.mk_path.specs.Nearest.{ArePaths, AreWaysUp}
 use Rattle.mk_path.specs.Paths.{path_cmp, same_path}
 use Rattle.mk_path.specs.Places.{AreNumbers, ArePlaces}
@@ -117,14 +117,17 @@ module _ (root : List ℕ) (paths : List Path) (reads writes : List (Vec Path Gl
     reads = λ n. row_are paths index.reads reads n read_numbers;
     writes = λ n. row_are paths index.writes writes n written_numbers;
     over = ways.over;
-    writers = all_writers;
-    readers = all_readers;
   }
+
+  all_held : (written : Bool) (t n : ℕ) → Contains (row_of (holders_of index written) t) n ↔ Contains (numbers_of index n written) t
+  all_held true = all_writers
+  all_held false = all_readers
 
   pub is_whole : AreRising (uses_of root reads writes) → length writes ≡ length reads → IsWhole index
   is_whole rise same =
       let nodes : length index.writes ≡ length index.reads = all_numbers paths index.writes writes written_numbers ∙ same ∙ sym (all_numbers paths index.reads reads read_numbers) in
       record {
+        few = omega (arith, ways.all, are.few);
         nodes = nodes;
         reads = λ n. number_row paths index.ups (row_of index.reads n) _ are ways.all (row_places paths index.reads reads n read_numbers)
             (subst (λ (ps : List Path). IsStrictlySortedBy path_cmp ps) (unwrap_or-slice_get (map items reads) n []) (rise.reads n));
@@ -132,4 +135,5 @@ module _ (root : List ℕ) (paths : List Path) (reads writes : List (Vec Path Gl
             (subst (λ (ps : List Path). IsStrictlySortedBy path_cmp ps) (unwrap_or-slice_get (map items writes) n []) (rise.writes n));
         writers = are_holders index.ups index.writes index.writers (length index.reads) (writer_count ∙ sym ways.all) nodes all_writers;
         readers = are_holders index.ups index.reads index.readers (length index.reads) (reader_count ∙ sym ways.all) refl all_readers;
+        hold = all_held;
       }

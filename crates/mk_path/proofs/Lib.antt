@@ -8,6 +8,7 @@ pub mod Finding
 pub mod FolderKinds
 pub mod Folders
 pub mod Found
+pub mod Gaining
 pub mod Halves
 pub mod Holding
 pub mod Leaps
@@ -18,6 +19,7 @@ pub mod Overlaps
 pub mod Overs
 pub mod Parts
 pub mod PathOrder
+pub mod Placing
 pub mod RangePlaces
 pub mod RangeTests
 pub mod Reaching

@@ -181,7 +181,7 @@ module _ (uses : Uses) (index : Index) (whole : IsWhole index) (is : IsIndexed u
   pub no_overlap : (a b : ℕ) (x : Path) → IsLeastMet index.ups (facing index b a (facing index a b [])) None → IsOverlap uses a b x → ⊥
   no_overlap a b x least overlap = let met = met_of a b x overlap in least met.0 met.2
 
-  row_is : (n : ℕ) (written : Bool) → map (path_at is.paths) (numbers_of index n written) ≡ paths_of uses n written
+  pub row_is : (n : ℕ) (written : Bool) → map (path_at is.paths) (numbers_of index n written) ≡ paths_of uses n written
   row_is n true = is.writes n
   row_is n false = is.reads n
 
@@ -191,7 +191,7 @@ module _ (uses : Uses) (index : Index) (whole : IsWhole index) (is : IsIndexed u
       let numbers = numbers_of index place.node place.written in
       omega (arith, stands.within, length-map numbers (path_at is.paths), ap length (row_is place.node place.written))
 
-  path_there : (found : Found) → Stands index found → path_of uses found.place ≡ path_at is.paths found.number
+  pub path_there : (found : Found) → Stands index found → path_of uses found.place ≡ path_at is.paths found.number
   path_there found stands =
       let place = found.place in
       let numbers = numbers_of index place.node place.written in

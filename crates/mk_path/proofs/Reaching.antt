@@ -1,5 +1,5 @@
 -- Who reaches whom, by the numbers of paths.
-use Rattle.std.proofs.Common.{ℕ, ◌≡◌, ◌<◌, ◌≤◌, ◌*◌, ◌↔◌, ◌⊎◌, List, length, get_or, map, true, All, Contains, sym, ap, subst, ◌∙◌, inl, inr, arith}
+use Rattle.std.proofs.Common.{ℕ, ◌≡◌, ◌<◌, ◌≤◌, ◌*◌, ◌↔◌, ◌⊎◌, List, length, get_or, map, true, false, All, Contains, sym, ap, subst, ◌∙◌, inl, inr, arith}
 use Rattle.std.proofs.lemmas.List.{get_or-map, length-map}
 use Rattle.std.proofs.lemmas.List.Elements.{All-contains, Contains-get_or, Contains-append_left, Contains-append_right, Contains-append_cases}
 use Rattle.mk_path.specs.declared.path.Path.{Path}
@@ -62,7 +62,7 @@ module _ (uses : Uses) (index : Index) (whole : IsWhole index) (is : IsIndexed u
 
   reaches_of : (a b : ℕ) → HoldsOver index a b → Reaches uses a b
   reaches_of a b (writes_read held) =
-      let writes = (is.writers held.upper a).0 held.holds in (
+      let writes = (whole.hold true held.upper a).0 held.holds in (
         path_at is.paths held.lower,
         record {
           upper = path_at is.paths held.upper;
@@ -71,7 +71,7 @@ module _ (uses : Uses) (index : Index) (whole : IsWhole index) (is : IsIndexed u
         },
       )
   reaches_of a b (writes_written held) =
-      let writes = (is.writers held.upper a).0 held.holds in (
+      let writes = (whole.hold true held.upper a).0 held.holds in (
         path_at is.paths held.lower,
         record {
           upper = path_at is.paths held.upper;
@@ -80,7 +80,7 @@ module _ (uses : Uses) (index : Index) (whole : IsWhole index) (is : IsIndexed u
         },
       )
   reaches_of a b (reads_written held) =
-      let reads = (is.readers held.upper a).0 held.holds in (
+      let reads = (whole.hold false held.upper a).0 held.holds in (
         path_at is.paths held.lower,
         record {
           upper = path_at is.paths held.upper;
@@ -102,7 +102,7 @@ module _ (uses : Uses) (index : Index) (whole : IsWhole index) (is : IsIndexed u
       elim at.touches [
         | inl both ↦
             let t = written_number a at.upper both.0 in
-            let holds = (is.writers t.number a).1 t.there in
+            let holds = (whole.hold true t.number a).1 t.there in
             elim (Contains-append_cases (reads_of uses b) (writes_of uses b) lower both.1) [
               | inl read ↦
                   let q = read_number b lower read in
@@ -117,7 +117,7 @@ module _ (uses : Uses) (index : Index) (whole : IsWhole index) (is : IsIndexed u
             let t = read_number a at.upper both.0 in
             let q = written_number b lower both.1 in
             let up = up_of_paths t.number q.number at.upper lower (read_within a t.number t.there) (written_within b q.number q.there) t.is q.is at.over in
-            reads_written (record { lower = q.number; there = q.there; upper = t.number; over = up; holds = (is.readers t.number a).1 t.there })
+            reads_written (record { lower = q.number; there = q.there; upper = t.number; over = up; holds = (whole.hold false t.number a).1 t.there })
       ]
 
   -- what three rounds of marks leave

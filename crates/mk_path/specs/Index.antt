@@ -3,6 +3,7 @@ use Rattle.std.specs.Prelude.{ℕ, ◌≡◌, ◌<◌, ◌↔◌, Bool, true, fa
 use Rattle.std.specs.List.{All}
 use Rattle.std.specs.List.Sorted.{IsStrictlyIncreasing, IsStrictlySortedBy}
 use Rattle.mk_path.specs.declared.path.Path.{Path}
+use Rattle.mk_path.specs.Holders.{row_limit}
 use Rattle.mk_path.specs.Paths.{is_over, path_cmp}
 use Rattle.mk_path.specs.Table.{row_of}
 use Rattle.mk_path.specs.Ups.{Ups, IsUp, number_count}
@@ -32,13 +33,20 @@ pub record AreHolders (ups : Ups) (nodes : ℕ) (holders : List (List ℕ)) : Ty
   pub all : length holders ≡ number_count ups
   pub within : (t : ℕ) → All (λ n. n < nodes) (row_of holders t)
 
--- nodes and numbers are those of the same index
+-- for each number the nodes that write its path, or those that read it
+abbrev pub holders_of : Index → Bool → List (List ℕ)
+holders_of index true = index.writers
+holders_of index false = index.readers
+
+-- nodes and numbers are those of the same index, and a number has 32 bits
 pub record IsWhole (index : Index) : Type 0 where
+  pub few : number_count index.ups < row_limit
   pub nodes : length index.writes ≡ length index.reads
   pub reads : (n : ℕ) → IsNumberRow index.ups (row_of index.reads n)
   pub writes : (n : ℕ) → IsNumberRow index.ups (row_of index.writes n)
   pub writers : AreHolders index.ups (length index.reads) index.writers
   pub readers : AreHolders index.ups (length index.reads) index.readers
+  pub hold : (written : Bool) (t n : ℕ) → Contains (row_of (holders_of index written) t) n ↔ Contains (numbers_of index n written) t
 
 -- the path of a number
 abbrev pub path_at : List Path → ℕ → Path
@@ -53,5 +61,3 @@ pub record IsIndexed (uses : Uses) (index : Index) : Type 0 where
   pub reads : (n : ℕ) → map (path_at paths) (row_of index.reads n) ≡ reads_of uses n
   pub writes : (n : ℕ) → map (path_at paths) (row_of index.writes n) ≡ writes_of uses n
   pub over : (t q : ℕ) → t < length paths → q < length paths → IsUp index.ups t q ↔ (is_over uses.root (path_at paths t) (path_at paths q) ≡ true)
-  pub writers : (t n : ℕ) → Contains (row_of index.writers t) n ↔ Contains (row_of index.writes n) t
-  pub readers : (t n : ℕ) → Contains (row_of index.readers t) n ↔ Contains (row_of index.reads n) t

@@ -8,6 +8,7 @@ pub mod Marks
 pub mod Meets
 pub mod Nearest
 pub mod Paths
+pub mod Placed
 pub mod Places
 pub mod Ranges
 pub mod Sweep

@@ -1,6 +1,7 @@
 -- What nodes read and write, by paths: a row of paths for each node.
-use Rattle.std.specs.Prelude.{ℕ, ◌≡◌, ◌⊎◌, ◌++◌, Bool, true, false, List, Vec, [], map, get_or, slice_get, unwrap_or, Contains}
+use Rattle.std.specs.Prelude.{ℕ, ◌≡◌, ◌<◌, ◌⊎◌, ◌++◌, Bool, true, false, List, Vec, [], length, map, get_or, slice_get, unwrap_or, Contains}
 use Rattle.std.specs.Global.{Global}
+use Rattle.std.specs.List.{All, list_any}
 use Rattle.std.specs.List.Sorted.{IsStrictlySortedBy}
 use Rattle.std.specs.declared.cmp.Ordering.TheVariants.{Less}
 use Rattle.mk_path.specs.declared.index.Place.{Place}
@@ -67,3 +68,17 @@ paths_of uses n false = reads_of uses n
 -- the path at a place of what a node writes, or reads
 abbrev pub path_of : Uses → Place → Path
 path_of uses place = get_or (paths_of uses place.node place.written) place.place (record { name = []; tree = false })
+
+-- the place is one of a node's paths
+abbrev pub IsPlaceOf : Uses → Place → Type 0
+IsPlaceOf uses place = place.place < length (paths_of uses place.node place.written)
+
+-- places of all paths that nodes read or write, each path once, in order
+pub record AreAllPlaces (uses : Uses) (places : List Place) : Type 0 where
+  pub within : All (IsPlaceOf uses) places
+  pub rise : IsStrictlySortedBy path_cmp (map (path_of uses) places)
+  pub all : (n : ℕ) (written : Bool) (p : Path) → Contains (paths_of uses n written) p → Contains (map (path_of uses) places) p
+
+-- node n writes p or a tree over it, or reads one
+abbrev pub has_over : Uses → ℕ → Bool → Path → Bool
+has_over uses n written p = list_any (λ q. is_over uses.root q p) (paths_of uses n written)

@@ -1,16 +1,19 @@
 //! An index over rows of paths: who reaches whom, and where.
-ghost use Rattle.std.specs.Prelude.{ℕ, ◌≡◌, ◌<◌, ◌≤◌, ◌*◌, ◌↔◌, ◌⊎◌, ◌∷◌, IfNone, IfOk, IfSome, List, length, slice_index};
+ghost use Rattle.std.specs.Prelude.{Bool, ℕ, ◌≡◌, ◌<◌, ◌≤◌, ◌+◌, ◌*◌, ◌↔◌, ◌⊎◌, ◌∷◌, All, Contains, IfNone, IfOk, IfSome, List, OnOk, length, slice_index, true};
 ghost use Rattle.std.specs.List.Sorted.{IsStrictlyIncreasing};
 ghost use Rattle.mk_path.specs.Bits.{HasBit};
 ghost use Rattle.mk_path.specs.Holders.{row_limit};
-ghost use Rattle.mk_path.specs.Index.{IsIndexed, IsNumberRow, IsWhole, numbers_of};
+ghost use Rattle.mk_path.specs.Index.{AreHolders, IsIndexed, IsNumberRow, IsWhole, holders_of, numbers_of};
 ghost use Rattle.mk_path.specs.Meets.{AreBelow, Facing, IsFront, IsLeastMet, Stands, facing};
-ghost use Rattle.mk_path.specs.Uses.{AreRising, IsLeastOverlap, IsOverlap, Reaches, Uses, path_of, paths_of, uses_of};
+ghost use Rattle.mk_path.specs.Placed.{ArePlaced, IsPlaced, number_at};
+ghost use Rattle.mk_path.specs.Ups.{number_count};
+ghost use Rattle.mk_path.specs.Uses.{AreAllPlaces, AreRising, IsLeastOverlap, IsOverlap, Reaches, Uses, has_over, path_of, paths_of, uses_of};
 
 use crate::holders::holders;
 use crate::marks::mark_over;
 use crate::meets::first_met;
 use crate::nearest::ways_up;
+use crate::over::holders_over;
 use crate::path::Path;
 use crate::places::number_rows;
 use crate::table::Table;
@@ -106,6 +109,92 @@ impl Index {
         mark_over(&self.ups, &self.writers, reads, row);
         mark_over(&self.ups, &self.writers, writes, row);
         mark_over(&self.ups, &self.readers, writes, row);
+    }
+
+    /// For each path that nodes read or write a place where it stands, in order of the paths. The only error is out of memory.
+    pub fn all_places(&self, alloc: Global) -> Result<Vec<Place>, AllocError>
+        ensures few { IfOk result (λ places. length places.items < row_limit) }
+        ensures nodes { IfOk result (λ places. All (λ place. place.node < length self.now.reads) places.items) }
+        ensures all { IfOk result (λ places. (uses : Uses) → IsIndexed uses self.now → AreAllPlaces uses places.items) }
+    {
+        let mut places = Vec::new(alloc);
+        for t in 0..self.writers.count() as u32 {
+            self.add_place(&mut places, t)?;
+        }
+        Ok(places)
+    }
+
+    /// Adds a place of the path of a number, if a node reads or writes it. The only error is out of memory.
+    fn add_place(&self, places: &mut Vec<Place>, t: u32) -> Result<(), AllocError>
+        requires number { t < number_count self.now.ups }
+        requires before { ArePlaced self.now places.old.items t }
+        ensures { OnOk result (ArePlaced self.now places.new.items (t + 1)) }
+    {
+        if let Some(place) = self.place(t) {
+            places.push(place)?;
+        }
+        Ok(())
+    }
+
+    /// A place of the path of a number, if a node reads or writes it.
+    fn place(&self, t: u32) -> Option<Place>
+        requires { t < number_count self.now.ups }
+        ensures some { IfSome result (λ place. IsPlaced self.now place × (number_at self.now place ≡ t)) }
+        ensures none { IfNone result ((n : ℕ) (written : Bool) → ¬ Contains (numbers_of self.now n written) t) }
+    {
+        match self.place_among(t, true) {
+            Some(place) => Some(place),
+            None => self.place_among(t, false),
+        }
+    }
+
+    /// A place of the path of a number among what nodes write, or read, if there is one.
+    fn place_among(&self, t: u32, written: bool) -> Option<Place>
+        requires { t < number_count self.now.ups }
+        ensures some { IfSome result (λ place. IsPlaced self.now place × (number_at self.now place ≡ t)) }
+        ensures none { IfNone result ((n : ℕ) → ¬ Contains (numbers_of self.now n written) t) }
+    {
+        match self.holders(written).row(t as usize).first() {
+            Some(&node) => Some(Place {
+                node,
+                written,
+                place: place_of(self.numbers(node, written), t),
+            }),
+            None => None,
+        }
+    }
+
+    /// For each number the nodes that write its path, or those that read it.
+    fn holders(&self, written: bool) -> &Table
+        ensures is { result.now ≡ holders_of self.now written }
+        ensures held { AreHolders self.now.ups (length self.now.reads) result.now }
+        ensures whole { IsWhole self.now }
+    {
+        if written {
+            &self.writers
+        } else {
+            &self.readers
+        }
+    }
+
+    /// The nodes that write the path at a place or a tree over it, or those that read one, rising. It takes the sum of how many
+    /// hold each of these paths. The only error is out of memory.
+    pub fn users_over(
+        &self,
+        alloc: Global,
+        place: Place,
+        written: bool,
+    ) -> Result<Vec<u32>, AllocError>
+        requires { IsPlaced self.now place }
+        ensures rise { IfOk result (λ nodes. IsStrictlyIncreasing nodes.items) }
+        ensures over { IfOk result (λ nodes. (uses : Uses) (n : ℕ) → IsIndexed uses self.now
+            → Contains nodes.items n ↔ (has_over uses n written (path_of uses place) ≡ true)) }
+    {
+        let number = self.numbers(place.node, place.written)[place.place];
+        let mut nodes = holders_over(alloc, &self.ups, self.holders(written), number)?;
+        nodes.sort_unstable();
+        nodes.dedup();
+        Ok(nodes)
     }
 
     /// Where two nodes overlap first: the place of the least path which is the overlap of a path of a and one of b, of which

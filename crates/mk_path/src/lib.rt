@@ -18,6 +18,7 @@ pub mod laws;
 mod marks;
 mod meets;
 mod nearest;
+mod over;
 pub mod path;
 mod places;
 pub mod spelling;

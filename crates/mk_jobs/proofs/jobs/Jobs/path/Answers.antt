@@ -3,7 +3,7 @@ use Rattle.mk_path.specs.declared.path.Path.{Path}
 use Rattle.mk_path.specs.Uses.{paths_of}
 use Rattle.mk_jobs.specs.Jobs.{reads_of, writes_of}
 use Rattle.mk_jobs.specs.Reaching.{uses_of}
-use Rattle.mk_jobs.proofs.jobs.Jobs.path_at.Goals as goal
+use Rattle.mk_jobs.proofs.jobs.Jobs.path.Goals as goal
 
 -- at a place of what is written
 pub path_in-requires : goal.path_in-requires
