@@ -1,0 +1,191 @@
+-- Jobs are declared just where no violation was found.
+use Rattle.std.proofs.Common.{ℕ, suc, zero, ◌≡◌, ◌<◌, false, List, [], ◌∷◌, length, get_or, Contains, refl, sym, subst, ◌∙◌, inl, inr, arith, lt_trans}
+use Rattle.std.proofs.lemmas.Bool.{both_ways, cases_Bool}
+use Rattle.std.proofs.lemmas.List.Elements.{Contains-get_or}
+use Rattle.mk_name.specs.Names.{Name}
+use Rattle.mk_path.specs.declared.path.Path.{Path}
+use Rattle.mk_path.specs.Index.{path_at}
+use Rattle.mk_jobs.specs.Jobs.{Jobs, is_listed, may_write, node_count}
+use Rattle.mk_jobs.specs.Shape.{IsWellFormed}
+use Rattle.mk_jobs.proofs.JobsLemmas.{live_node, reader_live}
+use Rattle.mk_stale.specs.Watching.{IsDeclared, IsInput, IsLastWriter, IsNamed, Watches, always, named, through, written, never}
+use Rattle.mk_missing.specs.declared.violations.Violations.{Violations}
+use Rattle.mk_missing.specs.Files.{IsFile, IsInputFile, IsLastWriterOf, WatchesFile, often, by_name, by_chain, by_writer, not_there, writes_file}
+use Rattle.mk_missing.specs.Finding.{AreChecked, AreFound, IsInTime, IsTogether, IsWatched}
+use Rattle.mk_missing.specs.Violations.{AreAll, HasNone, IsLate, IsMissing, IsPresent, IsShared, none_fixed}
+use Rattle.mk_missing.proofs.Fresh.{covers_file}
+use Rattle.mk_missing.proofs.Standing.{NameFor, StandsFor, file_for, name_for, reads_name, writes_name}
+
+-- what is checked is exact, where a kind and what is fine of it exclude each other
+pub all_are : (files : List Path) (Holds Fine : ℕ → Path → Type 0) (pairs : List (ℕ × ℕ)) → AreChecked files Holds Fine pairs
+    → ((n : ℕ) (p : Path) → Holds n p → Fine n p → ⊥) → AreAll files Holds pairs
+all_are files Holds Fine pairs checked apart = record {
+  rise = checked.rise;
+  exact = λ k n. (
+    λ there. checked.found.only k n there,
+    λ here. elim (checked.found.all k n here.0) [
+      | inl there ↦ there
+      | inr fine ↦ absurd (apart n (path_at files k) here.1 fine)
+    ],
+  );
+}
+
+pub missing_apart : (jobs : Jobs) (n : ℕ) (p : Path) → IsMissing jobs n p → IsWatched jobs n p → ⊥
+missing_apart jobs n p missing watched = missing.unwatched (watched missing.input)
+
+pub late_apart : (jobs : Jobs) (n : ℕ) (p : Path) → IsLate jobs n p → IsInTime jobs n p → ⊥
+late_apart jobs n p late time = late.late (time late.input late.writer late.writes)
+
+pub shared_apart : (jobs : Jobs) (n : ℕ) (p : Path) → IsShared jobs n p → IsTogether jobs n p → ⊥
+shared_apart jobs n p shared together = elim (together shared.writes shared.writer shared.last) [
+  | inl same ↦ shared.other same
+  | inr runs ↦ shared.apart runs
+]
+
+no_pair : {X : Type 0} (x : X) → Contains [] x → ⊥
+no_pair x there = omega (arith, there.1)
+
+-- nothing is in a list only if the list is empty
+empty_if : {X : Type 0} (xs : List X) → ((x : X) → Contains xs x → ⊥) → xs ≡ []
+empty_if [] none = refl
+empty_if (x ∷ xs) none = absurd (none x (0, omega arith, refl))
+
+module _ (jobs : Jobs) (shape : IsWellFormed jobs) where
+  -- with no pair of a kind, all files are fine
+  all_fine : (files : List Path) (Holds Fine : ℕ → Path → Type 0) (pairs : List (ℕ × ℕ)) → AreFound files Holds Fine pairs (length files) → pairs ≡ []
+      → (n : ℕ) (p : Path) → Contains files p → Fine n p
+  all_fine files Holds Fine pairs found none n p there =
+      let k = there.0 in
+      let is : path_at files k ≡ p = default_at files k p there.1 ∙ there.2 in
+      elim (found.all k n there.1) [
+        | inl pair ↦ absurd (no_pair (k, n) (subst (λ (ps : List (ℕ × ℕ)). Contains ps (k, n)) none pair))
+        | inr fine ↦ subst (Fine n) is fine
+      ]
+    where
+      default_at : (ps : List Path) (i : ℕ) (d : Path) → i < length ps → path_at ps i ≡ get_or ps i d
+      default_at [] i d below = absurd (omega arith)
+      default_at (q ∷ ps) zero d below = refl
+      default_at (q ∷ ps) (suc i) d below = default_at ps i d (omega arith)
+
+  -- an input by its file
+  input_file : (n : ℕ) (p : Path) (x : Name) → StandsFor jobs shape p x → IsInput jobs n x → IsInputFile jobs n p
+  input_file n p x stands input = record {
+    reads = stands.reads n input.reads;
+    foreign = elim (cases_Bool (writes_file jobs n p)) [
+      | inr nay ↦ nay
+      | inl so ↦ absurd (both_ways (may_write jobs n x) input.foreign (writes_name jobs shape n p x stands.covering so))
+    ];
+  }
+
+  file_input : (n : ℕ) (p : Path) (x : Name) → StandsFor jobs shape p x → IsInputFile jobs n p → IsInput jobs n x
+  file_input n p x stands input = record {
+    reads = reads_name jobs shape n p x stands.covering input.reads;
+    foreign = elim (cases_Bool (may_write jobs n x)) [
+      | inr nay ↦ nay
+      | inl so ↦ absurd (both_ways (writes_file jobs n p) input.foreign (stands.writes n so))
+    ];
+  }
+
+  -- a last writer by its file
+  last_name : (w : ℕ) (p : Path) (x : Name) → StandsFor jobs shape p x → IsLastWriterOf jobs w p → IsLastWriter jobs w x
+  last_name w p x stands last = record {
+    writes = writes_name jobs shape w p x stands.covering last.writes;
+    last = λ m may. last.last m (stands.writes m may);
+  }
+
+  last_file : (w : ℕ) (p : Path) (x : Name) → StandsFor jobs shape p x → IsLastWriter jobs w x → IsLastWriterOf jobs w p
+  last_file w p x stands last = record {
+    writes = stands.writes w last.writes;
+    last = λ m writes. last.last m (writes_name jobs shape m p x stands.covering writes);
+  }
+
+  -- who watches the file watches the name
+  name_watched : (n : ℕ) (p : Path) (x : Name) → StandsFor jobs shape p x → WatchesFile jobs n p → Watches jobs n x
+  name_watched n p x stands watches =
+      let is : p.tree ≡ false → p.name ≡ x = λ file. covers_file jobs.root p x file stands.covering in
+      elim watches [
+        | often runs ↦ always runs
+        | by_name file name ↦ named (subst (IsNamed jobs n) (is file) name)
+        | by_chain {k = k} file live name way ↦ through live (subst (IsNamed jobs k) (is file) name) way
+        | by_writer {w = w} last way ↦ written (last_name w p x stands last) way
+        | not_there file inside name nowhere ↦ never inside (name ∙ is file) nowhere
+      ]
+
+  -- and who watches a name that stands for the file watches the file
+  named_file : (n : ℕ) (p : Path) → (name : NameFor jobs shape p) → (q : ℕ) → q < node_count jobs → IsNamed jobs q name.name → (p.tree ≡ false) × IsNamed jobs q p.name
+  named_file n p name q inside is = elim (cases_Bool p.tree) [
+    | inl tree ↦ absurd (name.tree tree is.0 (lt_trans (shape.smaller q is.0 is.1) inside) is.2)
+    | inr file ↦ (file, subst (IsNamed jobs q) (sym (name.file file)) is)
+  ]
+
+  file_watched : (n : ℕ) (p : Path) (name : NameFor jobs shape p) → n < node_count jobs → Watches jobs n name.name → WatchesFile jobs n p
+  file_watched n p name inside watches = elim watches [
+    | always runs ↦ often runs
+    | named is ↦ let at = named_file n p name n inside is in by_name at.0 at.1
+    | through {k = k} live is way ↦ let at = named_file n p name k (live_node jobs k live) is in by_chain at.0 live at.1 way
+    | written {w = w} last way ↦ by_writer (last_file w p name.name name.stands last) way
+    | never {p = k} below is nowhere ↦ elim (cases_Bool p.tree) [
+      | inl tree ↦ absurd (name.tree tree k below is)
+      | inr file ↦ not_there file below (is ∙ sym (name.file file)) nowhere
+    ]
+  ]
+
+  module _ (found : Violations) (rise_files : (p : Path) → Contains found.files.items p → IsFile jobs p) (up : (p : Path) → IsFile jobs p → Contains found.files.items p)
+      (missing : AreFound found.files.items (IsMissing jobs) (IsWatched jobs) found.missing.items (length found.files.items))
+      (late : AreFound found.files.items (IsLate jobs) (IsInTime jobs) found.late.items (length found.files.items))
+      (shared : AreFound found.files.items (IsShared jobs) (IsTogether jobs) found.shared.items (length found.files.items))
+      (present_down : (n : ℕ) → Contains found.present.items n → IsPresent jobs n) (present_up : (n : ℕ) → IsPresent jobs n → Contains found.present.items n) where
+    pub declared_if : HasNone found → IsDeclared jobs none_fixed
+    declared_if none = record {
+      watched = λ n x input.
+          let at = file_for jobs shape found.files.items n x rise_files up (inl input.reads) in
+          let fine = all_fine found.files.items (IsMissing jobs) (IsWatched jobs) found.missing.items missing none.missing n at.path (up at.path at.is_file) in
+          inr (name_watched n at.path x at.stands (fine (input_file n at.path x at.stands input)));
+      earlier = λ n m x input may.
+          let at = file_for jobs shape found.files.items n x rise_files up (inl input.reads) in
+          let fine = all_fine found.files.items (IsLate jobs) (IsInTime jobs) found.late.items late none.late n at.path (up at.path at.is_file) in
+          fine (input_file n at.path x at.stands input) m (at.stands.writes m may);
+      last = λ n w x may last.
+          let at = file_for jobs shape found.files.items n x rise_files up (inr may) in
+          let fine = all_fine found.files.items (IsShared jobs) (IsTogether jobs) found.shared.items shared none.shared n at.path (up at.path at.is_file) in
+          fine (at.stands.writes n may) w (last_file w at.path x at.stands last);
+      made = λ n x may. refl;
+      absent = λ n live plain. elim (cases_Bool (is_listed jobs n)) [
+        | inr nay ↦ nay
+        | inl listed ↦ absurd (no_pair n (subst (λ (ns : List ℕ). Contains ns n) none.present (present_up n (record { live = live; plain = plain; listed = listed }))))
+      ];
+    }
+
+    -- the name for the file at a place
+    name_at : (k : ℕ) → k < length found.files.items → NameFor jobs shape (path_at found.files.items k)
+    name_at k below = name_for jobs shape (path_at found.files.items k) (rise_files _ (Contains-get_or found.files.items k (record { name = []; tree = false }) below))
+
+    pub none_if : IsDeclared jobs none_fixed → HasNone found
+    none_if declared = record {
+      missing = empty_if found.missing.items (λ pair there.
+          let is = missing.only pair.0 pair.1 there in
+          let name = name_at pair.0 is.0 in
+          let p = path_at found.files.items pair.0 in
+          let input = file_input pair.1 p name.name name.stands is.1.input in
+          elim (declared.watched pair.1 name.name input) [
+            | inl fixed ↦ both_ways false refl fixed
+            | inr watches ↦ is.1.unwatched (file_watched pair.1 p name (live_node jobs pair.1 (reader_live jobs pair.1 name.name input.reads)) watches)
+          ]);
+      late = empty_if found.late.items (λ pair there.
+          let is = late.only pair.0 pair.1 there in
+          let name = name_at pair.0 is.0 in
+          let p = path_at found.files.items pair.0 in
+          is.1.late (declared.earlier pair.1 is.1.writer name.name (file_input pair.1 p name.name name.stands is.1.input)
+          (writes_name jobs shape is.1.writer p name.name name.stands.covering is.1.writes)));
+      shared = empty_if found.shared.items (λ pair there.
+          let is = shared.only pair.0 pair.1 there in
+          let name = name_at pair.0 is.0 in
+          let p = path_at found.files.items pair.0 in
+          elim (declared.last pair.1 is.1.writer name.name (writes_name jobs shape pair.1 p name.name name.stands.covering is.1.writes) (last_name is.1.writer p name.name name.stands is.1.last)) [
+            | inl same ↦ is.1.other same
+            | inr runs ↦ is.1.apart runs
+          ]);
+      present = empty_if found.present.items (λ n there.
+          let is = present_down n there in
+          both_ways (is_listed jobs n) (declared.absent n is.live is.plain) is.listed);
+    }

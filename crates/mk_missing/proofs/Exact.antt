@@ -1,0 +1,93 @@
+-- What is checked of all files is exact, and says whether the jobs are declared.
+use Rattle.std.proofs.Common.{ℕ, ◌≡◌, ◌<◌, ◌↔◌, List, All, Contains, length, map, sym, subst, arith}
+use Rattle.std.specs.List.Sorted.{IsStrictlyIncreasing, IsStrictlySortedBy}
+use Rattle.std.proofs.lemmas.List.{length-map}
+use Rattle.mk_path.specs.declared.path.Path.{Path}
+use Rattle.mk_path.specs.Index.{path_at}
+use Rattle.mk_path.specs.Paths.{path_cmp}
+use Rattle.mk_jobs.specs.Jobs.{Jobs}
+use Rattle.mk_jobs.specs.Shape.{IsWellFormed}
+use Rattle.mk_stale.specs.Watching.{IsDeclared}
+use Rattle.mk_missing.specs.declared.kind.Kind.{Kind}
+use Rattle.mk_missing.specs.declared.kind.Kind.TheVariants.{Missing, Late, Shared}
+use Rattle.mk_missing.specs.declared.users.Users.{Users}
+use Rattle.mk_missing.specs.declared.violations.Violations.{Violations}
+use Rattle.mk_missing.specs.Files.{IsFile}
+use Rattle.mk_missing.specs.Finding.{AreChecked}
+use Rattle.mk_missing.specs.Kinds.{IsFine, IsWrong}
+use Rattle.mk_missing.specs.Users.{AreUsers, files_of}
+use Rattle.mk_missing.specs.Violations.{AreLast, AreLateBy, AreViolations, HasNone, IsLate, IsMissing, IsPresent, IsShared, none_fixed}
+use Rattle.mk_missing.proofs.Declaring.{all_are, declared_if, late_apart, missing_apart, none_if, shared_apart}
+use Rattle.mk_missing.proofs.Naming.{each_pair, last_are}
+
+-- the same of equal jobs and users
+pub checked_of : (jobs old : Jobs) (users slice : List Users) (kind : Kind) (pairs : List (ℕ × ℕ)) → old ≡ jobs → slice ≡ users
+    → AreChecked (files_of slice) (IsWrong old kind) (IsFine old kind) pairs → AreChecked (files_of users) (IsWrong jobs kind) (IsFine jobs kind) pairs
+checked_of jobs old users slice kind pairs one two checked =
+    subst (λ (us : List Users). AreChecked (files_of us) (IsWrong jobs kind) (IsFine jobs kind) pairs) two
+    (subst (λ (j : Jobs). AreChecked (files_of slice) (IsWrong j kind) (IsFine j kind) pairs) one checked)
+
+pub late_of : (jobs old : Jobs) (users slice : List Users) (pairs given : List (ℕ × ℕ)) → old ≡ jobs → slice ≡ users → given ≡ pairs
+    → AreChecked (files_of users) (IsWrong jobs Late) (IsFine jobs Late) pairs
+    → All (λ (pair : ℕ × ℕ). (pair.0 < length slice) × IsLate old pair.1 (path_at (files_of slice) pair.0)) given
+late_of jobs old users slice pairs given one two three checked =
+    subst (λ (ps : List (ℕ × ℕ)). All (λ (pair : ℕ × ℕ). (pair.0 < length slice) × IsLate old pair.1 (path_at (files_of slice) pair.0)) ps) (sym three)
+    (subst (λ (us : List Users). All (λ (pair : ℕ × ℕ). (pair.0 < length us) × IsLate old pair.1 (path_at (files_of us) pair.0)) pairs) (sym two)
+    (subst (λ (j : Jobs). All (λ (pair : ℕ × ℕ). (pair.0 < length users) × IsLate j pair.1 (path_at (files_of users) pair.0)) pairs) (sym one)
+    (λ i d at.
+    let pair = each_pair (files_of users) (IsWrong jobs Late) (IsFine jobs Late) pairs checked i d at in
+    (omega (arith, pair.0, length-map users (λ (user : Users). user.file)), pair.1))))
+
+pub late_by_of : (jobs old : Jobs) (users slice : List Users) (pairs given : List (ℕ × ℕ)) (writers : List ℕ) → old ≡ jobs → slice ≡ users → given ≡ pairs
+    → AreLateBy old (files_of slice) given writers → AreLateBy jobs (files_of users) pairs writers
+late_by_of jobs old users slice pairs given writers one two three late =
+    subst (λ (ps : List (ℕ × ℕ)). AreLateBy jobs (files_of users) ps writers) three
+    (subst (λ (us : List Users). AreLateBy jobs (files_of us) given writers) two (subst (λ (j : Jobs). AreLateBy j (files_of slice) given writers) one late))
+
+-- what was found of the files of some users
+pub record AreResults (jobs : Jobs) (users : List Users) (found : Violations) : Type 0 where
+  pub same : found.files.items ≡ files_of users
+  pub rise : IsStrictlySortedBy path_cmp (files_of users)
+  pub files : (p : Path) → Contains (files_of users) p ↔ IsFile jobs p
+  pub used : All (AreUsers jobs) users
+  pub last : found.last.items ≡ map (λ (user : Users). user.last) users
+  pub missing : AreChecked (files_of users) (IsWrong jobs Missing) (IsFine jobs Missing) found.missing.items
+  pub late : AreChecked (files_of users) (IsWrong jobs Late) (IsFine jobs Late) found.late.items
+  pub late_by : AreLateBy jobs (files_of users) found.late.items found.late_by.items
+  pub shared : AreChecked (files_of users) (IsWrong jobs Shared) (IsFine jobs Shared) found.shared.items
+  pub present_rise : IsStrictlyIncreasing found.present.items
+  pub present : (n : ℕ) → Contains found.present.items n ↔ IsPresent jobs n
+
+module _ (jobs : Jobs) (users : List Users) (found : Violations) (are : AreResults jobs users found) where
+  files : (p : Path) → Contains found.files.items p ↔ IsFile jobs p
+  files p = subst (λ (ps : List Path). Contains ps p ↔ IsFile jobs p) (sym are.same) (are.files p)
+
+  -- the same of the files found
+  checked : (kind : Kind) (pairs : List (ℕ × ℕ)) → AreChecked (files_of users) (IsWrong jobs kind) (IsFine jobs kind) pairs → AreChecked found.files.items (IsWrong jobs kind) (IsFine jobs kind) pairs
+  checked kind pairs is = subst (λ (ps : List Path). AreChecked ps (IsWrong jobs kind) (IsFine jobs kind) pairs) (sym are.same) is
+
+  pub violations_are : AreViolations jobs found
+  violations_are = record {
+    rise = subst (IsStrictlySortedBy path_cmp) (sym are.same) are.rise;
+    files = files;
+    last = subst (λ (ps : List Path). AreLast jobs ps found.last.items) (sym are.same) (last_are jobs users found.last.items are.used are.last);
+    missing = all_are found.files.items (IsMissing jobs) (IsFine jobs Missing) found.missing.items (checked Missing found.missing.items are.missing) (missing_apart jobs);
+    late = all_are found.files.items (IsLate jobs) (IsFine jobs Late) found.late.items (checked Late found.late.items are.late) (late_apart jobs);
+    late_by = subst (λ (ps : List Path). AreLateBy jobs ps found.late.items found.late_by.items) (sym are.same) are.late_by;
+    shared = all_are found.files.items (IsShared jobs) (IsFine jobs Shared) found.shared.items (checked Shared found.shared.items are.shared) (shared_apart jobs);
+    present_rise = are.present_rise;
+    present = are.present;
+  }
+
+  pub declared_is : IsWellFormed jobs → HasNone found ↔ IsDeclared jobs none_fixed
+  declared_is shape =
+      let down = λ (p : Path). (files p).0 in
+      let up = λ (p : Path). (files p).1 in
+      let missing = (checked Missing found.missing.items are.missing).found in
+      let late = (checked Late found.late.items are.late).found in
+      let shared = (checked Shared found.shared.items are.shared).found in
+      let present_down = λ (n : ℕ). (are.present n).0 in
+      let present_up = λ (n : ℕ). (are.present n).1 in (
+        declared_if jobs shape found down up missing late shared present_down present_up,
+        none_if jobs shape found down up missing late shared present_down present_up,
+      )

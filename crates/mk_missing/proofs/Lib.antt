@@ -1,0 +1,14 @@
+pub mod Adding
+pub mod Awake
+pub mod Declaring
+pub mod Exact
+pub mod Fresh
+pub mod Gathering
+pub mod Heard
+pub mod Keeping
+pub mod Naming
+pub mod News
+pub mod Presents
+pub mod Seeing
+pub mod Standing
+pub mod Using

@@ -1,0 +1,6 @@
+use Rattle.mk_missing.proofs.Presents.{ArePresent}
+use Rattle.mk_missing.proofs.present.present_nodes.Given as goal
+
+-- those so far are there, in order
+abbrev pub invariant-loop-n : goal.invariant-loop-n
+invariant-loop-n l = ArePresent l.jobs l.found.items l.n

@@ -1,0 +1,16 @@
+-- Who uses a file: for private clauses.
+use Rattle.std.specs.Prelude.{ℕ, ◌≡◌, ◌↔◌, true, List, Contains, map}
+use Rattle.mk_path.specs.declared.path.Path.{Path}
+use Rattle.mk_jobs.specs.Jobs.{Jobs}
+use Rattle.mk_missing.specs.Files.{IsInputFile, IsLastIfAny, writes_file}
+use Rattle.mk_missing.specs.declared.users.Users.{Users}
+
+-- the nodes whose input the file is, its writers, and the last of these
+pub record AreUsers (jobs : Jobs) (users : Users) : Type 0 where
+  pub inputs : (n : ℕ) → Contains users.inputs.items n ↔ IsInputFile jobs n users.file
+  pub writers : (n : ℕ) → Contains users.writers.items n ↔ (writes_file jobs n users.file ≡ true)
+  pub last : IsLastIfAny jobs users.file users.last
+
+-- the files alone
+abbrev pub files_of : List Users → List Path
+files_of users = map (λ (user : Users). user.file) users

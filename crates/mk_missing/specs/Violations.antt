@@ -1,0 +1,82 @@
+-- What undeclared jobs lack, kind by kind, and whole lists of it.
+use Rattle.std.specs.Prelude.{ℕ, ◌≡◌, ◌≢◌, ◌<◌, ◌↔◌, Bool, true, false, List, [], Contains, Option, None, get_or, length}
+use Rattle.std.specs.List.Sorted.{IsStrictlyIncreasing, IsStrictlySortedBy}
+use Rattle.mk_name.specs.Names.{Name}
+use Rattle.mk_path.specs.declared.path.Path.{Path}
+use Rattle.mk_path.specs.Index.{path_at}
+use Rattle.mk_path.specs.Paths.{path_cmp}
+use Rattle.mk_jobs.specs.Jobs.{Jobs, Before, is_listed, is_live, is_phony}
+use Rattle.mk_decide.specs.Pairs.{IsRising}
+use Rattle.mk_stale.specs.Watching.{RunsWith}
+use Rattle.mk_missing.specs.Files.{IsFile, IsInputFile, IsLastIfAny, IsLastWriterOf, WatchesFile, writes_file}
+use Rattle.mk_missing.specs.declared.violations.Violations.{Violations}
+
+-- missing: p is an input of n, and n does not watch it
+pub record IsMissing (jobs : Jobs) (n : ℕ) (p : Path) : Type 0 where
+  pub input : IsInputFile jobs n p
+  pub unwatched : WatchesFile jobs n p → ⊥
+
+-- late: p is an input of n, and one of its writers is not before n
+pub record IsLate (jobs : Jobs) (n : ℕ) (p : Path) : Type 0 where
+  pub input : IsInputFile jobs n p
+  pub writer : ℕ
+  pub writes : writes_file jobs writer p ≡ true
+  pub late : Before jobs writer n → ⊥
+
+-- shared: n writes p, and its last writer is another node, which does not run with n
+pub record IsShared (jobs : Jobs) (n : ℕ) (p : Path) : Type 0 where
+  pub writes : writes_file jobs n p ≡ true
+  pub writer : ℕ
+  pub last : IsLastWriterOf jobs writer p
+  pub other : n ≢ writer
+  pub apart : RunsWith jobs n writer → ⊥
+
+-- present: n is live and not phony, and its file is listed
+pub record IsPresent (jobs : Jobs) (n : ℕ) : Type 0 where
+  pub live : is_live jobs n ≡ true
+  pub plain : is_phony jobs n ≡ false
+  pub listed : is_listed jobs n ≡ true
+
+-- the pairs of a file's place and a node for which this holds, each once, in order
+pub record AreAll (files : List Path) (Holds : ℕ → Path → Type 0) (pairs : List (ℕ × ℕ)) : Type 0 where
+  pub rise : IsRising pairs
+  pub exact : (k n : ℕ) → Contains pairs (k, n) ↔ ((k < length files) × Holds n (path_at files k))
+
+-- the writer writes the file of this pair, and is not before its node
+pub record IsLateBy (jobs : Jobs) (files : List Path) (pair : ℕ × ℕ) (writer : ℕ) : Type 0 where
+  pub writes : writes_file jobs writer (path_at files pair.0) ≡ true
+  pub late : Before jobs writer pair.1 → ⊥
+
+-- there is such a writer for each pair
+pub record AreLateBy (jobs : Jobs) (files : List Path) (pairs : List (ℕ × ℕ)) (writers : List ℕ) : Type 0 where
+  pub count : length writers ≡ length pairs
+  pub each : (i : ℕ) → i < length pairs → IsLateBy jobs files (get_or pairs i (0, 0)) (get_or writers i 0)
+
+-- for each file there is its last writer, if it has one
+pub record AreLast (jobs : Jobs) (files : List Path) (last : List (Option ℕ)) : Type 0 where
+  pub count : length last ≡ length files
+  pub each : (k : ℕ) → k < length files → IsLastIfAny jobs (path_at files k) (get_or last k None)
+
+-- all files of the jobs, each once, in order, with their last writers; and of each kind all violations, each once, by file and then
+-- node, with a late writer for each that is late
+pub record AreViolations (jobs : Jobs) (found : Violations) : Type 0 where
+  pub rise : IsStrictlySortedBy path_cmp found.files.items
+  pub files : (p : Path) → Contains found.files.items p ↔ IsFile jobs p
+  pub last : AreLast jobs found.files.items found.last.items
+  pub missing : AreAll found.files.items (IsMissing jobs) found.missing.items
+  pub late : AreAll found.files.items (IsLate jobs) found.late.items
+  pub late_by : AreLateBy jobs found.files.items found.late.items found.late_by.items
+  pub shared : AreAll found.files.items (IsShared jobs) found.shared.items
+  pub present_rise : IsStrictlyIncreasing found.present.items
+  pub present : (n : ℕ) → Contains found.present.items n ↔ IsPresent jobs n
+
+-- there is no violation of any kind
+pub record HasNone (found : Violations) : Type 0 where
+  pub missing : found.missing.items ≡ []
+  pub late : found.late.items ≡ []
+  pub shared : found.shared.items ≡ []
+  pub present : found.present.items ≡ []
+
+-- no name is fixed
+abbrev pub none_fixed : Name → Bool
+none_fixed x = false

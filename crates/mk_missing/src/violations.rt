@@ -1,0 +1,56 @@
+//! Whether jobs are declared, and all that keeps them from it.
+ghost use Rattle.std.specs.Prelude.{◌↔◌, IfOk};
+ghost use Rattle.mk_stale.specs.Watching.{IsDeclared};
+ghost use Rattle.mk_missing.specs.Violations.{AreViolations, HasNone, none_fixed};
+
+use crate::checker::Checker;
+use crate::kind::Kind;
+use crate::present::present_nodes;
+use crate::users::all_users;
+use crate::writers::{files_of, last_writers, late_writers};
+use crate::wrong::wrong_pairs;
+use mk_jobs::jobs::Jobs;
+use mk_path::path::Path;
+use std::alloc::{AllocError, Global};
+
+/// What keeps jobs from being declared. A pair has a file's place and a node's number.
+#[derive(Debug, Drop)]
+pub struct Violations {
+    /// All files that recipes read or write.
+    pub files: Vec<Path>,
+    /// Of each file the last writer, if it has one.
+    pub last: Vec<Option<u32>>,
+    /// An input that the node does not watch: after an edit the node would not run.
+    pub missing: Vec<(u32, u32)>,
+    /// An input of the node that some node writes which is not before it.
+    pub late: Vec<(u32, u32)>,
+    /// For each of these pairs a writer that is not before the node.
+    pub late_by: Vec<u32>,
+    /// A file that the node writes, and later another node, which does not run with it.
+    pub shared: Vec<(u32, u32)>,
+    /// Live nodes, not phony, whose files are listed: the listing is not that of a clean tree.
+    pub present: Vec<u32>,
+}
+
+/// All violations of these jobs, where no name is fixed: there is none just where the jobs are declared. The only error is out of
+/// memory. For each file it looks up its users; it takes two rows of N bits for each of N nodes.
+pub fn find_violations(alloc: Global, jobs: &Jobs) -> Result<Violations, AllocError>
+    ensures all { IfOk result (AreViolations jobs.now) }
+    ensures declared { IfOk result (λ found. HasNone found ↔ IsDeclared jobs.now none_fixed) }
+{
+    let users = all_users(alloc, jobs)?;
+    let mut checker = Checker::new(alloc, jobs)?;
+    let missing = wrong_pairs(alloc, &mut checker, Kind::Missing, &users)?;
+    let late = wrong_pairs(alloc, &mut checker, Kind::Late, &users)?;
+    let late_by = late_writers(alloc, &mut checker, &users, &late)?;
+    let shared = wrong_pairs(alloc, &mut checker, Kind::Shared, &users)?;
+    Ok(Violations {
+        last: last_writers(alloc, &users)?,
+        files: files_of(alloc, users)?,
+        missing,
+        late,
+        late_by,
+        shared,
+        present: present_nodes(alloc, jobs)?,
+    })
+}
