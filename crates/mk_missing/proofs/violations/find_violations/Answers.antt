@@ -1,7 +1,6 @@
 use Rattle.std.proofs.Common.{◌≡◌, ◌∙◌, ap, map}
 use Rattle.mk_missing.specs.declared.kind.Kind.TheVariants.{Missing, Late, Shared}
 use Rattle.mk_missing.specs.declared.users.Users.{Users}
-use Rattle.mk_missing.specs.declared.violations.Violations.{Violations}
 use Rattle.mk_missing.proofs.Exact.{AreResults, checked_of, declared_is, late_by_of, late_of, violations_are}
 use Rattle.mk_missing.proofs.violations.find_violations.Goals as goal
 
@@ -15,24 +14,24 @@ late_writers-requires-clause-late c =
     late_of jobs c.wrong_pairs-2.new.checker users c.deref-3.result.now pairs c.deref-4.result.now now c.deref-3.ensures.value c.deref-4.ensures.value
     (checked_of jobs c.wrong_pairs.new.checker users c.deref-2.result.now Late pairs before c.deref-2.ensures.value c.in_ok-late.ensures.pairs)
 
-pub returns-clause-all : goal.returns-clause-all
-returns-clause-all c =
+-- all that was found
+results : (c : goal.After-drop-checker-inside-4) → AreResults c.args.jobs.now c.in_ok-users.users.items (record {
+  files = c.in_ok-files_of.field-0;
+  last = c.in_ok-last_writers.field-0;
+  missing = c.in_ok-missing.missing;
+  late = c.in_ok-late.late;
+  late_by = c.in_ok-late_by.late_by;
+  shared = c.in_ok-shared.shared;
+  present = c.in_ok-present_nodes.field-0;
+})
+results c =
     let jobs = c.args.jobs.now in
     let users = c.in_ok-users.users.items in
     let first : c.in_ok-checker.checker ≡ jobs = c.in_ok-checker.ensures.is in
     let second : c.wrong_pairs.new.checker ≡ jobs = c.wrong_pairs.ensures.keeps ∙ first in
     let third : c.wrong_pairs-2.new.checker ≡ jobs = c.wrong_pairs-2.ensures.keeps ∙ second in
     let fourth : c.late_writers.new.checker ≡ jobs = c.late_writers.ensures.keeps ∙ third in
-    let all : Violations = record {
-      files = c.in_ok-files_of.field-0;
-      last = c.in_ok-last_writers.field-0;
-      missing = c.in_ok-missing.missing;
-      late = c.in_ok-late.late;
-      late_by = c.in_ok-late_by.late_by;
-      shared = c.in_ok-shared.shared;
-      present = c.in_ok-present_nodes.field-0;
-    } in
-    let are : AreResults jobs users all = record {
+    record {
       same = c.in_ok-files_of.ensures;
       rise = c.in_ok-users.ensures.rise;
       files = c.in_ok-users.ensures.files;
@@ -45,38 +44,10 @@ returns-clause-all c =
       shared = checked_of jobs c.late_writers.new.checker users c.deref-5.result.now Shared c.in_ok-shared.shared.items fourth c.deref-5.ensures.value c.in_ok-shared.ensures.pairs;
       present_rise = c.in_ok-present_nodes.ensures.rise;
       present = c.in_ok-present_nodes.ensures.exact;
-    } in
-    violations_are jobs users all are
+    }
+
+pub returns-clause-all : goal.returns-clause-all
+returns-clause-all c = violations_are _ _ _ (results c)
 
 pub returns-clause-declared : goal.returns-clause-declared
-returns-clause-declared c =
-    let jobs = c.args.jobs.now in
-    let users = c.in_ok-users.users.items in
-    let first : c.in_ok-checker.checker ≡ jobs = c.in_ok-checker.ensures.is in
-    let second : c.wrong_pairs.new.checker ≡ jobs = c.wrong_pairs.ensures.keeps ∙ first in
-    let third : c.wrong_pairs-2.new.checker ≡ jobs = c.wrong_pairs-2.ensures.keeps ∙ second in
-    let fourth : c.late_writers.new.checker ≡ jobs = c.late_writers.ensures.keeps ∙ third in
-    let all : Violations = record {
-      files = c.in_ok-files_of.field-0;
-      last = c.in_ok-last_writers.field-0;
-      missing = c.in_ok-missing.missing;
-      late = c.in_ok-late.late;
-      late_by = c.in_ok-late_by.late_by;
-      shared = c.in_ok-shared.shared;
-      present = c.in_ok-present_nodes.field-0;
-    } in
-    let are : AreResults jobs users all = record {
-      same = c.in_ok-files_of.ensures;
-      rise = c.in_ok-users.ensures.rise;
-      files = c.in_ok-users.ensures.files;
-      used = c.in_ok-users.ensures.users;
-      last = c.in_ok-last_writers.ensures ∙ ap (map (λ (user : Users). user.last)) c.deref-6.ensures.value;
-      missing = checked_of jobs c.in_ok-checker.checker users c.deref.result.now Missing c.in_ok-missing.missing.items first c.deref.ensures.value c.in_ok-missing.ensures.pairs;
-      late = checked_of jobs c.wrong_pairs.new.checker users c.deref-2.result.now Late c.in_ok-late.late.items second c.deref-2.ensures.value c.in_ok-late.ensures.pairs;
-      late_by = late_by_of jobs c.wrong_pairs-2.new.checker users c.deref-3.result.now c.in_ok-late.late.items c.deref-4.result.now c.in_ok-late_by.late_by.items third c.deref-3.ensures.value
-          c.deref-4.ensures.value c.in_ok-late_by.ensures.writers;
-      shared = checked_of jobs c.late_writers.new.checker users c.deref-5.result.now Shared c.in_ok-shared.shared.items fourth c.deref-5.ensures.value c.in_ok-shared.ensures.pairs;
-      present_rise = c.in_ok-present_nodes.ensures.rise;
-      present = c.in_ok-present_nodes.ensures.exact;
-    } in
-    declared_is jobs users all are c.in_ok-checker.ensures.shape
+returns-clause-declared c = declared_is _ _ _ (results c) c.in_ok-checker.ensures.shape
