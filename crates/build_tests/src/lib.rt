@@ -1,8 +1,12 @@
 //! Tests of the libraries that stand between a book of rules and a program's answer, by their public calls: what footprints
-//! leave in jobs, and which of them lie unused, events of no node, names that no log can hold, and a run in serial order. They stand in a crate of their
-//! own, so that no library is proved a second time for its tests.
+//! leave in jobs, and which of them lie unused; a plan that is attached again; listings and footprints that come in pieces, and
+//! the answer of a build whose listing and footprints were read ahead; events of no node, names that no log can hold, and a run
+//! in serial order. They stand in a crate of their own, so that no library is proved a second time for its tests. What
+//! `race check` says of whole texts is shown by cases.
 #![tactic(auto)]
 
+#[cfg(test)]
+mod attaching;
 #[cfg(test)]
 mod builds;
 #[cfg(test)]
@@ -12,6 +16,14 @@ mod footprints;
 #[cfg(test)]
 mod noting;
 #[cfg(test)]
+mod parts;
+#[cfg(test)]
+mod pieces;
+#[cfg(test)]
+mod reported;
+#[cfg(test)]
 mod serialising;
+#[cfg(test)]
+mod tables;
 #[cfg(test)]
 mod writing;

@@ -9,7 +9,7 @@ use Rattle.mk_jobs.specs.Chains.{IsEdgeByEdge, last_of}
 use Rattle.mk_jobs.specs.Shape.{IsWellFormed}
 use Rattle.mk_jobs.proofs.JobsLemmas.{clash_live, shape_valid}
 use Rattle.mk_jobs.proofs.Reaching.{turned_clash}
-use Rattle.mk_order.specs.Chosen.{IsChosen}
+use Rattle.mk_decide.specs.Chosen.{IsChosen}
 use Rattle.mk_proof.specs.Shapes.{ends_of, pair_cmp}
 use Rattle.mk_cert.specs.Certificates.{IsCertificate, IsChain}
 use Rattle.mk_decide.specs.Pairs.{ArePairs}

@@ -12,7 +12,7 @@ use Rattle.mk_jobs.specs.Jobs.{Jobs, Before, Clash, IsValid, node_count}
 use Rattle.mk_jobs.specs.Chains.{last_of, IsEdgeByEdge}
 use Rattle.mk_jobs.specs.Shape.{IsWellFormed}
 use Rattle.mk_jobs.proofs.JobsLemmas.{shape_valid}
-use Rattle.mk_order.specs.Chosen.{AreLeastFrom, IsChosen}
+use Rattle.mk_decide.specs.Chosen.{AreLeastFrom, IsChosen}
 use Rattle.mk_proof.specs.Shapes.{IsShapedChain, ends_of, pair_cmp}
 use Rattle.mk_proof.proofs.Risen.{chain_shaped, pair_cmp_total, sorted_front}
 use Rattle.mk_decide.specs.Pairs.{ArePairs, IsRising}

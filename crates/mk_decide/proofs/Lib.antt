@@ -1,7 +1,14 @@
 pub mod Certifying
 pub mod Chained
+pub mod Choosing
 pub mod Deciding
+pub mod Edges
+pub mod Filling
 pub mod Finding
 pub mod Marked
+pub mod Marking
+pub mod Merging
+pub mod OneChain
 pub mod Paired
+pub mod RowBits
 pub mod Tracing

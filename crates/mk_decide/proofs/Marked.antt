@@ -5,7 +5,7 @@ use Rattle.std.proofs.lemmas.List.{get_or_past}
 use Rattle.std.proofs.lemmas.Nat.Bits.{bit_at-zero}
 use Rattle.std.proofs.lemmas.List.Elements.{All-replicate}
 use Rattle.mk_path.specs.Bits.{HasBit}
-use Rattle.mk_order.proofs.RowBits.{clear_bits}
+use Rattle.mk_decide.proofs.RowBits.{clear_bits}
 
 -- no bit stands in a word that is zero
 pub no_bit_in : (row : List ℕ) (n k : ℕ) → get_or row (n / 64) 0 ≡ 0 → n ≤ k → k < (n / 64 + 1) * 64 → HasBit row k → ⊥

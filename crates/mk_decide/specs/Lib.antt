@@ -1,6 +1,10 @@
+pub mod Bits
+pub mod Chosen
 pub mod Decisions
 pub mod LeastRaces
 pub mod LeastTraces
 pub mod Pairs
+pub mod Paths
 pub mod Races
 pub mod Verdicts
+pub mod Walked

@@ -2,7 +2,7 @@
 use Rattle.std.specs.Prelude.{ℕ, ◌≡◌, List, map}
 use Rattle.std.specs.List.{All}
 use Rattle.mk_jobs.specs.Jobs.{Jobs}
-use Rattle.mk_order.specs.Chosen.{IsChosen}
+use Rattle.mk_decide.specs.Chosen.{IsChosen}
 use Rattle.mk_proof.specs.Shapes.{ends_of}
 
 -- the chosen chain between its ends

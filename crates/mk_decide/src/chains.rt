@@ -1,90 +1,85 @@
-//! The certificate of jobs in which each clash is in order.
-ghost use Rattle.std.specs.Prelude.{◌≡◌, ◌<◌, ◌≤◌, ◌∷◌, ◌++◌, [], IfNone, IfOk, IfSome, List, OnOk, length, map, ℕ};
-ghost use Rattle.std.specs.List.{All};
-ghost use Rattle.std.specs.List.Sorted.{IsStrictlySortedBy};
+//! Chains of edges from one node to another.
+ghost use Rattle.std.specs.Prelude.{◌≡◌, ◌<◌, ◌↔◌, All, IfNone, IfOk, IfSome, IsSome, IsTrue, length};
 ghost use Rattle.mk_jobs.specs.Jobs as spec;
-ghost use Rattle.mk_jobs.specs.Jobs.{node_count};
-ghost use Rattle.mk_jobs.specs.Shape.{IsWellFormed};
-ghost use Rattle.mk_order.specs.Chosen.{IsChosen};
-ghost use Rattle.mk_proof.specs.Shapes.{ends_of, most_chains, pair_cmp};
-ghost use Rattle.mk_decide.specs.Pairs.{ArePairs};
-ghost use Rattle.mk_decide.specs.Races.{IsLeastRace};
-ghost use Rattle.mk_decide.specs.Verdicts.{AreChainsOf};
+ghost use Rattle.mk_jobs.specs.Jobs.{IsValid, node_count};
+ghost use Rattle.mk_decide.specs.Chosen.{IsChosen, IsFirstFrom, IsLeastFrom, NoneFrom};
+ghost use Rattle.mk_decide.specs.Paths.{IsFrom};
 
+use crate::before::Before;
 use mk_jobs::jobs::Jobs;
-use mk_order::before::Before;
-use mk_order::chains::chain;
-use mk_proof::certificate::Certificate;
 use std::alloc::{AllocError, Global};
 
-/// The first of the clashing pairs that is a race, if one is.
-pub(crate) fn first_race<B: Before>(
-    _jobs: &Jobs,
+/// The chain that shows that a is before b, if it is: from a to b edge by edge, where in front of each node but a stands the
+/// least of its prerequisites that is a or has a before it. Both numbers must be below the count of nodes, and `before`
+/// must speak of the same jobs. The only error is out of memory.
+pub fn chain<B: Before>(
+    alloc: Global,
+    jobs: &Jobs,
     before: &mut B,
-    pairs: &[(u32, u32)],
-) -> Option<(u32, u32)>
-    requires same { B.jobs before.old ≡ _jobs.now }
-    requires shape { IsWellFormed _jobs.now }
-    requires pairs { ArePairs _jobs.now pairs.now }
-    ensures none { IfNone result (All (λ pair. spec.Before _jobs.now pair.0 pair.1) pairs.now) }
-    ensures some { IfSome result (λ race. IsLeastRace _jobs.now race.0 race.1) }
+    a: u32,
+    b: u32,
+) -> Result<Option<Vec<u32>>, AllocError>
+    requires same { B.jobs before.old ≡ jobs.now }
+    requires first { a < node_count jobs.now }
+    requires last { b < node_count jobs.now }
+    ensures found { IfOk result (λ chain. IsSome chain ↔ spec.Before jobs.now a b) }
+    ensures chosen { IfOk result (λ chain. IfSome chain (λ nodes. IsChosen jobs.now a b nodes.items)) }
     ensures keeps { B.jobs before.new ≡ B.jobs before.old }
 {
-    for i in 0..pairs.len() {
-        let (a, b) = pairs[i];
-        if !before.before(a, b) {
-            return Some((a, b));
+    let count = jobs.count();
+    prove!(a < count && b < count);
+    if !before.before(a, b) {
+        return Ok(None);
+    }
+    let mut nodes = vec![in alloc; b]?;
+    let mut front = b;
+    while let Some(p) = least_from(jobs, before, a, front) {
+        nodes.push(p)?;
+        front = p;
+    }
+    nodes.reverse();
+    Ok(Some(nodes))
+}
+
+/// The least of the prerequisites of x to which a itself, or a chain from a, leads, if there is one.
+fn least_from<B: Before>(jobs: &Jobs, before: &mut B, a: u32, x: u32) -> Option<u32>
+    requires valid { IsValid jobs.now }
+    requires same { B.jobs before.old ≡ jobs.now }
+    requires first { a < node_count jobs.now }
+    requires last { x < node_count jobs.now }
+    ensures some { IfSome result (λ p. IsLeastFrom jobs.now a p x) }
+    ensures none { IfNone result (¬ spec.Before jobs.now a x) }
+    ensures keeps { B.jobs before.new ≡ B.jobs before.old }
+{
+    let needs = jobs.needs(x);
+    match needs.binary_search(&a) {
+        Ok(_) => Some(a),
+        Err(place) => first_from(before, a, &needs[place..]),
+    }
+}
+
+/// The first of some nodes to which a itself, or a chain from a, leads, if there is one.
+fn first_from<B: Before>(before: &mut B, a: u32, nodes: &[u32]) -> Option<u32>
+    requires first { a < node_count (B.jobs before.old) }
+    requires all { All (λ p. p < node_count (B.jobs before.old)) nodes.now }
+    ensures some { IfSome result (IsFirstFrom (B.jobs before.old) a nodes.now) }
+    ensures none { IfNone result (NoneFrom (B.jobs before.old) a nodes.now (length nodes.now)) }
+    ensures keeps { B.jobs before.new ≡ B.jobs before.old }
+{
+    for &p in nodes {
+        if is_from(before, a, p) {
+            return Some(p);
         }
     }
     None
 }
 
-/// The certificate of these pairs: for each the chain that leads from its first node to its second. The only error is out of
-/// memory.
-pub(crate) fn certificate_of<B: Before>(
-    alloc: Global,
-    jobs: &Jobs,
-    before: &mut B,
-    pairs: &[(u32, u32)],
-) -> Result<Certificate, AllocError>
-    requires same { B.jobs before.old ≡ jobs.now }
-    requires few { length pairs.now ≤ most_chains }
-    requires shape { IsWellFormed jobs.now }
-    requires pairs { ArePairs jobs.now pairs.now }
-    requires ordered { All (λ pair. spec.Before jobs.now pair.0 pair.1) pairs.now }
-    ensures chains { IfOk result (λ chains. AreChainsOf jobs.now pairs.now chains) }
+/// Whether x is a or has a before it.
+fn is_from<B: Before>(before: &mut B, a: u32, x: u32) -> bool
+    requires first { a < node_count (B.jobs before.old) }
+    requires second { x < node_count (B.jobs before.old) }
+    ensures exact { IsTrue result ↔ IsFrom (B.jobs before.old) a x }
     ensures keeps { B.jobs before.new ≡ B.jobs before.old }
 {
-    let mut chains = Certificate::new(alloc);
-    for i in 0..pairs.len() {
-        let (a, b) = pairs[i];
-        push_chain(alloc, jobs, before, &mut chains, a, b)?;
-    }
-    Ok(chains)
-}
-
-/// Puts at the end the chain that leads from a to b. The only error is out of memory.
-fn push_chain<B: Before>(
-    alloc: Global,
-    jobs: &Jobs,
-    before: &mut B,
-    chains: &mut Certificate,
-    a: u32,
-    b: u32,
-) -> Result<(), AllocError>
-    requires same { B.jobs before.old ≡ jobs.now }
-    requires shape { IsWellFormed jobs.now }
-    requires first { a < node_count jobs.now }
-    requires second { b < node_count jobs.now }
-    requires ordered { spec.Before jobs.now a b }
-    requires room { length chains.old < most_chains }
-    requires rises { IsStrictlySortedBy pair_cmp (map ends_of chains.old ++ (a, b) ∷ []) }
-    ensures pushed { OnOk result ((chain : List ℕ) × (chains.new ≡ chains.old ++ chain ∷ []) × IsChosen jobs.now a b chain) }
-    ensures keeps { B.jobs before.new ≡ B.jobs before.old }
-{
-    let _count = chains.count();
-    match chain(alloc, jobs, before, a, b)? {
-        Some(nodes) => chains.push(&nodes),
-        None => Ok(()),
-    }
+    x == a || before.before(a, x)
 }

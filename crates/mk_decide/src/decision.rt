@@ -8,13 +8,13 @@ ghost use Rattle.mk_cert.specs.Traces.{TraceHolds};
 ghost use Rattle.mk_decide.specs.Decisions.{IfRace, IsSafe, IsVerdict};
 ghost use Rattle.mk_decide.specs.Pairs.{ArePairs, HasFewPairs, HasManyPairs, pair_limit, too_many};
 
-use crate::chains::{certificate_of, first_race};
+use crate::before::Before;
+use crate::certificate::{certificate_of, first_race};
 use crate::pairs::clashing_pairs;
+use crate::rows::Rows;
 use crate::traces::trace_of_race;
 use mk_jobs::jobs::Jobs;
 use mk_name::fault::Halt;
-use mk_order::before::Before;
-use mk_order::rows::Rows;
 use mk_proof::certificate::Certificate;
 use mk_proof::trace::Trace;
 use std::alloc::{AllocError, Global};

@@ -8,9 +8,9 @@ ghost use Rattle.mk_jobs.specs.Shape.{IsWellFormed};
 ghost use Rattle.mk_decide.specs.LeastRaces.{IsFound, IsSettled, IsUpTo, Lowers};
 ghost use Rattle.mk_decide.specs.Races.{IsLeastRace};
 
+use crate::before::Before;
 use crate::marks::{next_bit, row_of};
 use mk_jobs::jobs::Jobs;
-use mk_order::before::Before;
 
 /// The race that no other precedes, by first and then second number; none where the jobs are race-free. `before` must speak
 /// of the same jobs. It takes no memory, and goes over no pairs but those that clash.

@@ -7,8 +7,8 @@ ghost use Rattle.mk_cert.specs.Races.{IsOfRace, ReportsEarly, early_steps, falli
 ghost use Rattle.mk_decide.specs.LeastTraces.{HasNodes, SpellsLeast};
 ghost use Rattle.mk_decide.specs.Races.{IsRace};
 
+use crate::before::Before;
 use mk_jobs::jobs::Jobs;
-use mk_order::before::Before;
 use mk_path::spelling::text_of;
 use mk_proof::step::Step;
 use mk_proof::trace::Trace;

@@ -5,9 +5,9 @@ use Rattle.std.proofs.lemmas.Bool.{cases_lt, cases_order, cases_eq}
 use Rattle.std.proofs.lemmas.List.Elements.{Contains-append_left, Contains-push, Contains-push_cases}
 use Rattle.mk_path.specs.Bits.{HasBit}
 use Rattle.mk_jobs.specs.Jobs.{Jobs, Clash, IsPrerequisite, IsValid, prerequisites_of}
-use Rattle.mk_order.specs.Bits.{row_at}
-use Rattle.mk_order.proofs.Filling.{row-append}
-use Rattle.mk_order.proofs.RowBits.{clear_bits, merged_bits}
+use Rattle.mk_decide.specs.Bits.{row_at}
+use Rattle.mk_decide.proofs.Filling.{row-append}
+use Rattle.mk_decide.proofs.RowBits.{clear_bits, merged_bits}
 use Rattle.std.proofs.lemmas.List.{drop_at, take_at, get_or-set_same, get_or-set_other}
 use Rattle.mk_fix.specs.Musts.{AreDirectBelow, AreFirsts, AreMustRows, IsAround, IsBehind, IsCovered, IsDirect, IsMustRow, Must, step, more}
 

@@ -2,7 +2,7 @@
 use Rattle.std.specs.Prelude.{ℕ, ◌<◌, ◌⊎◌, ◌↔◌, List, Contains}
 use Rattle.mk_jobs.specs.Jobs.{Jobs, Clash, IsPrerequisite}
 use Rattle.mk_path.specs.Bits.{HasBit}
-use Rattle.mk_order.specs.Bits.{row_at}
+use Rattle.mk_decide.specs.Bits.{row_at}
 use Rattle.mk_decide.specs.Pairs.{IsRising}
 
 -- a step leads along an edge, or between two nodes that clash, from the smaller to the greater

@@ -5,10 +5,10 @@ ghost use Rattle.mk_jobs.specs.Shape.{IsWellFormed};
 ghost use Rattle.mk_decide.specs.Pairs.{ArePairs, HasManyPairs, too_many};
 ghost use Rattle.mk_fix.specs.AllRaces.{AreRaces, HasPairs};
 
+use mk_decide::before::Before;
 use mk_decide::pairs::clashing_pairs;
 use mk_jobs::jobs::Jobs;
 use mk_name::fault::Halt;
-use mk_order::before::Before;
 use std::alloc::{AllocError, Global};
 
 /// All races of jobs, and how many pairs of their nodes clash.

@@ -5,9 +5,9 @@ use Rattle.std.proofs.lemmas.List.{take_at, drop_at}
 use Rattle.mk_path.specs.Bits.{HasBit}
 use Rattle.mk_jobs.specs.Jobs.{Jobs, IsPrerequisite, IsValid, is_live, node_count, prerequisites_of}
 use Rattle.mk_jobs.proofs.JobsLemmas.{writer_live}
-use Rattle.mk_order.specs.Bits.{row_at}
-use Rattle.mk_order.proofs.Filling.{row-append}
-use Rattle.mk_order.proofs.RowBits.{clear_bits}
+use Rattle.mk_decide.specs.Bits.{row_at}
+use Rattle.mk_decide.proofs.Filling.{row-append}
+use Rattle.mk_decide.proofs.RowBits.{clear_bits}
 use Rattle.mk_stale.specs.Watching.{Carries, edge, further, makes_own}
 use Rattle.mk_missing.specs.Hearing.{AreHeard, Hears, IsFilled, itself, carried, IsNews}
 

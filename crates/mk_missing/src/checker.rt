@@ -15,9 +15,9 @@ use crate::hearing::Hearing;
 use crate::kind::Kind;
 use crate::users::Users;
 use crate::watching::{runs_with, watches};
+use mk_decide::before::Before;
+use mk_decide::rows::Rows;
 use mk_jobs::jobs::Jobs;
-use mk_order::before::Before;
-use mk_order::rows::Rows;
 use std::alloc::{AllocError, Global};
 use std::marker::Model;
 

@@ -5,10 +5,10 @@ ghost use Rattle.mk_race.specs.Stages.{texts_of};
 
 use crate::input::Input;
 use crate::preparing::{Prepared, prepare};
+use mk_decide::rows::Rows;
 use mk_fix::races::{Races, all_races};
 use mk_jobs::jobs::Jobs;
 use mk_name::fault::Halt;
-use mk_order::rows::Rows;
 use std::alloc::Global;
 
 /// The jobs of a build, and their races.

@@ -1,5 +1,5 @@
-//! Tests of the program by [`mk_program::race_words`], over files and outputs in memory. They stand in a crate of their own, so
-//! that the program is not proved a second time for its tests.
+//! Tests of the program by [`mk_program::race_words`], over files and outputs in memory; of `mk_run`, over devices in memory; and of
+//! texts of tasks. They stand in a crate of their own, so that the program is not proved a second time for its tests.
 //!
 //! [`shelf::Shelf`] is an opener that states what its files hold, and [`outcomes::run`] a run over it whose contract
 //! says what comes out: so the premises of `race_words` are met together by something that runs.
@@ -12,6 +12,10 @@ mod failures;
 #[cfg(test)]
 mod includes;
 pub mod outcomes;
+#[cfg(test)]
+mod runs;
 pub mod shelf;
 #[cfg(test)]
 mod tables;
+#[cfg(test)]
+mod tasks;

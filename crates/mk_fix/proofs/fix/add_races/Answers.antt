@@ -3,7 +3,7 @@ use Rattle.std.specs.Global.{Global}
 use Rattle.std.proofs.lemmas.List.{get_or-map}
 use Rattle.std.proofs.lemmas.List.Elements.{All-take, All-drop}
 use Rattle.mk_jobs.specs.Jobs.{node_count}
-use Rattle.mk_order.proofs.Filling.{drop_row, row_ends}
+use Rattle.mk_decide.proofs.Filling.{drop_row, row_ends}
 use Rattle.mk_fix.specs.Musts.{AreFirsts, AreMustRows}
 use Rattle.mk_fix.proofs.Musting.{below_none, must_rows_front, must_rows_more}
 use Rattle.mk_fix.proofs.fix.add_races.Goals as goal

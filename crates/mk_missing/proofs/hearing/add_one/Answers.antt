@@ -1,6 +1,6 @@
 use Rattle.std.proofs.Common.{◌≡◌, ◌+◌, ◌-◌, ◌*◌, ◌∙◌, bit_or, length, take, drop, ap, arith, length-take-le, length-drop}
 use Rattle.std.specs.Simd.Lanes.{zip2}
-use Rattle.mk_order.specs.Bits.{row_at}
+use Rattle.mk_decide.specs.Bits.{row_at}
 use Rattle.mk_missing.proofs.News.{merged_one}
 use Rattle.mk_missing.proofs.hearing.add_one.Goals as goal
 

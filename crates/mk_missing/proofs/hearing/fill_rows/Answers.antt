@@ -1,8 +1,8 @@
 use Rattle.std.proofs.Common.{ℕ, ◌≡◌, ◌<◌, ◌≤◌, ◌+◌, ◌*◌, Bool, List, All, length, take, drop, get_or, sym, subst, arith, length-take-le}
 use Rattle.std.proofs.lemmas.List.Elements.{All-take, All-drop}
 use Rattle.mk_jobs.specs.Jobs.{node_count, prerequisites_of}
-use Rattle.mk_order.proofs.Edges.{all_below, all_smaller}
-use Rattle.mk_order.proofs.Filling.{row_ends, drop_row}
+use Rattle.mk_decide.proofs.Edges.{all_below, all_smaller}
+use Rattle.mk_decide.proofs.Filling.{row_ends, drop_row}
 use Rattle.mk_missing.specs.Hearing.{AreHeard}
 use Rattle.mk_missing.proofs.Heard.{heard_more}
 use Rattle.mk_missing.proofs.News.{Gains}

@@ -1,6 +1,6 @@
 use Rattle.std.proofs.Common.{ℕ, ◌≡◌, ◌<◌, ◌+◌, ◌-◌, ◌*◌, ◌∙◌, ◌↔◌, true, List, take, drop, sym, ap, subst, arith}
 use Rattle.mk_jobs.specs.Jobs.{Jobs, node_count}
-use Rattle.mk_order.specs.Bits.{row_at}
+use Rattle.mk_decide.specs.Bits.{row_at}
 use Rattle.mk_missing.specs.Hearing.{Hears}
 use Rattle.mk_missing.proofs.Heard.{hears_is}
 use Rattle.mk_missing.proofs.hearing.Hearing.hears.Goals as goal

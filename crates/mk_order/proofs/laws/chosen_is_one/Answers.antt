@@ -1,5 +1,0 @@
-use Rattle.mk_order.proofs.OneChain.{chosen_is_one}
-use Rattle.mk_order.proofs.laws.chosen_is_one.Goals as goal
-
-pub returns : goal.returns
-returns c = chosen_is_one

@@ -1,5 +1,0 @@
-use Rattle.mk_order.specs.Marks.{AreMarkedBehind}
-use Rattle.mk_order.proofs.walk.mark_after.Given as goal
-
-abbrev pub invariant-loop-x : goal.invariant-loop-x
-invariant-loop-x l = AreMarkedBehind l.jobs l.a l.marks l.x

@@ -1,6 +1,0 @@
-use Rattle.std.proofs.Common.{◌≡◌}
-use Rattle.mk_order.proofs.Merging.{merged}
-use Rattle.mk_order.proofs.words.merge_words.Given as goal
-
-abbrev pub invariant-loop-i : goal.invariant-loop-i
-invariant-loop-i l = l.into ≡ merged l.i l.initial.into l.from

@@ -1,4 +1,0 @@
-pub mod Bits
-pub mod Chosen
-pub mod Marks
-pub mod Paths

@@ -1,0 +1,93 @@
+//! All races of jobs, their fix, and jobs that were made again with its edges.
+use crate::small;
+use jobs_for_tests::making::{Made, jobs_of};
+use mk_decide::rows::Rows;
+use mk_fix::again::have_all;
+use mk_fix::fix::fix;
+use mk_fix::races::{Races, all_races};
+use mk_jobs::jobs::Jobs;
+use mk_name::fault::Halt;
+use std::alloc::Global;
+
+#[test]
+fn jobs_with_races(rt: HostRuntime) {
+    let alloc = rt.alloc();
+    assert!(rt; is_fixed_by(alloc, &small::missing_header(), &[(1, 3)], &[(1, 3)]));
+    assert!(rt;
+        is_fixed_by(
+            alloc,
+            &small::three_writers(),
+            &[(0, 1), (0, 2), (1, 2)],
+            &[(0, 1), (1, 2)]
+        )
+    );
+}
+
+#[test]
+fn jobs_without_races(rt: HostRuntime) {
+    let alloc = rt.alloc();
+    assert!(rt; is_fixed_by(alloc, &small::two_objects(), &[], &[]));
+    assert!(rt; is_fixed_by(alloc, &small::log_in_line(), &[], &[]));
+}
+
+#[test]
+fn jobs_that_were_made_again(rt: HostRuntime) {
+    let alloc = rt.alloc();
+    assert!(rt; is_made_again(alloc, &small::missing_header(), &small::header_needed()));
+    assert!(rt; !is_made_again(alloc, &small::missing_header(), &small::missing_header()));
+    assert!(rt; !is_made_again(alloc, &small::missing_header(), &small::two_objects()));
+}
+
+/// Whether jobs have just these races, and these edges are their fix.
+fn is_fixed_by(
+    alloc: Global,
+    made: &[Made<'_>],
+    races: &[(u32, u32)],
+    edges: &[(u32, u32)],
+) -> bool {
+    match jobs_of(alloc, made) {
+        Some(jobs) => has_races(alloc, &jobs, races) && has_fix(alloc, &jobs, edges),
+        None => false,
+    }
+}
+
+fn has_races(alloc: Global, jobs: &Jobs, races: &[(u32, u32)]) -> bool {
+    match listed(alloc, jobs) {
+        Ok(found) => found.races.as_slice() == races,
+        Err(_) => false,
+    }
+}
+
+fn listed(alloc: Global, jobs: &Jobs) -> Result<Races, Halt> {
+    let mut rows = Rows::new(alloc, jobs)?;
+    all_races(alloc, jobs, &mut rows)
+}
+
+fn has_fix(alloc: Global, jobs: &Jobs, edges: &[(u32, u32)]) -> bool {
+    match fix(alloc, jobs) {
+        Ok(found) => found.as_slice() == edges,
+        Err(_) => false,
+    }
+}
+
+/// Whether the second jobs are the first, made again with the edges of their fix.
+fn is_made_again(alloc: Global, made: &[Made<'_>], again: &[Made<'_>]) -> bool {
+    match jobs_of(alloc, made) {
+        Some(jobs) => is_again(alloc, &jobs, again),
+        None => false,
+    }
+}
+
+fn is_again(alloc: Global, jobs: &Jobs, again: &[Made<'_>]) -> bool {
+    match jobs_of(alloc, again) {
+        Some(new) => has_all(alloc, jobs, &new),
+        None => false,
+    }
+}
+
+fn has_all(alloc: Global, jobs: &Jobs, new: &Jobs) -> bool {
+    match fix(alloc, jobs) {
+        Ok(edges) => have_all(jobs, edges.as_slice(), new),
+        Err(_) => false,
+    }
+}

@@ -1,0 +1,132 @@
+//! What is decided by walks, which no command takes for the order of nodes, and the least race by walks and by rows.
+use crate::small;
+use jobs_for_tests::making::{Made, jobs_of};
+use mk_decide::decision::{Verdict, decide_with};
+use mk_decide::least::least_race;
+use mk_decide::rows::Rows;
+use mk_decide::walk::Walk;
+use mk_jobs::jobs::Jobs;
+use mk_name::fault::Halt;
+use mk_proof::writing::{write_certificate, write_trace};
+use std::alloc::{AllocError, Global};
+
+#[test]
+fn jobs_without_race(rt: HostRuntime) {
+    let alloc = rt.alloc();
+    assert!(rt;
+        is_decided(
+            alloc,
+            &small::two_objects(),
+            None,
+            "certificate 2\n1 4\n3 4\n"
+        )
+    );
+    assert!(rt;
+        is_decided(
+            alloc,
+            &small::temporary_ordered(),
+            None,
+            "certificate 1\n1 3 4\n"
+        )
+    );
+    assert!(rt; is_decided(alloc, &small::idle_configure(), None, "certificate 0\n"));
+    assert!(rt;
+        is_decided(
+            alloc,
+            &small::log_in_line(),
+            None,
+            "certificate 3\n1 2\n1 2 3\n2 3\n"
+        )
+    );
+}
+
+#[test]
+fn jobs_with_a_race(rt: HostRuntime) {
+    let alloc = rt.alloc();
+    assert!(rt;
+        is_decided(
+            alloc,
+            &small::missing_header(),
+            Some((1, 3)),
+            "trace 1 3\npath 67656e2e68\ntime 0 5\ntime 2 3\nskip 0\nskip 2\nstart 1\nstart 3\nend\n"
+        )
+    );
+    assert!(rt;
+        is_decided(
+            alloc,
+            &small::live_configure(),
+            Some((0, 2)),
+            "trace 0 2\npath 636f6e6669672e6c6f67\ntime 1 3\nskip 1\nstart 0\nstart 2\nend\n"
+        )
+    );
+    assert!(rt;
+        is_decided(
+            alloc,
+            &small::behind_recipes(),
+            Some((3, 5)),
+            "trace 3 5\npath 74\ntime 1 6\ntime 4 3\nskip 1\nstart 2\nfinish 2\nskip 4\nstart 3\nstart 5\nend\n"
+        )
+    );
+    assert!(rt;
+        is_decided(
+            alloc,
+            &small::file_in_tree(),
+            Some((1, 2)),
+            "trace 1 2\npath 6f75742f6c6f67\ntime 0 4\nskip 0\nstart 1\nstart 2\nend\n"
+        )
+    );
+}
+
+/// Whether this is the least race of the jobs, if there is one, and their certificate or trace.
+fn is_decided(alloc: Global, made: &[Made<'_>], race: Option<(u32, u32)>, proof: &str) -> bool {
+    match jobs_of(alloc, made) {
+        Some(jobs) => has_least(alloc, &jobs, race) && has_proof(alloc, &jobs, proof),
+        None => false,
+    }
+}
+
+/// Whether this is the least race, by a walk and by rows.
+fn has_least(alloc: Global, jobs: &Jobs, race: Option<(u32, u32)>) -> bool {
+    is_walked(alloc, jobs, race) && is_looked_up(alloc, jobs, race)
+}
+
+fn is_walked(alloc: Global, jobs: &Jobs, race: Option<(u32, u32)>) -> bool {
+    match Walk::new(alloc, jobs) {
+        Ok(mut walk) => least_race(jobs, &mut walk) == race,
+        Err(_) => false,
+    }
+}
+
+fn is_looked_up(alloc: Global, jobs: &Jobs, race: Option<(u32, u32)>) -> bool {
+    match Rows::new(alloc, jobs) {
+        Ok(mut rows) => least_race(jobs, &mut rows) == race,
+        Err(_) => false,
+    }
+}
+
+/// Whether the verdict by a walk is written so.
+fn has_proof(alloc: Global, jobs: &Jobs, proof: &str) -> bool {
+    match decided(alloc, jobs) {
+        Ok(verdict) => is_text(written(alloc, &verdict), proof),
+        Err(_) => false,
+    }
+}
+
+fn decided(alloc: Global, jobs: &Jobs) -> Result<Verdict, Halt> {
+    let mut walk = Walk::new(alloc, jobs)?;
+    decide_with(alloc, jobs, &mut walk)
+}
+
+fn written(alloc: Global, verdict: &Verdict) -> Result<Vec<u8>, AllocError> {
+    match verdict {
+        Verdict::Safe(certificate) => write_certificate(alloc, certificate),
+        Verdict::Race(trace) => write_trace(alloc, trace),
+    }
+}
+
+fn is_text(text: Result<Vec<u8>, AllocError>, expected: &str) -> bool {
+    match text {
+        Ok(text) => text.as_slice() == expected.as_bytes(),
+        Err(_) => false,
+    }
+}
