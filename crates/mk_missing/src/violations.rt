@@ -33,7 +33,7 @@ pub struct Violations {
 }
 
 /// All violations of these jobs, where no name is fixed: there is none just where the jobs are declared. The only error is out of
-/// memory. For each file it looks up its users; it takes two rows of N bits for each of N nodes.
+/// memory. For each file it looks up its users; of N nodes it keeps a row of N bits each.
 pub fn find_violations(alloc: Global, jobs: &Jobs) -> Result<Violations, AllocError>
     ensures all { IfOk result (AreViolations jobs.now) }
     ensures declared { IfOk result (λ found. HasNone found ↔ IsDeclared jobs.now none_fixed) }

@@ -1,0 +1,86 @@
+//! What jobs do not declare: a header that is late too, a file of three writers, a target that is listed, and jobs that lack nothing.
+use crate::small;
+use jobs_for_tests::making::{Made, jobs_of};
+use mk_jobs::jobs::Jobs;
+use mk_missing::violations::{Violations, find_violations};
+use std::alloc::Global;
+
+/// What is expected of jobs. A pair has the place of a file among all files that recipes touch, and a node.
+struct Expected<'a> {
+    missing: &'a [(u32, u32)],
+    late: &'a [(u32, u32)],
+    late_by: &'a [u32],
+    shared: &'a [(u32, u32)],
+    present: &'a [u32],
+}
+
+const NOTHING: Expected<'static> = Expected {
+    missing: &[],
+    late: &[],
+    late_by: &[],
+    shared: &[],
+    present: &[],
+};
+
+#[test]
+fn declared_jobs(rt: HostRuntime) {
+    let alloc = rt.alloc();
+    assert!(rt; is_found(alloc, &small::two_objects(), &NOTHING));
+    assert!(rt; is_found(alloc, &small::header_needed(), &NOTHING));
+    assert!(rt; is_found(alloc, &small::idle_configure(), &NOTHING));
+}
+
+#[test]
+fn jobs_that_lack_something(rt: HostRuntime) {
+    let alloc = rt.alloc();
+    let late_header = Expected {
+        missing: &[(2, 3)],
+        late: &[(2, 3)],
+        late_by: &[1],
+        ..NOTHING
+    };
+    assert!(rt; is_found(alloc, &small::missing_header(), &late_header));
+    let shared_file = Expected {
+        shared: &[(0, 0), (0, 1)],
+        ..NOTHING
+    };
+    assert!(rt; is_found(alloc, &small::three_writers(), &shared_file));
+    let listed = Expected {
+        present: &[1],
+        ..NOTHING
+    };
+    assert!(rt; is_found(alloc, &listed_object(), &listed));
+}
+
+/// An object that is listed, and made all the same.
+fn listed_object() -> [Made<'static>; 2] {
+    [
+        Made::file("a.c"),
+        Made {
+            listed: true,
+            ..Made::ruled("a.o", &[0], &["a.c"], &["a.o"])
+        },
+    ]
+}
+
+fn is_found(alloc: Global, made: &[Made<'_>], expected: &Expected<'_>) -> bool {
+    match jobs_of(alloc, made) {
+        Some(jobs) => finds(alloc, &jobs, expected),
+        None => false,
+    }
+}
+
+fn finds(alloc: Global, jobs: &Jobs, expected: &Expected<'_>) -> bool {
+    match find_violations(alloc, jobs) {
+        Ok(found) => is_same(&found, expected),
+        Err(_) => false,
+    }
+}
+
+fn is_same(found: &Violations, expected: &Expected<'_>) -> bool {
+    found.missing.as_slice() == expected.missing
+        && found.late.as_slice() == expected.late
+        && found.late_by.as_slice() == expected.late_by
+        && found.shared.as_slice() == expected.shared
+        && found.present.as_slice() == expected.present
+}
