@@ -23,7 +23,7 @@ WORD_LINE = re.compile(
     rb"|Must remake target|Successfully remade target file|Failed to remake target file|Still updating file"
     rb"|Finished updating file|Giving up on target file|Recently tried and failed to update file|Ignoring VPATH name) "
     + QUOTED + rb"\.$|File " + QUOTED + rb" (does not exist|was considered already)\.$|No need to remake target "
-    + QUOTED + rb"\.$|Prerequisite " + QUOTED + rb" (is (newer|older) than|of) target " + QUOTED
+    + QUOTED + rb"\.$|Prerequisite " + QUOTED + rb" (is (newer than|older than|order-only for)|of) target " + QUOTED
     + rb"( does not exist)?\.$|(The prerequisites|Recipe) of " + QUOTED + rb" (are being made|is being run)\.$"
     rb"|No recipe for " + QUOTED + rb" and no prerequisites actually changed\.$|Target " + QUOTED
     + rb" is double-colon and has no prerequisites\.$|Making " + QUOTED + rb" due to always-make flag\.$"

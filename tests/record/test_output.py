@@ -6,7 +6,7 @@ from typing import Dict, Tuple
 import support
 
 INNER = "all: c d\nc d: ; @echo out; echo error >&2; echo more; echo $@ > $@\n"
-VERDICTS = (b"SAFE", b"RACE", b"NO VERDICT", b"make ")
+VERDICTS = (b"WARM", b"SAFE", b"RACE", b"NO VERDICT", b"make ")
 
 
 class Output(unittest.TestCase):
@@ -61,6 +61,10 @@ class Output(unittest.TestCase):
 
     def test_output_that_a_recipe_keeps(self) -> None:
         self.both("all: ; $(MAKE) -f in.mk > log\n\t$(MAKE) -s -f in.mk >> log\n\t$(MAKE) -Otarget -f in.mk >> log\n", in_mk=INNER)
+
+    def test_order_only_prerequisite_of_a_target_that_is_there(self) -> None:
+        inner = "all: x ; @echo done\nx: y | d ; @touch x\nd: ; @mkdir d\n"
+        self.assertEqual(2, self.both("all: ; $(MAKE) -s -f in.mk > log\n", in_mk=inner, x="", y=""))
 
     def test_both_streams_in_one_file_keep_their_order(self) -> None:
         self.both("all: ; $(MAKE) -f in.mk > log 2>&1\n", in_mk="all: c d e\nc d e: ; echo out; echo error >&2; echo more; echo end >&2; touch $@\n")

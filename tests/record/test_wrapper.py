@@ -30,7 +30,8 @@ class Splits(unittest.TestCase):
     """Packets, as pipes hand them over."""
 
     def test_words_of_make_are_kept(self) -> None:
-        words = (b"Reading makefiles...\n", b"Considering target file 'a'.\n", b" File 'a' does not exist.\n")
+        words = (b"Reading makefiles...\n", b"Considering target file 'a'.\n", b" File 'a' does not exist.\n",
+                 b"  Prerequisite 'b' is older than target 'a'.\n", b"  Prerequisite 'd' is order-only for target 'a'.\n")
         self.assertEqual((b"", b"".join(words)), split(*words))
 
     def test_output_of_recipes_goes_on(self) -> None:
