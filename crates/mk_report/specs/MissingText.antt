@@ -62,16 +62,16 @@ shared_add jobs n None = []
 shared_add jobs n (Some w) = add_line (makes_own jobs n) jobs w (name_of jobs n)
 
 -- n reads the path, and does not watch it
-abbrev pub missing_line : Jobs → ℕ → Option ℕ → Path → List ℕ
-missing_line jobs n last path = line (path_text (codes "missing") path ++ reads_text jobs n ++ last_text jobs last)
+abbrev pub missing_lines : Jobs → List Name → ℕ → Option ℕ → Path → List ℕ
+missing_lines jobs listing n last path = line (path_text (codes "missing") path ++ reads_text jobs n ++ last_text jobs last) ++ missing_add jobs listing path n last
 
 -- n reads the path, and the writer is not before it
 abbrev pub late_line : Jobs → ℕ → ℕ → Path → List ℕ
 late_line jobs n writer path = line (path_text (codes "late") path ++ reads_text jobs n ++ writes_text jobs writer)
 
 -- n writes the path, and so does its last writer, which does not run with n
-abbrev pub shared_line : Jobs → ℕ → Option ℕ → Path → List ℕ
-shared_line jobs n last path = line (path_text (codes "shared") path ++ writes_text jobs n ++ last_text jobs last)
+abbrev pub shared_lines : Jobs → ℕ → Option ℕ → Path → List ℕ
+shared_lines jobs n last path = line (path_text (codes "shared") path ++ writes_text jobs n ++ last_text jobs last) ++ shared_add jobs n last
 
 -- n's file is listed
 abbrev pub present_line : Jobs → ℕ → List ℕ
@@ -91,15 +91,13 @@ last_at found k = get_or found.last.items k None
 
 -- what is written of a pair of a file's place and a node, by what is wrong with them
 abbrev pub missing_pair : Jobs → List Name → Violations → ℕ × ℕ → List ℕ
-missing_pair jobs listing found pair =
-    of_file (file_at found pair.0) (λ path. missing_line jobs pair.1 (last_at found pair.0) path ++ missing_add jobs listing path pair.1 (last_at found pair.0))
+missing_pair jobs listing found pair = of_file (file_at found pair.0) (missing_lines jobs listing pair.1 (last_at found pair.0))
 
 abbrev pub late_pair : Jobs → Violations → (ℕ × ℕ) × ℕ → List ℕ
 late_pair jobs found late = of_file (file_at found late.0.0) (late_line jobs late.0.1 late.1)
 
 abbrev pub shared_pair : Jobs → Violations → ℕ × ℕ → List ℕ
-shared_pair jobs found pair =
-    of_file (file_at found pair.0) (λ path. shared_line jobs pair.1 (last_at found pair.0) path ++ shared_add jobs pair.1 (last_at found pair.0))
+shared_pair jobs found pair = of_file (file_at found pair.0) (shared_lines jobs pair.1 (last_at found pair.0))
 
 -- how many there are of each kind, how many races there are, and the counts
 abbrev pub missing_head : Jobs → ℕ → Violations → List ℕ

@@ -46,14 +46,10 @@ pub(crate) fn push_shared_add(
     ensures { OnOk result (out.new.items ≡ out.old.items ++ spec.shared_add jobs.now n last) }
 {
     match last {
-        Some(writer) => push_add(
-            out,
-            alloc,
-            jobs,
-            makes_own(jobs, n),
-            writer,
-            name_of(jobs, n),
-        ),
+        Some(writer) => {
+            let wanted = makes_own(jobs, n);
+            push_add(out, alloc, jobs, wanted, writer, name_of(jobs, n))
+        }
         None => Ok(()),
     }
 }

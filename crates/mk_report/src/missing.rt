@@ -124,12 +124,11 @@ fn push_missing(
     ensures { OnOk result (out.new.items ≡ out.old.items ++ spec.missing_pair jobs.now listing.now found.now pair) }
 {
     let (place, n) = pair;
-    let Some(path) = found.files.get(place as usize) else {
-        return Ok(());
-    };
     let last = last_at(found, place);
-    push_missing_line(out, alloc, jobs, path, n, last)?;
-    push_missing_add(out, alloc, jobs, listing, path, n, last)
+    match found.files.get(place as usize) {
+        Some(path) => push_missing_lines(out, alloc, jobs, listing, path, n, last),
+        None => Ok(()),
+    }
 }
 
 /// Puts the line of a late input and a writer at the end; none where its place is that of no file. The only error is out of
@@ -162,12 +161,11 @@ fn push_shared(
     ensures { OnOk result (out.new.items ≡ out.old.items ++ spec.shared_pair jobs.now found.now pair) }
 {
     let (place, n) = pair;
-    let Some(path) = found.files.get(place as usize) else {
-        return Ok(());
-    };
     let last = last_at(found, place);
-    push_shared_line(out, alloc, jobs, path, n, last)?;
-    push_shared_add(out, alloc, jobs, n, last)
+    match found.files.get(place as usize) {
+        Some(path) => push_shared_lines(out, alloc, jobs, path, n, last),
+        None => Ok(()),
+    }
 }
 
 /// Puts the line of a node at the end whose file is listed. The only error is out of memory.
@@ -190,22 +188,25 @@ fn last_at(found: &Violations, place: u32) -> Option<u32>
     }
 }
 
-/// Puts the line at the end that a node does not watch a path that it reads. The only error is out of memory.
-fn push_missing_line(
+/// Puts the line at the end that a node does not watch a path that it reads, and what declares it. The only error is out of
+/// memory.
+fn push_missing_lines(
     out: &mut Vec<u8>,
     alloc: Global,
     jobs: &Jobs,
+    listing: &Listing,
     path: &Path,
     n: u32,
     last: Option<u32>,
 ) -> Result<(), AllocError>
-    ensures { OnOk result (out.new.items ≡ out.old.items ++ spec.missing_line jobs.now n last path.now) }
+    ensures { OnOk result (out.new.items
+        ≡ out.old.items ++ spec.missing_lines jobs.now listing.now n last path.now) }
 {
     push_path(out, alloc, b"missing", path)?;
     push_reads(out, jobs, n)?;
     push_last(out, jobs, last)?;
     out.push(b'\n')?;
-    Ok(())
+    push_missing_add(out, alloc, jobs, listing, path, n, last)
 }
 
 /// Puts the line at the end that a node reads a path, and a writer of it is not before the node. The only error is out of
@@ -227,8 +228,8 @@ fn push_late_line(
     Ok(())
 }
 
-/// Puts the line at the end that a node and a last writer share a path. The only error is out of memory.
-fn push_shared_line(
+/// Puts the line at the end that a node and a last writer share a path, and what declares it. The only error is out of memory.
+fn push_shared_lines(
     out: &mut Vec<u8>,
     alloc: Global,
     jobs: &Jobs,
@@ -236,13 +237,13 @@ fn push_shared_line(
     n: u32,
     last: Option<u32>,
 ) -> Result<(), AllocError>
-    ensures { OnOk result (out.new.items ≡ out.old.items ++ spec.shared_line jobs.now n last path.now) }
+    ensures { OnOk result (out.new.items ≡ out.old.items ++ spec.shared_lines jobs.now n last path.now) }
 {
     push_path(out, alloc, b"shared", path)?;
     push_writes(out, jobs, n)?;
     push_last(out, jobs, last)?;
     out.push(b'\n')?;
-    Ok(())
+    push_shared_add(out, alloc, jobs, n, last)
 }
 
 /// Puts a word and a path at the end, as a line begins. The only error is out of memory.
