@@ -1,5 +1,6 @@
 mod Ahead
 mod Alike
+mod AsClean
 mod FixedTasks
 mod Fixings
 mod GoalsLemmas

@@ -2,6 +2,7 @@ pub mod Fixed
 pub mod Judged
 pub mod Laws
 pub mod Listed
+pub mod Missing
 pub mod Parts
 pub mod Played
 pub mod Serialised

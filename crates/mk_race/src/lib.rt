@@ -8,6 +8,8 @@
 //! - [`judge`] decides those jobs, and gives the [`Answer`](mk_report::answer::Answer) of the build; [`judge_parts`] does it
 //!   for a listing and footprints that were read ahead.
 //! - [`list_races`] lists all races of those jobs ([`RaceList`]).
+//! - [`list_missing`] lists them with all violations ([`MissingList`]); where there is neither, a build of an old tree leaves what
+//!   a build of a clean tree leaves.
 //! - [`fix_build`] finds the lines that fix a build, reads it again with them, and judges it ([`Fixing`]).
 //! - [`verify_proof`] reads footprints and a proof, and says whether the jobs accept it.
 //! - [`replay_log`] reads a log too, and says whether its events are a run of the jobs, and what they leave ([`Played`]).
@@ -21,10 +23,10 @@
 //!
 //! What comes out is defined in `specs/`: `Stages.antt` has the order of the stages and the answers of the first two,
 //! `Settings.antt` what operands say, `Judged.antt` the answer of a build, `Parts.antt` the same of a listing and footprints
-//! that were read ahead, `Listed.antt` all races of a build, `Fixed.antt` the fix of a build, `Verified.antt` the answer to a
-//! proof, `Played.antt` that to a log, `Serialised.antt` what comes of a log in serial order, `Tasked.antt` the answers of a text
-//! of tasks, and `TasksFixed.antt` its fix. The module `laws` says what the jobs of a build have to do with its listing
-//! (`Laws.antt`).
+//! that were read ahead, `Listed.antt` all races of a build, `Missing.antt` those and its violations, `Fixed.antt` the fix of
+//! a build, `Verified.antt` the answer to a proof, `Played.antt` that to a log, `Serialised.antt` what comes of a log in
+//! serial order, `Tasked.antt` the answers of a text of tasks, and `TasksFixed.antt` its fix. The module `laws` says what the
+//! jobs of a build have to do with its listing (`Laws.antt`).
 #![tactic(auto)]
 
 pub mod fixing;
@@ -32,6 +34,7 @@ pub mod input;
 pub mod judging;
 pub mod laws;
 pub mod listing;
+pub mod missing;
 pub mod parts;
 pub mod planning;
 pub mod preparing;
@@ -47,6 +50,7 @@ pub use crate::fixing::{Fixing, fix_build};
 pub use crate::input::Input;
 pub use crate::judging::{judge, judge_prepared};
 pub use crate::listing::{RaceList, list_races};
+pub use crate::missing::{MissingList, list_missing};
 pub use crate::parts::judge_parts;
 pub use crate::planning::{Planned, plan_of};
 pub use crate::preparing::{Prepared, prepare};

@@ -1,11 +1,10 @@
 -- The lines of fixes.
-use Rattle.std.proofs.Common.{◌≡◌, ◌≤◌, ◌∙◌, ℕ, Bool, true, false, List, [], ◌∷◌, ◌++◌, append_assoc, is_ok, refl, sym, ap}
+use Rattle.std.proofs.Common.{◌≡◌, ◌≤◌, ◌∙◌, ℕ, Bool, true, false, List, [], ◌∷◌, ◌++◌, append_assoc, refl, sym, ap}
 use Rattle.std.proofs.lemmas.List.{append-nil}
-use Rattle.mk_text.specs.Spelling.{word_name}
 use Rattle.mk_jobs.specs.Jobs.{Clash, Jobs, is_listed, node_count}
-use Rattle.mk_report.specs.FixText.{AreFixLines, IsFixLine, has_word, maker_obstacle, obstacle_of}
+use Rattle.mk_report.specs.FixText.{AreFixLines, IsFixLine, maker_obstacle, obstacle_of}
 use Rattle.mk_report.specs.declared.fixes.Form.{Form}
-use Rattle.mk_report.proofs.PastTheEnd.{no_maker, no_name}
+use Rattle.mk_report.proofs.PastTheEnd.{no_maker}
 
 -- the lines of one edge more
 pub fix_lines_more : (form : Form) (jobs : Jobs) (edges : List (ℕ × ℕ)) (text : List ℕ) (edge : ℕ × ℕ) (own : List ℕ)
@@ -25,10 +24,6 @@ fix_lines_more form jobs (first ∷ edges) text edge own are is = (
 pub fix_left_out : (form : Form) (jobs : Jobs) (edge : ℕ × ℕ) (text : List ℕ) → (Clash jobs edge.0 edge.1 → ⊥) → text ≡ [] → IsFixLine form jobs edge text
 fix_left_out form jobs edge text apart is = record { given = λ clash. absurd (apart clash); left_out = λ _. is }
 
--- what is no node has no word
-pub no_word : (jobs : Jobs) (n : ℕ) → node_count jobs ≤ n → has_word jobs n ≡ false
-no_word jobs n past = ap (λ (name : List ℕ). is_ok (word_name jobs.root name)) (no_name jobs n past)
-
--- and no obstacle of its own
+-- what is no node has no obstacle of its own
 pub no_obstacle : (jobs : Jobs) (n : ℕ) (words : Bool) → words ≡ true → node_count jobs ≤ n → obstacle_of jobs n words ≡ []
 no_obstacle jobs n words is past = rw is (ap (λ maker. maker_obstacle maker (is_listed jobs n)) (no_maker jobs n past))

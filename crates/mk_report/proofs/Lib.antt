@@ -1,4 +1,5 @@
 pub mod FixLines
+pub mod MissingLines
 pub mod OrderLines
 pub mod PastTheEnd
 pub mod RaceLines

@@ -19,9 +19,13 @@ use Rattle.mk_report.specs.declared.fixes.FixLines.TheVariants.{NoRoom, NoWord, 
 use Rattle.mk_report.specs.declared.fixes.Form.{Form}
 use Rattle.mk_report.specs.declared.fixes.Form.TheVariants.{Makefile, Tasks}
 
--- a word of a makefile can be the name of a node
+-- a name is a word of a makefile
+abbrev pub is_makefile_word : Jobs → Name → Bool
+is_makefile_word jobs name = is_ok (word_name jobs.root name)
+
+-- so is the name of a node
 abbrev pub has_word : Jobs → ℕ → Bool
-has_word jobs n = is_ok (word_name jobs.root (name_of jobs n))
+has_word jobs n = is_makefile_word jobs (name_of jobs n)
 
 -- so it is of both nodes of an edge
 abbrev pub has_words : Jobs → ℕ × ℕ → Bool

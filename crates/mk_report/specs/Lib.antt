@@ -1,4 +1,5 @@
 pub mod FixText
+pub mod MissingText
 pub mod RacesText
 pub mod ReportText
 pub mod Reports

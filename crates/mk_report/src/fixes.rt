@@ -102,13 +102,17 @@ pub(crate) fn has_words(alloc: Global, jobs: &Jobs, edge: (u32, u32)) -> Result<
 }
 
 /// Whether the name of a node is a word of a makefile. What is no node has no name. The only error is out of memory.
-fn has_word(alloc: Global, jobs: &Jobs, number: u32) -> Result<bool, AllocError>
+pub(crate) fn has_word(alloc: Global, jobs: &Jobs, number: u32) -> Result<bool, AllocError>
     ensures { IfOk result (λ is. is ≡ spec.has_word jobs.now number) }
 {
-    if number >= jobs.count() {
-        return Ok(false);
-    }
-    match plain_word(alloc, jobs.name(number).as_bytes(), jobs.root()) {
+    is_makefile_word(alloc, jobs, name_of(jobs, number))
+}
+
+/// Whether a name is a word of a makefile. The only error is out of memory.
+pub(crate) fn is_makefile_word(alloc: Global, jobs: &Jobs, name: &[u8]) -> Result<bool, AllocError>
+    ensures { IfOk result (λ is. is ≡ spec.is_makefile_word jobs.now name.now) }
+{
+    match plain_word(alloc, name, jobs.root()) {
         Ok(_) => Ok(true),
         Err(Halt::Fault(_)) => Ok(false),
         Err(Halt::Memory) => Err(AllocError),

@@ -1,0 +1,83 @@
+-- What is so of a build with no race and no violation.
+use Rattle.std.proofs.Common.{ℕ, zero, suc, ◌≡◌, ◌<◌, ◌+◌, ◌⊎◌, List, [], ◌∷◌, Ok, Contains, refl, sym, subst, ◌∙◌, inl, inr, arith}
+use Rattle.std.proofs.lemmas.Bool.{cases_order}
+use Rattle.mk_jobs.specs.Jobs.{Jobs, Before, edge, further, Clash, IsPrerequisite, IsRaceFree, IsValid, prerequisites_of}
+use Rattle.mk_jobs.specs.Shape.{IsWellFormed}
+use Rattle.mk_jobs.proofs.JobsLemmas.{shape_valid}
+use Rattle.mk_jobs.proofs.Reaching.{turned_clash}
+use Rattle.mk_stale.specs.Watching.{IsDeclared}
+use Rattle.mk_stale.proofs.Keeping.{as_from_clean}
+use Rattle.mk_decide.proofs.Finding.{race_is}
+use Rattle.mk_fix.specs.AllRaces.{AreRaces}
+use Rattle.mk_fix.proofs.Adding.{cons_cases, here, none_in, there}
+use Rattle.mk_missing.specs.Violations.{none_fixed}
+use Rattle.mk_race.specs.Missing.{BuildsAsClean}
+use Rattle.mk_race.specs.Stages.{IsPrepared, Texts}
+use Rattle.mk_race.specs.declared.preparing.Prepared.{Prepared}
+use Rattle.mk_race.proofs.OneBuild.{build_is_one}
+
+-- a is one of these nodes, or before one of them
+abbrev Leads : Jobs → ℕ → List ℕ → Type 0
+Leads jobs a nodes = (p : ℕ) × Contains nodes p × ((p ≡ a) ⊎ Before jobs a p)
+
+leads_or_not : (jobs : Jobs) (a : ℕ) (nodes : List ℕ) → ((p : ℕ) → Contains nodes p → Before jobs a p ⊎ (Before jobs a p → ⊥))
+    → Leads jobs a nodes ⊎ (Leads jobs a nodes → ⊥)
+leads_or_not jobs a [] each = inr (λ leads. none_in leads.0 leads.1)
+leads_or_not jobs a (p ∷ ps) each = elim (cases_order a p) [
+  | inl same ↦ inl (p, here p ps, inl (sym same))
+  | inr differ ↦ elim (each p (here p ps)) [
+    | inl before ↦ inl (p, here p ps, inr before)
+    | inr apart ↦ elim (leads_or_not jobs a ps (λ q within. each q (there p ps q within))) [
+      | inl leads ↦ inl (leads.0, there p ps leads.0 leads.1, leads.2)
+      | inr none ↦ inr (λ leads. elim (cons_cases p ps leads.0 leads.1) [
+        | inl is ↦ elim leads.2 [
+          | inl same ↦ let equal : p ≡ a = is ∙ same in elim differ [ inl less ↦ omega (arith, less, equal) | inr more ↦ omega (arith, more, equal) ]
+          | inr before ↦ apart (subst (λ (q : ℕ). Before jobs a q) (sym is) before)
+        ]
+        | inr rest ↦ none (leads.0, rest, leads.2)
+      ])
+    ]
+  ]
+]
+
+last_edge : {jobs : Jobs} {a b : ℕ} → Before jobs a b → Leads jobs a (prerequisites_of jobs b)
+last_edge {jobs} {a} {b} (edge p) = (a, p, inl refl)
+last_edge {jobs} {a} {b} (further {b = m} chain p) = (m, p, inr chain)
+
+-- a node is before another, or it is not
+before_or_not : (jobs : Jobs) → IsValid jobs → (bound a b : ℕ) → b < bound → Before jobs a b ⊎ (Before jobs a b → ⊥)
+before_or_not jobs valid zero a b below = absurd (omega (arith, below))
+before_or_not jobs valid (suc bound) a b below =
+    elim (leads_or_not jobs a (prerequisites_of jobs b) (λ p need. before_or_not jobs valid bound a p (let less = valid.smaller b p need in omega (arith, below, less)))) [
+      | inl leads ↦ inl (elim leads.2 [
+        | inl same ↦ edge (subst (λ (q : ℕ). IsPrerequisite jobs q b) same leads.1)
+        | inr before ↦ further before leads.1
+      ])
+      | inr none ↦ inr (λ before. none (last_edge before))
+    ]
+
+-- without a race nodes that clash are in order
+in_order : (jobs : Jobs) (races : List (ℕ × ℕ)) (a b : ℕ) → IsWellFormed jobs → AreRaces jobs races → races ≡ [] → a < b → Clash jobs a b → Before jobs a b
+in_order jobs races a b shape are none less clash = elim (before_or_not jobs (shape_valid shape) (b + 1) a b (omega arith)) [
+  | inl before ↦ before
+  | inr apart ↦ absurd (none_in (a, b) (subst (λ (rs : List (ℕ × ℕ)). Contains rs (a, b)) none ((are.races_are a b).1 (race_is jobs a b shape less clash apart))))
+]
+
+free_of_none : (jobs : Jobs) (races : List (ℕ × ℕ)) → IsWellFormed jobs → AreRaces jobs races → races ≡ [] → IsRaceFree jobs
+free_of_none jobs races shape are none a b clash = elim (cases_order a b) [
+  | inl same ↦ absurd (clash.1.different same)
+  | inr (inl less) ↦ inl (in_order jobs races a b shape are none less clash)
+  | inr (inr more) ↦ inr (in_order jobs races b a shape are none more (turned_clash clash))
+]
+
+-- so builds of old trees leave what those of clean ones leave, where these jobs are declared too
+pub builds_as_clean : (texts : Texts) (footprints : List ℕ) (prepared : Prepared) (races : List (ℕ × ℕ)) → IsPrepared texts footprints (Ok prepared)
+    → IsWellFormed prepared.jobs → AreRaces prepared.jobs races → races ≡ [] → IsDeclared prepared.jobs none_fixed → BuildsAsClean texts footprints
+builds_as_clean texts footprints prepared races build shape are none declared = record {
+  prepared = prepared;
+  build = build;
+  only = λ other is. build_is_one texts footprints prepared other build is;
+  as_clean = λ programs opening clean a b good kept is_clean same of_opening of_clean.
+      as_from_clean prepared.jobs programs none_fixed opening clean a b (shape_valid shape) (free_of_none prepared.jobs races shape are none) declared
+      good kept is_clean same of_opening of_clean;
+}

@@ -1,0 +1,42 @@
+//! All that keeps a build of an old tree from leaving what a build of a clean tree leaves.
+ghost use Rattle.std.specs.Prelude.{IfOk};
+ghost use Rattle.mk_name.specs.Gives.{Answers};
+ghost use Rattle.mk_race.specs.Missing.{BuildsAsClean, IsEmpty, IsMissingList};
+ghost use Rattle.mk_race.specs.Stages.{texts_of};
+
+use crate::input::Input;
+use crate::listing::races_of;
+use crate::preparing::{Prepared, prepare};
+use mk_fix::races::Races;
+use mk_missing::violations::{Violations, find_violations};
+use mk_name::fault::Halt;
+use std::alloc::Global;
+
+/// What was prepared of a build, the races of its jobs, and what keeps these from being declared.
+#[derive(Debug, Drop)]
+pub struct MissingList {
+    pub prepared: Prepared,
+    pub found: Races,
+    pub violations: Violations,
+}
+
+/// All races and all violations of a build, each once, with its jobs.
+///
+/// The first fault is that of the jobs (see [`prepare`](crate::prepare)), and then `TooManyPairs` in the jobs at place 0,
+/// where more than 1,000,000 pairs of recipes clash. The only other error is out of memory.
+pub fn list_missing(alloc: Global, input: &Input<'_>) -> Result<MissingList, Halt>
+    ensures missing { Answers result (IsMissingList (texts_of input.now) input.now.footprints.now) }
+    // The headline: where there is neither, a build of an old tree leaves what a build of a clean tree leaves.
+    ensures headline { IfOk result (λ listed. IsEmpty listed
+        → BuildsAsClean (texts_of input.now) input.now.footprints.now) }
+{
+    let prepared = prepare(alloc, input)?;
+    let _count = prepared.jobs.count();
+    let found = races_of(alloc, &prepared.jobs)?;
+    let violations = find_violations(alloc, &prepared.jobs)?;
+    Ok(MissingList {
+        prepared,
+        found,
+        violations,
+    })
+}
