@@ -1,0 +1,39 @@
+"""What `race missing` says of random builds, and what builds of old trees leave where it finds nothing."""
+from __future__ import annotations
+
+import random
+
+import answer_oracle
+import harness
+import incremental_builds
+import language_oracle as language
+import missing_oracle
+
+
+def differences(runner, build, text: bytes, words: list, agrees):
+    """Where `race missing` says something else than the oracle; and, where both find nothing, each name at which a build of an old
+    tree leaves other bytes than a build of a clean one."""
+    expected = missing_oracle.missing(build.texts(), text)
+    ran = runner.run(["missing", *words])
+    if not agrees(ran, expected):
+        yield "missing", ran, expected
+    if ran.status == expected[0] == 0:
+        jobs = answer_oracle.answer_of(language.read_build(*build.texts()), text).jobs
+        for name in incremental_builds.differences(jobs, random.Random(len(text))):
+            yield "a build of an old tree", ran, (0, name)
+
+
+def compare(runner, numbers: range, graphs):
+    """Of builds that do not race and only miss inputs, four of five show it in some build of an old tree: else the model shows nothing."""
+    kinds = {True: 0, False: 0}
+    for number in numbers:
+        build = graphs(random.Random(number)).build()
+        try:
+            found = missing_oracle.Found(answer_oracle.answer_of(language.read_build(*build.texts()), build.footprints))
+        except language.Fault:
+            continue
+        if found.missing and not (found.answer.races or found.late or found.shared or found.present):
+            rows = (incremental_builds.differences(found.jobs, random.Random(seed)) for seed in range(5))
+            kinds[any(any(row) for row in rows)] += 1
+    if kinds[True] < 4 * kinds[False] or not kinds[True]:
+        yield f"of builds that miss inputs {kinds[True]} leave other bytes, and {kinds[False]} do not"
