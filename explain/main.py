@@ -10,7 +10,7 @@ from pathlib import Path
 from explain.plain import plain
 from explain.topics import Topic, topics
 
-ABOUT = "Prints what a fault, a refusal of a log or a kind of race means, and what to do about it."
+ABOUT = "Prints what a fault, a refusal of a log, a kind of race or a missing input means, and what to do about it."
 PAGE = Path(__file__).resolve().parents[1] / "docs" / "FAULTS.md"
 EXAMPLE = """
 examples:
@@ -18,6 +18,7 @@ examples:
   race-explain BadTask V3       by its word; several at once
   race-explain race             what a race is, and the kinds of races
   race-explain shared-log       one kind
+  race-explain missing          what race missing prints
   race-explain                  lists all that can be asked for
 
 status: 0 printed; 1 a name is not known, near ones are listed; 3 usage, or the page cannot be read or the output written

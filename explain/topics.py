@@ -10,6 +10,9 @@ NUMBERED = re.compile(r"^([FV]\d+) (\w+)$")
 RULER = re.compile(r"^\|[\s|:-]+\|$")
 SPAN = re.compile(r"`([^`]+)`")
 RACE = "two recipes may run at once and should not: what to do goes by the path"
+MISSING = "what a build after an edit may leave old, though nothing races"
+# Sections that explain one thing under other names than their headings: these names, and what they are.
+WHOLE = {"race": (("race", "races"), RACE), "races": (("race", "races"), RACE), "missing inputs": (("missing", "late", "shared", "present"), MISSING)}
 
 
 @dataclass(frozen=True)
@@ -97,13 +100,13 @@ def united(found: list[Topic]) -> Iterator[Topic]:
 
 
 def topics(page: str) -> list[Topic]:
-    """All that a page explains, in its order: faults by their headings, refusals and kinds of races by rows, and races."""
+    """All that a page explains, in its order: faults by their headings, refusals and kinds of races by rows, races, and missing inputs."""
     found: list[Topic] = []
     for section in sections(page):
         numbered = NUMBERED.match(section.heading)
         if numbered:
             found.append(Topic(numbered.groups(), first_sentence(section.lines), section.lines))
-        elif section.heading.lower() in ("race", "races"):
-            found.append(Topic(("race", "races"), RACE, section.lines))
+        elif section.heading.lower() in WHOLE:
+            found.append(Topic(*WHOLE[section.heading.lower()], section.lines))
         found += [it for it in map(topic_of_row, rows(section.lines)) if it]
     return [*united(found)]
