@@ -3,7 +3,10 @@
 from itertools import combinations
 from typing import TYPE_CHECKING, Dict, Set
 
+from record import shelltext
 from record.owners import Make, Work
+
+PACKERS = ("tar", "bsdtar", "cpio", "pax", "zip")
 
 if TYPE_CHECKING:
     from record.build import Builder
@@ -12,6 +15,7 @@ if TYPE_CHECKING:
 def add_ages(builder: "Builder") -> None:
     """Adds a name of its own for each two ages whose order depends on the schedule."""
     build = builder.build
+    note_sources(builder)
     for label, at in list(builder.of_node.items()):
         node = builder.graph.nodes[label]
         if build.tasks[at].kind == "group":
@@ -24,9 +28,31 @@ def add_ages(builder: "Builder") -> None:
             ages_by_words(builder, at, work)
 
 
+def note_sources(builder: "Builder") -> None:
+    """Which names take over the age of which others: a file that is moved or linked, and one whose time a program sets, as `cp -p`
+    and `touch -r` do, from what it looked at. An archive keeps the ages of what was put in."""
+    for task in builder.build.tasks:
+        for life in (life for work in task.works for life in work.lives):
+            looked = {path for kind, path in life.events if kind in "RS" and (path in builder.build.writers or path in builder.timers)}
+            packs = any(shelltext.base_name(argv) in PACKERS for argv in life.ran)
+            for kind, path in life.events:
+                name, _, source = path.partition("\0")
+                if kind == "c" or kind == "W" and packs:
+                    builder.sources.setdefault(name, []).append({source} if source else looked)
+
+
 def writers_of(builder: "Builder", path: str) -> Set[int]:
-    """Who changes the age of a name: for a folder whoever changes what is in it."""
-    return builder.build.writers.get(path, set()) | builder.timers.get(path, set())
+    """Who settles the age of a name: for a folder whoever changes what is in it, for a copy with its age also who made what was copied."""
+    if path not in builder.aged:
+        seen, todo, found = {path}, [path], set()
+        while todo:
+            name = todo.pop()
+            found |= builder.build.writers.get(name, set()) | builder.timers.get(name, set())
+            new = set().union(*builder.sources.get(name, ())) - seen
+            seen |= new
+            todo.extend(new)
+        builder.aged[path] = found
+    return builder.aged[path]
 
 
 def compare(builder: "Builder", at: int, first: str, second: str, own: str = "") -> None:

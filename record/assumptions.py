@@ -4,8 +4,8 @@ from dataclasses import dataclass
 from typing import Dict, List
 
 TEXTS = {
-    "serial": "make decides goals in this order, without --shuffle, and recipes do not look at MAKEFLAGS, the number of processors, a terminal, standard input, or files that were opened for them before make began",
-    "ninja": "commands of ninja do not look at the number of jobs, the number of processors or a terminal",
+    "serial": "make decides goals in this order, without --shuffle, and recipes do not use MAKEFLAGS, the number of processors, a terminal, standard input, or files that were opened for them before make began",
+    "ninja": "commands of ninja do not look at the number of jobs, the number of processors or a terminal, and nobody looks at the order of what ninja prints",
     "ties": "build statements with one command were distinguished by ninja's log",
     "up-to-date": "builds start from this tree: targets that were up to date stay so",
     "unasked": "builds have the same goals: recipes that nothing asked for are not judged",
@@ -15,6 +15,8 @@ TEXTS = {
     "hard-links": "files got a second name; links that were outside of the project before are not known",
     "ring": "make dropped a prerequisite that closes a ring",
     "search": "the search for implicit rules goes by a listing from before the first recipe (GNU make before 4.4)",
+    "output": "what a make prints goes to another program or to a file of errors, where the order of its lines makes no difference",
+    "listings": "programs that list a folder do not depend on the order in which its names were made, which some file systems show",
     "outside": "names outside of the project changed; what was there before is taken from the disk after the build",
     "flags": "a makefile or a recipe names MAKEFLAGS or PATH, which hold the recorder's words, and does the same without them",
     "makers": "scripts that make folders for themselves (install-sh, mkinstalldirs, libtool, cmake) ask no more than that it is there; libtool compares no ages",

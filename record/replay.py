@@ -24,7 +24,8 @@ def own_path(life: Life, path: str) -> str:
 class Replay:
     """Plays the events of a trace in the name space and keeps what each life did."""
 
-    def __init__(self, names: Names, spool: str, real: str, folder: str, tops: List[str]) -> None:
+    def __init__(self, names: Names, spool: str, real: str, folder: str, tops: List[str], mask: int = 0o22) -> None:
+        self.mask = mask
         self.names, self.spool, self.real, self.tops = names, spool, real, tops
         self.first_folder = folder
         self.lives: Dict[int, Life] = {}
@@ -52,7 +53,7 @@ class Replay:
                 if parents:
                     self.inherit(life, parents[-1])
             else:
-                life.adopted = True
+                life.adopted, life.mask = True, self.mask
             self.lives[pid] = life
             self.all.append(life)
         return life
@@ -69,7 +70,7 @@ class Replay:
 
     @staticmethod
     def inherit(child: Life, parent: Life) -> None:
-        child.folder, child.cut = parent.folder, parent.cut
+        child.folder, child.cut, child.mask = parent.folder, parent.cut, parent.mask
         child.argv = child.argv or parent.argv
         child.is_wrapper = parent.is_wrapper if not child.ran else child.is_wrapper
 
@@ -88,7 +89,7 @@ class Replay:
         if life is not None and life.died > self.place or not self.all:
             return False
         parents = [self.lives[p] for p in self.begun if p in self.lives and p != pid]
-        return len({(p.folder, p.is_wrapper) for p in parents}) > 1
+        return len({(p.folder, p.is_wrapper, p.mask) for p in parents}) > 1
 
     def take(self, event: Event) -> None:
         """One event of a process that is known."""

@@ -7,6 +7,7 @@ from typing import Iterable, List, Optional
 
 SHELLS = ("sh", "dash", "bash", "ksh", "zsh", "ash")
 NINJA = re.compile(r"(?:ninja|ninja-build|samu|samurai)(?:[-.\d]*)$")
+SORTERS = ("make", "gmake", "rm", "cp", "mv", "chmod", "chown", "rmdir", "git")
 MAKERS = ("install-sh", "mkinstalldirs", "libtool")
 INTERPRETERS = re.compile(r"(python|perl|ruby|node|lua|tclsh|php)[\d.]*$")
 GLOB_WORD = re.compile(r"[^\s;|&<>()'\"`=]*[*?\[][^\s;|&<>()'\"`]*")
@@ -14,7 +15,8 @@ GLOB_WORD = re.compile(r"[^\s;|&<>()'\"`=]*[*?\[][^\s;|&<>()'\"`]*")
 # there was read from the file.
 AGES = re.compile(
     r"(^|\s|\[)--?(nt|ot|[ac]?newer[\w-]*|mtime|mmin|atime|amin|cmin|ctime|f?printf)[\s=]|\b(cp|mv|rsync|tar)\s+([^;|&\n]*?\s)?(-\w*u|--update)"
-    r"|\btar\s+\w*u|\bls\s+([^;|&\n]*?\s)?-\w*[tlc]|\bstat\b[^;|&\n]*%[WXYZwxyz]|--sort=time|\bdate\s+[^;|&\n]*-r")
+    r"|(?:\btest|\[)\s+(?![-!])\S+\s+\"?-?\$\S+\s+[^\s;&|\])]|\btar\s+\w*u|\bls\s+([^;|&\n]*?\s)?-\w*[tlc]|\bstat\b[^;|&\n]*%[WXYZwxyz]|--sort=time|\bdate\s+[^;|&\n]*-r")
+TAKEN = re.compile(r"(?m)(?:^|[;&|{(]|\bthen\b|\bdo\b|\belse\b)[ \t]*(?:\.|source)[ \t]+([^\s;&|)#]+)")  # scripts that a script takes in
 DIRECTORY = r"(?:\"[^\"]*\"|'[^']*'|[^\s;|&<>()'\"`]+)"
 
 
@@ -37,16 +39,19 @@ def is_script(argv: List[str]) -> bool:
     return base_name(argv) in SHELLS and len(argv) > 1 and not shell_text(argv)
 
 
-def with_interpreter(argv: List[str], path: str) -> List[str]:
-    """The words of a script, as its first line lets an interpreter run it."""
+def first_words(path: str) -> List[str]:
+    """The words of a script's first line: the interpreter that the kernel runs, by its own look, and a word for it."""
     try:
         with open(path, "rb") as file:
             first = file.readline(256)
     except OSError:
-        return argv
-    if not first.startswith(b"#!"):
-        return argv
-    words = first[2:].decode("utf-8", "replace").split()
+        return []
+    return first[2:].decode("utf-8", "surrogateescape").split() if first.startswith(b"#!") else []
+
+
+def with_interpreter(argv: List[str], path: str) -> List[str]:
+    """The words of a script, as its first line lets an interpreter run it."""
+    words = first_words(path)
     if words and os.path.basename(words[0]) == "env":
         words = [w for w in words[1:] if not w.startswith("-") and "=" not in w][:1]
     return words[:1] + [path] + argv[1:] if words else argv
@@ -121,6 +126,14 @@ def is_excused(argv: List[str], folder: str) -> bool:
     return len(re.findall(r"(?:-[defrwxs]\s+|\bls\s+|\bstat\s+)\S*" + re.escape(name) + r"(?![\w./-])", text)) <= 1
 
 
+def sorts_names(argv: List[str]) -> bool:
+    """Whether a program that lists a folder sorts what it finds, or does the same with each name."""
+    name = base_name(argv)
+    if name == "ls":
+        return not any(re.match(r"-[a-zA-Z]*[Uf]|--sort=none", word) for word in argv[1:])
+    return name in SHELLS or name in SORTERS
+
+
 def is_interpreter(argv: List[str]) -> bool:
     """Whether a program of unknown words runs."""
     return bool(INTERPRETERS.match(base_name(argv)))
@@ -131,14 +144,21 @@ def names_here(argv: List[str]) -> bool:
     return bool(re.search(r"\s(\./?|\$PWD)(\s|$)", " ".join(argv)))
 
 
+def script_compares(path: str, folder: str, depth: int = 0) -> bool:
+    """Whether the text of a script compares ages, or that of a script that it takes in; so may one that cannot be read."""
+    try:
+        with open(path, errors="replace") as file:
+            text = file.read(1 << 18)
+    except OSError:
+        return True
+    taken = [name.strip("'\"") for name in TAKEN.findall(text)]
+    return bool(AGES.search(text)) or depth > 3 or any("$" in n or script_compares(os.path.join(folder, n), folder, depth + 1) for n in taken)
+
+
 def compares_ages(argv: List[str], folder: str) -> bool:
     """Whether a process may depend on which of two files is newer."""
     if is_script(argv) and "libtool" not in argv[1]:
-        try:
-            with open(os.path.join(folder, argv[1]), errors="replace") as file:
-                return bool(AGES.search(file.read(1 << 18)))
-        except OSError:
-            return "-c" not in argv
+        return "-c" not in argv and script_compares(os.path.join(folder, argv[1]), folder)
     text = " ".join(argv) + " "
     return bool(AGES.search(text)) or bool(shell_text(argv) and re.search(r"(^|[;&|\n]\s*)(\.|source|eval)\s", shell_text(argv)))
 
