@@ -40,9 +40,9 @@ def evals(text: str) -> Iterator[Eval]:
         yield Eval(call.start(), at, sets.group(1) if sets is not None and is_one else ANY, sets is not None and is_one and sets.group(2) not in ("+", "?"), "export" in body)
 
 
-def named(text: str) -> Dict[str, int]:
-    """The macros that a text refers to, and where last."""
-    return {found.group(1) or found.group(2): found.start() for found in REFERENCE.finditer(text)}
+def named(text: str) -> Set[str]:
+    """The macros that a text refers to."""
+    return {found.group(1) or found.group(2) for found in REFERENCE.finditer(text.replace("$$", "  "))}
 
 
 @dataclass

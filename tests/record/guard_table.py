@@ -181,7 +181,7 @@ OWNERS: List[Guard] = [
 ]
 UNFILED: List[Guard] = [
     Guard("serial: the user's own -j1", "owners.py", "            return False\n        return self.words.slots", "            pass\n        return self.words.slots", small("jobs_of_a_makefile_and_one_job"), YES),
-    Guard("serial: folders and values are no jobs", "options.py", 'is_jobs = letter == "j"', 'is_jobs = bool(re.search("j1$", word))', small("folder_that_looks_like_one_job"), YES),
+    Guard("serial: folders and values are no jobs", "options.py", 'letter, value = cluster.group(2, 3) if cluster else ("", "")', 'letter, value = ("j", "1") if word.endswith("j1") else ("", "")', small("folder_that_looks_like_one_job"), YES),
     Guard("serial: jobs that a recipe hands on", "wrapper.py", '[*args, os.environ.get("MAKEFLAGS", "")]', '[os.environ.get("MAKEFLAGS", "")]', small("jobs_that_a_recipe_hands_on"), YES),
     Guard("holes: several jobs at once", "words.py", 'words.holes.append("a makefile asks', 'str("a makefile asks', small("jobs_of_a_makefile"), "2 != "),
     Guard("wrapper: intermediate files", "wrapper.py", "Removing intermediate files\\.\\.\\.$|", "", "test_output.Output.test_intermediate_files"),
@@ -202,7 +202,6 @@ UNFILED: List[Guard] = [
     Guard("folders: modes of several makers", "calls.py", 'self.put(life, "o", ', 'str(', small("folder_of_two_modes"), YES),
     Guard("folders: masks", "calls.py", "life.set_mask(int(call.args, 8))", "pass", small("folder_of_two_masks"), YES),
     Guard("ages: that are set", "calls.py", 'self.put(life, "c", found.path + "\\0")', "pass", small("age_that_cp_takes_over"), YES),
-    Guard("ages: times of now are set by who sets them", "calls.py", 'if call.name in TIMES and GIVEN_TIME.search(TEXT_END.sub("", call.args)):', "if call.name in TIMES:", small("age_that_touch_sets_to_now"), FALSE_RACE),
     Guard("ages: of what is moved", "calls.py", '        self.put(life, "c", new.path + "\\0" + old.path)\n        if "RENAME_EXCHANGE"', '        if "RENAME_EXCHANGE"', small("age_of_a_file_that_is_moved"), YES),
     Guard("ages: of a second name", "calls.py", '        self.put(life, "c", new.path + "\\0" + old.path)\n        for other', '        for other', small("age_of_a_second_name"), YES),
     Guard("ages: in archives", "ages.py", 'or kind == "W" and packs', "", small("age_out_of_an_archive"), YES),
