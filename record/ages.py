@@ -1,7 +1,7 @@
 """Ages that are compared: where two tasks that nothing orders write two names, and somebody compares which is newer."""
 
 from itertools import combinations
-from typing import TYPE_CHECKING, Dict, Set
+from typing import TYPE_CHECKING, Dict, Iterator, Set, Tuple
 
 from record import shelltext
 from record.owners import Make, Work
@@ -96,13 +96,20 @@ def inner_path(builder: "Builder", make: Make, name: str) -> str:
     return builder.names.find(make.folder, name, True).path
 
 
-def ages_by_words(builder: "Builder", at: int, work: Work) -> None:
-    """Programs that compare ages: those of all names that they looked at, by who writes them."""
+def settled_by(builder: "Builder", at: int, work: Work, kind: str) -> Iterator[Tuple[int, int, str, str]]:
+    """Pairs of tasks that nothing orders and that settle the ages of two names which a recipe has looked at, with these names."""
     writers, build = builder.build.writers, builder.build
     wrote: Dict[int, str] = {}
-    for path in sorted({p for k, p in work.events if k == "A" and (p in writers or p in builder.timers)}):
+    for path in sorted({p for k, p in work.events if k == kind and (p in writers or p in builder.timers or p in builder.sources)}):
         for writer in writers_of(builder, path):
             wrote.setdefault(writer, path)
-    for low, high in combinations(sorted(wrote), 2):
-        if at not in (low, high) and build.unordered(low, high):
-            settle(builder, wrote[low], wrote[high], low, high)
+    return ((low, high, wrote[low], wrote[high]) for low, high in combinations(sorted(wrote), 2) if at not in (low, high) and build.unordered(low, high))
+
+
+def ages_by_words(builder: "Builder", at: int, work: Work) -> None:
+    """Programs that compare ages: those of all names that they looked at, by who writes them. Of other programs nobody knows."""
+    for low, high, first, second in settled_by(builder, at, work, "A"):
+        settle(builder, first, second, low, high)
+    unknown = next(settled_by(builder, at, work, "a"), None)
+    if unknown is not None:
+        builder.assumed.add("ages", "%s looks at %s and %s" % (builder.build.tasks[at].node.name, unknown[2], unknown[3]))

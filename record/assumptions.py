@@ -22,6 +22,8 @@ TEXTS = {
     "makers": "scripts that make folders for themselves (install-sh, mkinstalldirs, libtool, cmake) ask no more than that it is there; libtool compares no ages",
     "outlives": "a process changed files when its recipe had ended",
     "tops": "two makes or ninjas ran at once, and no make or ninja started them",
+    "inherited": "targets that a later rule or a chain of rules asks for do the same whichever target's macros they inherit",
+    "ages": "programs that nobody knows look at two files, and do not compare which is newer",
     "interpreters": "Perl, Python and other interpreters compare ages only of files that they looked at by name",
 }
 

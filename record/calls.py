@@ -96,6 +96,8 @@ class Calls(Replay):
             is_folder = found.inode is not None and found.inode.kind == "d"
             if not is_folder or path != "." and not path.startswith("/") or shelltext.names_here(life.argv):
                 self.put(life, "A", found.path)
+        elif not traits.is_ageless and not life.is_make and "access" not in call.name and "readlink" not in call.name:
+            self.put(life, "a", found.path)
 
     def on_execve(self, life: Life, call: Call, ok: bool) -> None:
         program = first_text(call.args)

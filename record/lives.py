@@ -8,6 +8,7 @@ the trace is kept. Kinds:
     X rmdir   x rmdir that failed   L listed               m mode of a folder    t time of a folder
     H number of links changed       h number of links looked at           Q listed by make
     A looked at by a process that compares ages         K folder looked at by a script that makes it for itself
+    a looked at by a program of which nobody knows whether it compares ages
     l listed in an order that the file system gives
     o mode that a folder is made with                   c age taken over from another name, or from one that was looked at
 """

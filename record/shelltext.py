@@ -7,6 +7,12 @@ from typing import Iterable, List, Optional
 
 SHELLS = ("sh", "dash", "bash", "ksh", "zsh", "ash")
 NINJA = re.compile(r"(?:ninja|ninja-build|samu|samurai)(?:[-.\d]*)$")
+# Programs that look at files by name, and not to compare their ages, where AGES finds no word for that.
+AGELESS = frozenset((
+    "make gmake ninja rm cp mv ln ls cat test [ mkdir rmdir touch chmod chown install ginstall env dirname basename readlink realpath pwd head tail"
+    " sort uniq wc cmp diff grep egrep fgrep sed awk gawk mawk nawk find xargs tar gzip gunzip xz bzip2 tee tr cut paste od du df stat date sha256sum md5sum"
+    " mktemp flock which cc gcc c++ g++ cpp clang clang++ cc1 cc1plus collect2 lto1 as ld ld.bfd ld.gold gold lld ar ranlib nm strip objcopy objdump").split())
+VERSIONED = re.compile(r"(?:[\w.]+-linux-gnu-)?([a-z+\[.][a-z0-9+.]*?)(?:-[\d.]+)?$")
 SORTERS = ("make", "gmake", "rm", "cp", "mv", "chmod", "chown", "rmdir", "git")
 MAKERS = ("install-sh", "mkinstalldirs", "libtool")
 INTERPRETERS = re.compile(r"(python|perl|ruby|node|lua|tclsh|php)[\d.]*$")
@@ -126,6 +132,12 @@ def is_excused(argv: List[str], folder: str) -> bool:
     return len(re.findall(r"(?:-[defrwxs]\s+|\bls\s+|\bstat\s+)\S*" + re.escape(name) + r"(?![\w./-])", text)) <= 1
 
 
+def is_ageless(argv: List[str]) -> bool:
+    """Whether a program is known to compare no ages but by the words that say so."""
+    match = VERSIONED.match(base_name(argv))
+    return match is not None and match.group(1) in AGELESS or base_name(argv) in SHELLS
+
+
 def sorts_names(argv: List[str]) -> bool:
     """Whether a program that lists a folder sorts what it finds, or does the same with each name."""
     name = base_name(argv)
@@ -183,6 +195,7 @@ class Traits:
         self.makes_folders = maker_at(argv) >= 0
         self.looks_at_links = looks_at_links(argv)
         self.is_interpreter = is_interpreter(argv)
+        self.is_ageless = is_ageless(argv)
         self.ages: Optional[bool] = None  # whether it compares ages, as far as that was asked
 
 

@@ -1,6 +1,7 @@
 """What recipes share that is no file: macros of make that a recipe changes, and the order of what a make prints; and the order in
 which a folder shows its names, which is only counted."""
 
+from collections import Counter
 from typing import TYPE_CHECKING, Dict, Iterator, List, Set, Tuple
 
 from record.folders import each, mark
@@ -27,6 +28,17 @@ def add_macros(builder: "Builder", created: Created) -> None:
                 mark(builder, own_path(builder.make, "macro/" + name), "the macro %s of make" % name, {looker} if is_read else set(), set() if is_read else {looker})
     for targets in keepers(builder.macros).values():
         add_keepers(builder, [t for t in targets if t in who], who, created)
+    count_inherited(builder)
+
+
+def count_inherited(builder: "Builder") -> None:
+    """Targets with macros that they inherit of who asks first, where make looks at them at a time that the schedule settles."""
+    graph, users = builder.graph, Counter(one for node in builder.graph.nodes.values() for one in node.prerequisites)
+    scoped = graph.reached_from([node.label for node in graph.nodes.values() if node.name in graph.base.scoped])
+    late = graph.reached_from([node.label for node in graph.nodes.values() if node.rule]) | graph.base.intermediate if scoped else set()
+    for label in sorted(scoped & late):
+        if users[label] > 1 and graph.nodes[label].jobs and not graph.nodes[label].rule:
+            builder.assumed.add("inherited", graph.nodes[label].name)
 
 
 def add_keepers(builder: "Builder", targets: List[str], who: Dict[str, List[int]], created: Created) -> None:

@@ -196,6 +196,8 @@ UNFILED: List[Guard] = [
     Guard("output: of makes below", "wrapper.py", "    note_output(spool, writing, where)\n", "    note_output(spool, writing, '')\n", small("output_of_a_make_below"), YES),
     Guard("output: of recipes that print", "unfiled.py", "if any(job.is_said for job in tasks[at].node.jobs)]", "if tasks[at].node.jobs]", small("output_in_a_file_of_one_recipe"), FALSE_RACE),
     Guard("said: output for others", "unfiled.py", 'builder.assumed.add("output"', '(lambda *_: None)("output"', small("output_for_a_program"), UNSAID),
+    Guard("said: macros that are inherited", "unfiled.py", 'builder.assumed.add("inherited"', '(lambda *_: None)("inherited"', small("macro_that_is_inherited"), UNSAID),
+    Guard("said: programs that may compare ages", "ages.py", 'builder.assumed.add("ages"', '(lambda *_: None)("ages"', small("ages_by_a_program"), UNSAID),
     Guard("said: the order of listings", "unfiled.py", 'builder.assumed.add("listings"', '(lambda *_: None)("listings"', small("order_of_a_listing"), UNSAID),
     Guard("interpreters are read", "calls.py", 'self.look(life, words[0], True, True, "R")\n        self.look_at_interpreters(life, words[0])', 'self.look(life, words[0], True, True, "R")', small("interpreter_that_a_recipe_makes"), YES),
     Guard("interpreters that are not there", "calls.py", "                self.look_at_interpreters(life, program)\n", "", small("interpreter_that_is_not_there_yet"), YES),

@@ -51,6 +51,8 @@ SMALL: Dict[str, Small] = {
     "macro_that_is_ordered": Small("safe", "all: s a b\ns: ; touch s\na: s ; $(eval X := set)touch a\nb: a ; echo '$(X)' > b\n"),
     "macro_that_keeps_its_value": Small("safe", "V = $(eval V := $$(shell echo 1))$(V)\nall: s a b\ns: ; touch s\na: s\na b: ; echo $(V) > $@\n"),
     "macro_that_keeps_what_it_read": Small("race", "V = $(eval V := $$(shell cat s))$(V)\nall: s a b\ns: ; echo 1 > s\na: s\na b: ; echo $(V) > $@\n"),
+    "macro_that_is_inherited": Small("safe", "all: a b\na: X = 1\na:: s ; touch t\na:: c ; cp c a\nb: c ; cp c b\ns: ; touch s\nc: ; echo '$(X)' > c\n", says="macros they inherit"),
+    "macro_that_is_inherited_at_once": Small("safe", "all: a b\na: X = 1\na: s c ; cp c a\nb: c ; cp c b\ns: ; touch s\nc: ; echo '$(X)' > c\n"),
     # what makes print
     "output_in_a_file": Small("race", "all: ; $(MAKE) -s -f in.mk > out\n", {"in.mk": "all: a b\na b: ; @echo $@\n"}, says="order of what make prints"),
     "output_in_a_file_of_one_recipe": Small("safe", "all: ; $(MAKE) -s -f in.mk > out\n", {"in.mk": "all: a b\na: ; @echo $@\nb: ; @touch b\n"}),
@@ -79,9 +81,23 @@ SMALL: Dict[str, Small] = {
     "ages_by_a_word_in_a_variable": Small("race", "all: c\na b: ; touch $@\nc: a b ; op=nt; test a -$$op b || true; touch c\n"),
     "ages_by_a_script_that_is_taken_in": Small("race", "all: c\na b: ; touch $@\nc: a b ; sh ./s || true; touch c\n", {"s": ". ./lib\nnewer a b\n", "lib": "newer() { test $1 -nt $2; }\n"}),
     "no_ages_by_a_script_that_is_taken_in": Small("safe", "all: c\na b: ; touch $@\nc: a b ; sh ./s || true; touch c\n", {"s": ". ./lib\nboth a b\n", "lib": "both() { test -f $1 && test -f $2; }\n"}),
+    "ages_by_a_program": Small("safe", "all: c\nage: age.c ; cc -o age age.c\na b: ; touch $@\nc: a b age ; ./age a b > c\n", {
+        "age.c": "#include <sys/stat.h>\nint main(int n, char **v) { struct stat a, b; stat(v[1], &a); stat(v[2], &b); return a.st_mtime > b.st_mtime + 9; }\n"}, says="programs that nobody knows"),
+    "ages_by_nobody": Small("safe", "all: c\na b: ; touch $@\nc: a b ; cp a b c 2>/dev/null || cat a b > c\n"),
     # listings
     "sorted_listing": Small("safe", ".PHONY: a b\nall: c\na b: ; touch d/$@\nc: a b ; ls d > c; echo d/* >> c\n", setup="mkdir d"),
     "order_of_a_listing": Small("safe", ".PHONY: a b\nall: c\na b: ; touch d/$@\nc: a b ; find d > c\n", setup="mkdir d", says="programs that list a folder"),
+    # archives, intermediate files, patterns
+    "members_of_one_archive": Small("race", "all: l.a(x.o) l.a(y.o)\n(%): % ; ar rcD l.a $<\n%.o: %.c ; cp $< $@\n", {"x.c": "x", "y.c": "y"}),
+    "archive_of_one_recipe": Small("safe", "l.a: x.o y.o ; ar rcD l.a $^\n%.o: %.c ; cp $< $@\n", {"x.c": "x", "y.c": "y"}),
+    "intermediate_file_that_is_read": Small("race", "all: x.t u\n%.t: %.i ; cp $< $@\n%.i: %.s ; cp $< $@\nu: ; cat x.i > u || true\n", {"x.s": "s"}),
+    "secondary_file_that_is_read": Small("safe", ".SECONDARY: x.i\nall: x.t u\n%.t: %.i ; cp $< $@\n%.i: %.s ; cp $< $@\nu: x.t ; cat x.i > u\n", {"x.s": "s"}),
+    "static_pattern_that_forgets": Small("race", "all: x.o y.o\nx.o y.o: %.o: %.c ; cat $< h > $@\nh: ; echo h > h\nx.o: h\n", {"x.c": "x", "y.c": "y"}),
+    "one_shell": Small("race", ".ONESHELL:\nall: a b\na b:\n\techo $@ > t\n\tcp t $@\n"),
+    "lock_around_a_log": Small("race", "all: a b\na b: ; flock lock -c 'echo $@ >> log'; touch $@\n"),
+    "folder_that_is_copied": Small("race", "all: a b\na: ; mkdir -p d/s/t; touch a\nb: ; cp -r d e; touch b\n", {"d/x": "x"}),
+    "folder_by_a_link": Small("race", "all: a b\na: ; echo new > l/x; touch a\nb: ; cat d/x > b\n", {"d/x": "x"}, "ln -s d l"),
+    "many_recipes": Small("race", "T := $(shell seq 1500)\nall: $T last\n$T: ; @echo $@ > $@\nlast: $(filter-out 77,$T) ; @cat 77 > $@\n"),
     # double colons
     "double_colon_holds_back": Small("safe", "all: dc\ndc:: ; echo 1 > x\ndc:: p ; echo 2 > y\np: ; cp x p\n"),
     "double_colon_ages": Small("safe", "all: p dc\np: ; touch p\ndc:: ; echo 1 >> dc\ndc:: p ; echo 2 >> dc\n", {"dc": "dc"}, OLD + "dc"),
