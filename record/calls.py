@@ -138,6 +138,8 @@ class Calls(Replay):
                 return
             program = words[0]
             found = self.names.find(life.folder, program, True)
+            if found.path == self.real:  # the kernel runs make in the script's place
+                self.past.append(" ".join(life.argv)[:200])
             self.put_links(life, found)
             self.put_look(life, found, found.inode is not None, "R")
 

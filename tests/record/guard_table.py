@@ -200,6 +200,7 @@ UNFILED: List[Guard] = [
     Guard("said: programs that may compare ages", "ages.py", 'builder.assumed.add("ages"', '(lambda *_: None)("ages"', small("ages_by_a_program"), UNSAID),
     Guard("said: the order of listings", "unfiled.py", 'builder.assumed.add("listings"', '(lambda *_: None)("listings"', small("order_of_a_listing"), UNSAID),
     Guard("interpreters are read", "calls.py", 'self.look(life, words[0], True, True, "R")\n        self.look_at_interpreters(life, words[0])', 'self.look(life, words[0], True, True, "R")', small("interpreter_that_a_recipe_makes"), YES),
+    Guard("interpreters: make", "calls.py", "if found.path == self.real:  # the kernel", "if False:  # the kernel", small("script_of_make_in_a_recipe"), LOST_HOLE),
     Guard("interpreters that are not there", "calls.py", "                self.look_at_interpreters(life, program)\n", "", small("interpreter_that_is_not_there_yet"), YES),
     Guard("folders: modes of several makers", "calls.py", 'self.put(life, "o", ', 'str(', small("folder_of_two_modes"), YES),
     Guard("folders: masks", "calls.py", "life.set_mask(int(call.args, 8))", "pass", small("folder_of_two_masks"), YES),

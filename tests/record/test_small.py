@@ -1,5 +1,6 @@
 """Small makefiles, a few lines each, and what `race-record` must say of them."""
 
+import shutil
 import sys
 import unittest
 from dataclasses import dataclass, field
@@ -65,6 +66,8 @@ SMALL: Dict[str, Small] = {
     "interpreter_that_a_recipe_makes": Small("race", "all: interp use\ninterp: ; cp /bin/cat interp\nuse: ; ./script > use\n", {"script": "#!./interp\nhello\n"}, "chmod +x script"),
     "interpreter_that_is_not_there_yet": Small("race", "all: use interp\ninterp: ; cp /bin/cat interp\nuse: ; ./script > use || true\n", {"script": "#!./interp\nhello\n"}, "chmod +x script"),
     "interpreter_that_is_a_script": Small("race", "all: tool use\ntool: ; cp /bin/cat tool\nuse: ; ./script > use\n", {"script": "#!./between\nhello\n", "between": "#!./tool\n"}, "chmod +x script between"),
+    "script_of_make_in_a_recipe": Small("no verdict", "all: ; +./rules all\n", {"rules": "#!%s -f\nall: a b\na: ; echo a > a\nb: ; cp a b\n" % shutil.which("make")}, "chmod +x rules", says="a make ran past the recorder"),
+    "script_of_make": Small("race", "", {"rules": "#!%s -f\nall: a b\na: ; echo a > a\nb: ; cp a b\n" % shutil.which("make")}, "chmod +x rules"),
     # modes of folders that several make
     "folder_of_two_masks": Small("race", "all: a b\na: ; umask 077; mkdir -p d; touch a\nb: ; mkdir -p d; touch b\n"),
     "folder_of_two_modes": Small("race", "all: a b\na: ; mkdir -p -m 700 d; touch a\nb: ; mkdir -p d; touch b\n"),
@@ -170,6 +173,7 @@ SMALL: Dict[str, Small] = {
 }
 COMMANDS: Dict[str, List[str]] = {
     "value_that_looks_like_one_job": ["make", "X=-v -j1"],
+    "script_of_make": ["./rules", "all"],
     "jobs_of_a_makefile_and_one_job": ["make", "-j1"],
     "two_builds_at_once": ["sh", "-c", "make & make -f other.mk; wait"],
     "status_of_the_command": ["sh", "-c", "make; exit 3"],
