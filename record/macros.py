@@ -13,6 +13,8 @@ from record.words import makefiles
 REFERENCE = re.compile(r"\$(?:[({](?:call[ \t]+|value[ \t]+)?([\w.-]+)|(\w))")
 EVAL = re.compile(r"\$([({])eval[ \t]")
 SETS = re.compile(r"[ \t]*(?:override[ \t]+|export[ \t]+)*([\w.-]+)[ \t]*(\+|\?|!|:{0,3})=")
+ASSIGNED = re.compile(r"([\w.-]+)[ \t]*(?:[+?!]|:{1,3})?=((?:[^\n]*\\\n)*[^\n]*)")
+DEFINED = re.compile(r"(?ms)^[ \t]*define[ \t]+([\w.-]+)[^\n]*\n(.*?)^[ \t]*endef")
 BRACKETS = {"(": ")", "{": "}"}
 ANY = "*"  # macros that nobody can name
 
@@ -60,17 +62,21 @@ class Macros:
     def __init__(self, make: Make, base: Base) -> None:
         self.base = base
         self.text = "\n".join(text_of(os.path.join(make.folder, name)) for name in sorted(makefiles(make.words)))
-        self.known: Dict[str, str] = {}
         self.is_used = "eval" in self.text or any("eval" in value for value in base.values.values())
+        self.texts: Dict[str, List[str]] = {}  # all that a macro may be, as far as makefiles and the data base show it
+        for found in [*ASSIGNED.finditer(self.text), *DEFINED.finditer(self.text)] if self.is_used else ():
+            self.texts.setdefault(found.group(1), []).append(found.group(2))
+        self.named: Dict[str, Set[str]] = {}
 
     def text_of(self, name: str) -> str:
         """All texts that a macro may have."""
-        if name not in self.known:
-            word = re.escape(name)
-            assigned = re.findall(r"(?<![\w$({.%%/-])%s[ \t]*(?:[+?!]|::?:?)?=((?:[^\n]*\\\n)*[^\n]*)" % word, self.text)
-            defined = re.findall(r"(?ms)^[ \t]*define[ \t]+%s\b[^\n]*\n(.*?)^[ \t]*endef" % word, self.text)
-            self.known[name] = "\n".join([*assigned, *defined, self.base.values.get(name, "")])
-        return self.known[name]
+        return "\n".join([*self.texts.get(name, ()), self.base.values.get(name, "")])
+
+    def named_by(self, name: str) -> Set[str]:
+        """The macros that a macro refers to."""
+        if name not in self.named:
+            self.named[name] = named(self.text_of(name))
+        return self.named[name]
 
     def reached(self, text: str) -> Set[str]:
         """All macros that a text refers to, also by way of others."""
@@ -80,7 +86,7 @@ class Macros:
             name = todo.pop()
             if name not in seen:
                 seen.add(name)
-                todo.extend(named(self.text_of(name)))
+                todo.extend(self.named_by(name))
         return seen
 
     def is_exported(self, name: str) -> bool:

@@ -2,6 +2,7 @@
 which a folder shows its names, which is only counted."""
 
 from collections import Counter
+from itertools import islice
 from typing import TYPE_CHECKING, Dict, Iterator, List, Set, Tuple
 
 from record.folders import each, mark
@@ -61,9 +62,8 @@ def add_outputs(builder: "Builder") -> None:
     said = [at for at in builder.of_node.values() if any(job.is_said for job in tasks[at].node.jobs)]
     if words.output == "file":
         mark(builder, own_path(builder.make, "output"), "the order of what make prints, which is kept in a file", set(), set(said))
-    recipes = sorted(at for at in builder.of_node.values() if tasks[at].node.jobs)
-    loose = next(unordered(builder, sorted(said) if words.output == "pipe" else recipes if words.errors else []), None)
-    if loose is not None:
+    unseen = [at for at in builder.of_node.values() if tasks[at].node.jobs] if words.errors else said if words.output == "pipe" else []
+    if next(unordered(builder, sorted(unseen)), None) is not None:
         builder.assumed.add("output", "make " + words.args if words.args else "make")
 
 
@@ -74,8 +74,12 @@ def unordered(builder: "Builder", tasks: List[int]) -> Iterator[Tuple[int, int]]
 
 def count_listings(builder: "Builder", created: Created) -> None:
     """Programs that may show the names of a folder in the order in which they were made, where the schedule settles that order."""
+    table: Dict[str, Tuple[List[int], List[Tuple[int, int]]]] = {}
     for at, events in each(builder):
-        for kind, path, _ in events:
-            makers = sorted({who for names in created.get(path, {}).values() for who in names} - {at}) if kind == "l" else []
-            if next(unordered(builder, makers), None) is not None:
+        for path in (path for kind, path, _ in events if kind == "l"):
+            if path not in table:
+                makers = sorted({who for names in created.get(path, {}).values() for who in names})
+                table[path] = makers, list(islice(unordered(builder, makers), 3))
+            makers, loose = table[path]
+            if any(at not in pair for pair in loose) or loose and next(unordered(builder, [who for who in makers if who != at]), None):
                 builder.assumed.add("listings", "%s lists %s" % (builder.build.tasks[at].node.name, path))

@@ -186,7 +186,7 @@ UNFILED: List[Guard] = [
     Guard("holes: several jobs at once", "words.py", 'words.holes.append("a makefile asks', 'str("a makefile asks', small("jobs_of_a_makefile"), "2 != "),
     Guard("wrapper: intermediate files", "wrapper.py", "Removing intermediate files\\.\\.\\.$|", "", "test_output.Output.test_intermediate_files"),
     Guard("macros that recipes change", "build.py", "        add_macros(self, created)\n", "", small("macro_that_a_recipe_changes"), YES),
-    Guard("macros: by way of others", "macros.py", "todo.extend(named(self.text_of(name)))", "pass", small("macro_by_way_of_another"), YES),
+    Guard("macros: by way of others", "macros.py", "todo.extend(self.named_by(name))", "pass", small("macro_by_way_of_another"), YES),
     Guard("macros: in the environment", "macros.py", "(use.reads & changed) | exported", "use.reads & changed", small("macro_in_the_environment"), YES),
     Guard("macros: of leaves", "build.py", " or node.name in self.macros:", ":", small("macro_of_leaves"), FALSE_RACE),
     Guard("macros: set by the recipe itself", "macros.py", "                found.reads.discard(one.name)\n", "                pass\n", small("macro_that_each_recipe_sets"), FALSE_RACE),
