@@ -20,6 +20,7 @@ TEXTS = {
     "outside": "names outside of the project changed; what was there before is taken from the disk after the build",
     "flags": "a makefile or a recipe names MAKEFLAGS or PATH, which hold the recorder's words, and does the same without them",
     "makers": "scripts that make folders for themselves (install-sh, mkinstalldirs, libtool, cmake) ask no more than that it is there; libtool compares no ages",
+    "progress": "what CMake counts in CMakeFiles/Progress changes the percentages that it prints, and nothing else; nobody else looks there",
     "outlives": "a process changed files when its recipe had ended",
     "tops": "two makes or ninjas ran at once, and no make or ninja started them",
     "inherited": "targets that a later rule or a chain of rules asks for do the same whichever target's macros they inherit",

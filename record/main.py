@@ -150,6 +150,8 @@ def import_record(spool: Path, names: Names, kept: Kept, real: str, folder: str,
         assumed.add("outside", name)
     for argv in replay.makers:
         assumed.add("makers", argv)
+    for path in sorted(set(replay.progress)):
+        assumed.add("progress", path)
     add_granted(owners, assumed, str(spool))
     builds = []
     for make in sorted(owners.makes, key=lambda m: m.life.born):

@@ -10,6 +10,8 @@ from record.strace import Begun, Call, Ended, Event, Unread
 
 DEVICES = re.compile(r"/dev/(null|zero|full|u?random|tty\w*|ptmx|console|std(in|out|err)|fd(/.*)?|pts(/.*)?)$|/proc(/|$)|/sys(/|$)")
 
+PROGRESS = "/CMakeFiles/Progress"
+
 OWN = re.compile(r"/proc/(self|thread-self|\d+)/(cwd|root)(/.*|$)", re.S)
 
 
@@ -41,6 +43,7 @@ class Replay:
         self.outside: Dict[str, None] = {}  # names that changed, and of which the disk alone says what they were before
         self.fresh: Set[str] = set()  # names that were surely absent when they were made
         self.makers: List[str] = []
+        self.progress: List[str] = []  # folders in which CMake counts what is built
         self.aged: Dict[str, bool] = {}
 
     # ---------------------------------------------------------------- processes
@@ -124,6 +127,9 @@ class Replay:
         if DEVICES.match(path) and not self.is_inside(path):
             return
         if path.startswith(self.spool):
+            return
+        if PROGRESS in path and life.traits().shows_progress:
+            self.progress.append(path[:path.index(PROGRESS) + len(PROGRESS)])
             return
         if kind in "WCDMTX" and path.rstrip("/") not in self.fresh and not self.is_inside(path):
             self.outside[path.rstrip("/")] = None

@@ -13,6 +13,7 @@ AGELESS = frozenset((
     " sort uniq wc cmp diff grep egrep fgrep sed awk gawk mawk nawk find xargs tar gzip gunzip xz bzip2 tee tr cut paste od du df stat date sha256sum md5sum"
     " mktemp flock which cc gcc c++ g++ cpp clang clang++ cc1 cc1plus collect2 lto1 as ld ld.bfd ld.gold gold lld ar ranlib nm strip objcopy objdump").split())
 VERSIONED = re.compile(r"(?:[\w.]+-linux-gnu-)?([a-z+\[.][a-z0-9+.]*?)(?:-[\d.]+)?$")
+PROGRESS = ("cmake_progress_start", "cmake_progress_report", "cmake_echo_color")
 SORTERS = ("make", "gmake", "rm", "cp", "mv", "chmod", "chown", "rmdir", "git")
 MAKERS = ("install-sh", "mkinstalldirs", "libtool")
 INTERPRETERS = re.compile(r"(python|perl|ruby|node|lua|tclsh|php)[\d.]*$")
@@ -138,6 +139,11 @@ def is_ageless(argv: List[str]) -> bool:
     return match is not None and match.group(1) in AGELESS or base_name(argv) in SHELLS
 
 
+def shows_progress(argv: List[str]) -> bool:
+    """Whether CMake counts what is built, to print how much of it there is."""
+    return base_name(argv) == "cmake" and argv[1:2] == ["-E"] and argv[2:3] != [] and argv[2] in PROGRESS
+
+
 def sorts_names(argv: List[str]) -> bool:
     """Whether a program that lists a folder sorts what it finds, or does the same with each name."""
     name = base_name(argv)
@@ -196,6 +202,7 @@ class Traits:
         self.looks_at_links = looks_at_links(argv)
         self.is_interpreter = is_interpreter(argv)
         self.is_ageless = is_ageless(argv)
+        self.shows_progress = shows_progress(argv)
         self.ages: Optional[bool] = None  # whether it compares ages, as far as that was asked
 
 

@@ -196,6 +196,8 @@ UNFILED: List[Guard] = [
     Guard("output: of makes below", "wrapper.py", "    note_output(spool, writing, where)\n", "    note_output(spool, writing, '')\n", small("output_of_a_make_below"), YES),
     Guard("output: of recipes that print", "unfiled.py", "if any(job.is_said for job in tasks[at].node.jobs)]", "if tasks[at].node.jobs]", small("output_in_a_file_of_one_recipe"), FALSE_RACE),
     Guard("said: output for others", "unfiled.py", 'builder.assumed.add("output"', '(lambda *_: None)("output"', small("output_for_a_program"), UNSAID),
+    Guard("what CMake counts", "replay.py", "if PROGRESS in path and", "if False and", "test_generators.Makefiles.test_targets_side_by_side", "(0, []) != (1"),
+    Guard("said: what CMake counts", "main.py", 'assumed.add("progress", path)', "pass", "test_generators.Makefiles.test_targets_side_by_side", UNSAID),
     Guard("said: macros that are inherited", "unfiled.py", 'builder.assumed.add("inherited"', '(lambda *_: None)("inherited"', small("macro_that_is_inherited"), UNSAID),
     Guard("said: programs that may compare ages", "ages.py", 'builder.assumed.add("ages"', '(lambda *_: None)("ages"', small("ages_by_a_program"), UNSAID),
     Guard("said: the order of listings", "unfiled.py", 'builder.assumed.add("listings"', '(lambda *_: None)("listings"', small("order_of_a_listing"), UNSAID),

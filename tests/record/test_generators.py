@@ -54,14 +54,23 @@ class Makefiles(unittest.TestCase):
     HEAD = "cmake_minimum_required(VERSION 3.13)\nproject(p NONE)\n"
 
     def test_forgotten_and_ordered(self) -> None:
-        for more, wanted in (("", (1, ["b/hidden.txt"])), ("add_dependencies(use header)\n", (0, []))):
-            with support.Project(files("CMakeLists.txt", self.HEAD + self.CUSTOM + self.USE + more)) as project:
+        for use, wanted in ((self.USE, (1, ["hidden.txt"])), (self.USE + "add_dependencies(use header)\n", (0, []))):
+            with support.Project(files("CMakeLists.txt", self.HEAD + self.CUSTOM + use)) as project:
                 project.sh("cmake -G 'Unix Makefiles' -S . -B b > log; cp -a b kept")
-                plain = project.plain(["cmake", "--build", "b", "--target", "use", "header", "-j", "1"])
+                plain = project.plain(["cmake", "--build", "b", "--target", "all", "-j", "1"])
                 project.sh("rm -r b; mv kept b")
-                outcome = project.record(["cmake", "--build", "b", "--target", "use", "header", "-j", "1"])
+                outcome = project.record(["cmake", "--build", "b", "--target", "all", "-j", "1"])
             self.assertEqual(wanted, (outcome.status, races_of(outcome.text())), outcome.text() + outcome.stderr.decode()[-800:])
             self.assertEqual(plain.stdout, outcome.stdout[:len(plain.stdout)])
+
+    def test_targets_side_by_side(self) -> None:
+        """CMake counts what is built in files that both targets touch, and takes these away at the end."""
+        text = self.HEAD + self.CUSTOM + "add_custom_command(OUTPUT other COMMAND echo 1 > other)\nadd_custom_target(use ALL DEPENDS ${CMAKE_BINARY_DIR}/other)\n"
+        with support.Project(files("CMakeLists.txt", text)) as project:
+            project.sh("cmake -G 'Unix Makefiles' -S . -B b > log")
+            outcome = project.record(["cmake", "--build", "b"])
+        self.assertEqual((0, []), (outcome.status, races_of(outcome.text())), outcome.text() + outcome.stderr.decode()[-800:])
+        self.assertIn("CMakeFiles/Progress", outcome.text())
 
 
 @unittest.skipUnless(shutil.which("ninja") and shutil.which("cmake"), "cmake or ninja is missing (Debian: apt-get install cmake ninja-build)")
