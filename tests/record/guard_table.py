@@ -59,7 +59,7 @@ TRACE: List[Guard] = [
     Guard("numbers: jobs of one number in order", "words.py", "if not known or known[-1] is not owner:", "if not known:", "test_owners.Holes.test_number_of_two_jobs"),
     Guard("children: begun before the call ends", "strace.py", "if text.startswith(MAKES_PROCESS):\n                yield Begun(pid)", "", "test_strace.Lines.test_creation_begins_before_it_ends"),
     Guard("children: wait while the parent is unclear", "replay.py", "return len({(p.folder, p.is_wrapper, p.mask) for p in parents}) > 1", "return False", "test_replay.Lives.test_folder_of_a_child_that_two_may_have_started"),
-    Guard("past: make by an absolute path", "calls.py", 'self.past.append(" ".join(life.argv)[:200])', "pass", case("absolute-make"), LOST_HOLE),
+    Guard("past: make by an absolute path", "calls.py", '        else:\n            self.past.append(" ".join(life.argv)[:200])', "        else:\n            pass", case("absolute-make"), LOST_HOLE),
     Guard("past: make with words of its own", "main.py", 'for t in path.read_text(errors="replace").splitlines()]', "for t in ()]", "test_output.Output.test_own_words_of_a_make_that_was_asked_for_them", LOST_HOLE),
     Guard("numbers: more processes than jobs", "owners.py", "            if len(lives) != len(jobs):\n", "            if False:\n", "test_owners.Holes.test_number_that_comes_again_once_too_often"),
     Guard("wrapper: the recipe that runs", "wrapper.py", "        if not self.job:\n            return self.is_early(packet)\n", "        if True:\n            return self.is_early(packet)\n", "test_wrapper.Splits.test_recipe_that_prints_words_of_make"),
