@@ -6,13 +6,15 @@ The graph of ninja is read from its manifest, so a record of commands side by si
 import json
 import os
 import re
+import shutil
 from pathlib import Path
-from typing import Dict, List, Set
+from typing import Dict, List, Optional, Set
 
 from record.lives import Life
 from record.names import Names
 from record.ninja_manifest import Edge, Manifest
 from record.ninja_runs import Kept, Ninja
+from record.shelltext import first_words
 
 TRIES = 3
 JOBS = 4
@@ -34,6 +36,42 @@ def with_jobs(words: List[str], jobs: int, folder: str = "") -> List[str]:
         has_own = any(re.match(r"-j|--jobs", w) for w in words[split:])
         return words[:split] + own + words[split:] + (own if has_own else [])
     return words
+
+
+def by_name(words: List[str], real: str, folder: str = "") -> List[str]:
+    """A command that runs make by its whole path, so that it runs make by name: a script of make, such as debian/rules, and
+    `cmake --build` where CMake made makefiles. Any other as it is."""
+    script = shutil.which(words[0]) or words[0]
+    first = first_words(script)
+    if first and os.path.realpath(first[0]) == os.path.realpath(real):
+        return ["make", *([" ".join(first[1:])] if first[1:] else []), script, *words[1:]]
+    is_cmake = os.path.basename(words[0]) == "cmake" and words[1:2] == ["--build"] and len(words) > 2
+    if is_cmake and cached(os.path.join(folder, words[2]), "CMAKE_GENERATOR") == "Unix Makefiles":
+        found = words_of_cmake(words[3:])
+        if found is not None:
+            return ["sh", "-c", 'cd "$0" && exec make -f Makefile "$@"', words[2], *found]
+    return words
+
+
+def words_of_cmake(words: List[str]) -> Optional[List[str]]:
+    """What make gets of the words behind `cmake --build DIR`; None where they ask for more than that."""
+    found: List[str] = []
+    split = words.index("--") if "--" in words else len(words)
+    kind = ""
+    for word in words[:split]:
+        name, equals, value = word.partition("=")
+        if word in ("-v", "--verbose"):
+            kind, found = "", found + ["VERBOSE=1"]
+        elif name in ("-t", "--target", "--config", "-j", "--parallel"):
+            kind = name
+            found += [value] if equals and name == "--target" else []
+        elif re.fullmatch(r"-j\d+", word) or kind in ("-j", "--parallel") and word.isdigit() or kind == "--config":
+            kind = ""
+        elif kind in ("-t", "--target") and not word.startswith("-"):
+            found.append(word)
+        else:
+            return None
+    return found + words[split + 1:]
 
 
 def folders_of(words: List[str]) -> List[str]:

@@ -1,9 +1,12 @@
 """Ages that are compared: where two tasks that nothing orders write two names, and somebody compares which is newer."""
 
 from itertools import combinations
-from typing import TYPE_CHECKING, Dict, Set
+from typing import TYPE_CHECKING, Dict, Iterator, Set, Tuple
 
+from record import shelltext
 from record.owners import Make, Work
+
+PACKERS = ("tar", "bsdtar", "cpio", "pax", "zip")
 
 if TYPE_CHECKING:
     from record.build import Builder
@@ -12,6 +15,7 @@ if TYPE_CHECKING:
 def add_ages(builder: "Builder") -> None:
     """Adds a name of its own for each two ages whose order depends on the schedule."""
     build = builder.build
+    note_sources(builder)
     for label, at in list(builder.of_node.items()):
         node = builder.graph.nodes[label]
         if build.tasks[at].kind == "group":
@@ -24,9 +28,31 @@ def add_ages(builder: "Builder") -> None:
             ages_by_words(builder, at, work)
 
 
+def note_sources(builder: "Builder") -> None:
+    """Which names take over the age of which others: a file that is moved or linked, and one whose time a program sets, as `cp -p`
+    and `touch -r` do, from what it looked at. An archive keeps the ages of what was put in."""
+    for task in builder.build.tasks:
+        for life in (life for work in task.works for life in work.lives):
+            looked = {path for kind, path in life.events if kind in "RS" and (path in builder.build.writers or path in builder.timers)}
+            packs = any(shelltext.base_name(argv) in PACKERS for argv in life.ran)
+            for kind, path in life.events:
+                name, _, source = path.partition("\0")
+                if kind == "c" or kind == "W" and packs:
+                    builder.sources.setdefault(name, []).append({source} if source else looked)
+
+
 def writers_of(builder: "Builder", path: str) -> Set[int]:
-    """Who changes the age of a name: for a folder whoever changes what is in it."""
-    return builder.build.writers.get(path, set()) | builder.timers.get(path, set())
+    """Who settles the age of a name: for a folder whoever changes what is in it, for a copy with its age also who made what was copied."""
+    if path not in builder.aged:
+        seen, todo, found = {path}, [path], set()
+        while todo:
+            name = todo.pop()
+            found |= builder.build.writers.get(name, set()) | builder.timers.get(name, set())
+            new = set().union(*builder.sources.get(name, ())) - seen
+            seen |= new
+            todo.extend(new)
+        builder.aged[path] = found
+    return builder.aged[path]
 
 
 def compare(builder: "Builder", at: int, first: str, second: str, own: str = "") -> None:
@@ -70,13 +96,20 @@ def inner_path(builder: "Builder", make: Make, name: str) -> str:
     return builder.names.find(make.folder, name, True).path
 
 
-def ages_by_words(builder: "Builder", at: int, work: Work) -> None:
-    """Programs that compare ages: those of all names that they looked at, by who writes them."""
+def settled_by(builder: "Builder", at: int, work: Work, kind: str) -> Iterator[Tuple[int, int, str, str]]:
+    """Pairs of tasks that nothing orders and that settle the ages of two names which a recipe has looked at, with these names."""
     writers, build = builder.build.writers, builder.build
     wrote: Dict[int, str] = {}
-    for path in sorted({p for k, p in work.events if k == "A" and (p in writers or p in builder.timers)}):
+    for path in sorted({p for k, p in work.events if k == kind and (p in writers or p in builder.timers or p in builder.sources)}):
         for writer in writers_of(builder, path):
             wrote.setdefault(writer, path)
-    for low, high in combinations(sorted(wrote), 2):
-        if at not in (low, high) and build.unordered(low, high):
-            settle(builder, wrote[low], wrote[high], low, high)
+    return ((low, high, wrote[low], wrote[high]) for low, high in combinations(sorted(wrote), 2) if at not in (low, high) and build.unordered(low, high))
+
+
+def ages_by_words(builder: "Builder", at: int, work: Work) -> None:
+    """Programs that compare ages: those of all names that they looked at, by who writes them. Of other programs nobody knows."""
+    for low, high, first, second in settled_by(builder, at, work, "A"):
+        settle(builder, first, second, low, high)
+    unknown = next(settled_by(builder, at, work, "a"), None)
+    if unknown is not None:
+        builder.assumed.add("ages", "%s looks at %s and %s" % (builder.build.tasks[at].node.name, unknown[2], unknown[3]))

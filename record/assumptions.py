@@ -4,8 +4,8 @@ from dataclasses import dataclass
 from typing import Dict, List
 
 TEXTS = {
-    "serial": "make decides goals in this order, without --shuffle, and recipes do not look at MAKEFLAGS, the number of processors, a terminal, standard input, or files that were opened for them before make began",
-    "ninja": "commands of ninja do not look at the number of jobs, the number of processors or a terminal",
+    "serial": "make decides goals in this order, without --shuffle, and recipes do not use MAKEFLAGS, the number of processors, a terminal, standard input, or files that were opened for them before make began",
+    "ninja": "commands of ninja do not look at the number of jobs, the number of processors or a terminal, and nobody looks at the order of what ninja prints",
     "ties": "build statements with one command were distinguished by ninja's log",
     "up-to-date": "builds start from this tree: targets that were up to date stay so",
     "unasked": "builds have the same goals: recipes that nothing asked for are not judged",
@@ -15,11 +15,16 @@ TEXTS = {
     "hard-links": "files got a second name; links that were outside of the project before are not known",
     "ring": "make dropped a prerequisite that closes a ring",
     "search": "the search for implicit rules goes by a listing from before the first recipe (GNU make before 4.4)",
+    "output": "what a make prints goes to another program or to a file of errors, where the order of its lines makes no difference",
+    "listings": "programs that list a folder do not depend on the order in which its names were made, which some file systems show",
     "outside": "names outside of the project changed; what was there before is taken from the disk after the build",
     "flags": "a makefile or a recipe names MAKEFLAGS or PATH, which hold the recorder's words, and does the same without them",
     "makers": "scripts that make folders for themselves (install-sh, mkinstalldirs, libtool, cmake) ask no more than that it is there; libtool compares no ages",
+    "progress": "what CMake counts in CMakeFiles/Progress changes the percentages that it prints, and nothing else; nobody else looks there",
     "outlives": "a process changed files when its recipe had ended",
     "tops": "two makes or ninjas ran at once, and no make or ninja started them",
+    "inherited": "targets that a later rule or a chain of rules asks for do the same whichever target's macros they inherit",
+    "ages": "programs that nobody knows look at two files, and do not compare which is newer",
     "interpreters": "Perl, Python and other interpreters compare ages only of files that they looked at by name",
 }
 

@@ -6,11 +6,14 @@ import re
 from fnmatch import fnmatchcase
 from typing import Dict, Iterable, List, Set, Tuple
 
+from record.ages import add_ages
 from record.assumptions import Assumptions
 from record.folders import add_folders
 from record.graph import Build, Graph, Node, Task, befores, order_tasks
+from record.macros import Use, uses
 from record.names import Names, join
 from record.owners import Make, Work
+from record.unfiled import add_macros, add_outputs, count_listings
 
 CHANGES = "WCD"
 LOOKS = "RSN"
@@ -32,6 +35,9 @@ class Builder:
         self.began = -1
         self.timed: Dict[str, Set[int]] = {}  # name: who depends on its time
         self.timers: Dict[str, Set[int]] = {}  # folder: who changes its time
+        self.aged: Dict[str, Set[int]] = {}  # name: who settles its age, as far as that was asked
+        self.sources: Dict[str, List[Set[str]]] = {}  # name: those whose ages it may have
+        self.macros: Dict[str, Use] = uses(make, self.graph.base)
 
     def path_of(self, name: str) -> str:
         """The real path of a target, as it was before the build or is now."""
@@ -115,7 +121,7 @@ class Builder:
                 self.of_node[node.label] = self.add(node, "decision", node.label)
             elif own >= 0 and self.is_leaf(node):
                 acts = self.acts_of(node)
-                if any(self.is_written(p, own) for p in needed) or acts:
+                if any(self.is_written(p, own) for p in needed) or acts or node.name in self.macros:
                     self.look_of[node.label] = self.add(node, "look", node.label + "@look")
 
     def make_first_looks(self) -> None:
@@ -235,13 +241,7 @@ class Builder:
 
     def is_serial(self) -> bool:
         """Whether this make runs one recipe at a time whatever the user says."""
-        if self.graph.base.serial:
-            return True
-        words = re.findall(r"(?:^|\s)(?:-\w*j\s*|--jobs=?)(\d*)", self.make.words.args)
-        if words:
-            return words[-1] == "1"
-        is_inner = any(life.is_make or life.is_ninja for life in self.make.life.up() if life is not self.make.life)
-        return is_inner and not self.make.words.below and "-j" not in self.make.words.flags
+        return self.graph.base.serial or self.make.has_one_slot()
 
     def kept(self) -> Set[str]:
         """Targets without a task of their own that stand above one."""
@@ -292,8 +292,7 @@ class Builder:
     # ---------------------------------------------------------------- footprints
     def fill(self) -> None:
         """What each task reads and writes."""
-        build = self.build
-        created = self.created()
+        build, created = self.build, self.created()
         for label, at in self.of_node.items():
             task, node = build.tasks[at], self.graph.nodes[label]
             self.add_events(at, self.events(task), created)
@@ -303,8 +302,10 @@ class Builder:
                 self.add_decision(looker, at, node)
         for label, at in self.first_of.items():
             build.tasks[at].reads.update(self.first_seen(self.graph.nodes[label]))
+        add_macros(self, created)
+        add_outputs(self)
+        count_listings(self, created)
         add_folders(self)
-        from record.ages import add_ages
         add_ages(self)
         self.drop_lonely()
 

@@ -19,6 +19,9 @@ CHANGES = {"chmod", "chown", "lchown", "utime", "utimes", "truncate", "setxattr"
 TIMES = {"utime", "utimes", "utimensat", "futimesat"}
 # After these, what a process opens is not what the trace names, or is not in the trace at all.
 HIDING = {"chroot", "pivot_root", "mount", "move_mount", "umount", "umount2", "setns", "open_by_handle_at", "io_uring_setup"}
+SCRIPTS = 5  # how many scripts may be the interpreter of one another; the kernel allows no more
+GIVEN_TIME = re.compile(r"tv_[nu]sec=\d+\}(?: /\*[^*]*\*/)?\]|modtime=")
+MODE = re.compile(r", (0[0-7]*)$")
 TEXT_END = re.compile(r'^.*"(?:[^"\\]|\\.)*"', re.S)
 
 
@@ -93,6 +96,8 @@ class Calls(Replay):
             is_folder = found.inode is not None and found.inode.kind == "d"
             if not is_folder or path != "." and not path.startswith("/") or shelltext.names_here(life.argv):
                 self.put(life, "A", found.path)
+        elif not traits.is_ageless and not life.is_make and "access" not in call.name and "readlink" not in call.name:
+            self.put(life, "a", found.path)
 
     def on_execve(self, life: Life, call: Call, ok: bool) -> None:
         program = first_text(call.args)
@@ -101,6 +106,7 @@ class Calls(Replay):
         if not ok:
             if not life.is_wrapper:
                 self.look(life, program, False, True)
+                self.look_at_interpreters(life, program)
             return
         words = texts(call.args)
         argv = words[1:]
@@ -122,6 +128,20 @@ class Calls(Replay):
         else:
             life.is_make = life.is_make and life.number >= 0 and was_make
         self.look(life, words[0], True, True, "R")
+        self.look_at_interpreters(life, words[0])
+
+    def look_at_interpreters(self, life: Life, program: str) -> None:
+        """The kernel reads the interpreter of a script by itself, and that of an interpreter which is a script."""
+        for _ in range(SCRIPTS):
+            words = shelltext.first_words(self.names.find(life.folder, program, True).path)
+            if not words:
+                return
+            program = words[0]
+            found = self.names.find(life.folder, program, True)
+            if found.path == self.real:  # the kernel runs make in the script's place
+                self.past.append(" ".join(life.argv)[:200])
+            self.put_links(life, found)
+            self.put_look(life, found, found.inode is not None, "R")
 
     def begin_make(self, life: Life, was_wrapper: bool, was_make: bool, forked: bool) -> None:
         life.is_make = True
@@ -188,6 +208,8 @@ class Calls(Replay):
         else:
             for pattern in shelltext.patterns(life.argv, life.cut):
                 self.put(life, "L", where[0] + "\0" + pattern)
+            if not shelltext.sorts_names(life.argv):
+                self.put(life, "l", where[0])
 
     on_getdents = on_getdents64
 
@@ -209,12 +231,18 @@ class Calls(Replay):
             self.put(life, "C", found.path + "/")
         elif call.error == "EEXIST":
             self.put(life, "T" if quiet else "E", found.path)
+        if ok or call.error == "EEXIST":
+            mode = MODE.search(call.args)
+            self.put(life, "o", "%s\0%o" % (found.path, int(mode.group(1), 8) & ~life.mask if mode else -1))
         else:
             self.look(life, path, False, False, base=base)
             if found.missing:
                 self.put(life, "N", found.missing)
 
     on_mkdirat = on_mkdir
+
+    def on_umask(self, life: Life, call: Call, ok: bool) -> None:
+        life.set_mask(int(call.args, 8))
 
     def on_mknod(self, life: Life, call: Call, ok: bool) -> None:
         base, path = self.base_and_path(life, call)
@@ -262,6 +290,7 @@ class Calls(Replay):
                 self.put(life, "N", new.missing)
             return
         self.put(life, "R", old.path)
+        self.put(life, "c", new.path + "\0" + old.path)
         if "RENAME_EXCHANGE" in call.args:
             self.holes.append("two names were exchanged in one step: " + old.path)
         if old.folder is None or new.folder is None:
@@ -294,6 +323,7 @@ class Calls(Replay):
         self.fresh.add(new.path)
         self.put(life, "C", new.path)
         self.put(life, "W", new.path)
+        self.put(life, "c", new.path + "\0" + old.path)
         for other in self.names.aliases(inode):
             self.put(life, "H", other)
         if new.folder is not None:
@@ -329,6 +359,8 @@ class Calls(Replay):
             self.look(life, path, False, True, base=base)
             return
         found = self.found(life, path, call.name not in NOFOLLOW and "NOFOLLOW" not in call.args, base)
+        if call.name in TIMES and GIVEN_TIME.search(TEXT_END.sub("", call.args)):
+            self.put(life, "c", found.path + "\0")
         if found.inode is not None and found.inode.kind == "d":
             self.put(life, "t" if call.name in TIMES else "m", found.path)
         else:

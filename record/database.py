@@ -35,6 +35,7 @@ class Base:
     implicit: Set[str] = field(default_factory=set)
     patterns: List[Tuple[List[str], List[str]]] = field(default_factory=list)
     values: Dict[str, str] = field(default_factory=dict)  # the text of macros; `$(lines)*` for one of several lines
+    scoped: Set[str] = field(default_factory=set)  # targets with macros of their own
     serial: bool = False
 
 
@@ -43,6 +44,7 @@ class _Files:
 
     def __init__(self, base: Base) -> None:
         self.base, self.name = base, ""
+        self.is_macro = False  # the next line sets a macro of one target
 
     def line(self, text: str) -> None:
         base = self.base
@@ -58,6 +60,7 @@ class _Files:
 
     def remark(self, text: str) -> None:
         base = self.base
+        self.is_macro = not self.name and bool(ORIGIN.match(text))
         place = PLACE.match(text)
         if place and self.name:
             base.places.setdefault(self.name, []).append((place.group(1), int(place.group(2))))
@@ -72,7 +75,10 @@ class _Files:
 
     def target(self, text: str) -> None:
         match = TARGET.match(text)
-        if not match:
+        if self.is_macro or not match:
+            if match:
+                self.base.scoped.add(match.group(1))
+            self.is_macro = False
             return
         base, self.name = self.base, match.group(1)
         first, _, second = ((match.group(3) or "") + " ").partition("| ")

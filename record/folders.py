@@ -29,6 +29,7 @@ class Folder:
     scripts: Set[int] = field(default_factory=set)  # tasks with a script that makes it where it is not there
     first_made: Dict[int, int] = field(default_factory=dict)
     created: Set[int] = field(default_factory=set)
+    modes: Dict[str, Set[int]] = field(default_factory=dict)  # by mode: tasks that make it so
 
 
 def excused(works: List[Work], folder: str) -> bool:
@@ -64,9 +65,11 @@ def gather(builder: "Builder") -> Dict[str, Folder]:
     for at, events in each(builder) if table else ():
         touched: Set[str] = set()
         for kind, path, place in events:
-            path = path.split("\0")[0]
+            path, _, more = path.partition("\0")
             folder = table.get(path)
-            if folder is not None and not path.endswith("/"):
+            if folder is not None and kind == "o":
+                folder.modes.setdefault(more, set()).add(at)
+            elif folder is not None and not path.endswith("/"):
                 note(folder, at, kind, place)
             if kind in "RSWCDMTEXUL" and not path.endswith("/"):
                 touched.add(path)
@@ -144,6 +147,9 @@ def add_folder(builder: "Builder", path: str, folder: Folder) -> None:
     existed = builder.before.get(path) == "d"
     if existed and not folder.gone:
         makers = set()
+    for mode, some in folder.modes.items() if makers else ():
+        for at in some:
+            apart(builder, path + "/@mode", "the mode of the folder " + path, at, set().union(*folder.modes.values()) - some)
     for at in folder.strict & makers:
         mark(builder, path + "/@make", "who makes the folder %s first" % path, makers - {at}, {at})
     for at in (folder.users | folder.absent) - makers:

@@ -8,6 +8,9 @@ the trace is kept. Kinds:
     X rmdir   x rmdir that failed   L listed               m mode of a folder    t time of a folder
     H number of links changed       h number of links looked at           Q listed by make
     A looked at by a process that compares ages         K folder looked at by a script that makes it for itself
+    a looked at by a program of which nobody knows whether it compares ages
+    l listed in an order that the file system gives
+    o mode that a folder is made with                   c age taken over from another name, or from one that was looked at
 """
 
 from dataclasses import dataclass, field
@@ -53,6 +56,7 @@ class Life:
     adopted: bool = False
     children: List["Life"] = field(default_factory=list)
     threads: List["Life"] = field(default_factory=list)  # those that change their folder together, with this one
+    mask: int = 0  # the bits that names are made without
     known: Optional[Traits] = None
 
     def traits(self) -> Traits:
@@ -70,6 +74,11 @@ class Life:
         """Changes the folder, that of all threads with it."""
         for life in self.threads or (self,):
             life.folder = folder
+
+    def set_mask(self, mask: int) -> None:
+        """Changes the bits that names are made without, for all threads."""
+        for life in self.threads or (self,):
+            life.mask = mask
 
     def up(self) -> Iterable["Life"]:
         """This life, its parent, and so on."""

@@ -14,7 +14,7 @@ from pathlib import Path
 from typing import Dict, List, Optional, Tuple
 
 from record.assumptions import Assumptions
-from record.again import JOBS, TRIES, hints, tops_of, undo, with_jobs
+from record.again import JOBS, TRIES, by_name, hints, tops_of, undo, with_jobs
 from record.build import Builder
 from record.calls import Calls
 from record.folder import Record, is_record, rewrite, write_record
@@ -35,10 +35,11 @@ from record.strace import read_trace, skipping
 from record.unasked import unasked
 from record.warm import warm_names
 from record.words import read_logs
+from record.wrapper import note_output
 
 HERE = Path(__file__).resolve().parent
 CALLS = ("%file,fchdir,getdents64,getdents,clone,clone3,fork,vfork,fchmod,fchown,ftruncate,fsetxattr,fremovexattr,connect,bind,"
-         "setns,open_by_handle_at,io_uring_setup")
+         "umask,setns,open_by_handle_at,io_uring_setup")
 STRACE = ["strace", "-f", "-q", "-y", "--seccomp-bpf", "-s", "131072", "-e", "signal=none", "-e", "trace=" + CALLS]
 EXAMPLE = """examples:
   race-record -- make -C src all       one serial build, then the verdict
@@ -75,7 +76,11 @@ def prepare_spool(spool: Path, real: str) -> None:
     """The wrapper under the names of make."""
     (spool / "bin").mkdir(parents=True)
     (spool / "real").write_text(real)
-    text = "#!%s -ISB\n" % sys.executable + (HERE / "wrapper.py").read_text()
+    (spool / "outputs").mkdir()
+    for stream in (1, 2):
+        note_output(str(spool), stream, "")
+    wrapper = re.sub(r"(?m)^from record\.options import .*\n", "", (HERE / "wrapper.py").read_text())
+    text = "#!%s -ISB\n" % sys.executable + (HERE / "options.py").read_text() + wrapper
     for name in ("make", "gmake"):
         if shutil.which(name):
             path = spool / "bin" / name
@@ -99,7 +104,9 @@ def run_build(words: List[str], spool: Path) -> Tuple[int, float]:
 
 def replay_trace(spool: Path, names: Names, real: str, folder: str, tops: List[str]) -> Calls:
     """The trace, played in the name space."""
-    replay = Calls(names, str(spool), os.path.realpath(real), folder, tops)
+    mask = os.umask(0)
+    os.umask(mask)
+    replay = Calls(names, str(spool), os.path.realpath(real), folder, tops, mask)
     skip = skipping(spool / "trace", tops)
     with open(spool / "trace", encoding="latin-1") as lines:
         for event in read_trace(watched(lines, (spool / "trace").stat().st_size), skip):
@@ -143,6 +150,8 @@ def import_record(spool: Path, names: Names, kept: Kept, real: str, folder: str,
         assumed.add("outside", name)
     for argv in replay.makers:
         assumed.add("makers", argv)
+    for path in sorted(set(replay.progress)):
+        assumed.add("progress", path)
     add_granted(owners, assumed, str(spool))
     builds = []
     for make in sorted(owners.makes, key=lambda m: m.life.born):
@@ -203,7 +212,7 @@ def attempt(options: argparse.Namespace, words: List[str], tools: Dict[str, str]
     spool = Path(os.path.realpath(room))
     try:
         prepare_spool(spool, real)
-        status, seconds = run_build(words, spool)
+        status, seconds = run_build(by_name(words, real), spool)
         record = Record(options.words, folder, status, round(seconds, 2), dict(tools))
         if status != 0:
             record.holes.append("the build ended with status %d" % status)
@@ -214,7 +223,7 @@ def attempt(options: argparse.Namespace, words: List[str], tools: Dict[str, str]
             if build.tool == "make":
                 write_footprints(out / "builds" / number, build, names, str(out))
         if options.keep_trace:
-            shutil.copytree(spool, out / "trace", ignore=shutil.ignore_patterns("bin", "real"))
+            shutil.copytree(spool, out / "trace", ignore=shutil.ignore_patterns("bin", "real", "outputs"))
         if status != 1 or not any(stage.jobs for ninja in found.ninjas for stage in ninja.stages):
             return record, False
         record.hints = hints(found.ninjas, names)

@@ -3,7 +3,7 @@
 import os
 from typing import Any, Dict, Iterable, List, Set, Tuple
 
-from record.ages import ages_by_words, inner_ages
+from record.ages import ages_by_words, inner_ages, note_sources
 from record.assumptions import Assumptions
 from record.build import Builder
 from record.folders import add_folders, parents
@@ -13,6 +13,7 @@ from record.ninja_fix import owner_of
 from record.ninja_manifest import Edge
 from record.ninja_runs import NEVER, Job, Ninja, Stage
 from record.owners import Work
+from record.unfiled import count_listings
 
 TEXT_LIMIT = 400
 FIRST, PRIME, BITS = 14695981039346656037, 1099511628211, (1 << 64) - 1
@@ -73,6 +74,8 @@ class NinjaBuilder(Builder):
         self.tried: Set[str] = set()
         self.timed: Dict[str, Set[int]] = {}
         self.timers: Dict[str, Set[int]] = {}
+        self.aged: Dict[str, Set[int]] = {}
+        self.sources: Dict[str, List[Set[str]]] = {}
 
     def run(self) -> Build:
         """All steps."""
@@ -190,7 +193,9 @@ class NinjaBuilder(Builder):
         created = self.created()
         for at, task in enumerate(self.build.tasks):
             self.add_events(at, self.events(task), created)
+        count_listings(self, created)
         add_folders(self)
+        note_sources(self)
         for at, task in enumerate(self.build.tasks):
             for work in task.works:
                 inner_ages(self, at, work)

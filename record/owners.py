@@ -45,6 +45,13 @@ class Make:
     listed: Dict[str, int] = field(default_factory=dict)  # folder: when it was first listed by make itself
     looked: Dict[str, Dict[str, int]] = field(default_factory=dict)  # name as make spells it: the paths that it led to, and when first
 
+    def has_one_slot(self) -> bool:
+        """Whether it runs one job at a time whatever the user says: by its words, or as no make above hands it jobs. The words of
+        a make that none is above are the user's own."""
+        if not any(life.is_make or life.is_ninja for life in self.life.up() if life is not self.life):
+            return False
+        return self.words.slots == "1" if self.words.slots else not self.words.below and "-j" not in self.words.flags
+
 
 class Owners:
     """Brings the words of makes and the lives of processes together."""

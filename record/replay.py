@@ -10,6 +10,8 @@ from record.strace import Begun, Call, Ended, Event, Unread
 
 DEVICES = re.compile(r"/dev/(null|zero|full|u?random|tty\w*|ptmx|console|std(in|out|err)|fd(/.*)?|pts(/.*)?)$|/proc(/|$)|/sys(/|$)")
 
+PROGRESS = "/CMakeFiles/Progress"
+
 OWN = re.compile(r"/proc/(self|thread-self|\d+)/(cwd|root)(/.*|$)", re.S)
 
 
@@ -24,7 +26,8 @@ def own_path(life: Life, path: str) -> str:
 class Replay:
     """Plays the events of a trace in the name space and keeps what each life did."""
 
-    def __init__(self, names: Names, spool: str, real: str, folder: str, tops: List[str]) -> None:
+    def __init__(self, names: Names, spool: str, real: str, folder: str, tops: List[str], mask: int = 0o22) -> None:
+        self.mask = mask
         self.names, self.spool, self.real, self.tops = names, spool, real, tops
         self.first_folder = folder
         self.lives: Dict[int, Life] = {}
@@ -40,6 +43,7 @@ class Replay:
         self.outside: Dict[str, None] = {}  # names that changed, and of which the disk alone says what they were before
         self.fresh: Set[str] = set()  # names that were surely absent when they were made
         self.makers: List[str] = []
+        self.progress: List[str] = []  # folders in which CMake counts what is built
         self.aged: Dict[str, bool] = {}
 
     # ---------------------------------------------------------------- processes
@@ -52,7 +56,7 @@ class Replay:
                 if parents:
                     self.inherit(life, parents[-1])
             else:
-                life.adopted = True
+                life.adopted, life.mask = True, self.mask
             self.lives[pid] = life
             self.all.append(life)
         return life
@@ -69,7 +73,7 @@ class Replay:
 
     @staticmethod
     def inherit(child: Life, parent: Life) -> None:
-        child.folder, child.cut = parent.folder, parent.cut
+        child.folder, child.cut, child.mask = parent.folder, parent.cut, parent.mask
         child.argv = child.argv or parent.argv
         child.is_wrapper = parent.is_wrapper if not child.ran else child.is_wrapper
 
@@ -88,7 +92,7 @@ class Replay:
         if life is not None and life.died > self.place or not self.all:
             return False
         parents = [self.lives[p] for p in self.begun if p in self.lives and p != pid]
-        return len({(p.folder, p.is_wrapper) for p in parents}) > 1
+        return len({(p.folder, p.is_wrapper, p.mask) for p in parents}) > 1
 
     def take(self, event: Event) -> None:
         """One event of a process that is known."""
@@ -123,6 +127,9 @@ class Replay:
         if DEVICES.match(path) and not self.is_inside(path):
             return
         if path.startswith(self.spool):
+            return
+        if PROGRESS in path and life.traits().shows_progress:
+            self.progress.append(path[:path.index(PROGRESS) + len(PROGRESS)])
             return
         if kind in "WCDMTX" and path.rstrip("/") not in self.fresh and not self.is_inside(path):
             self.outside[path.rstrip("/")] = None

@@ -13,7 +13,7 @@ from record.judge import Race, Verdict
 from record.ninja_fix import fix_text, pool_text
 
 SHOWN_RACES = 30
-OWN_NAME = re.compile(r"(^|/)@(make|seen|gone|time|mode|links|age)(/.*)?$")
+OWN_NAME = re.compile(r"(^|/)@(make|seen|gone|time|mode|links|age|macro|output)(/.*)?$")
 
 
 @dataclass

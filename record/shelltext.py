@@ -7,6 +7,14 @@ from typing import Iterable, List, Optional
 
 SHELLS = ("sh", "dash", "bash", "ksh", "zsh", "ash")
 NINJA = re.compile(r"(?:ninja|ninja-build|samu|samurai)(?:[-.\d]*)$")
+# Programs that look at files by name, and not to compare their ages, where AGES finds no word for that.
+AGELESS = frozenset((
+    "make gmake ninja rm cp mv ln ls cat test [ mkdir rmdir touch chmod chown install ginstall env dirname basename readlink realpath pwd head tail"
+    " sort uniq wc cmp diff grep egrep fgrep sed awk gawk mawk nawk find xargs tar gzip gunzip xz bzip2 tee tr cut paste od du df stat date sha256sum md5sum"
+    " mktemp flock which cc gcc c++ g++ cpp clang clang++ cc1 cc1plus collect2 lto1 as ld ld.bfd ld.gold gold lld ar ranlib nm strip objcopy objdump").split())
+VERSIONED = re.compile(r"(?:[\w.]+-linux-gnu-)?([a-z+\[.][a-z0-9+.]*?)(?:-[\d.]+)?$")
+PROGRESS = ("cmake_progress_start", "cmake_progress_report", "cmake_echo_color")
+SORTERS = ("make", "gmake", "rm", "cp", "mv", "chmod", "chown", "rmdir", "git")
 MAKERS = ("install-sh", "mkinstalldirs", "libtool")
 INTERPRETERS = re.compile(r"(python|perl|ruby|node|lua|tclsh|php)[\d.]*$")
 GLOB_WORD = re.compile(r"[^\s;|&<>()'\"`=]*[*?\[][^\s;|&<>()'\"`]*")
@@ -14,7 +22,8 @@ GLOB_WORD = re.compile(r"[^\s;|&<>()'\"`=]*[*?\[][^\s;|&<>()'\"`]*")
 # there was read from the file.
 AGES = re.compile(
     r"(^|\s|\[)--?(nt|ot|[ac]?newer[\w-]*|mtime|mmin|atime|amin|cmin|ctime|f?printf)[\s=]|\b(cp|mv|rsync|tar)\s+([^;|&\n]*?\s)?(-\w*u|--update)"
-    r"|\btar\s+\w*u|\bls\s+([^;|&\n]*?\s)?-\w*[tlc]|\bstat\b[^;|&\n]*%[WXYZwxyz]|--sort=time|\bdate\s+[^;|&\n]*-r")
+    r"|(?:\btest|\[)\s+(?![-!])\S+\s+\"?-?\$\S+\s+[^\s;&|\])]|\btar\s+\w*u|\bls\s+([^;|&\n]*?\s)?-\w*[tlc]|\bstat\b[^;|&\n]*%[WXYZwxyz]|--sort=time|\bdate\s+[^;|&\n]*-r")
+TAKEN = re.compile(r"(?m)(?:^|[;&|{(]|\bthen\b|\bdo\b|\belse\b)[ \t]*(?:\.|source)[ \t]+([^\s;&|)#]+)")  # scripts that a script takes in
 DIRECTORY = r"(?:\"[^\"]*\"|'[^']*'|[^\s;|&<>()'\"`]+)"
 
 
@@ -37,16 +46,19 @@ def is_script(argv: List[str]) -> bool:
     return base_name(argv) in SHELLS and len(argv) > 1 and not shell_text(argv)
 
 
-def with_interpreter(argv: List[str], path: str) -> List[str]:
-    """The words of a script, as its first line lets an interpreter run it."""
+def first_words(path: str) -> List[str]:
+    """The words of a script's first line: the interpreter that the kernel runs, by its own look, and a word for it."""
     try:
         with open(path, "rb") as file:
             first = file.readline(256)
     except OSError:
-        return argv
-    if not first.startswith(b"#!"):
-        return argv
-    words = first[2:].decode("utf-8", "replace").split()
+        return []
+    return first[2:].decode("utf-8", "surrogateescape").split() if first.startswith(b"#!") else []
+
+
+def with_interpreter(argv: List[str], path: str) -> List[str]:
+    """The words of a script, as its first line lets an interpreter run it."""
+    words = first_words(path)
     if words and os.path.basename(words[0]) == "env":
         words = [w for w in words[1:] if not w.startswith("-") and "=" not in w][:1]
     return words[:1] + [path] + argv[1:] if words else argv
@@ -121,6 +133,25 @@ def is_excused(argv: List[str], folder: str) -> bool:
     return len(re.findall(r"(?:-[defrwxs]\s+|\bls\s+|\bstat\s+)\S*" + re.escape(name) + r"(?![\w./-])", text)) <= 1
 
 
+def is_ageless(argv: List[str]) -> bool:
+    """Whether a program is known to compare no ages but by the words that say so."""
+    match = VERSIONED.match(base_name(argv))
+    return match is not None and match.group(1) in AGELESS or base_name(argv) in SHELLS
+
+
+def shows_progress(argv: List[str]) -> bool:
+    """Whether CMake counts what is built, to print how much of it there is."""
+    return base_name(argv) == "cmake" and argv[1:2] == ["-E"] and argv[2:3] != [] and argv[2] in PROGRESS
+
+
+def sorts_names(argv: List[str]) -> bool:
+    """Whether a program that lists a folder sorts what it finds, or does the same with each name."""
+    name = base_name(argv)
+    if name == "ls":
+        return not any(re.match(r"-[a-zA-Z]*[Uf]|--sort=none", word) for word in argv[1:])
+    return name in SHELLS or name in SORTERS
+
+
 def is_interpreter(argv: List[str]) -> bool:
     """Whether a program of unknown words runs."""
     return bool(INTERPRETERS.match(base_name(argv)))
@@ -131,14 +162,21 @@ def names_here(argv: List[str]) -> bool:
     return bool(re.search(r"\s(\./?|\$PWD)(\s|$)", " ".join(argv)))
 
 
+def script_compares(path: str, folder: str, depth: int = 0) -> bool:
+    """Whether the text of a script compares ages, or that of a script that it takes in; so may one that cannot be read."""
+    try:
+        with open(path, errors="replace") as file:
+            text = file.read(1 << 18)
+    except OSError:
+        return True
+    taken = [name.strip("'\"") for name in TAKEN.findall(text)]
+    return bool(AGES.search(text)) or depth > 3 or any("$" in n or script_compares(os.path.join(folder, n), folder, depth + 1) for n in taken)
+
+
 def compares_ages(argv: List[str], folder: str) -> bool:
     """Whether a process may depend on which of two files is newer."""
     if is_script(argv) and "libtool" not in argv[1]:
-        try:
-            with open(os.path.join(folder, argv[1]), errors="replace") as file:
-                return bool(AGES.search(file.read(1 << 18)))
-        except OSError:
-            return "-c" not in argv
+        return "-c" not in argv and script_compares(os.path.join(folder, argv[1]), folder)
     text = " ".join(argv) + " "
     return bool(AGES.search(text)) or bool(shell_text(argv) and re.search(r"(^|[;&|\n]\s*)(\.|source|eval)\s", shell_text(argv)))
 
@@ -163,6 +201,8 @@ class Traits:
         self.makes_folders = maker_at(argv) >= 0
         self.looks_at_links = looks_at_links(argv)
         self.is_interpreter = is_interpreter(argv)
+        self.is_ageless = is_ageless(argv)
+        self.shows_progress = shows_progress(argv)
         self.ages: Optional[bool] = None  # whether it compares ages, as far as that was asked
 
 

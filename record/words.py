@@ -22,6 +22,7 @@ class Job:
     target: str
     number: int
     pids: List[int] = field(default_factory=list)
+    is_said: bool = False  # it printed something, or make did so for it, and somebody keeps that
 
 
 @dataclass
@@ -57,6 +58,9 @@ class Words:
     args: str = ""
     flags: str = ""
     below: bool = False  # the words of a make above came with MAKEFLAGS
+    slots: str = ""  # how many jobs its own words ask for: digits, or `all`
+    output: str = ""  # where its output goes, if that is not the build's own: `file` or `pipe`
+    errors: str = ""  # the same of standard error, where that is not with its output
     version: str = ""
     status: Optional[int] = None
     rounds: List[Round] = field(default_factory=list)
@@ -134,6 +138,16 @@ class _Reader:
             words.flags = text[6:]
         elif text.startswith("BELOW "):
             words.below = text == "BELOW 1"
+        elif text.startswith("JOBS "):
+            words.slots = text[5:]
+        elif text.startswith("OUTPUT "):
+            words.output = text[7:]
+        elif text.startswith("ERRORS "):
+            words.errors = text[7:]
+        elif text.startswith("SAID ") and text[5:] in self.children:
+            self.children[text[5:]].is_said = True
+        elif text.startswith("Need a job token; "):
+            words.holes.append("a makefile asks for several jobs, and so they ran; say -j1: make " + words.args)
         elif text.startswith("EXIT "):
             words.status = int(text[5:])
         elif READING.match(text) and words.read:

@@ -1,6 +1,6 @@
 """Stands in front of GNU make while a build is recorded.
 
-`race-record` copies this file to SPOOL/bin/make, first on PATH, as a program of its own. It runs the real make (named
+`race-record` writes options.py and this file to SPOOL/bin/make, first on PATH, as a program of its own. It runs the real make (named
 in SPOOL/real) with words that let it say what it considers, takes make's own lines out of standard output again, into
 SPOOL/PID.make, and passes everything else on byte for byte. Queries (`make -n`, `-q`, `-t`, `-p`, `-v`, `-h`) and makes
 that were asked for debug words run untouched.
@@ -10,11 +10,11 @@ import os
 import re
 import select
 import signal
+import stat
 import sys
 
-WORDS = ["--debug=v,j,m", "-p"]
-LONG_QUERIES = {"--version": "v", "--help": "h", "--just-print": "n", "--dry-run": "n", "--recon": "n", "--question": "q",
-                "--touch": "t", "--print-data-base": "p", "--debug": "d"}
+from record.options import WORDS, asked, asks_jobs, own_jobs, plain_args, without_words
+
 VERSION_LINE = re.compile(rb"# (GNU Make \d|Built for |Copyright \(C\)|License |This is free software|There is NO WARR)")
 QUOTED = rb"'[^\n]*'"
 WORD_LINE = re.compile(
@@ -28,8 +28,9 @@ WORD_LINE = re.compile(
     rb"|No recipe for " + QUOTED + rb" and no prerequisites actually changed\.$|Target " + QUOTED
     + rb" is double-colon and has no prerequisites\.$|Making " + QUOTED + rb" due to always-make flag\.$"
     rb"|Makefile " + QUOTED + rb" might loop; not remaking it\.$|Re-executing\[\d+\]:"
-    rb"|Got a SIGCHLD; \d+ unreaped|(Putting|Live|Reaping winning|Reaping losing|Removing) child 0x[0-9a-f]+ "
+    rb"|Removing intermediate files\.\.\.$|Got a SIGCHLD; \d+ unreaped|(Putting|Live|Reaping winning|Reaping losing|Removing) child 0x[0-9a-f]+ "
     rb"|(Released|Obtained) token for child 0x|Need a job token; we |Jobserver (setup|client) \()")
+TOKEN = re.compile(rb"Need a job token; we |Obtained token for child 0x|Jobserver setup \(")
 MUST = re.compile(rb" *Must remake target '(.*)'\.\n")
 STARTED = re.compile(rb"Putting child (0x[0-9a-f]+) \((.*)\) PID ")
 REMADE = re.compile(rb" *(?:Successfully remade|Failed to remake) target file '(.*)'\.\n")
@@ -38,74 +39,26 @@ BASE = b"# Make data base, printed on"
 DIRECTORY = re.compile(rb"# ([^\n]*: (Entering|Leaving) (directory|an unknown directory))")
 
 
-def letters(word):
-    """The one-letter words that stand in one word of make's command line, up to one that takes an argument."""
-    match = re.match(r"-([^-CfIoWjlOE][^CfIoWjlOE]*|)", word)
-    return match.group(1) if match and not word.startswith("--") else ""
+def goes_to(spool, number):
+    """Where what is written to a descriptor goes: `file`, `pipe`, or nothing where the build's own output or a device stands there."""
+    try:
+        found = os.fstat(number)
+    except OSError:
+        return ""
+    if stat.S_ISCHR(found.st_mode):
+        return ""
+    try:
+        with open("%s/outputs/%d.%d" % (spool, found.st_dev, found.st_ino)) as file:
+            return file.read()
+    except OSError:
+        return "file" if stat.S_ISREG(found.st_mode) else "pipe"
 
 
-def asked(args, flags):
-    """Which of -v, -h, -n, -q, -t, -p and -d (and --debug) make was asked for, in words or in MAKEFLAGS; long words may be cut."""
-    first = flags.split(" ")[0]
-    own = list(args)
-    if first and not first.startswith("-") and "=" not in first:
-        own.append("-" + first)
-    own += [word for word in flags.split(" -- ")[0].split(" ") if word.startswith("--")]
-    found, skip = set(), False
-    for word in own:
-        if skip:
-            skip = False
-        elif word == "--":
-            break
-        elif word.startswith("--"):
-            begun = word.split("=")[0]
-            found.update(letter for name, letter in LONG_QUERIES.items() if len(begun) > 3 and name.startswith(begun))
-        else:
-            skip = word in ("-C", "-f", "-I", "-o", "-W", "-E")
-            found.update(set(letters(word)) & set("vhnqtpd"))
-    return found
-
-
-def without_words(flags):
-    """MAKEFLAGS without what a wrapper above handed down."""
-    if "--debug=v,j,m" not in flags:
-        return flags
-    parts = [p for p in flags.split(" ") if p != "--debug=v,j,m"]
-    if parts and parts[0] and not parts[0].startswith("-") and "=" not in parts[0]:
-        parts[0] = parts[0].replace("p", "", 1)
-    if parts and parts[0] == "":
-        parts = parts[1:] if len(parts) > 1 else parts
-    return " ".join(parts)
-
-
-def without_letter(words):
-    """Words without the last letter p that the recorder has put there."""
-    for at in reversed(range(len(words))):
-        if re.fullmatch(r"-?[a-zA-Z]*p[a-zA-Z]*", words[at]):
-            left = words[at].replace("p", "", 1)
-            return words[:at] + ([left] if left not in ("", "-") else []) + words[at + 1:]
-    return words
-
-
-def plain_args(args):
-    """The words of the command line without the recorder's: a recipe may hand MAKEFLAGS or MFLAGS on as words."""
-    found = []
-    for word in args:
-        name, _, flags = word.partition("=")
-        if word == WORDS[0]:
-            found = without_letter(found)
-        elif name in ("MAKEFLAGS", "MFLAGS"):
-            dash = "-" if flags.startswith("-") else ""
-            left = without_words(flags[len(dash):])
-            found.append("%s=%s%s" % (name, dash if left else "", left))
-        else:
-            found.append(word)
-    return found
-
-
-def asks_jobs(args, flags):
-    """Whether a number of jobs is among make's words."""
-    return any(re.match(r"-[a-zA-Z]*j|--jobs", w) for w in args) or bool(re.search(r"(^| )-j|--jobserver", flags))
+def note_output(spool, number, where):
+    """Keeps where what is written to a descriptor goes, for the makes below."""
+    found = os.fstat(number)
+    with open("%s/outputs/%d.%d" % (spool, found.st_dev, found.st_ino), "w") as file:
+        file.write(where)
 
 
 class Splitter:
@@ -115,7 +68,7 @@ class Splitter:
     the recipe's, though it looks like make's words.
     """
 
-    def __init__(self, log, out):
+    def __init__(self, log, out, says=False):
         self.log, self.out = log, out
         self.start = True  # nothing but make's version was written yet
         self.base = False  # inside of the data base
@@ -124,6 +77,10 @@ class Splitter:
         self.next = None  # the target that make is about to remake
         self.job = b""  # the recipe that runs, by make's number for it
         self.unclear = []  # what looks like the data base, and may be the first words of a recipe
+        self.several = False  # make runs several recipes at once, against the recorder's words: there is no verdict
+        self.says = says  # the log says which recipes print something
+        self.has_said = False  # it says so of the recipe that runs
+        self.is_said = False  # make has printed something for the recipe that is about to run
 
     def pass_on(self, data):
         """Writes all of it to standard output."""
@@ -131,8 +88,24 @@ class Splitter:
         while view:
             view = view[os.write(self.out, view):]
 
+    def note_said(self):
+        """Says in the log, once, that a recipe, or make for it, has printed something: where somebody keeps that, it matters."""
+        if not self.job:
+            self.is_said = self.is_said or self.next is not None
+        elif self.says and not self.has_said:
+            self.has_said = True
+            self.log.write(b"SAID " + self.job + b"\n")
+
+    def begin(self, job):
+        """Make has started a recipe."""
+        self.job, self.next, self.has_said = job, None, False
+
     def is_of_recipe(self, packet):
         """Whether a write comes while a recipe runs, and is not one of make's lines about it."""
+        if TOKEN.match(packet):
+            self.several, self.job, self.next = True, b"", None
+        if self.several:
+            return False
         if not self.job:
             return self.is_early(packet)
         about = OF_JOB.match(packet)
@@ -146,9 +119,9 @@ class Splitter:
         """The same where no recipe runs for all that make has said: its first words may come before make's line about it."""
         must, begun, remade = MUST.match(packet), STARTED.match(packet), REMADE.match(packet)
         if self.next is None:
-            self.next = must.group(1) if must else None
+            self.next, self.is_said = must.group(1) if must else None, False
         elif begun and begun.group(2) == self.next:
-            self.job, self.next = begun.group(1), None
+            self.begin(begun.group(1))
         elif remade and remade.group(1) == self.next:
             self.next = None
         else:
@@ -162,10 +135,14 @@ class Splitter:
         elif not self.base and self.is_of_recipe(packet):
             self.release()
             self.pass_on(packet)
+            self.note_said()
         elif self.next is not None and self.blank and packet.startswith(BASE):
             self.blank, self.unclear = False, [b"\n", packet]
         else:
             self.take_own(packet)
+            if self.is_said and self.job:
+                self.is_said = False
+                self.note_said()
 
     def take_unclear(self, packet):
         """The data base is the last that make says: what looked like it was a recipe's where make starts that recipe now."""
@@ -173,8 +150,9 @@ class Splitter:
         if begun and begun.group(2) == self.next:
             held, self.unclear = self.unclear, []
             self.pass_on(b"".join(held))
-            self.job, self.next = begun.group(1), None
+            self.begin(begun.group(1))
             self.log.write(packet)
+            self.note_said()
         else:
             self.unclear.append(packet)
 
@@ -199,6 +177,7 @@ class Splitter:
             self.log.write(packet)
         else:
             self.start = False
+            self.note_said()
             self.pass_on(packet[2:] if DIRECTORY.match(packet) else packet)
 
     def release(self):
@@ -276,11 +255,19 @@ def is_one_file(first, second):
         return False
 
 
+def head_of(args, flags, below, where, errors):
+    """The first lines of a log: the words of make, and where its output goes."""
+    lines = (("ARGS", " ".join(args)), ("FLAGS", flags), ("BELOW", "%d" % below), ("JOBS", own_jobs(args)), ("OUTPUT", where), ("ERRORS", errors))
+    return "".join("%s %s\n" % (key, text.replace("\n", " ")) for key, text in lines).encode("utf-8", "surrogateescape")
+
+
 def run_logged(spool, name, real, args, flags, below):
     """Runs make with the recorder's words and keeps what it says; gives its raw status."""
     extra = WORDS + (["-j1"] if asks_jobs(args, flags) else [])
+    where, errors = goes_to(spool, 1), "" if is_one_file(1, 2) else goes_to(spool, 2)
     split = args.index("--") if "--" in args else len(args)
     reading, writing = os.pipe2(os.O_DIRECT | os.O_CLOEXEC)
+    note_output(spool, writing, where)
     child = os.fork()
     if child == 0:
         signal.signal(signal.SIGPIPE, signal.SIG_DFL)
@@ -292,10 +279,9 @@ def run_logged(spool, name, real, args, flags, below):
     os.close(writing)
     signal.signal(signal.SIGTERM, lambda *_: os.kill(child, signal.SIGTERM))
     with open_log(spool, child) as log:
-        head = "ARGS %s\nFLAGS %s\nBELOW %d\n" % (" ".join(args).replace("\n", " "), flags.replace("\n", " "), below)
-        log.write(head.encode("utf-8", "surrogateescape"))
+        log.write(head_of(args, flags, below, where, errors))
         try:
-            raw = serve(Splitter(log, 1), child, reading)
+            raw = serve(Splitter(log, 1, where != ""), child, reading)
         except BrokenPipeError:
             os.close(reading)
             raw = os.waitpid(child, 0)[1]
@@ -312,9 +298,9 @@ def main():
         real = file.read()
     if WORDS[0] in args and "MAKE_RESTARTS" in os.environ:  # make has remade a makefile and begins again
         os.execv(real, [name] + args)
+    below = any(WORDS[0] in text for text in [*args, os.environ.get("MAKEFLAGS", "")])
     args = plain_args(args)
     flags = without_words(os.environ.get("MAKEFLAGS", ""))
-    below = WORDS[0] in os.environ.get("MAKEFLAGS", "")
     if "MAKEFLAGS" in os.environ:
         os.environ["MAKEFLAGS"] = flags
     if os.environ.get("MFLAGS", "").startswith("-"):

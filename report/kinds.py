@@ -31,12 +31,16 @@ FOLDER = Kind(
     "let the reader need the target of the writer, or give each a folder of its own",
 )
 TIME = Kind("compared-time", "two files whose ages a recipe or `make` compares", "let prerequisites order all recipes that write what is compared")
+MACRO = Kind("changed-macro", "a macro of make that a recipe changes with `$(eval ..)`", "set it where the makefile is read, or give each recipe a macro of its own")
+PRINTED = Kind("order-of-output", "the order of what a make prints into a file", "let each recipe write a file of its own")
 WIDE = Kind("wide-footprint", "a footprint that is too wide: a tree where a few files were meant", "write down the single files")
 
 # WIDE is advice for footprints that are written by hand: nothing in a race shows it, so no race is given this kind.
-KINDS = (FORGOTTEN, TEMPORARY, LOG, OUTPUT, ARCHIVE, FOLDER, TIME, WIDE)
+KINDS = (FORGOTTEN, TEMPORARY, LOG, OUTPUT, ARCHIVE, FOLDER, TIME, MACRO, PRINTED, WIDE)
 # Names that stand for something else than a file: an age, or that a folder was made.
 OF_AGE = re.compile(r"/@(?:time|age)(?:/|$)")
+OF_MACRO = re.compile(r"/@macro/")
+OF_OUTPUT = re.compile(r"/@output$")
 OF_FOLDER = re.compile(r"/@(?:made-by|make|seen|gone|mode)(?:/|$)")
 
 
@@ -46,6 +50,10 @@ def kind_of(path: str, targets: tuple[str, str], does: tuple[str, str]) -> Kind:
         return TIME
     if OF_FOLDER.search(path) or path.endswith("/"):
         return FOLDER
+    if OF_MACRO.search(path):
+        return MACRO
+    if OF_OUTPUT.search(path):
+        return PRINTED
     if path.endswith(".a") and does == ("writes", "writes"):
         return ARCHIVE
     if path in targets:

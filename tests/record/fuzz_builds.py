@@ -112,8 +112,9 @@ class Builder:
     def nap(self) -> str:
         """A program that delays, at random."""
         path = self.room / ("nap%d" % self.builds)
-        slow = self.random.sample(range(8), self.random.randint(1, 4))
-        path.write_text(NAP % ("|".join("*[st]%d*" % n for n in slow), self.random.randint(2, 5)))
+        names = ["*[st]%d%s" % (n, part) for n in range(8) for part in ("", "[!0-9]*")]  # a target, and the others of its block
+        slow = self.random.sample(names, self.random.randint(2, 8))
+        path.write_text(NAP % ("|".join(slow), self.random.randint(2, 5)))
         path.chmod(0o755)
         return str(path)
 

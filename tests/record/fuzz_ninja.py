@@ -131,7 +131,7 @@ class NinjaDraw(Draw):
         text = self.build(name, self.needs(), step, more="  restat = 1\n")
         text += self.build(name + ".r", name, "cat %s > %s.r" % (name, name))
         if self.random.random() < 0.3:
-            text += self.build(name + ".w", "" if self.forgets() else name, "touch %s; touch %s.w" % (name, name))
+            text += self.build(name + ".w", "" if self.forgets() else name, "%s %s; touch %s.w" % (self.random.choice(("touch", "echo 2 >")), name, name))
         return self.known(name, text, name + ".r")
 
     def dyndep(self, name: str) -> Block:
@@ -169,7 +169,8 @@ class NinjaDraw(Draw):
 
     def twice(self, name: str) -> Block:
         """Two statements with one command."""
-        text = "".join("build %s%s: sh %s\n  c = echo x >> %s.log\n" % (name, part, " ".join(self.prerequisites()), name) for part in "ab")
+        step = "n=$$(cat %s.log 2> /dev/null | wc -l); %s; echo $$n >> %s.log" % (name, NAP % name, name)
+        text = "".join("build %s%s: sh %s\n  c = %s\n" % (name, part, " ".join(self.prerequisites()), step) for part in "ab")
         return Block([name + "a", name + "b"], text)
 
     def inner(self, name: str) -> Block:

@@ -93,6 +93,10 @@ class Lines(unittest.TestCase):
     def test_target_without_prerequisites(self) -> None:
         self.assertEqual([], self.prerequisites("x:"))
 
+    def test_macro_of_one_target(self) -> None:
+        base = read_base(["# Files", "", "# makefile (from 'Makefile', line 2)", "a: X = 1", "a:: s", "# automatic", "# @ := a", "", "b: t"])
+        self.assertEqual(({"a"}, ["s"], ["t"]), (base.scoped, base.prerequisites["a"], base.prerequisites["b"]))
+
     def test_archive_member(self) -> None:
         self.assertEqual(["a.o"], self.prerequisites("lib.a(a.o): a.o"))
 

@@ -1,4 +1,4 @@
-"""Projects of CMake and Meson that ninja builds, each with a fault and without; `ninja -t missingdeps` finds no more than we do."""
+"""Projects of CMake and Meson that ninja builds, each with a fault and without, and one of CMake for make; `ninja -t missingdeps` finds no more than we do."""
 
 import os
 import shutil
@@ -43,6 +43,34 @@ custom_target('use', output: 'use.txt', command: ['cp', '@PRIVATE@', '@OUTPUT@']
 def files(name: str, text: str) -> Dict[str, str]:
     """The files of a project."""
     return {name: text, "gen.sh": GENERATOR, "main.c": MAIN, "good.c": MAIN, "slow": SLOW}
+
+
+@unittest.skipUnless(shutil.which("cmake"), "cmake is missing (Debian: apt-get install cmake)")
+class Makefiles(unittest.TestCase):
+    """CMake runs make by its whole path."""
+
+    CUSTOM = "add_custom_command(OUTPUT gen.h COMMAND sh ${CMAKE_SOURCE_DIR}/gen.sh ${CMAKE_BINARY_DIR}/gen.h)\nadd_custom_target(header ALL DEPENDS ${CMAKE_BINARY_DIR}/gen.h)\n"
+    USE = "add_custom_target(use ALL COMMAND cp hidden.txt use.txt || true)\n"
+    HEAD = "cmake_minimum_required(VERSION 3.13)\nproject(p NONE)\n"
+
+    def test_forgotten_and_ordered(self) -> None:
+        for use, wanted in ((self.USE, (1, ["hidden.txt"])), (self.USE + "add_dependencies(use header)\n", (0, []))):
+            with support.Project(files("CMakeLists.txt", self.HEAD + self.CUSTOM + use)) as project:
+                project.sh("cmake -G 'Unix Makefiles' -S . -B b > log; cp -a b kept")
+                plain = project.plain(["cmake", "--build", "b", "--target", "all", "-j", "1"])
+                project.sh("rm -r b; mv kept b")
+                outcome = project.record(["cmake", "--build", "b", "--target", "all", "-j", "1"])
+            self.assertEqual(wanted, (outcome.status, races_of(outcome.text())), outcome.text() + outcome.stderr.decode()[-800:])
+            self.assertEqual(plain.stdout, outcome.stdout[:len(plain.stdout)])
+
+    def test_targets_side_by_side(self) -> None:
+        """CMake counts what is built in files that both targets touch, and takes these away at the end."""
+        text = self.HEAD + self.CUSTOM + "add_custom_command(OUTPUT other COMMAND echo 1 > other)\nadd_custom_target(use ALL DEPENDS ${CMAKE_BINARY_DIR}/other)\n"
+        with support.Project(files("CMakeLists.txt", text)) as project:
+            project.sh("cmake -G 'Unix Makefiles' -S . -B b > log")
+            outcome = project.record(["cmake", "--build", "b"])
+        self.assertEqual((0, []), (outcome.status, races_of(outcome.text())), outcome.text() + outcome.stderr.decode()[-800:])
+        self.assertIn("CMakeFiles/Progress", outcome.text())
 
 
 @unittest.skipUnless(shutil.which("ninja") and shutil.which("cmake"), "cmake or ninja is missing (Debian: apt-get install cmake ninja-build)")

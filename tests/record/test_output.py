@@ -84,6 +84,10 @@ class Output(unittest.TestCase):
         text = "all:\n" + "".join("\t$(MAKE) -s -f in.mk %s\n" % w for w in words).replace("$(MAKE)", "@$(MAKE)")
         self.assertEqual(0, self.both(text, in_mk="all: one\none: ; @echo $@ >> log; echo $@\n"))
 
+    def test_intermediate_files(self) -> None:
+        inner = "all: x.t\n%.t: %.i ; cp $< $@\n%.i: %.s ; cp $< $@\n"
+        self.assertEqual(0, self.both("all: ; $(MAKE) -f in.mk > log\n", in_mk=inner, x_s="s"))
+
     def test_makefile_that_is_remade_in_an_inner_make(self) -> None:
         self.assertEqual(0, self.both("all: ; @$(MAKE) -s -f in.mk $(MFLAGS)\n", in_mk="include x.d\nall: ; @echo '$(MAKE_RESTARTS)'\nx.d: ; touch x.d\n".replace("all:", "all: x.d", 1)))
 

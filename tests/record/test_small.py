@@ -1,5 +1,6 @@
 """Small makefiles, a few lines each, and what `race-record` must say of them."""
 
+import shutil
 import sys
 import unittest
 from dataclasses import dataclass, field
@@ -35,6 +36,71 @@ SMALL: Dict[str, Small] = {
     "inner_make_of_one_job": Small("safe", "all: ; $(MAKE) -j1 -f in.mk\n", {"in.mk": "all: a b\na: ; echo a > a\nb: ; cp a b\n"}),
     "inner_make_of_two_jobs": Small("race", "all: ; $(MAKE) -j2 -f in.mk\n", {"in.mk": "all: a b\na: ; echo a > a\nb: ; cp a b\n"}),
     "inner_make_without_flags": Small("safe", "all: ; env -u MAKEFLAGS make -f in.mk\n", {"in.mk": "all: a b\na: ; echo a > a\nb: ; cp a b\n"}),
+    # numbers of jobs
+    "folder_that_looks_like_one_job": Small("race", "all: ; $(MAKE) -Cobj1\n", {"obj1/Makefile": "all: a b\na: ; echo a > a\nb: ; cp a b\n"}),
+    "value_that_looks_like_one_job": Small("race", "all: a b\na: ; echo a > a\nb: ; cp a b\n"),
+    "jobs_in_two_words": Small("safe", "all: ; $(MAKE) -kj 1 -f in.mk\n", {"in.mk": "all: a b\na: ; echo a > a\nb: ; cp a b\n"}),
+    "jobs_that_a_recipe_hands_on": Small("race", "all: ; env -u MAKEFLAGS $(MAKE) $(MFLAGS) -f in.mk\n", {"in.mk": "all: a b\na: ; echo a > a\nb: ; cp a b\n"}),
+    "jobs_of_a_makefile": Small("no verdict", "MAKEFLAGS += -j4\nall: a b\na: ; sleep 0.1; echo a > a\nb: ; cat a > b || true\n", says="asks for several jobs"),
+    "jobs_of_a_makefile_and_one_job": Small("race", "MAKEFLAGS += -j4\nall: a b\na: ; sleep 0.1; echo a > a\nb: ; cat a > b\n"),
+    # macros of make
+    "macro_that_a_recipe_changes": Small("race", "all: s a b\ns: ; touch s\na: s ; $(eval X := set)touch a\nb: ; echo '$(X)' > b\n"),
+    "macro_by_way_of_another": Small("race", "set = $(eval X := set)\nshow = echo '$(X)'\nall: s a b\ns: ; touch s\na: s ; $(call set)touch a\nb: ; $(show) > b\n"),
+    "macro_in_the_environment": Small("race", "export X\nall: s a b\ns: ; touch s\na: s ; $(eval X := set)touch a\nb: ; echo $$X > b\n"),
+    "macro_of_leaves": Small("safe", "N := 0\nall: a b\na b: ; $(eval N := $(N)x)echo $(N) > $@\n"),
+    "macro_that_each_recipe_sets": Small("safe", "all: s a b\ns: ; touch s\na: s\na b: ; $(eval X := $@)echo $(X) > $@\n"),
+    "macro_that_is_ordered": Small("safe", "all: s a b\ns: ; touch s\na: s ; $(eval X := set)touch a\nb: a ; echo '$(X)' > b\n"),
+    "macro_that_keeps_its_value": Small("safe", "V = $(eval V := $$(shell echo 1))$(V)\nall: s a b\ns: ; touch s\na: s\na b: ; echo $(V) > $@\n"),
+    "macro_that_keeps_what_it_read": Small("race", "V = $(eval V := $$(shell cat s))$(V)\nall: s a b\ns: ; echo 1 > s\na: s\na b: ; echo $(V) > $@\n"),
+    "macro_that_is_inherited": Small("safe", "all: a b\na: X = 1\na:: s ; touch t\na:: c ; cp c a\nb: c ; cp c b\ns: ; touch s\nc: ; echo '$(X)' > c\n", says="macros they inherit"),
+    "macro_that_is_inherited_at_once": Small("safe", "all: a b\na: X = 1\na: s c ; cp c a\nb: c ; cp c b\ns: ; touch s\nc: ; echo '$(X)' > c\n"),
+    # what makes print
+    "output_in_a_file": Small("race", "all: ; $(MAKE) -s -f in.mk > out\n", {"in.mk": "all: a b\na b: ; @echo $@\n"}, says="order of what make prints"),
+    "output_in_a_file_of_one_recipe": Small("safe", "all: ; $(MAKE) -s -f in.mk > out\n", {"in.mk": "all: a b\na: ; @echo $@\nb: ; @touch b\n"}),
+    "output_in_a_file_ordered": Small("safe", "all: ; $(MAKE) -f in.mk > out 2>&1\n", {"in.mk": "all: a b\na: ; echo $@\nb: a ; echo $@\n"}),
+    "output_of_a_make_below": Small("race", "all: ; $(MAKE) -s -f mid.mk > out\n", {"mid.mk": "all: ; $(MAKE) -f in.mk\n", "in.mk": "all: a b\na b: ; @echo $@\n"}, says="order of what make prints"),
+    "output_for_a_program": Small("safe", "all: ; $(MAKE) -s -f in.mk | sort > out\n", {"in.mk": "all: a b\na b: ; @echo $@\n"}, says="goes to another program"),
+    "output_of_errors": Small("safe", "all: ; $(MAKE) -s -f in.mk 2> out\n", {"in.mk": "all: a b\na b: ; @echo $@ >&2\n"}, says="a file of errors"),
+    "output_for_nobody": Small("safe", "all: ; $(MAKE) -f in.mk > /dev/null\n", {"in.mk": "all: a b\na b: ; echo $@\n"}),
+    # scripts
+    "interpreter_that_a_recipe_makes": Small("race", "all: interp use\ninterp: ; cp /bin/cat interp\nuse: ; ./script > use\n", {"script": "#!./interp\nhello\n"}, "chmod +x script"),
+    "interpreter_that_is_not_there_yet": Small("race", "all: use interp\ninterp: ; cp /bin/cat interp\nuse: ; ./script > use || true\n", {"script": "#!./interp\nhello\n"}, "chmod +x script"),
+    "interpreter_that_is_a_script": Small("race", "all: tool use\ntool: ; cp /bin/cat tool\nuse: ; ./script > use\n", {"script": "#!./between\nhello\n", "between": "#!./tool\n"}, "chmod +x script between"),
+    "script_of_make_in_a_recipe": Small("no verdict", "all: ; +./rules all\n", {"rules": "#!%s -f\nall: a b\na: ; echo a > a\nb: ; cp a b\n" % shutil.which("make")}, "chmod +x rules", says="a make ran past the recorder"),
+    "script_of_make": Small("race", "", {"rules": "#!%s -f\nall: a b\na: ; echo a > a\nb: ; cp a b\n" % shutil.which("make")}, "chmod +x rules"),
+    # modes of folders that several make
+    "folder_of_two_masks": Small("race", "all: a b\na: ; umask 077; mkdir -p d; touch a\nb: ; mkdir -p d; touch b\n"),
+    "folder_of_two_modes": Small("race", "all: a b\na: ; mkdir -p -m 700 d; touch a\nb: ; mkdir -p d; touch b\n"),
+    "folder_of_one_mode": Small("safe", "all: a b\na: ; umask 022; mkdir -p -m 755 d; touch a\nb: ; umask 022; mkdir -p d; touch b\n"),
+    # ages that are taken over
+    "age_that_touch_takes_over": Small("race", "all: c\na b: ; touch $@\nr: a b ; touch r; touch -r a r\nc: r ; test r -nt b || true; touch c\n"),
+    "age_that_cp_takes_over": Small("race", "all: c\na b: ; touch $@\nr: a b ; cp -p a r\nc: r ; test r -nt b || true; touch c\n"),
+    "age_of_a_file_that_is_moved": Small("race", "all: c\na b: ; touch $@\nr: a b ; mv a x; touch r\nc: r ; test x -nt b || true; touch c\n"),
+    "age_of_a_second_name": Small("race", "all: c\na b: ; touch $@\nr: a b ; ln a x; touch r\nc: r ; test x -nt b || true; touch c\n"),
+    "age_out_of_an_archive": Small("race", "all: c\na b: ; touch $@\np: a b ; tar cf p a\nr: p ; mkdir o; tar xf p -C o; touch r\nc: r ; test o/a -nt b || true; touch c\n"),
+    "age_for_an_inner_make": Small("race", "all: c\na b: ; touch $@\nr: a b ; cp -p a x; touch r\nc: r ; $(MAKE) -f in.mk; touch c\n", {"in.mk": "x: b ; echo made > log\n"}),
+    "age_that_touch_sets_to_now": Small("safe", "all: c\na b: ; touch $@\nr: a b ; test -f a; cp a r; touch r\nc: r ; test r -nt b || true; touch c\n"),
+    "age_of_a_copy_that_is_new": Small("safe", "all: c\na b: ; touch $@\nr: a b ; cp a r\nc: r ; test r -nt b || true; touch c\n"),
+    "ages_by_a_word_in_a_variable": Small("race", "all: c\na b: ; touch $@\nc: a b ; op=nt; test a -$$op b || true; touch c\n"),
+    "ages_by_a_script_that_is_taken_in": Small("race", "all: c\na b: ; touch $@\nc: a b ; sh ./s || true; touch c\n", {"s": ". ./lib\nnewer a b\n", "lib": "newer() { test $1 -nt $2; }\n"}),
+    "no_ages_by_a_script_that_is_taken_in": Small("safe", "all: c\na b: ; touch $@\nc: a b ; sh ./s || true; touch c\n", {"s": ". ./lib\nboth a b\n", "lib": "both() { test -f $1 && test -f $2; }\n"}),
+    "ages_by_a_program": Small("safe", "all: c\nage: age.c ; cc -o age age.c\na b: ; touch $@\nc: a b age ; ./age a b > c\n", {
+        "age.c": "#include <sys/stat.h>\nint main(int n, char **v) { struct stat a, b; stat(v[1], &a); stat(v[2], &b); return a.st_mtime > b.st_mtime + 9; }\n"}, says="programs that nobody knows"),
+    "ages_by_nobody": Small("safe", "all: c\na b: ; touch $@\nc: a b ; cp a b c 2>/dev/null || cat a b > c\n"),
+    # listings
+    "sorted_listing": Small("safe", ".PHONY: a b\nall: c\na b: ; touch d/$@\nc: a b ; ls d > c; echo d/* >> c\n", setup="mkdir d"),
+    "order_of_a_listing": Small("safe", ".PHONY: a b\nall: c\na b: ; touch d/$@\nc: a b ; find d > c\n", setup="mkdir d", says="programs that list a folder"),
+    # archives, intermediate files, patterns
+    "members_of_one_archive": Small("race", "all: l.a(x.o) l.a(y.o)\n(%): % ; ar rcD l.a $<\n%.o: %.c ; cp $< $@\n", {"x.c": "x", "y.c": "y"}),
+    "archive_of_one_recipe": Small("safe", "l.a: x.o y.o ; ar rcD l.a $^\n%.o: %.c ; cp $< $@\n", {"x.c": "x", "y.c": "y"}),
+    "intermediate_file_that_is_read": Small("race", "all: x.t u\n%.t: %.i ; cp $< $@\n%.i: %.s ; cp $< $@\nu: ; cat x.i > u || true\n", {"x.s": "s"}),
+    "secondary_file_that_is_read": Small("safe", ".SECONDARY: x.i\nall: x.t u\n%.t: %.i ; cp $< $@\n%.i: %.s ; cp $< $@\nu: x.t ; cat x.i > u\n", {"x.s": "s"}),
+    "static_pattern_that_forgets": Small("race", "all: x.o y.o\nx.o y.o: %.o: %.c ; cat $< h > $@\nh: ; echo h > h\nx.o: h\n", {"x.c": "x", "y.c": "y"}),
+    "one_shell": Small("race", ".ONESHELL:\nall: a b\na b:\n\techo $@ > t\n\tcp t $@\n"),
+    "lock_around_a_log": Small("race", "all: a b\na b: ; flock lock -c 'echo $@ >> log'; touch $@\n"),
+    "folder_that_is_copied": Small("race", "all: a b\na: ; mkdir -p d/s/t; touch a\nb: ; cp -r d e; touch b\n", {"d/x": "x"}),
+    "folder_by_a_link": Small("race", "all: a b\na: ; echo new > l/x; touch a\nb: ; cat d/x > b\n", {"d/x": "x"}, "ln -s d l"),
+    "many_recipes": Small("race", "T := $(shell seq 1500)\nall: $T last\n$T: ; @echo $@ > $@\nlast: $(filter-out 77,$T) ; @cat 77 > $@\n"),
     # double colons
     "double_colon_holds_back": Small("safe", "all: dc\ndc:: ; echo 1 > x\ndc:: p ; echo 2 > y\np: ; cp x p\n"),
     "double_colon_ages": Small("safe", "all: p dc\np: ; touch p\ndc:: ; echo 1 >> dc\ndc:: p ; echo 2 >> dc\n", {"dc": "dc"}, OLD + "dc"),
@@ -106,6 +172,9 @@ SMALL: Dict[str, Small] = {
     "two_builds_at_once": Small("safe", "all: a\na: ; sleep 0.2; touch a\n", {"other.mk": "all: b\nb: ; sleep 0.2; touch b\n"}, says="two makes or ninjas ran at once"),
 }
 COMMANDS: Dict[str, List[str]] = {
+    "value_that_looks_like_one_job": ["make", "X=-v -j1"],
+    "script_of_make": ["./rules", "all"],
+    "jobs_of_a_makefile_and_one_job": ["make", "-j1"],
     "two_builds_at_once": ["sh", "-c", "make & make -f other.mk; wait"],
     "status_of_the_command": ["sh", "-c", "make; exit 3"],
 }

@@ -13,11 +13,11 @@ BEGIN = b"Putting child 0x5f (a) PID 7 on the chain.\n"
 END = b"Removing child 0x5f PID 7 from chain.\n"
 
 
-def split(*packets: bytes) -> Tuple[bytes, bytes]:
+def split(*packets: bytes, says: bool = False) -> Tuple[bytes, bytes]:
     """What goes on, and what goes to the log."""
     log = io.BytesIO()
     reading, writing = os.pipe()
-    splitter = wrapper.Splitter(log, writing)
+    splitter = wrapper.Splitter(log, writing, says)
     for packet in packets:
         splitter.take(packet)
     splitter.end()
@@ -77,6 +77,27 @@ class Splits(unittest.TestCase):
         self.assertEqual((b"make: Entering directory '/x'\n", b""), split(b"# make: Entering directory '/x'\n"))
 
 
+class Said(unittest.TestCase):
+    """Which recipes print something, where that is kept."""
+
+    SAID = b"SAID 0x5f\n"
+
+    def test_recipe_that_prints(self) -> None:
+        self.assertEqual((b"xy", MUST + BEGIN + self.SAID + END), split(MUST, BEGIN, b"x", b"y", END, says=True))
+
+    def test_line_that_make_prints_before(self) -> None:
+        self.assertEqual((b"cc\n", MUST + BEGIN + self.SAID + END), split(MUST, b"cc\n", BEGIN, END, says=True))
+
+    def test_each_recipe_that_prints(self) -> None:
+        again = (MUST, b"cc\n", BEGIN, END)
+        self.assertEqual(2, split(*again, *again, says=True)[1].count(self.SAID))
+
+    def test_recipe_that_does_not_print(self) -> None:
+        self.assertEqual((b"", MUST + BEGIN + END), split(MUST, BEGIN, END, says=True))
+        remade = b" Successfully remade target file 'a'.\n"
+        self.assertEqual(b"".join((MUST, remade, MUST, BEGIN, END)), split(MUST, b"made\n", remade, MUST, BEGIN, END, says=True)[1])
+
+
 class Asked(unittest.TestCase):
     """Which makes only look."""
 
@@ -109,3 +130,9 @@ class Asked(unittest.TestCase):
         self.assertTrue(wrapper.asks_jobs(["-kj4"], ""))
         self.assertTrue(wrapper.asks_jobs([], "k -j4 --jobserver-auth=3,4"))
         self.assertFalse(wrapper.asks_jobs(["-k", "all"], "k"))
+
+    def test_number_of_jobs_of_its_own_words(self) -> None:
+        for args, wanted in ((["-j4"], "4"), (["-kj", "2", "all"], "2"), (["-j", "all"], "all"), (["--jobs=3"], "3"), (["--jobs", "3"], "3"), (["--jo=1"], "1"),
+                             (["-j1", "-j8"], "8"), (["-Cobj1"], ""), (["-fobj1"], ""), (["-C", "-j1"], ""), (["-kC", "-j1"], ""), (["X=-v -j1"], ""),
+                             (["--file", "-j1"], ""), (["--", "-j1"], ""), (["--eval=-j1"], ""), (["-l2", "-j"], "all"), (["-O", "-j1"], "1"), (["-sj1"], "1")):
+            self.assertEqual(wanted, wrapper.own_jobs(args), args)

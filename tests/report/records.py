@@ -62,10 +62,13 @@ def kinds(folder: Path) -> Path:
         task("parse.c", (), (), ("parse.h",)), task("use.o", (), ("parse.h",), ()),
         task("out", (), (), ("out/",)), task("list", (), ("out/",), ()),
         task("age", (), (), ("t/@age/1",)), task("old", (), (), ("t/@age/1",)),
+        task("set", (), (), ("Makefile/@macro/X",)), task("ask", (), ("Makefile/@macro/X",)),
+        task("say", (), (), ("Makefile/@output",)), task("tell", (), (), ("Makefile/@output",)),
         task("gen%.h", (), (), ("gen%.h",)), task("with'quote.o", (), ("gen%.h",), ()),
     ]
     places = {it["task"]: ("sub dir/Makefile", at + 1) for at, it in enumerate(tasks) if at % 5}
-    return write(folder, tasks, places, meanings={"t/@age/1": "which of t and its source is newer"})
+    return write(folder, tasks, places, meanings={
+        "t/@age/1": "which of t and its source is newer", "Makefile/@macro/X": "the macro X of make", "Makefile/@output": "the order of what make prints"})
 
 
 def large(folder: Path) -> Path:

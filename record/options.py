@@ -1,0 +1,107 @@
+"""The words of make's command line and of MAKEFLAGS: what they ask for, and which of them the recorder put there.
+
+`race-record` puts this file in front of wrapper.py where it makes the program that stands in front of make.
+"""
+
+import re
+
+WORDS = ["--debug=v,j,m", "-p"]
+LONG_QUERIES = {"--version": "v", "--help": "h", "--just-print": "n", "--dry-run": "n", "--recon": "n", "--question": "q",
+                "--touch": "t", "--print-data-base": "p", "--debug": "d"}
+CLUSTER = re.compile(r"-([^-CfIoWjlOE][^CfIoWjlOE]*|)([CfIoWjlOE]?)(.*)$", re.S)
+LONG_WITH_WORD = ("--directory", "--file", "--makefile", "--include-dir", "--old-file", "--assume-old", "--what-if", "--new-file",
+                  "--assume-new", "--eval")
+
+
+def letters(word):
+    """The one-letter words that stand in one word of make's command line, up to one that takes an argument."""
+    match = re.match(r"-([^-CfIoWjlOE][^CfIoWjlOE]*|)", word)
+    return match.group(1) if match and not word.startswith("--") else ""
+
+
+def asked(args, flags):
+    """Which of -v, -h, -n, -q, -t, -p and -d (and --debug) make was asked for, in words or in MAKEFLAGS; long words may be cut."""
+    first = flags.split(" ")[0]
+    own = list(args)
+    if first and not first.startswith("-") and "=" not in first:
+        own.append("-" + first)
+    own += [word for word in flags.split(" -- ")[0].split(" ") if word.startswith("--")]
+    found, skip = set(), False
+    for word in own:
+        if skip:
+            skip = False
+        elif word == "--":
+            break
+        elif word.startswith("--"):
+            begun = word.split("=")[0]
+            found.update(letter for name, letter in LONG_QUERIES.items() if len(begun) > 3 and name.startswith(begun))
+        else:
+            skip = word in ("-C", "-f", "-I", "-o", "-W", "-E")
+            found.update(set(letters(word)) & set("vhnqtpd"))
+    return found
+
+
+def without_words(flags):
+    """MAKEFLAGS without what a wrapper above handed down."""
+    if "--debug=v,j,m" not in flags:
+        return flags
+    parts = [p for p in flags.split(" ") if p != "--debug=v,j,m"]
+    if parts and parts[0] and not parts[0].startswith("-") and "=" not in parts[0]:
+        parts[0] = parts[0].replace("p", "", 1)
+    if parts and parts[0] == "":
+        parts = parts[1:] if len(parts) > 1 else parts
+    return " ".join(parts)
+
+
+def without_letter(words):
+    """Words without the last letter p that the recorder has put there."""
+    for at in reversed(range(len(words))):
+        if re.fullmatch(r"-?[a-zA-Z]*p[a-zA-Z]*", words[at]):
+            left = words[at].replace("p", "", 1)
+            return words[:at] + ([left] if left not in ("", "-") else []) + words[at + 1:]
+    return words
+
+
+def plain_args(args):
+    """The words of the command line without the recorder's: a recipe may hand MAKEFLAGS or MFLAGS on as words."""
+    found = []
+    for word in args:
+        name, _, flags = word.partition("=")
+        if word == WORDS[0]:
+            found = without_letter(found)
+        elif name in ("MAKEFLAGS", "MFLAGS"):
+            dash = "-" if flags.startswith("-") else ""
+            left = without_words(flags[len(dash):])
+            found.append("%s=%s%s" % (name, dash if left else "", left))
+        else:
+            found.append(word)
+    return found
+
+
+def own_jobs(args):
+    """How many jobs the words of the command line ask for last: digits, or `all` where there is no bound; nothing where they do not ask."""
+    found, skip = "", False
+    for word, following in zip(args, args[1:] + [""]):
+        if skip:
+            skip = False
+            continue
+        if word == "--":
+            break
+        begun, equals, value = word.partition("=")
+        if word.startswith("--"):
+            is_jobs = len(begun) > 3 and "--jobs".startswith(begun)
+            skip = not equals and len(begun) > 3 and any(name.startswith(begun) for name in LONG_WITH_WORD)
+        else:
+            cluster = CLUSTER.match(word)
+            letter, value = cluster.group(2, 3) if cluster else ("", "")
+            is_jobs = letter == "j"
+            skip = letter != "" and letter in "CfIoWE" and value == ""
+        if is_jobs:
+            skip = not value and following.isdigit()
+            found = value or (following if skip else "all")
+    return found
+
+
+def asks_jobs(args, flags):
+    """Whether a number of jobs is among make's words."""
+    return bool(own_jobs(args)) or bool(re.search(r"(^| )-j|--jobserver", flags))
