@@ -6,6 +6,7 @@ use mk_missing::violations::{Violations, find_violations};
 use std::alloc::Global;
 
 /// What is expected of jobs. A pair has the place of a file among all files that recipes touch, and a node.
+#[derive(Clone, Copy)]
 struct Expected<'a> {
     missing: &'a [(u32, u32)],
     late: &'a [(u32, u32)],
