@@ -12,38 +12,43 @@ use Rattle.clap.specs.Simple.{App, Shape, argument_words, built_leaf, entered, i
 use Rattle.mk_program.specs.CommandLine as spec
 use Rattle.mk_program.specs.declared.requests.Request.{Request}
 
--- a parse that enters one of seven subcommands enters the first, the second, the third, the fourth, the fifth, the sixth or the seventh
-entered_name : (a : App) (s t u v w x z : Shape) (stop : Option (Text × List Text)) (found : Text × List Row)
-    → a.subs ≡ s ∷ (t ∷ (u ∷ (v ∷ (w ∷ (x ∷ (z ∷ [])))))) → entered a stop ≡ Some found
+-- a parse that enters one of eight subcommands enters the first, the second, the third, the fourth, the fifth, the sixth, the seventh or the eighth
+entered_name : (a : App) (s t u v w x z q : Shape) (stop : Option (Text × List Text)) (found : Text × List Row)
+    → a.subs ≡ s ∷ (t ∷ (u ∷ (v ∷ (w ∷ (x ∷ (z ∷ (q ∷ []))))))) → entered a stop ≡ Some found
     → (found.0 ≡ s.name) ⊎ (found.0 ≡ t.name) ⊎ (found.0 ≡ u.name) ⊎ (found.0 ≡ v.name) ⊎ (found.0 ≡ w.name) ⊎ (found.0 ≡ x.name) ⊎ (found.0 ≡ z.name)
-entered_name a s t u v w x z None found all e = absurd (none-some found e)
-entered_name a s t u v w x z (Some p) found all e =
+    ⊎ (found.0 ≡ q.name)
+entered_name a s t u v w x z q None found all e = absurd (none-some found e)
+entered_name a s t u v w x z q (Some p) found all e =
     go (answers_to p.0 (label_of s)) (answers_to p.0 (label_of t)) (answers_to p.0 (label_of u)) (answers_to p.0 (label_of v)) (answers_to p.0 (label_of w))
-    (answers_to p.0 (label_of x)) (answers_to p.0 (label_of z)) (ap (λ (subs : List Shape). entered (record a { subs = subs }) (Some p)) (sym all) ∙ e)
+    (answers_to p.0 (label_of x)) (answers_to p.0 (label_of z)) (answers_to p.0 (label_of q))
+    (ap (λ (subs : List Shape). entered (record a { subs = subs }) (Some p)) (sym all) ∙ e)
   where
-    go : (b d f h k l m : Bool)
+    go : (b d f h k l m n : Bool)
         → option_map (λ (y : Shape). rows_at y p.1)
-        (cond b (Some s) (cond d (Some t) (cond f (Some u) (cond h (Some v) (cond k (Some w) (cond l (Some x) (cond m (Some z) None))))))) ≡ Some found
+        (cond b (Some s) (cond d (Some t) (cond f (Some u) (cond h (Some v) (cond k (Some w) (cond l (Some x) (cond m (Some z) (cond n (Some q) None)))))))) ≡ Some found
         → (found.0 ≡ s.name) ⊎ (found.0 ≡ t.name) ⊎ (found.0 ≡ u.name) ⊎ (found.0 ≡ v.name) ⊎ (found.0 ≡ w.name) ⊎ (found.0 ≡ x.name) ⊎ (found.0 ≡ z.name)
-    go true d f h k l m e = inl (ap (λ (y : Text × List Row). y.0) (sym (same_Some _ _ e)))
-    go false true f h k l m e = inr (inl (ap (λ (y : Text × List Row). y.0) (sym (same_Some _ _ e))))
-    go false false true h k l m e = inr (inr (inl (ap (λ (y : Text × List Row). y.0) (sym (same_Some _ _ e)))))
-    go false false false true k l m e = inr (inr (inr (inl (ap (λ (y : Text × List Row). y.0) (sym (same_Some _ _ e))))))
-    go false false false false true l m e = inr (inr (inr (inr (inl (ap (λ (y : Text × List Row). y.0) (sym (same_Some _ _ e)))))))
-    go false false false false false true m e = inr (inr (inr (inr (inr (inl (ap (λ (y : Text × List Row). y.0) (sym (same_Some _ _ e))))))))
-    go false false false false false false true e = inr (inr (inr (inr (inr (inr (ap (λ (y : Text × List Row). y.0) (sym (same_Some _ _ e))))))))
-    go false false false false false false false e = absurd (none-some found e)
+        ⊎ (found.0 ≡ q.name)
+    go true d f h k l m n e = inl (ap (λ (y : Text × List Row). y.0) (sym (same_Some _ _ e)))
+    go false true f h k l m n e = inr (inl (ap (λ (y : Text × List Row). y.0) (sym (same_Some _ _ e))))
+    go false false true h k l m n e = inr (inr (inl (ap (λ (y : Text × List Row). y.0) (sym (same_Some _ _ e)))))
+    go false false false true k l m n e = inr (inr (inr (inl (ap (λ (y : Text × List Row). y.0) (sym (same_Some _ _ e))))))
+    go false false false false true l m n e = inr (inr (inr (inr (inl (ap (λ (y : Text × List Row). y.0) (sym (same_Some _ _ e)))))))
+    go false false false false false true m n e = inr (inr (inr (inr (inr (inl (ap (λ (y : Text × List Row). y.0) (sym (same_Some _ _ e))))))))
+    go false false false false false false true n e = inr (inr (inr (inr (inr (inr (inl (ap (λ (y : Text × List Row). y.0) (sym (same_Some _ _ e)))))))))
+    go false false false false false false false true e = inr (inr (inr (inr (inr (inr (inr (ap (λ (y : Text × List Row). y.0) (sym (same_Some _ _ e)))))))))
+    go false false false false false false false false e = absurd (none-some found e)
 
 -- the subcommand that the words name is one of the program's
 pub one_named : (words : List Text) (found : Text × List Row) → subcommand_of spec.race_app words ≡ Some found
     → (found.0 ≡ codes "order") ⊎ (found.0 ≡ codes "check") ⊎ (found.0 ≡ codes "verify") ⊎ (found.0 ≡ codes "replay") ⊎ (found.0 ≡ codes "serialise")
-    ⊎ (found.0 ≡ codes "list") ⊎ (found.0 ≡ codes "fix")
+    ⊎ (found.0 ≡ codes "list") ⊎ (found.0 ≡ codes "fix") ⊎ (found.0 ≡ codes "missing")
 one_named words found e =
     let top = with_leaf_noted (marked_built spec.race_app.top) in
     let stop = stop_after (built spec.race_app).top.rules (names_of (built spec.race_app)) (argument_words spec.race_app words) in
     entered_name (built spec.race_app) (built_leaf (inherited top spec.order_app.top)) (built_leaf (inherited top spec.check_app.top))
     (built_leaf (inherited top spec.verify_app.top)) (built_leaf (inherited top spec.replay_app.top)) (built_leaf (inherited top spec.serialise_app.top))
-    (built_leaf (inherited top spec.list_app.top)) (built_leaf (inherited top spec.fix_app.top)) stop found refl e
+    (built_leaf (inherited top spec.list_app.top)) (built_leaf (inherited top spec.fix_app.top)) (built_leaf (inherited top spec.missing_app.top))
+    stop found refl e
 
 map_map : {X Y Z : Type 0} (f : Y → Z) (g : X → Y) (o : Option X) → option_map f (option_map g o) ≡ option_map (λ (x : X). f (g x)) o
 map_map f g None = refl

@@ -140,6 +140,11 @@ says_safe words files text note check (requests.List args, asks, answer) = absur
     other : (o : Option (Text × List Row)) → AskToCheck o → Asks (requests.List args) o → ⊥
     other None check asks = absurd check
     other (Some found) check asks = not_check (codes "list") found.0 check asks.0 refl
+says_safe words files text note check (requests.Missing args, asks, answer) = absurd (other (asked words) check asks)
+  where
+    other : (o : Option (Text × List Row)) → AskToCheck o → Asks (requests.Missing args) o → ⊥
+    other None check asks = absurd check
+    other (Some found) check asks = not_check (codes "missing") found.0 check asks.0 refl
 says_safe words files text note check (requests.Fix args, asks, answer) = absurd (other (asked words) check asks)
   where
     other : (o : Option (Text × List Row)) → AskToCheck o → Asks (requests.Fix args) o → ⊥

@@ -3,6 +3,7 @@ mod Asked
 mod Failing
 mod Fixings
 mod Locals
+mod MissingAnswers
 mod Noted
 mod OutcomeLines
 mod PlanLines

@@ -1,5 +1,5 @@
 -- What the program answers to a request, over what the files hold, and what it writes of that.
-use Rattle.std.specs.Prelude.{◌≡◌, ◌≢◌, ◌⊎◌, ℕ, Bool, true, false, List, [], ◌∷◌, Result, Ok, Err, Option, None, Some, IsSome, map, codes, if◌then◌else◌}
+use Rattle.std.specs.Prelude.{◌≡◌, ◌≢◌, ◌⊎◌, ℕ, Bool, true, false, List, [], ◌∷◌, Result, Ok, Err, Option, None, Some, IsSome, map, codes, length, if◌then◌else◌}
 use Rattle.std.specs.Borrow.{Bor}
 use Rattle.std.specs.Io.KnownBytes.{Appends}
 use Rattle.clap.specs.Words.{Row, Text}
@@ -13,6 +13,7 @@ use Rattle.mk_proof.specs.ProofText.{certificate_text}
 use Rattle.mk_race.specs.Fixed.{IsFixing, with_lines}
 use Rattle.mk_race.specs.Judged.{IsAnswered, NoScheduleShows}
 use Rattle.mk_race.specs.Listed.{IsListed}
+use Rattle.mk_race.specs.Missing.{BuildsAsClean, IsEmpty, IsMissingList}
 use Rattle.mk_race.specs.Played.{IsPlayed}
 use Rattle.mk_race.specs.Serialised.{IsLawfulBuild, IsSerialised}
 use Rattle.mk_race.specs.Stages.{IsPlanned, Texts}
@@ -22,6 +23,7 @@ use Rattle.mk_race.specs.Verified.{IsVerified, ProofShows}
 use Rattle.mk_race.specs.declared.fixing.Fixing.{Fixing}
 use Rattle.mk_race.specs.declared.fixing.Fixing.TheVariants.{Fixed, NotFixed}
 use Rattle.mk_race.specs.declared.listing.RaceList.{RaceList}
+use Rattle.mk_race.specs.declared.missing.MissingList.{MissingList}
 use Rattle.mk_race.specs.declared.replaying.Played.{Played}
 use Rattle.mk_race.specs.declared.replaying.Played.TheVariants.{Allowed, NotAllowed}
 use Rattle.mk_race.specs.declared.planning.Planned.{Planned}
@@ -29,6 +31,7 @@ use Rattle.mk_race.specs.declared.serialising.Serialised.{Serialised}
 use Rattle.mk_race.specs.declared.tasks_fixing.TaskFixing.{TaskFixing}
 use Rattle.mk_race.specs.declared.tasks_fixing.TaskFixing.TheVariants as tasks_fixed
 use Rattle.mk_report.specs.FixText.{not_fixed_text}
+use Rattle.mk_report.specs.MissingText.{missing_text}
 use Rattle.mk_report.specs.RacesText.{IsRacesText}
 use Rattle.mk_report.specs.Reports.{IsReport}
 use Rattle.mk_report.specs.declared.answer.Answer.{Answer as Judged}
@@ -190,6 +193,29 @@ IsListAnswer texts footprints status text = SaysList (IsListed texts footprints)
 abbrev pub IsTaskListAnswer : List ℕ → List ℕ → Status → List ℕ → Type 0
 IsTaskListAnswer root tasks status text = SaysList (tasked.IsListedBelow root tasks) status text
 
+-- how the program ends after all races and violations were listed: with 0 where there is none
+abbrev pub MissingEnds : MissingList → Status → Type 0
+MissingEnds listed statuses.Done = IsEmpty listed
+MissingEnds listed statuses.No = IsEmpty listed → ⊥
+MissingEnds listed statuses.Refused = ⊥
+MissingEnds listed statuses.Failed = ⊥
+
+-- the report of all races and violations of a build
+pub record IsReportedMissing (texts : Texts) (footprints : List ℕ) (status : Status) (text : List ℕ) : Type 0 where
+  pub listed : MissingList
+  pub is : IsMissingList texts footprints (Ok listed)
+  pub ends : MissingEnds listed status
+  pub report : text ≡ missing_text listed.prepared.jobs listed.prepared.listing (length listed.found.races.items) listed.violations
+
+-- that report, where a build of an old tree leaves what a build of a clean tree leaves if there is none; or the report of the fault that
+-- refuses the texts
+abbrev pub IsMissingAnswer : Texts → List ℕ → Status → List ℕ → Type 0
+IsMissingAnswer texts footprints statuses.Done text = IsReportedMissing texts footprints statuses.Done text × BuildsAsClean texts footprints
+IsMissingAnswer texts footprints statuses.No text = IsReportedMissing texts footprints statuses.No text
+IsMissingAnswer texts footprints statuses.Refused text =
+    (reported : Reported) × IsMissingList texts footprints (Err reported) × (text ≡ refused_text reported)
+IsMissingAnswer texts footprints statuses.Failed text = ⊥
+
 -- what is reported of a build that was to be fixed: its lines, or the certificate of the build with them, and no schedule
 -- shows; or the edges that no lines give it
 abbrev pub IsFixReported : Texts → List ℕ → Bool → Fixing → Status → List ℕ → Type 0
@@ -268,6 +294,8 @@ IsAnswerOver (requests.Serialise replay) includes text status answer note =
     × (note ≡ [])
 IsAnswerOver (requests.List list) includes text status answer note =
     IsListAnswer (texts_for list.build includes text) (text inputs.Footprints) status answer × (note ≡ [])
+IsAnswerOver (requests.Missing list) includes text status answer note =
+    IsMissingAnswer (texts_for list.build includes text) (text inputs.Footprints) status answer × (note ≡ [])
 IsAnswerOver (requests.Fix fix) includes text status answer note =
     IsFixAnswer (texts_for fix.build includes text) (text inputs.Footprints) fix.print_proof status answer × (note ≡ [])
 IsAnswerOver (requests.Tasks asked) includes text status answer note =
@@ -331,6 +359,7 @@ IsNoTextOver (requests.Replay replay) includes text = ⊥
 IsNoTextOver (requests.Serialise replay) includes text =
     HasNoText (texts_for replay.build includes text) (text inputs.Footprints) (text inputs.Log) replay.limit replay.tie
 IsNoTextOver (requests.List list) includes text = ⊥
+IsNoTextOver (requests.Missing list) includes text = ⊥
 IsNoTextOver (requests.Fix fix) includes text = ⊥
 IsNoTextOver (requests.Tasks tasks) includes text = ⊥
 

@@ -78,6 +78,9 @@ list_app = with_tasks (new_app (codes "list"))
 abbrev pub fix_app : App
 fix_app = with_rule (with_tasks (new_app (codes "fix"))) (flag (codes "print-proof"))
 
+abbrev pub missing_app : App
+missing_app = with_rule (with_build true (new_app (codes "missing"))) (option true (codes "footprints"))
+
 -- the program without its subcommands: it must be given one, or be asked for its version
 abbrev pub top_app : App
 top_app = record {
@@ -88,8 +91,8 @@ top_app = record {
 -- the program with its subcommands
 abbrev pub race_app : App
 race_app =
-    with_subcommand (with_subcommand (with_subcommand (with_subcommand (with_subcommand (with_subcommand (with_subcommand top_app
-    order_app.top) check_app.top) verify_app.top) replay_app.top) serialise_app.top) list_app.top) fix_app.top
+    with_subcommand (with_subcommand (with_subcommand (with_subcommand (with_subcommand (with_subcommand (with_subcommand (with_subcommand top_app
+    order_app.top) check_app.top) verify_app.top) replay_app.top) serialise_app.top) list_app.top) fix_app.top) missing_app.top
 
 -- what these words ask: the subcommand that they name, with the values that were found
 abbrev pub asked : List (Bor Text) → Option (Text × List Row)
@@ -217,6 +220,7 @@ IsFor (requests.Verify verify) name rows = (name ≡ codes "verify") × HasNoTas
 IsFor (requests.Replay replay) name rows = (name ≡ codes "replay") × HasReplay replay rows
 IsFor (requests.Serialise replay) name rows = (name ≡ codes "serialise") × HasReplay replay rows
 IsFor (requests.List list) name rows = (name ≡ codes "list") × HasNoTasks rows × HasList list rows
+IsFor (requests.Missing list) name rows = (name ≡ codes "missing") × HasList list rows
 IsFor (requests.Fix fix) name rows = (name ≡ codes "fix") × HasNoTasks rows × HasCheck fix rows
 IsFor (requests.Tasks tasks) name rows = HasTasks tasks name rows
 

@@ -32,6 +32,7 @@ includes_path (requests.Verify verify) = option_map (λ path. path.now) verify.b
 includes_path (requests.Replay replay) = option_map (λ path. path.now) replay.build.includes
 includes_path (requests.Serialise replay) = option_map (λ path. path.now) replay.build.includes
 includes_path (requests.List list) = option_map (λ path. path.now) list.build.includes
+includes_path (requests.Missing list) = option_map (λ path. path.now) list.build.includes
 includes_path (requests.Fix fix) = option_map (λ path. path.now) fix.build.includes
 includes_path (requests.Tasks tasks) = None
 
@@ -56,5 +57,6 @@ inputs_of (requests.Verify verify) =
 inputs_of (requests.Replay replay) = log_inputs replay
 inputs_of (requests.Serialise replay) = log_inputs replay
 inputs_of (requests.List list) = build_inputs list.build ++ input_at inputs.Footprints list.footprints
+inputs_of (requests.Missing list) = build_inputs list.build ++ input_at inputs.Footprints list.footprints
 inputs_of (requests.Fix fix) = build_inputs fix.build ++ input_at inputs.Footprints fix.footprints
 inputs_of (requests.Tasks tasks) = input_at inputs.Tasks tasks.tasks ++ proof_input tasks.question

@@ -18,6 +18,7 @@ use crate::fixing::fix_answer;
 use crate::includes::{IncludeText, pairs_of, read_includes};
 use crate::inputs::{InputText, read_inputs, text_of};
 use crate::listing::list_answer;
+use crate::missing::missing_answer;
 use crate::noting::{Reply, refused_reply, with_note, without_note};
 use crate::openers::Opener;
 use crate::outcome_lines::outcome_text;
@@ -110,6 +111,10 @@ fn answer_over(
         }
         Request::List(list) => {
             let answer = list_answer(alloc, list, includes, texts)?;
+            Ok(without_note(alloc, answer))
+        }
+        Request::Missing(list) => {
+            let answer = missing_answer(alloc, list, includes, texts)?;
             Ok(without_note(alloc, answer))
         }
         Request::Fix(fix) => {

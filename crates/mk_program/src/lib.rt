@@ -34,6 +34,7 @@ mod fixing;
 mod includes;
 mod inputs;
 mod listing;
+mod missing;
 mod noting;
 mod openers;
 mod order_lines;

@@ -48,7 +48,7 @@ pub struct ReplayArgs<'a> {
     pub tie: bool,
 }
 
-/// What all races of a build are listed from.
+/// What all races of a build are listed from, and all that is missing of it.
 #[derive(Drop)]
 pub struct ListArgs<'a> {
     pub build: BuildArgs<'a>,
@@ -81,6 +81,7 @@ pub enum Request<'a> {
     Replay(ReplayArgs<'a>),
     Serialise(ReplayArgs<'a>),
     List(ListArgs<'a>),
+    Missing(ListArgs<'a>),
     Fix(CheckArgs<'a>),
     Tasks(TaskArgs<'a>),
 }
@@ -94,7 +95,7 @@ pub fn includes_path<'a>(request: &Request<'a>) -> Option<&'a str>
         Request::Check(check) => check.build.includes,
         Request::Verify(verify) => verify.build.includes,
         Request::Replay(replay) | Request::Serialise(replay) => replay.build.includes,
-        Request::List(list) => list.build.includes,
+        Request::List(list) | Request::Missing(list) => list.build.includes,
         Request::Fix(fix) => fix.build.includes,
         Request::Tasks(_) => None,
     }
@@ -126,7 +127,7 @@ fn push_inputs<'a>(inputs: &mut Vec<InputPath<'a>>, request: &Request<'a>) -> Re
             push_input(inputs, InputFile::Proof, verify.proof)
         }
         Request::Replay(replay) | Request::Serialise(replay) => push_replay(inputs, replay),
-        Request::List(list) => {
+        Request::List(list) | Request::Missing(list) => {
             push_build(inputs, &list.build)?;
             push_input(inputs, InputFile::Footprints, list.footprints)
         }

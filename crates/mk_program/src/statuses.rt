@@ -6,10 +6,11 @@ use std::process::ExitCode;
 /// How the program ends.
 #[derive(Clone, Copy, Debug, PartialEq, Eq)]
 pub enum Status {
-    /// The plan is printed, the proof is accepted, the log is a run, or is put in serial order, no race is listed, or the help or
-    /// the version is printed.
+    /// The plan is printed, the proof is accepted, the log is a run, or is put in serial order, no race is listed, or nothing is
+    /// missing, or the help or the version is printed.
     Done,
-    /// The answer is no: the proof is not accepted, or the log is no run, or is not put in serial order, or races are listed.
+    /// The answer is no: the proof is not accepted, or the log is no run, or is not put in serial order, races are listed, or
+    /// something is missing.
     No,
     /// The inputs are refused, and the report says why.
     Refused,

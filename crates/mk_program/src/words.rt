@@ -8,6 +8,7 @@ mod check_words;
 mod fix_words;
 mod help;
 mod list_words;
+mod missing_words;
 mod mistakes;
 mod replay_words;
 mod serialise_words;
@@ -19,6 +20,7 @@ use check_words::{check_args, check_command};
 use clap::{Arg, ArgAction, ArgMatches, Command, Error};
 use fix_words::fix_command;
 use list_words::{list_args, list_command};
+use missing_words::missing_command;
 use mistakes::{Mistake, mistake_in};
 use replay_words::{replay_args, replay_command};
 use serialise_words::serialise_command;
@@ -59,7 +61,7 @@ fn request_of<'a>(
 ) -> Result<Request<'a>, AllocError>
     requires { (name.now ≡ codes "order") ⊎ (name.now ≡ codes "check") ⊎ (name.now ≡ codes "verify")
         ⊎ (name.now ≡ codes "replay") ⊎ (name.now ≡ codes "serialise") ⊎ (name.now ≡ codes "list")
-        ⊎ (name.now ≡ codes "fix") }
+        ⊎ (name.now ≡ codes "fix") ⊎ (name.now ≡ codes "missing") }
     ensures { IfOk result (λ request.
         spec.IsFor request name.now (rows_of (found_of found.now))) }
 {
@@ -71,6 +73,9 @@ fn request_of<'a>(
     }
     if name == "serialise" {
         return Ok(Request::Serialise(replay_args(alloc, found)?));
+    }
+    if name == "missing" {
+        return Ok(Request::Missing(list_args(alloc, found)?));
     }
     match found.get_str("tasks") {
         Some(tasks) => Ok(Request::Tasks(task_args(name, found, tasks))),
@@ -113,7 +118,8 @@ fn race_command<'a>(alloc: Global) -> Result<Command<'a>, AllocError>
     let command = with_made(command, replay_command(alloc))?;
     let command = with_made(command, serialise_command(alloc))?;
     let command = with_made(command, list_command(alloc))?;
-    with_made(command, fix_command(alloc))
+    let command = with_made(command, fix_command(alloc))?;
+    with_made(command, missing_command(alloc))
 }
 
 /// The command with one subcommand more, where that could be made.

@@ -8,6 +8,7 @@ Reads a makefile as POSIX `make` does, and says what a build of it does, with a 
 pub const DETAILS: &str = "\
 `race check` says whether the recipes of a build may run in parallel, or which two of them race.
 `race list` lists all races of a build, and `race fix` prints the makefile lines that make it safe.
+`race missing` lists what can go wrong in a tree that was built before.
 `race order` prints the serial order of a build. `race verify` says whether a proof is good for a
 build: where it accepts a certificate, every run of the recipes leaves the same files.
 `race replay` says whether a log of a build is a run that `make -j` may make. `race serialise`
@@ -19,11 +20,12 @@ a recorder of builds, in place of a makefile.
 
 Statuses:
   0  check: the build is safe; list: there is no race; fix: the build is safe with the lines;
-     order: the order is printed; verify: the proof is accepted; replay: the log is a run, complete
-     or not; serialise: the new log is printed; the help or the version is printed
-  1  check: two recipes race; list: there are races; fix: no lines fix the build; verify: the proof
-     is not accepted; replay: the log is no run; serialise: it is none or not complete, recipes
-     race, or its times are too large
+     missing: nothing is listed; order: the order is printed; verify: the proof is accepted;
+     replay: the log is a run, complete or not; serialise: the new log is printed; the help or the
+     version is printed
+  1  check: two recipes race; list: there are races; fix: no lines fix the build; missing:
+     something is listed, or two recipes race; verify: the proof is not accepted; replay: the log
+     is no run; serialise: it is none or not complete, recipes race, or its times are too large
   2  the inputs are refused: the report says where and why
   3  a file cannot be read or written, memory runs out, or the command line is invalid: a line on
      standard error says which";
@@ -187,6 +189,61 @@ Example, an object that uses a header, which another recipe generates, and does 
 Statuses:
   0  no two recipes race
   1  some do
+  2  the makefile, the base, an included text, the listing, the root, an operand or the footprints
+     is refused, or more than 1,000,000 pairs of recipes conflict
+  3  a file cannot be read or written, memory runs out, or the command line is invalid
+";
+
+pub const MISSING_ABOUT: &str = "Lists what can go wrong in a tree that was built before.";
+
+pub const MISSING_DETAILS: &str = "\
+MAKEFILE, BASE, FILE, LISTING, DIR and the operands are those of `race order`, and FOOTPRINTS is
+that of `race check`. LISTING is that of a clean tree.
+
+In a tree that was built before `make` runs only recipes whose targets are out of date. A recipe
+that reads a file which none of its prerequisites stands for does not run again when that file is
+edited, with one job as with eight.
+
+What comes out is how many there are of each kind, the number of races, those of nodes, of recipes
+that may run, of those that cannot and of .WAIT, and then a line for each of these kinds. NAME and
+NODE are files of the build:
+  missing PATH : NAME reads                NAME may stay old after an edit of PATH
+  missing PATH : NAME reads NODE writes    the same, and NODE writes PATH last
+  late PATH : NAME reads NODE writes       NODE writes PATH, and may do so after NAME
+  shared PATH : NAME writes NODE writes    NODE writes PATH last, and may not run when NAME does
+  present NAME                             a recipe makes NAME, and LISTING has it
+Behind a line may stand `add NAME: PATH` or the like: put that prerequisite into MAKEFILE, and ask
+again. `race list` shows the races. Inputs that are refused give `refused`, the fault, its place
+and names.
+
+A status of 0 means:
+  - edit the sources and build, as often as you like: the files are those of a clean build;
+  - so they are with any number of jobs, and no `make clean` is needed;
+  - this is proved, where the premises hold.
+The premises are those of `race check`, and for each build these: it runs to its end, and from the
+same MAKEFILE; a recipe leaves the same after the same inputs, whatever stood there before; only
+sources are edited, and are newer than all files then. docs/THEOREM.md has them all.
+
+Example, an object that uses a header, and does not say so:
+  $ printf 'a.o: a.c\\n\\tcc -c a.c\\n' > makefile
+  $ printf 'a.c\\na.h\\n' > listing
+  $ echo '{\"target\":\"a.o\",\"reads\":[\"a.c\",\"a.h\"],\"writes\":[\"a.o\"]}' > footprints
+  $ race missing --makefile makefile --listing listing --root \"$PWD\" --footprints footprints
+  missing 1
+  late 0
+  shared 0
+  present 0
+  races 0
+  nodes 2
+  recipes 1
+  idle 0
+  waits 0
+  missing a.h : a.o reads
+  add a.o: a.h
+
+Statuses:
+  0  nothing is listed, and no two recipes race
+  1  something is listed, or two recipes race
   2  the makefile, the base, an included text, the listing, the root, an operand or the footprints
      is refused, or more than 1,000,000 pairs of recipes conflict
   3  a file cannot be read or written, memory runs out, or the command line is invalid

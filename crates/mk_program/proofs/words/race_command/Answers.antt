@@ -24,10 +24,13 @@ returns-clause-app c =
     let list = c.in_ok-command-6.ensures.app in
     let sixth = list.2 ∙ ap₂ with_subcommand fifth
     (ap (λ (app : App). app.top) (was_made c.list_command.result _ list.0 c.list_command.ensures.app list.1)) in
-    IfOk-weaker c.with_made-7.result _ _ (λ new h. h.2 ∙ ap₂ with_subcommand sixth
-    (ap (λ (app : App). app.top) (was_made c.fix_command.result _ h.0 c.fix_command.ensures.app h.1))) c.with_made-7.ensures.app
+    let fix = c.in_ok-command-7.ensures.app in
+    let seventh = fix.2 ∙ ap₂ with_subcommand sixth
+    (ap (λ (app : App). app.top) (was_made c.fix_command.result _ fix.0 c.fix_command.ensures.app fix.1)) in
+    IfOk-weaker c.with_made-8.result _ _ (λ new h. h.2 ∙ ap₂ with_subcommand seventh
+    (ap (λ (app : App). app.top) (was_made c.missing_command.result _ h.0 c.missing_command.ensures.app h.1))) c.with_made-8.ensures.app
 
 pub returns-clause-local : goal.returns-clause-local
 returns-clause-local c =
-    IfOk-weaker c.with_made-7.result _ _ (λ new h. h ∙ c.in_ok-command-6.ensures.local ∙ c.in_ok-command-5.ensures.local ∙ c.in_ok-command-4.ensures.local ∙ c.in_ok-command-3.ensures.local ∙ c.in_ok-command-2.ensures.local
-    ∙ c.in_ok-command.ensures.local ∙ c.top_command.ensures.local) c.with_made-7.ensures.local
+    IfOk-weaker c.with_made-8.result _ _ (λ new h. h ∙ c.in_ok-command-7.ensures.local ∙ c.in_ok-command-6.ensures.local ∙ c.in_ok-command-5.ensures.local ∙ c.in_ok-command-4.ensures.local ∙ c.in_ok-command-3.ensures.local ∙ c.in_ok-command-2.ensures.local
+    ∙ c.in_ok-command.ensures.local ∙ c.top_command.ensures.local) c.with_made-8.ensures.local

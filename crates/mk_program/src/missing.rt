@@ -1,0 +1,90 @@
+//! The answers to `race missing`.
+ghost use Rattle.std.specs.Prelude.{◌≡◌, ◌≢◌, ◌↔◌, IfOk, IsTrue, List, length, map, ℕ};
+ghost use Rattle.mk_missing.specs.Violations.{HasNone};
+ghost use Rattle.mk_race.specs.Stages.{texts_of};
+ghost use Rattle.mk_report.specs.MissingText.{missing_text};
+ghost use Rattle.mk_program.specs.Answers as spec;
+ghost use Rattle.mk_program.specs.Inputs.{AreTexts};
+
+use crate::answers::{Answer, bytes_of, input_of, refused};
+use crate::failures::InputFile;
+use crate::inputs::InputText;
+use crate::requests::ListArgs;
+use crate::statuses::Status;
+use mk_missing::violations::Violations;
+use mk_race::input::Input;
+use mk_race::missing::{MissingList, list_missing};
+use mk_report::missing::missing_report;
+use std::alloc::{AllocError, Global};
+
+/// All races and violations of a build, or why its inputs are refused. The only error is out of memory.
+pub(crate) fn missing_answer(
+    alloc: Global,
+    list: &ListArgs<'_>,
+    includes: &[(&[u8], &[u8])],
+    texts: &[InputText],
+) -> Result<Answer, AllocError>
+    ensures status { IfOk result (λ answer. answer.status ≢ Status.Failed) }
+    ensures answer { IfOk result (λ answer. (text : InputFile → List ℕ) → AreTexts texts.now text
+        → spec.IsMissingAnswer (spec.texts_for list.now.build
+        (map (λ pair. (pair.0.now, pair.1.now)) includes.now) text) (text InputFile.Footprints)
+        answer.status answer.text.items) }
+{
+    let build = &list.build;
+    let operands = bytes_of(alloc, build.operands.as_slice())?;
+    let input = input_of(build, operands.as_slice(), includes, texts);
+    missing_over(alloc, &input)
+}
+
+/// The report of all races and violations of a build, or of its first fault. The only error is out of memory.
+fn missing_over(alloc: Global, input: &Input<'_>) -> Result<Answer, AllocError>
+    ensures status { IfOk result (λ answer. answer.status ≢ Status.Failed) }
+    ensures answer { IfOk result (λ answer. spec.IsMissingAnswer (texts_of input.now)
+        input.now.footprints.now answer.status answer.text.items) }
+{
+    match list_missing(alloc, input) {
+        Ok(listed) => listed_answer(alloc, &listed),
+        Err(halt) => refused(alloc, halt),
+    }
+}
+
+/// The races and violations that were listed, reported. The only error is out of memory.
+fn listed_answer(alloc: Global, listed: &MissingList) -> Result<Answer, AllocError>
+    ensures { IfOk result (λ answer. spec.MissingEnds listed.now answer.status
+        × (answer.text.items ≡ missing_text listed.now.prepared.jobs listed.now.prepared.listing
+        (length listed.now.found.races.items) listed.now.violations)) }
+{
+    let prepared = &listed.prepared;
+    let races = listed.found.races.len();
+    let text = missing_report(
+        alloc,
+        &prepared.jobs,
+        &prepared.listing,
+        races,
+        &listed.violations,
+    )?;
+    Ok(Answer {
+        status: missing_status(listed),
+        text,
+    })
+}
+
+/// How the program ends: with 0 where there is no race and no violation.
+fn missing_status(listed: &MissingList) -> Status
+    ensures { spec.MissingEnds listed.now result }
+{
+    if listed.found.races.is_empty() && has_none(&listed.violations) {
+        return Status::Done;
+    }
+    Status::No
+}
+
+/// Whether there is no violation.
+fn has_none(found: &Violations) -> bool
+    ensures { IsTrue result ↔ HasNone found.now }
+{
+    found.missing.is_empty()
+        && found.late.is_empty()
+        && found.shared.is_empty()
+        && found.present.is_empty()
+}
