@@ -207,21 +207,22 @@ edited, with one job as with eight.
 What comes out is how many there are of each kind, the number of races, those of nodes, of recipes
 that may run, of those that cannot and of .WAIT, and then a line for each of these kinds. NAME and
 NODE are files of the build:
-  missing PATH : NAME reads                NAME need not run after an edit of PATH
+  missing PATH : NAME reads                NAME may stay old after an edit of PATH
   missing PATH : NAME reads NODE writes    the same, and NODE writes PATH last
-  late PATH : NAME reads NODE writes       NODE writes PATH, and need not run before NAME
-  shared PATH : NAME writes NODE writes    NODE writes PATH last, and need not run with NAME
-  present NAME                             a recipe makes NAME, and it is in LISTING
-Behind a line may stand `add NAME: NODE` or `add NAME: PATH`, a prerequisite that ends it.
-`race list` shows the races. Inputs that are refused give `refused`, the fault, its place and names.
+  late PATH : NAME reads NODE writes       NODE writes PATH, and may do so after NAME
+  shared PATH : NAME writes NODE writes    NODE writes PATH last, and may not run when NAME does
+  present NAME                             a recipe makes NAME, and LISTING has it
+Behind a line may stand `add NAME: PATH` or the like: put that prerequisite into MAKEFILE, and ask
+again. `race list` shows the races. Inputs that are refused give `refused`, the fault, its place
+and names.
 
 A status of 0 means:
   - edit the sources and build, as often as you like: the files are those of a clean build;
   - so they are with any number of jobs, and no `make clean` is needed;
   - this is proved, where the premises hold.
-The premises are those of `race check`, and for each build these: it runs to its end, from the same
-MAKEFILE; a recipe leaves the same after the same inputs, whatever stood there before, and writes its
-target; only sources are edited, and are newer than all files then. docs/THEOREM.md has them all.
+The premises are those of `race check`, and for each build these: it runs to its end, and from the
+same MAKEFILE; a recipe leaves the same after the same inputs, whatever stood there before; only
+sources are edited, and are newer than all files then. docs/THEOREM.md has them all.
 
 Example, an object that uses a header, and does not say so:
   $ printf 'a.o: a.c\\n\\tcc -c a.c\\n' > makefile
