@@ -2,14 +2,14 @@
 
 _race() {
   local word=${COMP_WORDS[COMP_CWORD]} before=${COMP_WORDS[COMP_CWORD-1]} command=${1##*/}
-  if [[ $command == race && $COMP_CWORD -gt 1 && ${COMP_WORDS[1]} == @(order|check|verify|replay|serialise|list|fix) ]]; then
+  if [[ $command == race && $COMP_CWORD -gt 1 && ${COMP_WORDS[1]} == @(order|check|verify|replay|serialise|list|fix|missing) ]]; then
     command="race ${COMP_WORDS[1]}"
   fi
   COMPREPLY=()
   case $command in
   'race')
     case $word in -*) mapfile -t COMPREPLY < <(compgen -W "-h --help -V --version" -- "$word"); return ;; esac
-    mapfile -t COMPREPLY < <(compgen -W "order check verify replay serialise list fix" -- "$word") ;;
+    mapfile -t COMPREPLY < <(compgen -W "order check verify replay serialise list fix missing" -- "$word") ;;
   'race order')
     case $before in
       --makefile) mapfile -t COMPREPLY < <(compgen -f -- "$word"); return ;;
@@ -94,6 +94,17 @@ _race() {
       --tasks) mapfile -t COMPREPLY < <(compgen -f -- "$word"); return ;;
     esac
     case $word in -*) mapfile -t COMPREPLY < <(compgen -W "--makefile --listing --root --base --posix-base --includes --footprints --tasks --print-proof -h --help" -- "$word"); return ;; esac
+    mapfile -t COMPREPLY < <(compgen -f -- "$word") ;;
+  'race missing')
+    case $before in
+      --makefile) mapfile -t COMPREPLY < <(compgen -f -- "$word"); return ;;
+      --listing) mapfile -t COMPREPLY < <(compgen -f -- "$word"); return ;;
+      --root) mapfile -t COMPREPLY < <(compgen -d -- "$word"); return ;;
+      --base) mapfile -t COMPREPLY < <(compgen -f -- "$word"); return ;;
+      --includes) mapfile -t COMPREPLY < <(compgen -f -- "$word"); return ;;
+      --footprints) mapfile -t COMPREPLY < <(compgen -f -- "$word"); return ;;
+    esac
+    case $word in -*) mapfile -t COMPREPLY < <(compgen -W "--makefile --listing --root --base --posix-base --includes --footprints -h --help" -- "$word"); return ;; esac
     mapfile -t COMPREPLY < <(compgen -f -- "$word") ;;
   'race-confirm')
     case $before in

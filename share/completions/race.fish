@@ -1,6 +1,6 @@
 # Completions of race and its companions for fish. Made by tools/completions from the help. Do not edit.
 
-set -l race_commands order check verify replay serialise list fix
+set -l race_commands order check verify replay serialise list fix missing
 
 complete -c race -n "not __fish_seen_subcommand_from $race_commands" -f -a order -d 'Prints the serial order of a build: each file after all that it needs.'
 complete -c race -n "not __fish_seen_subcommand_from $race_commands" -f -a check -d 'Says whether the recipes of a build may run in parallel, or which two of them race.'
@@ -9,6 +9,7 @@ complete -c race -n "not __fish_seen_subcommand_from $race_commands" -f -a repla
 complete -c race -n "not __fish_seen_subcommand_from $race_commands" -f -a serialise -d 'Writes the log of a parallel build as the log of the same build with one job.'
 complete -c race -n "not __fish_seen_subcommand_from $race_commands" -f -a list -d 'Lists all races of a build, one a line.'
 complete -c race -n "not __fish_seen_subcommand_from $race_commands" -f -a fix -d 'Prints the makefile lines that make a build safe, which it has proved.'
+complete -c race -n "not __fish_seen_subcommand_from $race_commands" -f -a missing -d 'Lists what can go wrong in a tree that was built before.'
 complete -c race -n "not __fish_seen_subcommand_from $race_commands" -s h -l help -d 'Print help'
 complete -c race -n "not __fish_seen_subcommand_from $race_commands" -s V -l version -d 'Print version'
 
@@ -89,6 +90,15 @@ complete -c race -n '__fish_seen_subcommand_from fix' -l footprints -r -F -d 'Wh
 complete -c race -n '__fish_seen_subcommand_from fix' -l tasks -r -F -d 'What tasks wait for, read and write, one object of JSON a line'
 complete -c race -n '__fish_seen_subcommand_from fix' -l print-proof -d 'Print the certificate of the fixed build in place of the lines'
 complete -c race -n '__fish_seen_subcommand_from fix' -s h -l help -d 'Print help'
+
+complete -c race -n '__fish_seen_subcommand_from missing' -l makefile -r -F -d 'The makefile'
+complete -c race -n '__fish_seen_subcommand_from missing' -l listing -r -F -d 'The paths that are there before the build, one a line'
+complete -c race -n '__fish_seen_subcommand_from missing' -l root -x -a '(__fish_complete_directories)' -d 'The folder of all other paths, absolute, such as --root "$PWD"'
+complete -c race -n '__fish_seen_subcommand_from missing' -l base -r -F -d 'A makefile whose rules and macros come before those of MAKEFILE'
+complete -c race -n '__fish_seen_subcommand_from missing' -l posix-base -d 'The rules and macros that POSIX.1-2024 lists, in place of --base'
+complete -c race -n '__fish_seen_subcommand_from missing' -l includes -r -F -d 'The paths of the texts that include lines may name, one a line'
+complete -c race -n '__fish_seen_subcommand_from missing' -l footprints -r -F -d 'What the recipes read and write, one object of JSON a line'
+complete -c race -n '__fish_seen_subcommand_from missing' -s h -l help -d 'Print help'
 
 complete -c race-confirm -s h -l help -d 'show this help message and exit'
 complete -c race-confirm -l runs -x -d 'try at most N schedules of a race (12)'
