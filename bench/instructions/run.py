@@ -93,10 +93,14 @@ def line_of(args: argparse.Namespace, tool: str, folder: pathlib.Path, command: 
     return Line(tool, None if is_long else count(folder, command), run)
 
 
+def change_of(line: Line, kept: float | None) -> str:
+    """By how much the program's count moved from the one that is kept."""
+    return "new" if kept is None or line.count is None else f"{100 * (line.count / kept - 1):+.1f} %"
+
+
 def text_of(name: str, line: Line, kept: float | None) -> str:
     """What is printed of a tool on an input."""
-    change = "new" if kept is None else f"{100 * (line.count / kept - 1):+.1f} %"
-    of_race = f"{kept or 0:12.1f}{change:>10}" if line.tool == "race" else " " * 22
+    of_race = f"{kept or 0:12.1f}{change_of(line, kept):>10}" if line.tool == "race" else " " * 22
     counted = "     too long" if line.count is None else f"{line.count:13.1f}"
     timed = f"{line.run.user:9.3f}{line.run.seconds:9.3f}{line.run.memory:9.1f}" if line.run else ""
     return f"{name:38}{line.tool:8}{counted}{of_race}{timed}"
