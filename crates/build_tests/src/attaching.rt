@@ -1,4 +1,4 @@
-//! A plan that comes back where memory ran out, and is attached again.
+//! A plan that comes back where memory ran out, and is attached again, to footprints that are read again.
 ghost use Rattle.std.specs.Prelude.{◌<◌};
 ghost use Rattle.mk_jobs.specs.Jobs.{node_count};
 
@@ -38,12 +38,6 @@ fn is_attached(alloc: Global) -> Result<bool, AllocError> {
 }
 
 fn jobs_of(alloc: Global) -> Result<Jobs, Halt> {
-    let root = Root::read(alloc, b"/w")?;
-    let footprints = read_footprints(alloc, FOOTPRINTS, &root)?;
-    jobs_with(alloc, &footprints)
-}
-
-fn jobs_with(alloc: Global, footprints: &Footprints) -> Result<Jobs, Halt> {
     let input = Input {
         root: b"/w",
         operands: &[],
@@ -54,22 +48,22 @@ fn jobs_with(alloc: Global, footprints: &Footprints) -> Result<Jobs, Halt> {
         footprints: b"",
     };
     match plan_of(alloc, &input) {
-        Ok(Planned { book, plan, .. }) => attached(alloc, plan, &book, footprints),
+        Ok(Planned { book, plan, .. }) => attached(alloc, plan, &book),
         Err(halt) => Err(halt),
     }
 }
 
 /// The jobs of a plan; where memory runs out, those of the plan that comes back.
-fn attached(
-    alloc: Global,
-    plan: Plan,
-    book: &Rulebook,
-    footprints: &Footprints,
-) -> Result<Jobs, Halt> {
-    match attach(alloc, plan, book, footprints) {
-        Err((plan, Halt::Memory)) => without_plan(attach(alloc, plan, book, footprints)),
+fn attached(alloc: Global, plan: Plan, book: &Rulebook) -> Result<Jobs, Halt> {
+    match attach(alloc, plan, book, footprints(alloc)?) {
+        Err((plan, Halt::Memory)) => without_plan(attach(alloc, plan, book, footprints(alloc)?)),
         given => without_plan(given),
     }
+}
+
+fn footprints(alloc: Global) -> Result<Footprints, Halt> {
+    let root = Root::read(alloc, b"/w")?;
+    read_footprints(alloc, FOOTPRINTS, &root)
 }
 
 fn without_plan(given: Result<Jobs, (Plan, Halt)>) -> Result<Jobs, Halt> {

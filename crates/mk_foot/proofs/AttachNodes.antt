@@ -1,6 +1,6 @@
 -- From the nodes of a plan to jobs: the first fault, or rows that are well-formed.
 use Rattle.std.proofs.Common.{◌≡◌, ℕ, ◌+◌, ◌<◌, ◌≤◌, true, false, not, ◌&&◌, List, [], ◌∷◌, ◌++◌, Option, None, Some, length, get_or, take, drop, slice_get, sym, ap, ap₂, subst, ◌∙◌, refl, arith, map, inl, inr, Vec}
-use Rattle.std.specs.Prelude.{Result, Ok, Err, find, unwrap_or}
+use Rattle.std.specs.Prelude.{Result, Ok, Err, find, unwrap_or, if◌then◌else◌}
 use Rattle.std.specs.List.{cons_option, enumerate_from, filter_map}
 use Rattle.std.specs.Option.{option_map_or, option_map}
 use Rattle.std.proofs.lemmas.Bool.{and_parts, both_ways, cases_Bool, cases_lt, cond-true, cond-false, or_cases}
@@ -23,7 +23,7 @@ use Rattle.mk_jobs.specs.Plan.{Plan, Node, names_of, nobody, NeedsStandBefore, e
 use Rattle.mk_jobs.proofs.Numberings.{has_at}
 use Rattle.mk_path.specs.Taken.{is_taken}
 use Rattle.mk_foot.specs.Attached.{HasAll, attached_beside, first_fault, footprint_of, jobs_with, node_answer, node_fault, recipe_fault, reported}
-use Rattle.mk_foot.specs.Footprints.{Footprint, Footprints, footprint_at, no_footprint}
+use Rattle.mk_foot.specs.Footprints.{Footprint, Footprints, LeavesOthers, footprint_at, no_footprint}
 use Rattle.mk_jobs.specs.Jobs.{Jobs, node_at, node_count, name_of, is_live, reads_of, writes_of, may_write}
 use Rattle.mk_jobs.specs.Recipes.{is_live_node}
 use Rattle.mk_jobs.specs.Shape.{AreNamed, IsRising, IsWellFormed}
@@ -44,6 +44,47 @@ pub halts_along : {X Y : Type 0} (halt : Halt) (small : Result X Reported) (big 
     → Halts halt small → Halts halt big
 halts_along halts.Memory small big same h = tt
 halts_along (halts.Fault fault) small big same h = same fault h
+
+-- of footprints, those of the nodes from a number on are left
+pub record AreLeft (plan : Plan) (footprints left : Footprints) (n : ℕ) : Type 0 where
+  pub root : left.root ≡ footprints.root
+  pub there : (k : ℕ) → n ≤ k → k < length plan.nodes → footprint_at left (get_or plan.nodes k nobody).name ≡ footprint_at footprints (get_or plan.nodes k nobody).name
+
+pub left_all : (plan : Plan) (footprints : Footprints) → AreLeft plan footprints footprints 0
+left_all plan footprints = record { root = refl; there = λ k from below. refl }
+
+-- two nodes of one name are one
+same_number : (plan : Plan) → IsDistinct same_name (names_of plan.nodes) → (n k : ℕ) → n < length plan.nodes → k < length plan.nodes
+    → same_name (get_or plan.nodes n nobody).name (get_or plan.nodes k nobody).name ≡ true → n ≡ k
+unfolding node_count name_of
+same_number plan distinct n k n_below k_below same =
+    same_place (record { plan = plan; root = []; reads = []; writes = [] }) distinct n k n_below k_below
+    (ap (λ (d : Node). d.name) (unwrap_or-slice_get plan.nodes n nobody)
+    ∙ name_is_exact.equal _ _ same
+    ∙ sym (ap (λ (d : Node). d.name) (unwrap_or-slice_get plan.nodes k nobody)))
+
+module _ (plan : Plan) (owned : List Name) (footprints left : Footprints) (n : ℕ) (within : n < length plan.nodes) (are : AreLeft plan footprints left n) where
+  -- the node of the number gets the same from them
+  pub same_answer : node_answer owned left (n, get_or plan.nodes n nobody) ≡ node_answer owned footprints (n, get_or plan.nodes n nobody)
+  same_answer =
+      let node = get_or plan.nodes n nobody in
+      ap₂ (λ root found. option_map_or (λ fault. Err fault) (if is_live_node node then recipe_fault root owned n node.name found else None)
+      (Ok (if is_live_node node then unwrap_or found no_footprint else no_footprint)))
+      are.root (are.there n (omega arith) within)
+
+  -- without that of the node, those of the others behind it are left
+  pub left_more : (new : Footprints) → IsDistinct same_name (names_of plan.nodes) → LeavesOthers left (get_or plan.nodes n nobody).name new → AreLeft plan footprints new (n + 1)
+  left_more new distinct others = record {
+    root = others.0 ∙ are.root;
+    there = λ k from below. others.1 (get_or plan.nodes k nobody).name (apart k from below) ∙ are.there k (omega (arith, from)) below;
+  }
+    where
+      apart : (k : ℕ) → n + 1 ≤ k → k < length plan.nodes → same_name (get_or plan.nodes n nobody).name (get_or plan.nodes k nobody).name ≡ false
+      apart k from below =
+          elim (cases_Bool (same_name (get_or plan.nodes n nobody).name (get_or plan.nodes k nobody).name)) [
+            | inl same ↦ absurd (let e : n ≡ k = same_number plan distinct n k within below same in omega (arith, e, from))
+            | inr other ↦ other
+          ]
 
 -- what is known before the node of a number: the first fault is among the nodes that are left, and those before have no fault
 -- and rising rows of paths that have names

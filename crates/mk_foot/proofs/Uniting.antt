@@ -89,3 +89,9 @@ module _ (line : Line) (lines : List Line) where
         ];
     rising = rising;
   }
+
+-- without the footprint of a target, those of the others stay
+pub others_stay : (old removed : ByTarget) (target : Name) → ((q : Name) → footprint_in removed q ≡ cond (is_eq (slice_cmp nat_cmp target q)) None (footprint_in old q))
+    → (other : Name) → same_name target other ≡ false → footprint_in removed other ≡ footprint_in old other
+others_stay old removed target out other apart =
+    out other ∙ cond-false (is_eq (slice_cmp nat_cmp target other)) None (footprint_in old other) (sym (texts_ties target other) ∙ apart)

@@ -1,5 +1,5 @@
 -- The footprints of targets: what their lines say together, or the first line at fault.
-use Rattle.std.specs.Prelude.{◌≡◌, ℕ, ◌+◌, ◌-◌, ◌^◌, List, [], ◌∷◌, ◌++◌, Option, None, Some, Result, Ok, Err, filter, fold, length, min, nat_lt, slice_get, take, unwrap_or, if◌then◌else◌}
+use Rattle.std.specs.Prelude.{◌≡◌, ℕ, ◌+◌, ◌-◌, ◌^◌, List, [], ◌∷◌, ◌++◌, Option, None, Some, Result, Ok, Err, false, filter, fold, length, min, nat_lt, slice_get, take, unwrap_or, if◌then◌else◌}
 use Rattle.std.specs.List.{enumerate_from, filter_map, flat_map, sum_by}
 use Rattle.std.specs.BTreeSet.{insert_key}
 use Rattle.std.specs.Cmp.Lexicographic.{slice_cmp}
@@ -63,6 +63,11 @@ pub record Footprints : Type 0 where
 
 abbrev pub footprint_at : Footprints → Name → Option Footprint
 footprint_at footprints target = footprint_in footprints.by_target target
+
+-- other footprints have the same root, and what these have for each name but one
+abbrev pub LeavesOthers : Footprints → Name → Footprints → Type 0
+LeavesOthers these name others =
+    (others.root ≡ these.root) × ((other : Name) → same_name name other ≡ false → footprint_at others other ≡ footprint_at these other)
 
 -- each target stands once, in the byte order of their names
 abbrev pub IsInOrder : ByTarget → Type 0

@@ -9,6 +9,7 @@ ghost use Rattle.mk_rules.specs.Book.{targets_of};
 ghost use Rattle.mk_jobs.specs.Plan.{names_of, nobody};
 ghost use Rattle.mk_jobs.specs.Rows.{with_rows};
 ghost use Rattle.mk_jobs.specs.Shape.{AreNamed, IsRising, IsWellFormed};
+ghost use Rattle.mk_foot.specs.Footprints.{LeavesOthers};
 ghost use Rattle.mk_foot.specs.Attached as spec;
 
 use crate::footprints::{Footprint, Footprints, in_order};
@@ -53,17 +54,18 @@ struct Rows {
 /// The first of these faults is answered, each in the jobs at its node's number: `MissingFootprint` with the target of a
 /// live recipe that no footprint names; `WritesTarget` with the target of a live recipe and the least name beside its own
 /// that is covered by what it writes, where a node or a rule's target has that name. Recipes that are not live need no
-/// footprint, and read and write nothing. With a fault, and where memory ran out, the plan comes back.
+/// footprint, and read and write nothing. With a fault, and where memory ran out, the plan comes back. The footprints are used
+/// up: their paths are moved into the jobs.
 pub fn attach(
     alloc: Global,
     plan: Plan,
     rulebook: &Rulebook,
-    footprints: &Footprints,
+    footprints: Footprints,
 ) -> Result<Jobs, (Plan, Halt)>
     ensures jobs { IfOk result (λ jobs.
-        spec.attached plan (targets_of rulebook.now.rules) footprints.now ≡ Ok jobs) }
+        spec.attached plan (targets_of rulebook.now.rules) footprints ≡ Ok jobs) }
     ensures fault { IfErr result (λ refused.
-        Halts refused.1 (spec.attached plan (targets_of rulebook.now.rules) footprints.now)) }
+        Halts refused.1 (spec.attached plan (targets_of rulebook.now.rules) footprints)) }
     ensures plan { IfErr result (λ refused. refused.0 ≡ plan) }
 {
     let rows = match rows_beside(alloc, &plan, rulebook, footprints) {
@@ -81,14 +83,14 @@ fn rows_beside(
     alloc: Global,
     plan: &Plan,
     rulebook: &Rulebook,
-    footprints: &Footprints,
+    footprints: Footprints,
 ) -> Result<Rows, Halt>
-    ensures rows { IfOk result (λ rows. spec.attached plan.now (targets_of rulebook.now.rules) footprints.now
+    ensures rows { IfOk result (λ rows. spec.attached plan.now (targets_of rulebook.now.rules) footprints
         ≡ Ok (with_rows plan.now rows.root rows.reads.items rows.writes.items)) }
     ensures shape { IfOk result (λ rows.
         IsWellFormed (with_rows plan.now rows.root rows.reads.items rows.writes.items)) }
     ensures fault { IfErr result (λ halt.
-        Halts halt (spec.attached plan.now (targets_of rulebook.now.rules) footprints.now)) }
+        Halts halt (spec.attached plan.now (targets_of rulebook.now.rules) footprints)) }
 {
     let names = owned_names(alloc, plan, rulebook)?;
     let owned = lent(alloc, names.as_slice())?;
@@ -100,43 +102,43 @@ fn rows_of(
     alloc: Global,
     plan: &Plan,
     owned: &[&Name],
-    footprints: &Footprints,
+    mut footprints: Footprints,
 ) -> Result<Rows, Halt>
     requires rising { IsStrictlySortedBy (slice_cmp nat_cmp) (map (λ name. name.now) owned.now) }
     requires whole { spec.HasAll (map (λ name. name.now) owned.now) (names_of plan.now.nodes) }
-    ensures rows { IfOk result (λ rows. spec.attached_beside (map (λ name. name.now) owned.now) plan.now footprints.now
+    ensures rows { IfOk result (λ rows. spec.attached_beside (map (λ name. name.now) owned.now) plan.now footprints
         ≡ Ok (with_rows plan.now rows.root rows.reads.items rows.writes.items)) }
     ensures shape { IfOk result (λ rows.
         IsWellFormed (with_rows plan.now rows.root rows.reads.items rows.writes.items)) }
     ensures fault { IfErr result (λ halt.
-        Halts halt (spec.attached_beside (map (λ name. name.now) owned.now) plan.now footprints.now)) }
+        Halts halt (spec.attached_beside (map (λ name. name.now) owned.now) plan.now footprints)) }
 {
     let mut reads = Vec::new(alloc);
     let mut writes = Vec::new(alloc);
     for n in 0..plan.count() {
-        let row = row_of(alloc, plan, n, owned, footprints)?;
+        let row = row_of(alloc, plan, n, owned, &mut footprints)?;
         reads.push(row.reads)?;
         writes.push(row.writes)?;
     }
-    let root = footprints.root().copy(alloc)?;
     Ok(Rows {
-        root,
+        root: footprints.into_root(),
         reads,
         writes,
     })
 }
 
-/// What a node reads and writes, or its fault, where these names belong to recipes.
+/// What a node reads and writes, or its fault, where these names belong to recipes. Its footprint is taken out.
 fn row_of(
     alloc: Global,
     plan: &Plan,
     n: u32,
     owned: &[&Name],
-    footprints: &Footprints,
+    footprints: &mut Footprints,
 ) -> Result<Row, Halt>
     requires node { n < length plan.now.nodes }
     requires rising { IsStrictlySortedBy (slice_cmp nat_cmp) (map (λ name. name.now) owned.now) }
-    ensures answer { Gives result (spec.node_answer (map (λ name. name.now) owned.now) footprints.now (n, get_or plan.now.nodes n nobody)) }
+    ensures answer { Gives result (spec.node_answer (map (λ name. name.now) owned.now) footprints.old (n, get_or plan.now.nodes n nobody)) }
+    ensures others { LeavesOthers footprints.old (get_or plan.now.nodes n nobody).name footprints.new }
     ensures rising { IfOk result (λ row. IsRising row.reads × IsRising row.writes) }
     ensures named { IfOk result (λ row. AreNamed row.reads × AreNamed row.writes) }
 {
@@ -147,7 +149,7 @@ fn row_of(
         });
     }
     let own = plan.name(n);
-    match footprints.of(own) {
+    match footprints.take(own) {
         Some(footprint) => live_row(alloc, n, own, owned, footprints.root(), footprint),
         None => Err(missing(alloc, n, own)?),
     }
@@ -160,22 +162,21 @@ fn live_row(
     own: &Name,
     owned: &[&Name],
     root: &Root,
-    footprint: &Footprint,
+    footprint: Footprint,
 ) -> Result<Row, Halt>
     requires { IsStrictlySortedBy (slice_cmp nat_cmp) (map (λ name. name.now) owned.now) }
-    ensures answer { Gives result (spec.live_answer root.now (map (λ name. name.now) owned.now) n own.now footprint.now) }
+    ensures answer { Gives result (spec.live_answer root.now (map (λ name. name.now) owned.now) n own.now footprint) }
     ensures rising { IfOk result (λ row. IsRising row.reads × IsRising row.writes) }
     ensures named { IfOk result (λ row. AreNamed row.reads × AreNamed row.writes) }
 {
-    let writes = in_order(alloc, &footprint.writes)?;
+    let Footprint { reads, writes } = footprint;
+    let reads = in_order(alloc, reads)?;
+    let writes = in_order(alloc, writes)?;
     if let Some(other) = least_covered(root, writes.as_slice(), owned, own) {
         let names = vec![in alloc; own.copy(alloc)?, other.copy(alloc)?]?;
         return Err(fault(Kind::WritesTarget, n, names));
     }
-    Ok(Row {
-        reads: in_order(alloc, &footprint.reads)?,
-        writes,
-    })
+    Ok(Row { reads, writes })
 }
 
 /// The fault of a live recipe whose target no footprint names. The only error is out of memory.

@@ -1,9 +1,9 @@
 //! Footprints: what the recipe of each target reads and writes.
-ghost use Rattle.std.specs.Prelude.{◌≡◌, [], IfOk, OnOk, fold, is_some, option_map};
+ghost use Rattle.std.specs.Prelude.{◌≡◌, [], IfOk, OnOk, fold, is_some};
 ghost use Rattle.std.specs.BTreeSet.{insert_key};
 ghost use Rattle.std.specs.List.Sorted.{IsStrictlySortedBy};
 ghost use Rattle.mk_path.specs.Paths.{path_cmp};
-ghost use Rattle.mk_foot.specs.Footprints.{AddsLine, AreFootprints, footprint_at};
+ghost use Rattle.mk_foot.specs.Footprints.{AddsLine, AreFootprints, LeavesOthers, footprint_at};
 
 use crate::line::Line;
 use mk_name::name::Name;
@@ -64,18 +64,27 @@ impl Footprints {
         &self.root
     }
 
-    /// The footprint of a target, where some line names it.
-    pub(crate) fn of(&self, target: &Name) -> Option<&Footprint>
-        ensures { option_map (λ footprint. footprint.now) result ≡ footprint_at self.now target.now }
+    /// That root, where nothing else of them is needed.
+    pub(crate) fn into_root(self) -> Root
+        ensures { result ≡ self.root }
     {
-        self.by_target.get(target)
+        let Footprints { root, .. } = self;
+        root
     }
 
     /// Whether some line names a target.
     pub fn has(&self, target: &Name) -> bool
         ensures { result ≡ is_some (footprint_at self.now target.now) }
     {
-        self.of(target).is_some()
+        self.by_target.contains_key(target)
+    }
+
+    /// Takes out the footprint of a target, where some line names it. Those of all others stay.
+    pub(crate) fn take(&mut self, target: &Name) -> Option<Footprint>
+        ensures footprint { result ≡ footprint_at self.old target.now }
+        ensures others { LeavesOthers self.old target.now self.new }
+    {
+        self.by_target.remove(target)
     }
 
     /// Unites what a line says with what the others of its target say. The only error is out of memory.
@@ -119,13 +128,13 @@ fn collected(alloc: Global, paths: Vec<Path>) -> Result<BTreeSet<Path>, AllocErr
 }
 
 /// The paths of a set, rising.
-pub(crate) fn in_order(alloc: Global, paths: &BTreeSet<Path>) -> Result<Vec<Path>, AllocError>
-    ensures paths { IfOk result (λ list. list.items ≡ paths.now.keys) }
+pub(crate) fn in_order(alloc: Global, paths: BTreeSet<Path>) -> Result<Vec<Path>, AllocError>
+    ensures paths { IfOk result (λ list. list.items ≡ paths.keys) }
     ensures rising { IfOk result (λ list. IsStrictlySortedBy path_cmp list.items) }
 {
     let mut list = Vec::with_capacity(alloc, paths.len())?;
     for path in paths {
-        list.push(path.copy(alloc)?)?;
+        list.push(path)?;
     }
     Ok(list)
 }

@@ -8,14 +8,14 @@ use Rattle.std.specs.List.{AllZip}
 use Rattle.std.specs.Map.{lookup, set_value, IsKeyTest, AreApart, KeepsOthers}
 use Rattle.std.proofs.lemmas.Map.Steps.{set_value_same}
 use Rattle.std.specs.BTreeMap.{BTreeMap, IsClone, get_by, is_at, UpdatesBy, WritesThrough}
-use Rattle.std.specs.Option.{is_some}
+use Rattle.std.specs.Option.{is_some, option_map_or}
 use Rattle.std.specs.Ordering.{is_eq, nat_cmp}
 use Rattle.std.specs.Cmp.{eq_by_cmp_equiv}
 use Rattle.std.specs.Cmp.Lexicographic.{slice_cmp, bytes_decides, nat_list_cmp_total, nat_list_eq_equiv}
 use Rattle.std.proofs.lemmas.Bool.{cases_Bool, cond-true, cond-false}
 use Rattle.std.proofs.lemmas.Map.Text.{is_eq-slice_cmp}
 use Rattle.mk_name.specs.Names.{Name, same_name}
-use Rattle.mk_macro.specs.Macros.{Definition, Entries, defined, macros_of}
+use Rattle.mk_macro.specs.Macros.{Definition, Entries, defined, defined_unless_given, is_given, macros_of}
 
 abbrev pub Key : Type 0
 Key = Vec ℕ Global
@@ -114,6 +114,29 @@ pub extended_none : (m n : BTreeMap Key Definition) (name : Name) (text : List �
     → MatchOption (macros_of es name) (macros_of (shown n.entries) ≡ macros_of es) (λ o. macros_of (shown n.entries) ≡ defined (macros_of es) name (extended_by o text))
 extended_none m n name text es is same view =
     rw (found m name None es is view) (ap (λ xs. macros_of (shown xs)) same ∙ ap macros_of view)
+
+-- whether an operand gave a definition, where there is one
+abbrev pub may_stay : Option Definition → Bool
+may_stay o = option_map_or (λ old. is_given old.manner) o false
+
+found_at : (m : BTreeMap Key Definition) (key name : Name) (o : Option Definition) (es : Entries) → get_by (compare key) m ≡ o → key ≡ name → shown m.entries ≡ es → macros_of es name ≡ o
+found_at m key name o es is same view = found m name o es (subst (λ k. get_by (compare k) m ≡ o) same is) view
+
+-- a definition that is put at a name with none that an operand gave
+pub put_at : (m n : BTreeMap Key Definition) (key name : Name) (o : Option Definition) (d : Definition) (es : Entries)
+    → UpdatesBy (λ x y. slice_cmp nat_cmp x.items y.items) (compare key) m n (Some d) → key ≡ name → shown m.entries ≡ es → get_by (compare key) m ≡ o → may_stay o ≡ false
+    → macros_of (shown n.entries) ≡ defined_unless_given (macros_of es) name d
+put_at m n key name o d es h same view is other =
+    table_defined_at m n key name d es h same view
+    ∙ sym (cond-false (may_stay (macros_of es name)) (macros_of es) (defined (macros_of es) name d) (ap may_stay (found_at m key name o es is same view) ∙ other))
+
+-- one that an operand gave stays
+pub stays_at : (m n : BTreeMap Key Definition) (key name : Name) (o : Option Definition) (d : Definition) (es : Entries)
+    → n.entries ≡ m.entries → key ≡ name → shown m.entries ≡ es → get_by (compare key) m ≡ o → may_stay o ≡ true
+    → macros_of (shown n.entries) ≡ defined_unless_given (macros_of es) name d
+stays_at m n key name o d es unchanged same view is given =
+    ap (λ xs. macros_of (shown xs)) unchanged ∙ ap macros_of view
+    ∙ sym (cond-true (may_stay (macros_of es name)) (macros_of es) (defined (macros_of es) name d) (ap may_stay (found_at m key name o es is same view) ∙ given))
 
 -- whether a table has a name
 pub has_name : {X : Type 0} (m : BTreeMap Key X) (key name : Name) (es : List (Name × X)) (b : Bool) → b ≡ is_some (get_by (compare key) m) → key ≡ name → shown m.entries ≡ es → b ≡ is_some (lookup (same_name name) es)

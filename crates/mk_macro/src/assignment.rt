@@ -22,14 +22,16 @@ impl Macros {
         }
     }
 
-    /// Defines a macro whose value is expanded where it is used.
-    fn set_delayed(&mut self, alloc: Global, name: &[u8], text: &[u8]) -> Result<(), AllocError>
-        ensures defined { OnOk result
-            (macros_of self.new ≡ defined (macros_of self.old) name.now (delayed text.now)) }
+    /// Defines a macro whose value is expanded where it is used, unless an operand gave it its value.
+    fn set_delayed(&mut self, alloc: Global, name: &[u8], text: &[u8]) -> Result<(), Halt>
+        ensures answer { AnswersLeft result (macros_of self.new)
+            (IsAssigned (macros_of self.old) name.now Operator.Delayed text.now) }
         ensures unchanged { OnErr result (macros_of self.new ≡ macros_of self.old) }
     {
         let value = Vec::from_slice(alloc, text)?;
-        self.define(alloc, name, Definition::new(value, Manner::Delayed))
+        let definition = Definition::new(value, Manner::Delayed);
+        self.define_unless_given(alloc, name, definition)?;
+        Ok(())
     }
 
     /// Defines a macro as what a text expands to.
@@ -55,27 +57,6 @@ impl Macros {
         added.push(b' ')?;
         added.extend_from_slice(text)?;
         self.extend(name, &added)
-    }
-
-    /// Assigns a text to a name that stands for nothing yet.
-    fn assign_first(
-        &mut self,
-        alloc: Global,
-        name: &[u8],
-        operator: Operator,
-        text: &[u8],
-    ) -> Result<(), Halt>
-        ensures answer { AnswersLeft result (macros_of self.new)
-            (LeadsTo (macros_of self.old) name.now (first_effect operator text.now)) }
-        ensures unchanged { OnErr result (macros_of self.new ≡ macros_of self.old) }
-    {
-        match operator {
-            Operator::Immediate => self.set_immediate(alloc, name, text),
-            Operator::Delayed | Operator::Append | Operator::Conditional => {
-                self.set_delayed(alloc, name, text)?;
-                Ok(())
-            }
-        }
     }
 
     /// Adds a text to a macro that was made in this manner.
@@ -117,15 +98,19 @@ impl Macros {
             (IsAssigned (macros_of self.old) name.now operator text.now) }
         ensures unchanged { OnErr result (macros_of self.new ≡ macros_of self.old) }
     {
-        match self.manner(name) {
-            None => self.assign_first(alloc, name, operator, text),
-            Some(Manner::Given) => Ok(()),
-            Some(manner) => match operator {
-                Operator::Conditional => Ok(()),
-                Operator::Append => self.append(alloc, name, manner, text),
-                Operator::Delayed | Operator::Immediate => {
-                    self.assign_first(alloc, name, operator, text)
-                }
+        match operator {
+            Operator::Delayed => self.set_delayed(alloc, name, text),
+            Operator::Immediate => match self.manner(name) {
+                Some(Manner::Given) => Ok(()),
+                _ => self.set_immediate(alloc, name, text),
+            },
+            Operator::Append => match self.manner(name) {
+                Some(manner) => self.append(alloc, name, manner, text),
+                None => self.set_delayed(alloc, name, text),
+            },
+            Operator::Conditional => match self.manner(name) {
+                Some(_) => Ok(()),
+                None => self.set_delayed(alloc, name, text),
             },
         }
     }

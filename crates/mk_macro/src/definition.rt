@@ -1,6 +1,7 @@
 //! What a macro stands for (POSIX.1-2024 XCU make, "Macros").
 ghost use Rattle.std.specs.Prelude.{◌≡◌, ◌++◌, ◌<◌, ◌^◌, length, IfOk, OnOk, OnErr};
 ghost use Rattle.mk_macro.specs.Expansion.{is_late};
+ghost use Rattle.mk_macro.specs.Macros.{is_given};
 
 use std::alloc::{AllocError, Global};
 use std::marker::Model;
@@ -73,6 +74,13 @@ impl Definition {
             Manner::Immediate => false,
             Manner::Delayed | Manner::Given => true,
         }
+    }
+
+    /// Whether an operand gave the value.
+    pub fn is_given(&self) -> bool
+        ensures { result ≡ is_given self.now.manner }
+    {
+        matches!(self.manner, Manner::Given)
     }
 
     /// Puts a text at the end of the value. The only error is out of memory, and then nothing is

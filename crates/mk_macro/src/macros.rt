@@ -2,11 +2,12 @@
 //! "Macros").
 ghost use Rattle.std.specs.Prelude.{◌≡◌, ◌++◌, ◌≤◌, Some, None, IfOk, IfSome, IfNone, OnOk, OnErr, length, MatchOption};
 ghost use Rattle.std.specs.Option.{option_copied};
-ghost use Rattle.mk_macro.specs.Macros.{defined, macros_of, no_macros};
+ghost use Rattle.mk_macro.specs.Macros.{defined, defined_unless_given, macros_of, no_macros};
 
 use crate::definition::{Definition, Manner};
 use std::alloc::{AllocError, Global};
 use std::collections::BTreeMap;
+use std::collections::btree_map::Entry;
 use std::marker::Model;
 
 /// What each macro stands for. The table is ordered, so that no choice of names makes a look-up slow.
@@ -62,6 +63,32 @@ impl Macros {
     {
         let key = Vec::from_slice(alloc, name)?;
         self.table.insert(key, definition)?;
+        Ok(())
+    }
+
+    /// Defines a macro, unless an operand gave it its value. The only error is out of memory, and then
+    /// nothing is changed.
+    pub(crate) fn define_unless_given(
+        &mut self,
+        alloc: Global,
+        name: &[u8],
+        definition: Definition,
+    ) -> Result<(), AllocError>
+        ensures defined { OnOk result (macros_of self.new
+            ≡ defined_unless_given (macros_of self.old) name.now definition) }
+        ensures unchanged { OnErr result (macros_of self.new ≡ macros_of self.old) }
+    {
+        let key = Vec::from_slice(alloc, name)?;
+        match self.table.entry(key)? {
+            Entry::Vacant(entry) => {
+                entry.insert(definition);
+            }
+            Entry::Occupied(mut entry) => {
+                if !entry.get().is_given() {
+                    entry.insert(definition);
+                }
+            }
+        }
         Ok(())
     }
 

@@ -12,5 +12,6 @@ pub mod Plain
 pub mod Reduced
 mod Searches
 mod Sequence
+mod Short
 mod Sorting
 mod Stand

@@ -20,7 +20,7 @@ text_of line = join_with_byte 32 line.pieces
 
 -- the places of a line of this kind lie in a text of so many bytes
 abbrev pub LiesIn : LineKind → ℕ → Type 0
-LiesIn (Assign name_start name_end operator operator_start value_start) n = (name_start ≤ name_end) × (name_end ≤ n) × (value_start ≤ n)
+LiesIn (Assign name_start name_end operator value_start) n = (name_start ≤ name_end) × (name_end ≤ n) × (value_start ≤ n)
 LiesIn (Entry colon semicolon) n = (colon < n) × IfSome semicolon (λ s. (colon < s) × (s ≤ n))
 LiesIn Recipe n = Unit {0}
 LiesIn (Include hyphen rest) n = rest ≤ n
@@ -39,7 +39,7 @@ before_semicolon text (Some semicolon) = take semicolon text
 -- the parts of a text of this kind: name, operator and value of an assignment; of an entry what stands before its colon, what
 -- stands behind that and before its semicolon, and whether it has one; of an include line what stands behind its first word
 abbrev pub parted : LineKind → List ℕ → Parts
-parted (Assign name_start name_end operator operator_start value_start) text =
+parted (Assign name_start name_end operator value_start) text =
     parts.Assign (record { name = drop name_start (take name_end text); operator = operator; value = drop value_start text })
 parted (Entry colon semicolon) text =
     parts.Entry (record { targets = take colon text; prerequisites = drop (colon + 1) (before_semicolon text semicolon); has_command = is_some semicolon })

@@ -68,7 +68,7 @@ assignment text operator start end =
     let name_start = prefix_len is_blank before in
     let name = first_word before in
     if is_macro_name name && length (later_words before) == 0
-    then Ok (Some (Assign name_start (name_start + length name) operator start (end + prefix_len is_blank (drop end text))))
+    then Ok (Some (Assign name_start (name_start + length name) operator (end + prefix_len is_blank (drop end text))))
     else Err BadAssignment
 
 -- the first sign is the `=` at this place: what is right before it says which operator
@@ -161,7 +161,7 @@ line_pieces block = if slice_index (bytes_of block) 0 == tab then drop 1 (bytes_
 -- whether a line of this kind opens an entry: an assignment and an include line close it, and a command line leaves it
 abbrev pub opening : LineKind → Option Bool
 opening (Entry at behind) = Some true
-opening (Assign from to operator start value) = Some false
+opening (Assign from to operator value) = Some false
 opening Recipe = None
 opening (Include hyphen rest) = Some false
 

@@ -9,12 +9,12 @@ use Rattle.mk_text.specs.LogicalLine.{LiesIn}
 -- the one piece, or all of them
 abbrev pub pieces_in : Pieces → List (List ℕ)
 pieces_in (One piece) = piece.now ∷ []
-pieces_in (Several pieces text) = map (λ piece. piece.now) pieces.items
+pieces_in (Several joined) = map (λ piece. piece.now) joined.value.pieces.items
 
 -- the text that they make up, as it is held
 abbrev pub text_in : Pieces → List ℕ
 text_in (One piece) = piece.now
-text_in (Several pieces text) = text.items
+text_in (Several joined) = joined.value.text.items
 
 -- the text is that of the pieces, and the places of the kind lie in it
 pub record IsParted (kind : LineKind) (pieces : Pieces) : Type 0 where

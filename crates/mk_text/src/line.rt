@@ -1,10 +1,12 @@
 //! A logical line of a makefile: its kind, where it begins, its text, and the parts of that.
-ghost use Rattle.std.specs.Prelude.{◌≡◌, ◌∷◌, [], length, map};
+ghost use Rattle.std.specs.Prelude.{◌≡◌, ◌∷◌, [], IfOk, length, map};
 ghost use Rattle.std.specs.List.{join_with_byte};
 ghost use Rattle.mk_text.specs.LogicalLine.{LiesIn, parts_of, text_of};
 
 use crate::parts::{Parts, parted};
+use std::alloc::{AllocError, Global};
 use std::marker::Model;
+use std::mem::size_of;
 use std::slice;
 
 /// What an assignment does with its value (POSIX.1-2024 XCU make, "Macros").
@@ -28,19 +30,17 @@ pub enum LineKind {
     /// An assignment.
     Assign {
         /// The macro's name: where it begins, and where it has ended.
-        name_start: usize,
-        name_end: usize,
+        name_start: u32,
+        name_end: u32,
         operator: Operator,
-        /// Where the operator begins.
-        operator_start: usize,
         /// Where the value begins: behind the operator and the blanks after it.
-        value_start: usize,
+        value_start: u32,
     },
     /// An entry: targets up to the colon, prerequisites up to the semicolon, where there is one, and
     /// then a command.
     Entry {
-        colon: usize,
-        semicolon: Option<usize>,
+        colon: u32,
+        semicolon: Option<u32>,
     },
     /// A command line.
     Recipe,
@@ -49,24 +49,34 @@ pub enum LineKind {
         /// Whether a hyphen stands before its first word.
         hyphen: bool,
         /// Where that word has ended.
-        rest: usize,
+        rest: u32,
     },
 }
 
 #[derive(Debug, Drop)]
 enum Pieces<'a> {
     One(&'a [u8]),
-    /// Several pieces, and the text that they make up.
-    Several(Vec<&'a [u8]>, Vec<u8>),
+    /// Few lines have several, so these stand apart, and a line is small.
+    Several(Box<Joined<'a>>),
+}
+
+/// Several pieces, and the text that they make up.
+#[derive(Debug, Drop)]
+struct Joined<'a> {
+    pieces: Vec<&'a [u8]>,
+    text: Vec<u8>,
 }
 
 /// A logical line of the text that lives for `'a`.
 #[derive(Debug, Drop)]
 pub struct Line<'a> {
     kind: LineKind,
-    first_line: u64,
+    first_line: u32,
     pieces: Pieces<'a>,
 }
+
+// A makefile may have as many lines as bytes, and all are kept at once.
+const _: () = prove!(size_of::<Line<'static>>() == 48);
 
 impl<'a> Model for Line<'a> {
     ghost use Rattle.mk_text.specs.LogicalLine.{LogicalLine};
@@ -85,7 +95,7 @@ impl<'a> Model for Line<'a> {
 
 impl<'a> Line<'a> {
     /// The line of one piece.
-    pub(crate) fn of_piece(kind: LineKind, first_line: u64, piece: &'a [u8]) -> Line<'a>
+    pub(crate) fn of_piece(kind: LineKind, first_line: u32, piece: &'a [u8]) -> Line<'a>
         requires { LiesIn kind (length piece.now) }
         ensures { result ≡ record {
           kind = kind;
@@ -102,24 +112,26 @@ impl<'a> Line<'a> {
 
     /// The line of these pieces, which make up this text.
     pub(crate) fn of_pieces(
+        alloc: Global,
         kind: LineKind,
-        first_line: u64,
+        first_line: u32,
         pieces: Vec<&'a [u8]>,
         text: Vec<u8>,
-    ) -> Line<'a>
+    ) -> Result<Line<'a>, AllocError>
         requires joined { text.items ≡ join_with_byte 32 (map (λ piece. piece.now) pieces.items) }
         requires within { LiesIn kind (length text.items) }
-        ensures { result ≡ record {
+        ensures { IfOk result (λ line. line ≡ record {
           kind = kind;
           first_line = first_line;
           pieces = map (λ piece. piece.now) pieces.entry.items;
-        } }
+        }) }
     {
-        Line {
+        let joined = Box::new(alloc, Joined { pieces, text })?;
+        Ok(Line {
             kind,
             first_line,
-            pieces: Pieces::Several(pieces, text),
-        }
+            pieces: Pieces::Several(joined),
+        })
     }
 
     /// The line's kind, with the places in its text that part it.
@@ -134,7 +146,7 @@ impl<'a> Line<'a> {
     pub fn first_line(&self) -> u64
         ensures { result ≡ self.now.first_line }
     {
-        self.first_line
+        u64::from(self.first_line)
     }
 
     /// The parts of the makefile that make up the line, in their order: slices of the text that was
@@ -144,7 +156,7 @@ impl<'a> Line<'a> {
     {
         match &self.pieces {
             Pieces::One(piece) => slice::from_ref(piece),
-            Pieces::Several(pieces, _) => pieces.as_slice(),
+            Pieces::Several(joined) => joined.pieces.as_slice(),
         }
     }
 
@@ -154,7 +166,7 @@ impl<'a> Line<'a> {
     {
         match &self.pieces {
             Pieces::One(piece) => piece,
-            Pieces::Several(_, text) => text.as_slice(),
+            Pieces::Several(joined) => joined.text.as_slice(),
         }
     }
 

@@ -1,5 +1,5 @@
 //! The logical lines of a makefile (POSIX.1-2024 XCU make, "Makefile Syntax").
-ghost use Rattle.std.specs.Prelude.{◌≡◌, ◌==◌, false, ℕ, List, [], ◌∷◌, Ok, Some, IfOk, map, slice_index};
+ghost use Rattle.std.specs.Prelude.{◌≡◌, ◌<◌, ◌^◌, ◌==◌, false, ℕ, List, [], ◌∷◌, Ok, Some, IfOk, length, map, slice_index};
 ghost use Rattle.std.specs.List.{flat_map, join_with_byte};
 ghost use Rattle.std.specs.Option.{unwrap_or};
 ghost use Rattle.mk_name.specs.Gives.{Gives};
@@ -51,9 +51,10 @@ fn opens(below: bool, kind: LineKind) -> bool
 }
 
 /// A fault of a makefile's line.
-fn fault_at(alloc: Global, kind: Kind, place: u64) -> Halt
+fn fault_at(alloc: Global, kind: Kind, place: u32) -> Halt
     ensures { result ≡ Halt.Fault (fault_at kind place) }
 {
+    let place = u64::from(place);
     Halt::Fault(Fault::unnamed(alloc, kind, Source::Makefile, place))
 }
 
@@ -61,7 +62,7 @@ fn fault_at(alloc: Global, kind: Kind, place: u64) -> Halt
 fn command_line<'a>(
     alloc: Global,
     below: bool,
-    number: u64,
+    number: u32,
     block: &'a [u8],
 ) -> Result<Option<Line<'a>>, Halt>
     requires { slice_index block.now 0 ≡ tab }
@@ -76,7 +77,8 @@ fn command_line<'a>(
 }
 
 /// The line that a block of one piece is.
-fn line_of_piece<'a>(alloc: Global, number: u64, piece: &'a [u8]) -> Result<Option<Line<'a>>, Halt>
+fn line_of_piece<'a>(alloc: Global, number: u32, piece: &'a [u8]) -> Result<Option<Line<'a>>, Halt>
+    requires { length piece.now < 2 ^ 32 }
     ensures { (block : List (List ℕ)) → line_pieces block ≡ piece.now ∷ [] →
         Gives result (line_at number block (kind_of_text piece.now)) }
 {
@@ -90,9 +92,10 @@ fn line_of_piece<'a>(alloc: Global, number: u64, piece: &'a [u8]) -> Result<Opti
 /// The line that a block of several pieces is.
 fn line_of_pieces<'a>(
     alloc: Global,
-    number: u64,
+    number: u32,
     pieces: Vec<&'a [u8]>,
 ) -> Result<Option<Line<'a>>, Halt>
+    requires { length (join_with_byte space (map (λ piece. piece.now) pieces.items)) < 2 ^ 32 }
     ensures { (block : List (List ℕ)) →
         line_pieces block ≡ map (λ piece. piece.now) pieces.entry.items →
         Gives result (line_at number block
@@ -102,13 +105,14 @@ fn line_of_pieces<'a>(
     match kind_of_text(&text) {
         Err(kind) => Err(fault_at(alloc, kind, number)),
         Ok(None) => Ok(None),
-        Ok(Some(kind)) => Ok(Some(Line::of_pieces(kind, number, pieces, text))),
+        Ok(Some(kind)) => Ok(Some(Line::of_pieces(alloc, kind, number, pieces, text)?)),
     }
 }
 
 /// The line that a block is which does not begin with a tab.
-fn text_line<'a>(alloc: Global, number: u64, block: &'a [u8]) -> Result<Option<Line<'a>>, Halt>
-    requires { (slice_index block.now 0 == tab) ≡ false }
+fn text_line<'a>(alloc: Global, number: u32, block: &'a [u8]) -> Result<Option<Line<'a>>, Halt>
+    requires text { (slice_index block.now 0 == tab) ≡ false }
+    requires short { length block.now < 2 ^ 32 }
     ensures { Gives result (line_at number (physical_lines block.now)
         (kind_of_text (join_with_byte space (pieces_of (physical_lines block.now))))) }
 {
@@ -122,9 +126,10 @@ fn text_line<'a>(alloc: Global, number: u64, block: &'a [u8]) -> Result<Option<L
 fn line_of_block<'a>(
     alloc: Global,
     below: bool,
-    number: u64,
+    number: u32,
     block: &'a [u8],
 ) -> Result<Option<Line<'a>>, Halt>
+    requires { length block.now < 2 ^ 32 }
     ensures { Gives result (line_at number (physical_lines block.now)
         (kind_of below (physical_lines block.now))) }
 {
@@ -168,7 +173,7 @@ pub fn lines<'a>(alloc: Global, text: &'a [u8]) -> Result<Vec<Line<'a>>, Halt>
             below = opens(below, line.kind());
             found.push(line)?;
         }
-        number += block.line_count;
+        number += block.line_count as u32;
         rest = block.later;
     }
     Ok(found)

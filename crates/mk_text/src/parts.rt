@@ -144,30 +144,30 @@ pub(crate) fn parted(kind: LineKind, text: &[u8]) -> Parts<'_>
             value_start,
             ..
         } => Parts::Assign(Assignment {
-            name: &text[..name_end][name_start..],
+            name: &text[..name_end as usize][name_start as usize..],
             operator,
-            value: &text[value_start..],
+            value: &text[value_start as usize..],
         }),
         LineKind::Entry { colon, semicolon } => Parts::Entry(EntryParts {
-            targets: &text[..colon],
-            prerequisites: &before_semicolon(text, semicolon)[colon + 1..],
+            targets: &text[..colon as usize],
+            prerequisites: &before_semicolon(text, semicolon)[colon as usize + 1..],
             has_command: semicolon.is_some(),
         }),
         LineKind::Recipe => Parts::Recipe,
         LineKind::Include { hyphen, rest } => Parts::Include(IncludeParts {
             hyphen,
-            rest: &text[rest..],
+            rest: &text[rest as usize..],
         }),
     }
 }
 
 /// What stands before the semicolon, where there is one.
-fn before_semicolon(text: &[u8], semicolon: Option<usize>) -> &[u8]
+fn before_semicolon(text: &[u8], semicolon: Option<u32>) -> &[u8]
     requires { IfSome semicolon (λ s. s ≤ length text.now) }
     ensures { result.now ≡ before_semicolon text.now semicolon }
 {
     match semicolon {
-        Some(end) => &text[..end],
+        Some(end) => &text[..end as usize],
         None => text,
     }
 }

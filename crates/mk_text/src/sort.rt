@@ -1,6 +1,6 @@
 //! What the text of a logical line is that is no command line (POSIX.1-2024 XCU make, "Makefile
 //! Syntax" and "Macros").
-ghost use Rattle.std.specs.Prelude.{◌≡◌, ◌<◌, ◌≤◌, ◌+◌, ◌==◌, Ok, Some, length, slice_index};
+ghost use Rattle.std.specs.Prelude.{◌≡◌, ◌<◌, ◌≤◌, ◌+◌, ◌^◌, ◌==◌, Ok, Some, length, slice_index};
 ghost use Rattle.mk_text.specs.LogicalLine.{IfLine, LiesIn};
 ghost use Rattle.mk_text.specs.LogicalLines.{assignment, at_colon, at_equals, begins_with_operator, entry, equals, include, is_include, kind_of_text};
 
@@ -30,13 +30,14 @@ fn begins_with_operator(text: &[u8]) -> bool
 
 /// The include line of this text.
 fn include(text: &[u8]) -> LineKind
+    requires short { length text.now < 2 ^ 32 }
     ensures sort { result ≡ include text.now }
     ensures within { LiesIn result (length text.now) }
 {
     let (first, _) = split_word(text);
     LineKind::Include {
         hyphen: byte_at(first, 0) == b'-',
-        rest: count_blanks(text) + first.len(),
+        rest: (count_blanks(text) + first.len()) as u32,
     }
 }
 
@@ -54,6 +55,7 @@ fn assignment(
     start: usize,
     end: usize,
 ) -> Result<Option<LineKind>, Kind>
+    requires short { length text.now < 2 ^ 32 }
     requires order { start ≤ end }
     requires within { end ≤ length text.now }
     ensures sort { result ≡ assignment text.now operator start end }
@@ -66,17 +68,17 @@ fn assignment(
         return Err(Kind::BadAssignment);
     }
     Ok(Some(LineKind::Assign {
-        name_start,
-        name_end: name_start + name.len(),
+        name_start: name_start as u32,
+        name_end: (name_start + name.len()) as u32,
         operator,
-        operator_start: start,
-        value_start: end + count_blanks(&text[end..]),
+        value_start: (end + count_blanks(&text[end..])) as u32,
     }))
 }
 
 /// What a line is whose first sign is this equals sign.
 fn at_equals(text: &[u8], at: usize) -> Result<Option<LineKind>, Kind>
-    requires { at < length text.now }
+    requires short { length text.now < 2 ^ 32 }
+    requires inside { at < length text.now }
     ensures sort { result ≡ at_equals text.now at }
     ensures within { IfLine result (λ kind. LiesIn kind (length text.now)) }
 {
@@ -91,19 +93,21 @@ fn at_equals(text: &[u8], at: usize) -> Result<Option<LineKind>, Kind>
 
 /// The entry with its colon at this place.
 fn entry(text: &[u8], at: usize) -> LineKind
-    requires { at < length text.now }
+    requires short { length text.now < 2 ^ 32 }
+    requires inside { at < length text.now }
     ensures sort { Ok (Some result) ≡ entry text.now at }
     ensures within { LiesIn result (length text.now) }
 {
     LineKind::Entry {
-        colon: at,
-        semicolon: place_outside(b';', b';', &text[at + 1..]).map(|n| at + 1 + n),
+        colon: at as u32,
+        semicolon: place_outside(b';', b';', &text[at + 1..]).map(|n| (at + 1 + n) as u32),
     }
 }
 
 /// What a line is whose first sign is this colon.
 fn at_colon(text: &[u8], at: usize) -> Result<Option<LineKind>, Kind>
-    requires { at < length text.now }
+    requires short { length text.now < 2 ^ 32 }
+    requires inside { at < length text.now }
     ensures sort { result ≡ at_colon text.now at }
     ensures within { IfLine result (λ kind. LiesIn kind (length text.now)) }
 {
@@ -119,6 +123,7 @@ fn at_colon(text: &[u8], at: usize) -> Result<Option<LineKind>, Kind>
 
 /// What a text is: nothing, the text of a line of this kind, or a fault.
 pub fn kind_of_text(text: &[u8]) -> Result<Option<LineKind>, Kind>
+    requires short { length text.now < 2 ^ 32 }
     ensures sort { result ≡ kind_of_text text.now }
     ensures within { IfLine result (λ kind. LiesIn kind (length text.now)) }
 {

@@ -11,7 +11,6 @@ fn is_assignment(line: &Line<'_>) -> bool {
         name_start: 0,
         name_end: 1,
         operator: Operator::Delayed,
-        operator_start: 2,
         value_start: 4,
     };
     line.first_line() == 1 && line.kind() == kind && line.text() == b"A = b".as_slice()

@@ -1,6 +1,6 @@
 use Rattle.std.proofs.Common.{◌≡◌, ◌++◌}
 use Rattle.mk_foot.proofs.footprints.in_order.Given as goal
 
--- what is copied, and then what is left
+-- what is moved, and then what is left
 abbrev pub invariant-loop-path : goal.invariant-loop-path
-invariant-loop-path l = l.list.items ++ l.path-iterator ≡ l.paths.keys
+invariant-loop-path l = l.list.items ++ l.path-iterator ≡ l.fn.paths.keys
