@@ -12,7 +12,11 @@ SPAN = re.compile(r"`([^`]+)`")
 RACE = "two recipes may run at once and should not: what to do goes by the path"
 MISSING = "what a build after an edit may leave old, though nothing races"
 # Sections that explain one thing under other names than their headings: these names, and what they are.
-WHOLE = {"race": (("race", "races"), RACE), "races": (("race", "races"), RACE), "missing inputs": (("missing", "late", "shared", "present"), MISSING)}
+WHOLE = {
+    "race": (("race", "races"), RACE),
+    "races": (("race", "races"), RACE),
+    "missing inputs": (("missing", "late", "shared", "present", "unlisted"), MISSING),
+}
 
 
 @dataclass(frozen=True)

@@ -30,9 +30,9 @@ Store = dict[bytes, File]
 
 
 class Trees:
-    """The names that the recipes of jobs may touch, and what happens to the files there."""
+    """The names that the recipes of jobs may touch, and what happens to the files there; no edit changes a fixed name."""
 
-    def __init__(self, jobs: Jobs, dice: random.Random) -> None:
+    def __init__(self, jobs: Jobs, fixed: set[bytes], dice: random.Random) -> None:
         self.jobs, self.dice, self.clock = jobs, dice, 0
         self.names = jobs.plan.order
         self.direct = [sorted({jobs.numbers[it] for it in jobs.plan.prerequisites[name]}) for name in self.names]
@@ -42,6 +42,7 @@ class Trees:
         self.inputs = {number: self.under(it.reads - it.writes) for number, it in jobs.footprints.items()}
         made = {name for names in self.written.values() for name in names}
         self.sources = [name for name in self.known if name not in made]
+        self.editable = [name for name in self.sources if name not in fixed]
         self.removable = [name for number, name in enumerate(self.names) if name in self.written.get(number, ())]
 
     def below(self, path: Path) -> list[bytes]:
@@ -64,9 +65,9 @@ class Trees:
         return {name: self.new_file() for name in there}
 
     def edit(self, store: Store) -> None:
-        """Changes, adds and deletes sources, which are newer than all files then, and deletes targets."""
+        """Changes, adds and deletes sources that are not fixed, which are newer than all files then, and deletes targets."""
         nodes = set(self.names)
-        for name in self.dice.sample(self.sources, min(len(self.sources), self.dice.randint(1, MOST_EDITS))):
+        for name in self.dice.sample(self.editable, min(len(self.editable), self.dice.randint(1, MOST_EDITS))):
             if name not in nodes and self.dice.random() < 0.3:
                 store.pop(name, None)
             elif name not in nodes or name in store:
@@ -114,9 +115,10 @@ def texts_of(store: Store) -> dict[bytes, bytes]:
     return {name: file.text for name, file in store.items()}
 
 
-def differences(jobs: Jobs, dice: random.Random) -> Iterator[bytes]:
-    """The names at which a build of an old tree leaves other bytes than one of a clean tree with the same sources."""
-    trees = Trees(jobs, dice)
+def differences(jobs: Jobs, fixed: set[bytes], dice: random.Random) -> Iterator[bytes]:
+    """The names at which a build of an old tree leaves other bytes than one of a clean tree with the same sources, where no edit
+    changes the fixed names."""
+    trees = Trees(jobs, fixed, dice)
     store = trees.clean()
     for _ in range(BUILDS):
         trees.build(store)

@@ -71,6 +71,7 @@ class Found:
         self.watching = Watching(self.jobs)
         self.files = sorted({path for it in self.jobs.footprints.values() for path in it.reads | it.writes})
         self.missing, self.late, self.shared = [], [], []
+        self.unlisted = 0
         for path in self.files:
             self.look_at(path, self.watching.writers(path))
         present = (it for it in self.jobs.footprints if self.watching.listed[it] and not self.watching.phony[it])
@@ -81,13 +82,24 @@ class Found:
         watching, last = self.watching, writers[-1] if writers else None
         for number in sorted(self.jobs.footprints):
             if watching.reads(number, path) and number not in writers:
-                if not watching.watches(number, path):
+                if not watching.watches(number, path) and self.is_unlisted(path, writers):
+                    self.unlisted += 1
+                elif not watching.watches(number, path):
                     self.missing.append((path, number, last))
                 late = [it for it in writers if it not in self.jobs.before[number]]
                 self.late += [(path, number, it) for it in late[:1]]
             apart = last is not None and not watching.always[last] and number not in watching.carriers[last]
             if number in writers and number != last and apart:
                 self.shared.append((path, number, last))
+
+    def is_unlisted(self, path: Path, writers: list[int]) -> bool:
+        """Whether a path is a file that nobody writes and that is not listed."""
+        return not path.is_tree and not writers and path.name not in self.jobs.plan.listing
+
+    @property
+    def unlisted_names(self) -> set[bytes]:
+        """The names of the files that recipes read or look for, that none writes, and that are not listed."""
+        return {path.name for path in self.files if self.is_unlisted(path, self.watching.writers(path))}
 
     @property
     def status(self) -> int:
@@ -102,7 +114,7 @@ class Found:
     def lines(self):
         kinds = (b"missing", self.missing), (b"late", self.late), (b"shared", self.shared), (b"present", self.present)
         yield from ([word, len(found)] for word, found in kinds)
-        yield from [[b"races", len(self.answer.races)], *self.answer.counts()]
+        yield from [[b"unlisted", self.unlisted], [b"races", len(self.answer.races)], *self.answer.counts()]
         name = self.answer.name
         for path, number, last in self.missing:
             doing = [] if last is None else [name(last), b"writes"]
@@ -130,10 +142,31 @@ class Found:
             yield [b"add", shown(name) + b":", shown(prerequisite)]
 
 
+def changes(first: language.Plan, second: language.Plan):
+    """The names of a plan, in serial order, that another one lacks, or makes in another way or of other prerequisites."""
+    for name in first.order:
+        made = [(plan.makers.get(name), plan.prerequisites.get(name)) for plan in (first, second)]
+        if made[0] != made[1]:
+            yield name
+
+
+def second_build(texts, found: Found) -> bytes:
+    """The line of a build that finds what the first one made, if it is planned otherwise; else nothing."""
+    root, operands, includes, listing, base, makefile = texts
+    watching = found.watching
+    products = [name for number, name in enumerate(watching.names) if watching.own[number] and not watching.phony[number]]
+    try:
+        again = language.read_build(root, operands, includes, b"\n".join([listing, *products]), base, makefile)
+    except Fault:
+        return text_of([[b"plan", b":", b"refused"]])
+    return text_of([b"plan", shown(name)] for name in list(changes(found.jobs.plan, again))[:1])
+
+
 def missing(texts, footprints: bytes) -> tuple[int, bytes]:
     """Status and output of `race missing`."""
     try:
         found = Found(answer_of(language.read_build(*texts), footprints))
     except Fault as fault:
         return 2, fault.report()
-    return found.status, found.report()
+    change = second_build(texts, found)
+    return 1 if change else found.status, found.report() + change

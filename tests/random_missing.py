@@ -18,8 +18,8 @@ def differences(runner, build, text: bytes, words: list, agrees):
     if not agrees(ran, expected):
         yield "missing", ran, expected
     if ran.status == expected[0] == 0:
-        jobs = answer_oracle.answer_of(language.read_build(*build.texts()), text).jobs
-        for name in incremental_builds.differences(jobs, random.Random(len(text))):
+        found = missing_oracle.Found(answer_oracle.answer_of(language.read_build(*build.texts()), text))
+        for name in incremental_builds.differences(found.jobs, found.unlisted_names, random.Random(len(text))):
             yield "a build of an old tree", ran, (0, name)
 
 
@@ -33,7 +33,7 @@ def compare(runner, numbers: range, graphs):
         except language.Fault:
             continue
         if found.missing and not (found.answer.races or found.late or found.shared or found.present):
-            rows = (incremental_builds.differences(found.jobs, random.Random(seed)) for seed in range(5))
+            rows = (incremental_builds.differences(found.jobs, found.unlisted_names, random.Random(seed)) for seed in range(5))
             kinds[any(any(row) for row in rows)] += 1
     if kinds[True] < 4 * kinds[False] or not kinds[True]:
         yield f"of builds that miss inputs {kinds[True]} leave other bytes, and {kinds[False]} do not"

@@ -16,6 +16,7 @@ Printed are, for each, the best wall time of N runs (three) and the peak memory 
 they print, and the first line of what `missing` prints. Nothing here is a test.
 """
 import argparse
+import json
 import os
 import pathlib
 import sys
@@ -32,6 +33,14 @@ BUILDS = {"sparse": lay_sparse, "paths": lay_paths, "dense": lay_dense, "readers
 INPUTS = ("--makefile", "makefile", "--listing", "listing", "--footprints", "footprints", "--root", "/w")
 
 
+def list_sources(folder: pathlib.Path) -> None:
+    """Lists the files that recipes read and none writes, so that those which no rule names are missing, and not unlisted."""
+    lines = [json.loads(it) for it in (folder / "footprints").read_text().splitlines()]
+    made = {name for it in lines for name in it["writes"]}
+    read = {name for it in lines for name in it["reads"] if not name.endswith("/")}
+    (folder / "listing").write_text("".join(f"{name}\n" for name in sorted(read - made)))
+
+
 def main() -> None:
     parser = argparse.ArgumentParser(description=__doc__, formatter_class=argparse.RawDescriptionHelpFormatter)
     parser.add_argument("program", nargs="?", default=str(TOP / "crates/race/out/race"))
@@ -43,6 +52,7 @@ def main() -> None:
     for name, lay_out in BUILDS.items():
         with tempfile.TemporaryDirectory(prefix="race-bench-") as folder:
             lay_out(pathlib.Path(folder))
+            list_sources(pathlib.Path(folder))
             answers = [best(args.runs, pathlib.Path(folder), [program, it, *INPUTS]) for it in ("list", "missing")]
         numbers = "".join(f"{it.seconds:9.2f}{it.memory:8.1f}{len(it.out):11}" for it in answers)
         first = answers[1].out.split(b"\n", 1)[0].decode()

@@ -103,8 +103,9 @@ _race() {
       --base) mapfile -t COMPREPLY < <(compgen -f -- "$word"); return ;;
       --includes) mapfile -t COMPREPLY < <(compgen -f -- "$word"); return ;;
       --footprints) mapfile -t COMPREPLY < <(compgen -f -- "$word"); return ;;
+      --tasks) mapfile -t COMPREPLY < <(compgen -f -- "$word"); return ;;
     esac
-    case $word in -*) mapfile -t COMPREPLY < <(compgen -W "--makefile --listing --root --base --posix-base --includes --footprints -h --help" -- "$word"); return ;; esac
+    case $word in -*) mapfile -t COMPREPLY < <(compgen -W "--makefile --listing --root --base --posix-base --includes --footprints --tasks -h --help" -- "$word"); return ;; esac
     mapfile -t COMPREPLY < <(compgen -f -- "$word") ;;
   'race-confirm')
     case $before in
@@ -125,7 +126,7 @@ _race() {
       --race) mapfile -t COMPREPLY < <(compgen -f -- "$word"); return ;;
       --top) mapfile -t COMPREPLY < <(compgen -d -- "$word"); return ;;
     esac
-    case $word in -*) mapfile -t COMPREPLY < <(compgen -W "-h --help -o --output --race --top --warm --fresh --keep-trace --footprints" -- "$word"); return ;; esac
+    case $word in -*) mapfile -t COMPREPLY < <(compgen -W "-h --help -o --output --race --top --warm --fresh --keep-trace --footprints --missing" -- "$word"); return ;; esac
     mapfile -t COMPREPLY < <(compgen -c -- "$word") ;;
   'race-report')
     case $before in

@@ -98,6 +98,7 @@ complete -c race -n '__fish_seen_subcommand_from missing' -l base -r -F -d 'A ma
 complete -c race -n '__fish_seen_subcommand_from missing' -l posix-base -d 'The rules and macros that POSIX.1-2024 lists, in place of --base'
 complete -c race -n '__fish_seen_subcommand_from missing' -l includes -r -F -d 'The paths of the texts that include lines may name, one a line'
 complete -c race -n '__fish_seen_subcommand_from missing' -l footprints -r -F -d 'What the recipes read and write, one object of JSON a line'
+complete -c race -n '__fish_seen_subcommand_from missing' -l tasks -r -F -d 'What tasks wait for, read and write, one object of JSON a line'
 complete -c race -n '__fish_seen_subcommand_from missing' -s h -l help -d 'Print help'
 
 complete -c race-confirm -s h -l help -d 'show this help message and exit'
@@ -119,6 +120,7 @@ complete -c race-record -l warm -d 'builds start from this tree, though some of 
 complete -c race-record -l fresh -d 'record a clean copy in the place of the folder that ninja builds in'
 complete -c race-record -l keep-trace -d 'keep the trace in the record'
 complete -c race-record -l footprints -d 'keep a listing and footprints of each build, for race check --makefile'
+complete -c race-record -l missing -d 'report missing inputs too: files whose edit does not make a target again'
 complete -c race-record -x -a '(__fish_complete_subcommand)'
 
 complete -c race-report -s h -l help -d 'show this help message and exit'

@@ -1,6 +1,6 @@
 -- Jobs are declared just where no violation was found.
-use Rattle.std.proofs.Common.{ℕ, suc, zero, ◌≡◌, ◌<◌, false, List, [], ◌∷◌, length, get_or, Contains, refl, sym, subst, ◌∙◌, inl, inr, arith, lt_trans}
-use Rattle.std.proofs.lemmas.Bool.{both_ways, cases_Bool}
+use Rattle.std.proofs.Common.{ℕ, suc, zero, ◌≡◌, ◌<◌, not, true, false, ap, List, [], ◌∷◌, length, get_or, Contains, refl, sym, subst, ◌∙◌, inl, inr, arith, lt_trans}
+use Rattle.std.proofs.lemmas.Bool.{and_from, and_parts, both_ways, cases_Bool}
 use Rattle.std.proofs.lemmas.List.Elements.{Contains-get_or}
 use Rattle.mk_name.specs.Names.{Name}
 use Rattle.mk_path.specs.declared.path.Path.{Path}
@@ -10,10 +10,13 @@ use Rattle.mk_jobs.specs.Shape.{IsWellFormed}
 use Rattle.mk_jobs.proofs.JobsLemmas.{live_node, reader_live}
 use Rattle.mk_stale.specs.Watching.{IsDeclared, IsInput, IsLastWriter, IsNamed, Watches, always, named, through, written, never}
 use Rattle.mk_missing.specs.declared.violations.Violations.{Violations}
+use Rattle.mk_missing.specs.Unlisted.{unlisted_names, is_unlisted}
 use Rattle.mk_missing.specs.Files.{IsFile, IsInputFile, IsLastWriterOf, WatchesFile, often, by_name, by_chain, by_writer, not_there, writes_file}
-use Rattle.mk_missing.specs.Finding.{AreChecked, AreFound, IsInTime, IsTogether, IsWatched}
-use Rattle.mk_missing.specs.Violations.{AreAll, HasNone, IsLate, IsMissing, IsPresent, IsShared, none_fixed}
+use Rattle.mk_missing.specs.Finding.{AreChecked, AreFound, IsInTime, IsKnown, IsSeen, IsTogether, IsWatched}
+use Rattle.mk_missing.specs.Violations.{AreAll, HasNone, IsLate, IsMissing, IsPresent, IsShared, IsUnwatched, IsUnlistedInput}
+use Rattle.mk_missing.proofs.NotListed.{Seeker, unsought_there, written_there}
 use Rattle.mk_missing.proofs.Fresh.{covers_file}
+use Rattle.mk_missing.proofs.Presents.{not_true}
 use Rattle.mk_missing.proofs.Standing.{NameFor, StandsFor, file_for, name_for, reads_name, writes_name}
 
 -- what is checked is exact, where a kind and what is fine of it exclude each other
@@ -30,8 +33,16 @@ all_are files Holds Fine pairs checked apart = record {
   );
 }
 
-pub missing_apart : (jobs : Jobs) (n : ℕ) (p : Path) → IsMissing jobs n p → IsWatched jobs n p → ⊥
-missing_apart jobs n p missing watched = missing.unwatched (watched missing.input)
+unwatched_apart : (jobs : Jobs) (n : ℕ) (p : Path) → IsUnwatched jobs n p → IsWatched jobs n p → ⊥
+unwatched_apart jobs n p un watched = un.unwatched (watched un.input)
+
+pub missing_apart : (jobs : Jobs) (listing : List Name) (n : ℕ) (p : Path) → IsMissing jobs listing n p → IsSeen jobs listing n p → ⊥
+missing_apart jobs listing n p missing (inl unlisted) = both_ways (is_unlisted jobs listing p) missing.known unlisted
+missing_apart jobs listing n p missing (inr watched) = unwatched_apart jobs n p missing.is watched
+
+pub unlisted_apart : (jobs : Jobs) (listing : List Name) (n : ℕ) (p : Path) → IsUnlistedInput jobs listing n p → IsKnown jobs listing n p → ⊥
+unlisted_apart jobs listing n p input (inl known) = both_ways (is_unlisted jobs listing p) known input.unlisted
+unlisted_apart jobs listing n p input (inr watched) = unwatched_apart jobs n p input.is watched
 
 pub late_apart : (jobs : Jobs) (n : ℕ) (p : Path) → IsLate jobs n p → IsInTime jobs n p → ⊥
 late_apart jobs n p late time = late.late (time late.input late.writer late.writes)
@@ -130,17 +141,32 @@ module _ (jobs : Jobs) (shape : IsWellFormed jobs) where
     ]
   ]
 
-  module _ (found : Violations) (rise_files : (p : Path) → Contains found.files.items p → IsFile jobs p) (up : (p : Path) → IsFile jobs p → Contains found.files.items p)
-      (missing : AreFound found.files.items (IsMissing jobs) (IsWatched jobs) found.missing.items (length found.files.items))
+  -- a file whose name is unlisted is unlisted, and of a tree no name that stands for it is
+  unlisted_by : (listing : List Name) (p : Path) (x : Name) → StandsFor jobs shape p x → is_unlisted jobs listing p ≡ true → unlisted_names jobs listing x ≡ true
+  unlisted_by listing p x stands unlisted =
+      let parts = and_parts (not p.tree) (unlisted_names jobs listing p.name) unlisted in
+      subst (λ (y : Name). unlisted_names jobs listing y ≡ true) (covers_file jobs.root p x (not_true p.tree parts.0) stands.covering) parts.1
+
+  by_unlisted : (listing : List Name) (p : Path) (name : NameFor jobs shape p) → unlisted_names jobs listing name.name ≡ true → is_unlisted jobs listing p ≡ true
+  by_unlisted listing p name unlisted = elim (cases_Bool p.tree) [
+    | inl tree ↦ absurd (both_ways (unlisted_names jobs listing name.name)
+        (unsought_there jobs listing name.name (λ (seeker : Seeker jobs name.name). name.unread tree seeker.node seeker.path seeker.there seeker.name)) unlisted)
+    | inr file ↦ and_from (not p.tree) (unlisted_names jobs listing p.name) (ap not file) (subst (λ (y : Name). unlisted_names jobs listing y ≡ true) (sym (name.file file)) unlisted)
+  ]
+
+  module _ (listing : List Name) (found : Violations) (rise_files : (p : Path) → Contains found.files.items p → IsFile jobs p) (up : (p : Path) → IsFile jobs p → Contains found.files.items p)
+      (missing : AreFound found.files.items (IsMissing jobs listing) (IsSeen jobs listing) found.missing.items (length found.files.items))
       (late : AreFound found.files.items (IsLate jobs) (IsInTime jobs) found.late.items (length found.files.items))
       (shared : AreFound found.files.items (IsShared jobs) (IsTogether jobs) found.shared.items (length found.files.items))
       (present_down : (n : ℕ) → Contains found.present.items n → IsPresent jobs n) (present_up : (n : ℕ) → IsPresent jobs n → Contains found.present.items n) where
-    pub declared_if : HasNone found → IsDeclared jobs none_fixed
+    pub declared_if : HasNone found → IsDeclared jobs (unlisted_names jobs listing)
     declared_if none = record {
       watched = λ n x input.
           let at = file_for jobs shape found.files.items n x rise_files up (inl input.reads) in
-          let fine = all_fine found.files.items (IsMissing jobs) (IsWatched jobs) found.missing.items missing none.missing n at.path (up at.path at.is_file) in
-          inr (name_watched n at.path x at.stands (fine (input_file n at.path x at.stands input)));
+          elim (all_fine found.files.items (IsMissing jobs listing) (IsSeen jobs listing) found.missing.items missing none.missing n at.path (up at.path at.is_file)) [
+            | inl unlisted ↦ inl (unlisted_by listing at.path x at.stands unlisted)
+            | inr fine ↦ inr (name_watched n at.path x at.stands (fine (input_file n at.path x at.stands input)))
+          ];
       earlier = λ n m x input may.
           let at = file_for jobs shape found.files.items n x rise_files up (inl input.reads) in
           let fine = all_fine found.files.items (IsLate jobs) (IsInTime jobs) found.late.items late none.late n at.path (up at.path at.is_file) in
@@ -149,7 +175,7 @@ module _ (jobs : Jobs) (shape : IsWellFormed jobs) where
           let at = file_for jobs shape found.files.items n x rise_files up (inr may) in
           let fine = all_fine found.files.items (IsShared jobs) (IsTogether jobs) found.shared.items shared none.shared n at.path (up at.path at.is_file) in
           fine (at.stands.writes n may) w (last_file w at.path x at.stands last);
-      made = λ n x may. refl;
+      made = λ n x may. written_there jobs listing n x may;
       absent = λ n live plain. elim (cases_Bool (is_listed jobs n)) [
         | inr nay ↦ nay
         | inl listed ↦ absurd (no_pair n (subst (λ (ns : List ℕ). Contains ns n) none.present (present_up n (record { live = live; plain = plain; listed = listed }))))
@@ -160,16 +186,16 @@ module _ (jobs : Jobs) (shape : IsWellFormed jobs) where
     name_at : (k : ℕ) → k < length found.files.items → NameFor jobs shape (path_at found.files.items k)
     name_at k below = name_for jobs shape (path_at found.files.items k) (rise_files _ (Contains-get_or found.files.items k (record { name = []; tree = false }) below))
 
-    pub none_if : IsDeclared jobs none_fixed → HasNone found
+    pub none_if : IsDeclared jobs (unlisted_names jobs listing) → HasNone found
     none_if declared = record {
       missing = empty_if found.missing.items (λ pair there.
           let is = missing.only pair.0 pair.1 there in
           let name = name_at pair.0 is.0 in
           let p = path_at found.files.items pair.0 in
-          let input = file_input pair.1 p name.name name.stands is.1.input in
+          let input = file_input pair.1 p name.name name.stands is.1.is.input in
           elim (declared.watched pair.1 name.name input) [
-            | inl fixed ↦ both_ways false refl fixed
-            | inr watches ↦ is.1.unwatched (file_watched pair.1 p name (live_node jobs pair.1 (reader_live jobs pair.1 name.name input.reads)) watches)
+            | inl fixed ↦ both_ways (is_unlisted jobs listing p) is.1.known (by_unlisted listing p name fixed)
+            | inr watches ↦ is.1.is.unwatched (file_watched pair.1 p name (live_node jobs pair.1 (reader_live jobs pair.1 name.name input.reads)) watches)
           ]);
       late = empty_if found.late.items (λ pair there.
           let is = late.only pair.0 pair.1 there in

@@ -133,3 +133,9 @@ pub name_apart : (jobs : Jobs) (n : ℕ) (s : Name) → n < node_count jobs → 
 name_apart jobs n s inside same =
     let k = bytes_in jobs + 1 in
     omega (arith, name_short jobs n inside, ap length same, length-append s (47 ∷ replicate k 122), length-replicate {A = ℕ} k 122)
+
+-- and nobody reads it
+pub read_apart : (jobs : Jobs) (n : ℕ) (q : Path) (s : Name) → Contains (reads_of jobs n) q → q.name ≡ below s (bytes_in jobs + 1) → ⊥
+read_apart jobs n q s there same =
+    let k = bytes_in jobs + 1 in
+    omega (arith, read_short jobs n q there, ap length same, length-append s (47 ∷ replicate k 122), length-replicate {A = ℕ} k 122)

@@ -2,12 +2,14 @@ pub mod Adding
 pub mod Awake
 pub mod Declaring
 pub mod Exact
+pub mod Filters
 pub mod Fresh
 pub mod Gathering
 pub mod Heard
 pub mod Keeping
 pub mod Naming
 pub mod News
+pub mod NotListed
 pub mod Presents
 pub mod Seeing
 pub mod Standing

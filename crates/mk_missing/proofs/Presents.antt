@@ -17,7 +17,7 @@ pub record ArePresent (jobs : Jobs) (found : List ℕ) (end : ℕ) : Type 0 wher
 abbrev pub present_test : Jobs → ℕ → Bool
 present_test jobs n = is_live jobs n && not (is_phony jobs n) && is_listed jobs n
 
-not_true : (b : Bool) → not b ≡ true → b ≡ false
+pub not_true : (b : Bool) → not b ≡ true → b ≡ false
 not_true true is = cc
 not_true false is = refl
 

@@ -12,7 +12,7 @@ use Rattle.mk_path.proofs.Overs.{covers_own_name, over_covers, over_further, ove
 use Rattle.mk_jobs.specs.Jobs.{Jobs, is_live, may_read, may_write, name_of, node_count, reads_of, writes_of}
 use Rattle.mk_jobs.specs.Shape.{IsWellFormed}
 use Rattle.mk_missing.specs.Files.{IsFile, reads_file, writes_file}
-use Rattle.mk_missing.proofs.Fresh.{below, bytes_in, is_below, name_apart, over_file, over_tree, read_short, tree_covers, write_short}
+use Rattle.mk_missing.proofs.Fresh.{below, bytes_in, is_below, name_apart, over_file, over_tree, read_apart, read_short, tree_covers, write_short}
 
 -- of some paths that cover a name one that all others are over; or none covers it
 record Lowest (root : List ℕ) (paths : List Path) (x : Name) : Type 0 where
@@ -157,6 +157,7 @@ module _ (jobs : Jobs) (shape : IsWellFormed jobs) where
     pub stands : StandsFor p name
     pub file : p.tree ≡ false → p.name ≡ name
     pub tree : p.tree ≡ true → (k : ℕ) → k < node_count jobs → name_of jobs k ≡ name → ⊥
+    pub unread : p.tree ≡ true → (n : ℕ) (q : Path) → Contains (reads_of jobs n) q → q.name ≡ name → ⊥
 
   file_named : (p : Path) → IsFile jobs p → 0 < length p.name
   file_named p (n, inl read) = let named = All-contains (λ (q : Path). 1 ≤ length q.name) (reads_of jobs n) p (shape.reads_named n) read in omega (arith, named)
@@ -169,6 +170,7 @@ module _ (jobs : Jobs) (shape : IsWellFormed jobs) where
       stands = standing p p.name (covers_own_name jobs.root p) (λ n q there over. over_file jobs.root q p file over) (λ n q there over. over_file jobs.root q p file over);
       file = λ _. refl;
       tree = λ kind. absurd (both_ways p.tree file kind);
+      unread = λ kind. absurd (both_ways p.tree file kind);
     }
     | inl kind ↦
         let k = bytes_in jobs + 1 in
@@ -180,5 +182,6 @@ module _ (jobs : Jobs) (shape : IsWellFormed jobs) where
               (λ n q there over. over_tree jobs.root q p k kind some (write_short jobs n q there) over);
           file = λ file. absurd (both_ways p.tree file kind);
           tree = λ _ m inside same. name_apart jobs m p.name inside same;
+          unread = λ _ n q there same. read_apart jobs n q p.name there same;
         }
   ]

@@ -12,7 +12,7 @@ use Rattle.mk_missing.specs.Kinds.{IsFine, nodes_of}
 use Rattle.mk_missing.specs.Users.{AreUsers}
 use Rattle.mk_missing.specs.Violations.{IsLate, IsShared}
 use Rattle.mk_missing.specs.declared.kind.Kind.{Kind}
-use Rattle.mk_missing.specs.declared.kind.Kind.TheVariants.{Missing, Late, Shared}
+use Rattle.mk_missing.specs.declared.kind.Kind.TheVariants.{Unwatched, Late, Shared}
 use Rattle.mk_missing.specs.declared.users.Users.{Users}
 use Rattle.mk_missing.proofs.Gathering.{reader_node, writer_node}
 
@@ -41,7 +41,7 @@ module _ (jobs : Jobs) (users : Users) (are : AreUsers jobs users) where
 
   -- a node is one with which something of a kind can be wrong, or all is fine
   pub fine_or : (kind : Kind) (n : ℕ) → Contains (nodes_of kind users) n ⊎ IsFine jobs kind n users.file
-  fine_or Missing n = watched_or n
+  fine_or Unwatched n = watched_or n
   fine_or Late n = in_time_or n
   fine_or Shared n = together_or n
 

@@ -1,10 +1,12 @@
 -- What the search for violations keeps: for private clauses.
 use Rattle.std.specs.Prelude.{ℕ, ◌≡◌, ◌<◌, ◌⊎◌, true, false, List, Contains, length, Option, Some, None}
+use Rattle.mk_name.specs.Names.{Name}
 use Rattle.mk_path.specs.declared.path.Path.{Path}
 use Rattle.mk_path.specs.Index.{path_at}
 use Rattle.mk_jobs.specs.Jobs.{Jobs, Before, name_of, node_count}
 use Rattle.mk_decide.specs.Pairs.{IsRising}
 use Rattle.mk_stale.specs.Watching.{Carries, RunsWith, is_never_there}
+use Rattle.mk_missing.specs.Unlisted.{is_unlisted}
 use Rattle.mk_missing.specs.Files.{IsInputFile, IsLastWriterOf, WatchesFile, writes_file}
 use Rattle.mk_missing.specs.Hearing.{Hears}
 
@@ -16,6 +18,14 @@ pub record AreFound (files : List Path) (Holds Fine : ℕ → Path → Type 0) (
 -- n watches p if it is an input
 abbrev pub IsWatched : Jobs → ℕ → Path → Type 0
 IsWatched jobs n p = IsInputFile jobs n p → WatchesFile jobs n p
+
+-- p is unlisted, or n watches it if it is an input
+abbrev pub IsSeen : Jobs → List Name → ℕ → Path → Type 0
+IsSeen jobs listing n p = (is_unlisted jobs listing p ≡ true) ⊎ IsWatched jobs n p
+
+-- p is not unlisted, or n watches it if it is an input
+abbrev pub IsKnown : Jobs → List Name → ℕ → Path → Type 0
+IsKnown jobs listing n p = (is_unlisted jobs listing p ≡ false) ⊎ IsWatched jobs n p
 
 -- the writers of p are before n, if it is an input
 abbrev pub IsInTime : Jobs → ℕ → Path → Type 0

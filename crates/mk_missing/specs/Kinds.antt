@@ -3,25 +3,25 @@ use Rattle.std.specs.Prelude.{ℕ, List}
 use Rattle.mk_path.specs.declared.path.Path.{Path}
 use Rattle.mk_jobs.specs.Jobs.{Jobs}
 use Rattle.mk_missing.specs.declared.kind.Kind.{Kind}
-use Rattle.mk_missing.specs.declared.kind.Kind.TheVariants.{Missing, Late, Shared}
+use Rattle.mk_missing.specs.declared.kind.Kind.TheVariants.{Unwatched, Late, Shared}
 use Rattle.mk_missing.specs.declared.users.Users.{Users}
 use Rattle.mk_missing.specs.Finding.{IsInTime, IsTogether, IsWatched}
-use Rattle.mk_missing.specs.Violations.{IsLate, IsMissing, IsShared}
+use Rattle.mk_missing.specs.Violations.{IsLate, IsUnwatched, IsShared}
 
 -- something of this kind is wrong
 abbrev pub IsWrong : Jobs → Kind → ℕ → Path → Type 0
-IsWrong jobs Missing = IsMissing jobs
+IsWrong jobs Unwatched = IsUnwatched jobs
 IsWrong jobs Late = IsLate jobs
 IsWrong jobs Shared = IsShared jobs
 
 -- all of this kind is fine
 abbrev pub IsFine : Jobs → Kind → ℕ → Path → Type 0
-IsFine jobs Missing = IsWatched jobs
+IsFine jobs Unwatched = IsWatched jobs
 IsFine jobs Late = IsInTime jobs
 IsFine jobs Shared = IsTogether jobs
 
 -- the users with which something of this kind can be wrong
 abbrev pub nodes_of : Kind → Users → List ℕ
-nodes_of Missing users = users.inputs.items
+nodes_of Unwatched users = users.inputs.items
 nodes_of Late users = users.inputs.items
 nodes_of Shared users = users.writers.items

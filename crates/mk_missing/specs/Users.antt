@@ -1,5 +1,6 @@
 -- Who uses a file: for private clauses.
-use Rattle.std.specs.Prelude.{ℕ, ◌≡◌, ◌↔◌, true, List, Contains, map}
+use Rattle.std.specs.Prelude.{ℕ, ◌≡◌, ◌↔◌, ◌&&◌, not, Bool, true, List, Contains, is_none, map}
+use Rattle.mk_name.specs.Names.{Name, has, same_name}
 use Rattle.mk_path.specs.declared.path.Path.{Path}
 use Rattle.mk_jobs.specs.Jobs.{Jobs}
 use Rattle.mk_missing.specs.Files.{IsInputFile, IsLastIfAny, writes_file}
@@ -14,3 +15,7 @@ pub record AreUsers (jobs : Jobs) (users : Users) : Type 0 where
 -- the files alone
 abbrev pub files_of : List Users → List Path
 files_of users = map (λ (user : Users). user.file) users
+
+-- nobody writes the file, which is no tree, and the listing does not have it
+abbrev pub is_nowhere : List Name → Users → Bool
+is_nowhere listing user = not user.file.tree && is_none user.last && not (has same_name listing user.file.name)

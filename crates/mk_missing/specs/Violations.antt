@@ -1,5 +1,5 @@
 -- What undeclared jobs lack, kind by kind, and whole lists of it.
-use Rattle.std.specs.Prelude.{ℕ, ◌≡◌, ◌≢◌, ◌<◌, ◌↔◌, Bool, true, false, List, [], Contains, Option, None, get_or, length}
+use Rattle.std.specs.Prelude.{ℕ, ◌≡◌, ◌≢◌, ◌<◌, ◌↔◌, true, false, List, [], Contains, Option, None, get_or, length}
 use Rattle.std.specs.List.Sorted.{IsStrictlyIncreasing, IsStrictlySortedBy}
 use Rattle.mk_name.specs.Names.{Name}
 use Rattle.mk_path.specs.declared.path.Path.{Path}
@@ -8,13 +8,24 @@ use Rattle.mk_path.specs.Paths.{path_cmp}
 use Rattle.mk_jobs.specs.Jobs.{Jobs, Before, is_listed, is_live, is_phony}
 use Rattle.mk_decide.specs.Pairs.{IsRising}
 use Rattle.mk_stale.specs.Watching.{RunsWith}
+use Rattle.mk_missing.specs.Unlisted.{is_unlisted}
 use Rattle.mk_missing.specs.Files.{IsFile, IsInputFile, IsLastIfAny, IsLastWriterOf, WatchesFile, writes_file}
 use Rattle.mk_missing.specs.declared.violations.Violations.{Violations}
 
--- missing: p is an input of n, and n does not watch it
-pub record IsMissing (jobs : Jobs) (n : ℕ) (p : Path) : Type 0 where
+-- unwatched: p is an input of n, and n does not watch it
+pub record IsUnwatched (jobs : Jobs) (n : ℕ) (p : Path) : Type 0 where
   pub input : IsInputFile jobs n p
   pub unwatched : WatchesFile jobs n p → ⊥
+
+-- missing: p is an unwatched input of n, and not unlisted
+pub record IsMissing (jobs : Jobs) (listing : List Name) (n : ℕ) (p : Path) : Type 0 where
+  pub is : IsUnwatched jobs n p
+  pub known : is_unlisted jobs listing p ≡ false
+
+-- or it is unlisted
+pub record IsUnlistedInput (jobs : Jobs) (listing : List Name) (n : ℕ) (p : Path) : Type 0 where
+  pub is : IsUnwatched jobs n p
+  pub unlisted : is_unlisted jobs listing p ≡ true
 
 -- late: p is an input of n, and one of its writers is not before n
 pub record IsLate (jobs : Jobs) (n : ℕ) (p : Path) : Type 0 where
@@ -42,6 +53,12 @@ pub record AreAll (files : List Path) (Holds : ℕ → Path → Type 0) (pairs :
   pub rise : IsRising pairs
   pub exact : (k n : ℕ) → Contains pairs (k, n) ↔ ((k < length files) × Holds n (path_at files k))
 
+-- so many pairs there are for which this holds
+pub record AreSoMany (files : List Path) (Holds : ℕ → Path → Type 0) (many : ℕ) : Type 0 where
+  pub pairs : List (ℕ × ℕ)
+  pub all : AreAll files Holds pairs
+  pub count : length pairs ≡ many
+
 -- the writer writes the file of this pair, and is not before its node
 pub record IsLateBy (jobs : Jobs) (files : List Path) (pair : ℕ × ℕ) (writer : ℕ) : Type 0 where
   pub writes : writes_file jobs writer (path_at files pair.0) ≡ true
@@ -58,12 +75,13 @@ pub record AreLast (jobs : Jobs) (files : List Path) (last : List (Option ℕ)) 
   pub each : (k : ℕ) → k < length files → IsLastIfAny jobs (path_at files k) (get_or last k None)
 
 -- all files of the jobs, each once, in order, with their last writers; and of each kind all violations, each once, by file and then
--- node, with a late writer for each that is late
-pub record AreViolations (jobs : Jobs) (found : Violations) : Type 0 where
+-- node, with a late writer for each that is late; and how many unwatched inputs are unlisted
+pub record AreViolations (jobs : Jobs) (listing : List Name) (found : Violations) : Type 0 where
   pub rise : IsStrictlySortedBy path_cmp found.files.items
   pub files : (p : Path) → Contains found.files.items p ↔ IsFile jobs p
   pub last : AreLast jobs found.files.items found.last.items
-  pub missing : AreAll found.files.items (IsMissing jobs) found.missing.items
+  pub missing : AreAll found.files.items (IsMissing jobs listing) found.missing.items
+  pub unlisted : AreSoMany found.files.items (IsUnlistedInput jobs listing) found.unlisted
   pub late : AreAll found.files.items (IsLate jobs) found.late.items
   pub late_by : AreLateBy jobs found.files.items found.late.items found.late_by.items
   pub shared : AreAll found.files.items (IsShared jobs) found.shared.items
@@ -76,7 +94,3 @@ pub record HasNone (found : Violations) : Type 0 where
   pub late : found.late.items ≡ []
   pub shared : found.shared.items ≡ []
   pub present : found.present.items ≡ []
-
--- no name is fixed
-abbrev pub none_fixed : Name → Bool
-none_fixed x = false

@@ -65,7 +65,7 @@ impl<'a> Checker<'a> {
         ensures keeps { self.new ≡ self.old }
     {
         match kind {
-            Kind::Missing => self.is_watched(users, n),
+            Kind::Unwatched => self.is_watched(users, n),
             Kind::Late => self.is_in_time(users, n),
             Kind::Shared => self.is_with_last(users, n),
         }

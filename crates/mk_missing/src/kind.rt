@@ -8,7 +8,7 @@ use crate::users::Users;
 /// before it; or the node writes it, and so does a later one, which does not run with it.
 #[derive(Clone, Copy, Debug)]
 pub(crate) enum Kind {
-    Missing,
+    Unwatched,
     Late,
     Shared,
 }
@@ -18,7 +18,7 @@ pub(crate) fn nodes_of(kind: Kind, users: &Users) -> &[u32]
     ensures { result.now ≡ spec.nodes_of kind users.now }
 {
     match kind {
-        Kind::Missing | Kind::Late => &users.inputs,
+        Kind::Unwatched | Kind::Late => &users.inputs,
         Kind::Shared => &users.writers,
     }
 }

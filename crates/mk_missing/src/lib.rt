@@ -11,6 +11,7 @@ mod kept;
 mod kind;
 mod order;
 mod present;
+mod unlisted;
 mod users;
 pub mod violations;
 mod watching;

@@ -14,7 +14,7 @@ use Rattle.mk_program.specs.Answers.{AskToCheck, IsAnswerTo, IsNotedCheck, IsTas
 use Rattle.mk_program.specs.CommandLine.{Asks, IsQuestion, asked}
 use Rattle.mk_program.specs.Includes.{Pair}
 use Rattle.mk_program.specs.Inputs.{Hold, IsLeftOut}
-use Rattle.mk_program.specs.Requests.{input_at, proof_input}
+use Rattle.mk_program.specs.Requests.{input_at, listing_input, proof_input}
 use Rattle.mk_program.specs.declared.failures.InputFile.{InputFile}
 use Rattle.mk_program.specs.declared.failures.InputFile.TheVariants as inputs
 use Rattle.mk_program.specs.declared.inputs.InputPath.{InputPath}
@@ -90,7 +90,7 @@ no_others tasks path inputs.Tasks out = absurd (All-head (λ (known : InputPath)
 -- what is reported of safe tasks says that no schedule shows
 question_safe : (question : TaskQuestion) (path root : Bor (List ℕ)) (files : List ℕ → Option (List ℕ)) (answer : List ℕ)
     → (name : Text) × (rows : List Row) × (name ≡ codes "check") × IsQuestion question name rows
-    → ((includes : List Pair) (text : InputFile → List ℕ) → Some [] ≡ Some includes → Hold files (input_at inputs.Tasks path ++ proof_input question) text
+    → ((includes : List Pair) (text : InputFile → List ℕ) → Some [] ≡ Some includes → Hold files (listing_input question ++ input_at inputs.Tasks path ++ proof_input question) text
     → IsTasksAnswer question root.now text Done answer)
     → (tasks : List ℕ) → files path.now ≡ Some tasks → tasked.NoScheduleShows root.now tasks
 unfolding only_tasks
@@ -104,6 +104,7 @@ question_safe (questions.Check proof) path root files answer asks reported tasks
 question_safe (questions.Verify proof) path root files answer asks reported tasks opened = absurd (not_check (codes "verify") asks.0 asks.2 asks.3.0 refl)
 question_safe questions.List path root files answer asks reported tasks opened = absurd (not_check (codes "list") asks.0 asks.2 asks.3 refl)
 question_safe (questions.Fix proof) path root files answer asks reported tasks opened = absurd (not_check (codes "fix") asks.0 asks.2 asks.3.0 refl)
+question_safe (questions.Missing listing) path root files answer asks reported tasks opened = absurd (not_check (codes "missing") asks.0 asks.2 asks.3.0 refl)
 
 -- what is reported of a safe build, or of safe tasks, says that no schedule shows
 pub says_safe : (words : List (Bor Text)) (files : List ℕ → Option (List ℕ)) (text note : List ℕ) → AskToCheck (asked words)

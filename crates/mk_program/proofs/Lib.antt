@@ -4,6 +4,7 @@ mod Failing
 mod Fixings
 mod Locals
 mod MissingAnswers
+mod NoNode
 mod Noted
 mod OutcomeLines
 mod PlanLines

@@ -1,7 +1,7 @@
 -- Lemmas on the answers about tasks.
 use Rattle.std.proofs.Common.{◌≡◌, ℕ, Bool, List, subst, sym}
 use Rattle.std.specs.Borrow.{Bor}
-use Rattle.mk_program.specs.Answers.{IsTaskCheckAnswer, IsTaskFixAnswer, IsTaskListAnswer, IsTaskVerifyAnswer, IsTasksAnswer}
+use Rattle.mk_program.specs.Answers.{IsTaskCheckAnswer, IsTaskFixAnswer, IsTaskListAnswer, IsTaskMissingAnswer, IsTaskVerifyAnswer, IsTasksAnswer}
 use Rattle.mk_program.specs.declared.failures.InputFile.{InputFile}
 use Rattle.mk_program.specs.declared.failures.InputFile.TheVariants as inputs
 use Rattle.mk_program.specs.declared.requests.TaskQuestion.{TaskQuestion}
@@ -33,6 +33,15 @@ module _ (question : TaskQuestion) (root root' tasks : List ℕ) (texts : InputF
       subst (λ (q : TaskQuestion). IsTasksAnswer q root texts status answer) (sym is)
       (subst (λ (x : List ℕ). IsTaskListAnswer x (texts inputs.Tasks) status answer) below
       (subst (λ (x : List ℕ). IsTaskListAnswer root' x status answer) read h))
+
+  -- and that of what is missing
+  pub missing_read : (path : Bor (List ℕ)) (listing : List ℕ) → question ≡ questions.Missing path → listing ≡ texts inputs.Listing
+      → IsTaskMissingAnswer root' listing tasks status answer → IsTasksAnswer question root texts status answer
+  missing_read path listing is given h =
+      subst (λ (q : TaskQuestion). IsTasksAnswer q root texts status answer) (sym is)
+      (subst (λ (x : List ℕ). IsTaskMissingAnswer x (texts inputs.Listing) (texts inputs.Tasks) status answer) below
+      (subst (λ (x : List ℕ). IsTaskMissingAnswer root' (texts inputs.Listing) x status answer) read
+      (subst (λ (x : List ℕ). IsTaskMissingAnswer root' x tasks status answer) given h)))
 
   -- and that of a fix
   pub fix_read : (proof : Bool) → question ≡ questions.Fix proof → IsTaskFixAnswer root' tasks proof status answer

@@ -1,5 +1,5 @@
 -- What the program answers to a request, over what the files hold, and what it writes of that.
-use Rattle.std.specs.Prelude.{◌≡◌, ◌≢◌, ◌⊎◌, ℕ, Bool, true, false, List, [], ◌∷◌, Result, Ok, Err, Option, None, Some, IsSome, map, codes, length, if◌then◌else◌}
+use Rattle.std.specs.Prelude.{◌≡◌, ◌≢◌, ◌⊎◌, ℕ, Bool, true, false, List, [], ◌∷◌, ◌++◌, Result, Ok, Err, Option, None, Some, IsSome, map, codes, length, if◌then◌else◌}
 use Rattle.std.specs.Borrow.{Bor}
 use Rattle.std.specs.Io.KnownBytes.{Appends}
 use Rattle.clap.specs.Words.{Row, Text}
@@ -19,6 +19,7 @@ use Rattle.mk_race.specs.Serialised.{IsLawfulBuild, IsSerialised}
 use Rattle.mk_race.specs.Stages.{IsPlanned, Texts}
 use Rattle.mk_race.specs.Tasked as tasked
 use Rattle.mk_race.specs.TasksFixed.{FixHolds, IsFixing as IsTaskFixing}
+use Rattle.mk_race.specs.TasksMissing.{IsMissingListBelow, TasksBuildAsClean}
 use Rattle.mk_race.specs.Verified.{IsVerified, ProofShows}
 use Rattle.mk_race.specs.declared.fixing.Fixing.{Fixing}
 use Rattle.mk_race.specs.declared.fixing.Fixing.TheVariants.{Fixed, NotFixed}
@@ -38,6 +39,7 @@ use Rattle.mk_report.specs.declared.answer.Answer.{Answer as Judged}
 use Rattle.mk_report.specs.declared.answer.Answer.TheVariants as judged
 use Rattle.mk_sched.specs.declared.refusal.Refusal.{Refusal}
 use Rattle.mk_sched.specs.declared.replay.Replayed.{Replayed}
+use Rattle.mk_program.specs.ChangeText.{change_text}
 use Rattle.mk_program.specs.CommandLine.{Asks, HasMistake, asked, wrong}
 use Rattle.mk_program.specs.Files.{Files}
 use Rattle.mk_program.specs.Includes.{IncludesMayBeRead, IncludesMayFail, Pair, includes_in}
@@ -193,28 +195,43 @@ IsListAnswer texts footprints status text = SaysList (IsListed texts footprints)
 abbrev pub IsTaskListAnswer : List ℕ → List ℕ → Status → List ℕ → Type 0
 IsTaskListAnswer root tasks status text = SaysList (tasked.IsListedBelow root tasks) status text
 
--- how the program ends after all races and violations were listed: with 0 where there is none
+-- how the program ends after all races and violations were listed: with 0 where there is none, and no change
 abbrev pub MissingEnds : MissingList → Status → Type 0
 MissingEnds listed statuses.Done = IsEmpty listed
 MissingEnds listed statuses.No = IsEmpty listed → ⊥
 MissingEnds listed statuses.Refused = ⊥
 MissingEnds listed statuses.Failed = ⊥
 
--- the report of all races and violations of a build
-pub record IsReportedMissing (texts : Texts) (footprints : List ℕ) (status : Status) (text : List ℕ) : Type 0 where
+-- the report of what was listed: the races and violations, and the change that a second build makes, if it makes one
+abbrev pub listed_text : MissingList → List ℕ
+listed_text listed =
+    missing_text listed.prepared.jobs listed.prepared.listing (length listed.found.races.items) listed.violations
+    ++ change_text listed.prepared.jobs listed.change
+
+-- that report of all that was listed
+pub record IsReportedMissing (Is : Result MissingList Reported → Type 0) (status : Status) (text : List ℕ) : Type 0 where
   pub listed : MissingList
-  pub is : IsMissingList texts footprints (Ok listed)
+  pub is : Is (Ok listed)
   pub ends : MissingEnds listed status
-  pub report : text ≡ missing_text listed.prepared.jobs listed.prepared.listing (length listed.found.races.items) listed.violations
+  pub report : text ≡ listed_text listed
 
 -- that report, where a build of an old tree leaves what a build of a clean tree leaves if there is none; or the report of the fault that
 -- refuses the texts
+abbrev pub SaysMissing : (Result MissingList Reported → Type 0) → Type 0 → Status → List ℕ → Type 0
+SaysMissing Is Headline statuses.Done text = IsReportedMissing Is statuses.Done text × Headline
+SaysMissing Is Headline statuses.No text = IsReportedMissing Is statuses.No text
+SaysMissing Is Headline statuses.Refused text = (reported : Reported) × Is (Err reported) × (text ≡ refused_text reported)
+SaysMissing Is Headline statuses.Failed text = ⊥
+
+-- that of a build
 abbrev pub IsMissingAnswer : Texts → List ℕ → Status → List ℕ → Type 0
-IsMissingAnswer texts footprints statuses.Done text = IsReportedMissing texts footprints statuses.Done text × BuildsAsClean texts footprints
-IsMissingAnswer texts footprints statuses.No text = IsReportedMissing texts footprints statuses.No text
-IsMissingAnswer texts footprints statuses.Refused text =
-    (reported : Reported) × IsMissingList texts footprints (Err reported) × (text ≡ refused_text reported)
-IsMissingAnswer texts footprints statuses.Failed text = ⊥
+IsMissingAnswer texts footprints status text =
+    SaysMissing (IsMissingList texts footprints) (BuildsAsClean texts footprints) status text
+
+-- that of tasks below a root, with a listing
+abbrev pub IsTaskMissingAnswer : List ℕ → List ℕ → List ℕ → Status → List ℕ → Type 0
+IsTaskMissingAnswer root listing tasks status text =
+    SaysMissing (IsMissingListBelow root listing tasks) (TasksBuildAsClean root listing tasks) status text
 
 -- what is reported of a build that was to be fixed: its lines, or the certificate of the build with them, and no schedule
 -- shows; or the edges that no lines give it
@@ -268,6 +285,7 @@ IsTasksAnswer (questions.Check print_proof) root text status answer = IsTaskChec
 IsTasksAnswer (questions.Verify proof) root text status answer = IsTaskVerifyAnswer root (text inputs.Tasks) (text inputs.Proof) status answer
 IsTasksAnswer questions.List root text status answer = IsTaskListAnswer root (text inputs.Tasks) status answer
 IsTasksAnswer (questions.Fix print_proof) root text status answer = IsTaskFixAnswer root (text inputs.Tasks) print_proof status answer
+IsTasksAnswer (questions.Missing listing) root text status answer = IsTaskMissingAnswer root (text inputs.Listing) (text inputs.Tasks) status answer
 
 -- the answers of a build whose footprints may lie unused, each with its note: to a check, to a proof and to a log
 abbrev pub IsNotedCheck : Bool → Texts → List ℕ → Bool → Status → List ℕ → List ℕ → Type 0

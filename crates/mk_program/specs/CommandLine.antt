@@ -32,25 +32,26 @@ flag id = record (new_rule id) { long = Some id; action = Some SetTrue }
 abbrev pub operands : Rule
 operands = record (new_rule (codes "operands")) { action = Some Append; value_names = 1 }
 
--- a command with the options and operands of a build, whose files must be given or may be left out
-abbrev pub with_build : Bool → App → App
-with_build required app =
+-- a command with the options and operands of a build, whose makefile and whose listing must be given or may be left out
+abbrev pub with_build : Bool → Bool → App → App
+with_build makefile listing app =
     with_rule (with_rule (with_rule (with_rule (with_rule (with_rule (with_rule app
-    (option required (codes "makefile"))) (option required (codes "listing"))) (option true (codes "root"))) (option false (codes "base")))
+    (option makefile (codes "makefile"))) (option listing (codes "listing"))) (option true (codes "root"))) (option false (codes "base")))
     (flag (codes "posix-base"))) (option false (codes "includes"))) operands
 
--- a command with those of a build and of tasks
-abbrev pub with_tasks : App → App
-with_tasks app = with_rule (with_rule (with_build false app) (option false (codes "footprints"))) (option false (codes "tasks"))
+-- a command with those of a build and of tasks, whose listing must be given or may be left out
+abbrev pub with_tasks : Bool → App → App
+with_tasks listing app =
+    with_rule (with_rule (with_build false listing app) (option false (codes "footprints"))) (option false (codes "tasks"))
 
 abbrev pub order_app : App
-order_app = with_build true (new_app (codes "order"))
+order_app = with_build true true (new_app (codes "order"))
 
 abbrev pub check_app : App
-check_app = with_rule (with_rule (with_tasks (new_app (codes "check"))) (flag (codes "print-proof"))) (flag (codes "strict"))
+check_app = with_rule (with_rule (with_tasks false (new_app (codes "check"))) (flag (codes "print-proof"))) (flag (codes "strict"))
 
 abbrev pub verify_app : App
-verify_app = with_rule (with_rule (with_tasks (new_app (codes "verify"))) (option true (codes "proof"))) (flag (codes "strict"))
+verify_app = with_rule (with_rule (with_tasks false (new_app (codes "verify"))) (option true (codes "proof"))) (flag (codes "strict"))
 
 -- how many recipes may run at once
 abbrev pub limit : Rule
@@ -63,7 +64,7 @@ tie = record (new_rule (codes "tie")) { long = Some (codes "tie"); action = Some
 -- a command with the options and operands of those that read a log
 abbrev pub with_log : App → App
 with_log app =
-    with_rule (with_rule (with_rule (with_rule (with_build true app)
+    with_rule (with_rule (with_rule (with_rule (with_build true true app)
     (option true (codes "footprints"))) (option true (codes "log"))) limit) tie
 
 abbrev pub replay_app : App
@@ -73,13 +74,13 @@ abbrev pub serialise_app : App
 serialise_app = with_log (new_app (codes "serialise"))
 
 abbrev pub list_app : App
-list_app = with_tasks (new_app (codes "list"))
+list_app = with_tasks false (new_app (codes "list"))
 
 abbrev pub fix_app : App
-fix_app = with_rule (with_tasks (new_app (codes "fix"))) (flag (codes "print-proof"))
+fix_app = with_rule (with_tasks false (new_app (codes "fix"))) (flag (codes "print-proof"))
 
 abbrev pub missing_app : App
-missing_app = with_rule (with_build true (new_app (codes "missing"))) (option true (codes "footprints"))
+missing_app = with_tasks true (new_app (codes "missing"))
 
 -- the program without its subcommands: it must be given one, or be asked for its version
 abbrev pub top_app : App
@@ -111,16 +112,20 @@ is_given id rows = is_some (first_of id rows)
 abbrev pub has_two_bases : List Row → Bool
 has_two_bases rows = is_true (first_of (codes "posix-base") rows) && is_given (codes "base") rows
 
+-- a listing is given to a subcommand that takes none beside tasks
+abbrev pub has_other_listing : Text → List Row → Bool
+has_other_listing name rows = not (bytes_eq name (codes "missing")) && is_given (codes "listing") rows
+
 -- a file, an operand or a flag of a build is given
-abbrev pub has_build : List Row → Bool
-has_build rows =
-    is_given (codes "makefile") rows || is_given (codes "listing") rows || is_given (codes "base") rows
+abbrev pub has_build : Text → List Row → Bool
+has_build name rows =
+    is_given (codes "makefile") rows || has_other_listing name rows || is_given (codes "base") rows
     || is_true (first_of (codes "posix-base") rows) || is_given (codes "includes") rows || is_given (codes "footprints") rows
     || is_given (codes "operands") rows || is_true (first_of (codes "strict") rows)
 
 -- tasks are named beside a build
-abbrev pub has_both : List Row → Bool
-has_both rows = is_given (codes "tasks") rows && has_build rows
+abbrev pub has_both : Text → List Row → Bool
+has_both name rows = is_given (codes "tasks") rows && has_build name rows
 
 -- the files are given that a build must have, where its recipes are asked about
 abbrev pub has_files : List Row → Bool
@@ -135,7 +140,7 @@ abbrev pub value_kinds : Option (Text × List Row) → Kinds
 value_kinds None = []
 value_kinds (Some found) =
     if has_two_bases found.1 then ArgumentConflict ∷ []
-    else (if has_both found.1 then ArgumentConflict ∷ []
+    else (if has_both found.0 found.1 then ArgumentConflict ∷ []
     else (if lacks_files found.0 found.1 then MissingRequiredArgument ∷ [] else []))
 
 -- what is wrong with these words: what `clap` finds, and where that is nothing, what is wrong with their values; that they call
@@ -204,6 +209,7 @@ IsQuestion (questions.Verify proof) name rows = (name ≡ codes "verify") × (pr
 IsQuestion questions.List name rows = name ≡ codes "list"
 IsQuestion (questions.Fix print_proof) name rows =
     (name ≡ codes "fix") × (print_proof ≡ is_true (first_of (codes "print-proof") rows))
+IsQuestion (questions.Missing listing) name rows = (name ≡ codes "missing") × (listing.now ≡ value_of (codes "listing") rows)
 
 -- the tasks have the values that were found, and the question is that of the subcommand of this name
 pub record HasTasks (args : TaskArgs) (name : Text) (rows : List Row) : Type 0 where
@@ -220,7 +226,7 @@ IsFor (requests.Verify verify) name rows = (name ≡ codes "verify") × HasNoTas
 IsFor (requests.Replay replay) name rows = (name ≡ codes "replay") × HasReplay replay rows
 IsFor (requests.Serialise replay) name rows = (name ≡ codes "serialise") × HasReplay replay rows
 IsFor (requests.List list) name rows = (name ≡ codes "list") × HasNoTasks rows × HasList list rows
-IsFor (requests.Missing list) name rows = (name ≡ codes "missing") × HasList list rows
+IsFor (requests.Missing list) name rows = (name ≡ codes "missing") × HasNoTasks rows × HasList list rows
 IsFor (requests.Fix fix) name rows = (name ≡ codes "fix") × HasNoTasks rows × HasCheck fix rows
 IsFor (requests.Tasks tasks) name rows = HasTasks tasks name rows
 

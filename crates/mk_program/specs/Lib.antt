@@ -1,4 +1,5 @@
 pub mod Answers
+pub mod ChangeText
 pub mod CommandLine
 pub mod Failures
 pub mod Files

@@ -41,12 +41,21 @@ abbrev pub log_inputs : ReplayArgs → List InputPath
 log_inputs replay =
     build_inputs replay.build ++ input_at inputs.Footprints replay.footprints ++ input_at inputs.Log replay.log
 
+-- the listing beside tasks, where it is asked what is missing
+abbrev pub listing_input : TaskQuestion → List InputPath
+listing_input (questions.Check print_proof) = []
+listing_input (questions.Verify proof) = []
+listing_input questions.List = []
+listing_input (questions.Fix print_proof) = []
+listing_input (questions.Missing listing) = input_at inputs.Listing listing
+
 -- the proof, where it is asked whether one is accepted
 abbrev pub proof_input : TaskQuestion → List InputPath
 proof_input (questions.Check print_proof) = []
 proof_input (questions.Verify proof) = input_at inputs.Proof proof
 proof_input questions.List = []
 proof_input (questions.Fix print_proof) = []
+proof_input (questions.Missing listing) = []
 
 -- the inputs without the includes
 abbrev pub inputs_of : Request → List InputPath
@@ -59,4 +68,4 @@ inputs_of (requests.Serialise replay) = log_inputs replay
 inputs_of (requests.List list) = build_inputs list.build ++ input_at inputs.Footprints list.footprints
 inputs_of (requests.Missing list) = build_inputs list.build ++ input_at inputs.Footprints list.footprints
 inputs_of (requests.Fix fix) = build_inputs fix.build ++ input_at inputs.Footprints fix.footprints
-inputs_of (requests.Tasks tasks) = input_at inputs.Tasks tasks.tasks ++ proof_input tasks.question
+inputs_of (requests.Tasks tasks) = listing_input tasks.question ++ input_at inputs.Tasks tasks.tasks ++ proof_input tasks.question

@@ -21,6 +21,7 @@
 //!   (`WritesAnswer`, `WritesNote`);
 //! - `Noting.antt`: the note of footprints that lie unused, and what is said with it (`SaysNoting`);
 //! - `PlanText.antt`, `OutcomeText.antt` and `OrderText.antt`: the texts of `race order`, of `race replay` and of `race serialise`;
+//! - `ChangeText.antt`: the line that `race missing` has where a second build is planned otherwise;
 //! - `Failures.antt` and `Statuses.antt`: the line of a failure, and the statuses as numbers.
 //!
 //! A subcommand more is a variant of `requests::Request` with its inputs in `requests::inputs_of`, its words in `words`,
@@ -28,6 +29,7 @@
 #![tactic(auto)]
 
 mod answers;
+mod change_lines;
 mod checking;
 mod failures;
 mod fixing;

@@ -1,17 +1,18 @@
 //! The answers to `race missing`.
-ghost use Rattle.std.specs.Prelude.{◌≡◌, ◌≢◌, ◌↔◌, IfOk, IsTrue, List, length, map, ℕ};
+ghost use Rattle.std.specs.Prelude.{◌≡◌, ◌≢◌, ◌↔◌, IfOk, IsTrue, List, None, map, ℕ};
 ghost use Rattle.mk_missing.specs.Violations.{HasNone};
 ghost use Rattle.mk_race.specs.Stages.{texts_of};
-ghost use Rattle.mk_report.specs.MissingText.{missing_text};
 ghost use Rattle.mk_program.specs.Answers as spec;
 ghost use Rattle.mk_program.specs.Inputs.{AreTexts};
 
 use crate::answers::{Answer, bytes_of, input_of, refused};
+use crate::change_lines::push_change;
 use crate::failures::InputFile;
 use crate::inputs::InputText;
 use crate::requests::ListArgs;
 use crate::statuses::Status;
 use mk_missing::violations::Violations;
+use mk_race::again::Change;
 use mk_race::input::Input;
 use mk_race::missing::{MissingList, list_missing};
 use mk_report::missing::missing_report;
@@ -48,32 +49,35 @@ fn missing_over(alloc: Global, input: &Input<'_>) -> Result<Answer, AllocError>
     }
 }
 
-/// The races and violations that were listed, reported. The only error is out of memory.
-fn listed_answer(alloc: Global, listed: &MissingList) -> Result<Answer, AllocError>
+/// The races and violations that were listed, and the change of a second build, reported. The only error is out of memory.
+pub(crate) fn listed_answer(alloc: Global, listed: &MissingList) -> Result<Answer, AllocError>
     ensures { IfOk result (λ answer. spec.MissingEnds listed.now answer.status
-        × (answer.text.items ≡ missing_text listed.now.prepared.jobs listed.now.prepared.listing
-        (length listed.now.found.races.items) listed.now.violations)) }
+        × (answer.text.items ≡ spec.listed_text listed.now)) }
 {
     let prepared = &listed.prepared;
     let races = listed.found.races.len();
-    let text = missing_report(
+    let mut text = missing_report(
         alloc,
         &prepared.jobs,
         &prepared.listing,
         races,
         &listed.violations,
     )?;
+    push_change(&mut text, &prepared.jobs, listed.change)?;
     Ok(Answer {
         status: missing_status(listed),
         text,
     })
 }
 
-/// How the program ends: with 0 where there is no race and no violation.
+/// How the program ends: with 0 where there is no race, no violation and no change.
 fn missing_status(listed: &MissingList) -> Status
     ensures { spec.MissingEnds listed.now result }
 {
-    if listed.found.races.is_empty() && has_none(&listed.violations) {
+    if listed.found.races.is_empty()
+        && has_none(&listed.violations)
+        && has_no_change(listed.change)
+    {
         return Status::Done;
     }
     Status::No
@@ -87,4 +91,14 @@ fn has_none(found: &Violations) -> bool
         && found.late.is_empty()
         && found.shared.is_empty()
         && found.present.is_empty()
+}
+
+/// Whether there is no change.
+fn has_no_change(change: Option<Change>) -> bool
+    ensures { IsTrue result ↔ (change ≡ None) }
+{
+    match change {
+        Some(_change) => false,
+        None => true,
+    }
 }

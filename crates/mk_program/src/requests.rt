@@ -70,6 +70,7 @@ pub enum TaskQuestion<'a> {
     Verify { proof: &'a str },
     List,
     Fix { print_proof: bool },
+    Missing { listing: &'a str },
 }
 
 /// A subcommand, with its values.
@@ -135,15 +136,45 @@ fn push_inputs<'a>(inputs: &mut Vec<InputPath<'a>>, request: &Request<'a>) -> Re
     }
 }
 
-/// Puts the text of tasks, and the proof where there is one, at the end.
+/// Puts the text of tasks at the end, behind the listing where there is one, and before the proof where there is one.
 fn push_tasks<'a>(inputs: &mut Vec<InputPath<'a>>, args: &TaskArgs<'a>) -> Result<(), AllocError>
-    ensures { OnOk result (inputs.new.items ≡ inputs.old.items
+    ensures { OnOk result (inputs.new.items ≡ inputs.old.items ++ spec.listing_input args.now.question
         ++ spec.input_at InputFile.Tasks args.now.tasks ++ spec.proof_input args.now.question) }
 {
+    push_listing(inputs, args.question)?;
     push_input(inputs, InputFile::Tasks, args.tasks)?;
-    match args.question {
+    push_proof(inputs, args.question)
+}
+
+/// Puts the listing at the end that a question about tasks has, if it has one.
+fn push_listing<'a>(
+    inputs: &mut Vec<InputPath<'a>>,
+    question: TaskQuestion<'a>,
+) -> Result<(), AllocError>
+    ensures { OnOk result (inputs.new.items ≡ inputs.old.items ++ spec.listing_input question.entry) }
+{
+    match question {
+        TaskQuestion::Missing { listing } => push_input(inputs, InputFile::Listing, listing),
+        TaskQuestion::Check { .. }
+        | TaskQuestion::Verify { .. }
+        | TaskQuestion::List
+        | TaskQuestion::Fix { .. } => Ok(()),
+    }
+}
+
+/// Puts the proof at the end that a question about tasks has, if it has one.
+fn push_proof<'a>(
+    inputs: &mut Vec<InputPath<'a>>,
+    question: TaskQuestion<'a>,
+) -> Result<(), AllocError>
+    ensures { OnOk result (inputs.new.items ≡ inputs.old.items ++ spec.proof_input question.entry) }
+{
+    match question {
         TaskQuestion::Verify { proof } => push_input(inputs, InputFile::Proof, proof),
-        TaskQuestion::Check { .. } | TaskQuestion::List | TaskQuestion::Fix { .. } => Ok(()),
+        TaskQuestion::Check { .. }
+        | TaskQuestion::List
+        | TaskQuestion::Fix { .. }
+        | TaskQuestion::Missing { .. } => Ok(()),
     }
 }
 

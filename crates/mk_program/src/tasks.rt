@@ -10,10 +10,12 @@ use crate::failures::InputFile;
 use crate::fixing::fixed_text;
 use crate::inputs::{InputText, text_of};
 use crate::listing::races_answer;
+use crate::missing::listed_answer;
 use crate::requests::{TaskArgs, TaskQuestion};
 use crate::statuses::Status;
 use mk_race::tasked::{judge_tasks, list_tasks, verify_tasks};
 use mk_race::tasks_fixing::{TaskFixing, fix_tasks};
+use mk_race::tasks_missing::list_missing_tasks;
 use std::alloc::{AllocError, Global};
 
 /// The answer to a question about tasks, or why their text is refused. The only error is out of memory.
@@ -35,6 +37,10 @@ pub(crate) fn tasks_answer(
         }
         TaskQuestion::List => list_answer(alloc, root, tasks),
         TaskQuestion::Fix { print_proof } => fix_answer(alloc, root, tasks, print_proof),
+        TaskQuestion::Missing { .. } => {
+            let listing = text_of(texts, InputFile::Listing);
+            missing_answer(alloc, root, listing, tasks)
+        }
     }
 }
 
@@ -73,6 +79,24 @@ fn list_answer(alloc: Global, root: &[u8], tasks: &[u8]) -> Result<Answer, Alloc
 {
     match list_tasks(alloc, root, tasks) {
         Ok(listed) => races_answer(alloc, &listed),
+        Err(halt) => refused(alloc, halt),
+    }
+}
+
+/// The report of all races and violations of tasks with a listing, or of the first fault of both texts. The only error is out of
+/// memory.
+fn missing_answer(
+    alloc: Global,
+    root: &[u8],
+    listing: &[u8],
+    tasks: &[u8],
+) -> Result<Answer, AllocError>
+    ensures status { IfOk result (λ answer. answer.status ≢ Status.Failed) }
+    ensures answer { IfOk result (λ answer.
+        spec.IsTaskMissingAnswer root.now listing.now tasks.now answer.status answer.text.items) }
+{
+    match list_missing_tasks(alloc, root, listing, tasks) {
+        Ok(listed) => listed_answer(alloc, &listed),
         Err(halt) => refused(alloc, halt),
     }
 }

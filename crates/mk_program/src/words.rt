@@ -74,9 +74,6 @@ fn request_of<'a>(
     if name == "serialise" {
         return Ok(Request::Serialise(replay_args(alloc, found)?));
     }
-    if name == "missing" {
-        return Ok(Request::Missing(list_args(alloc, found)?));
-    }
     match found.get_str("tasks") {
         Some(tasks) => Ok(Request::Tasks(task_args(name, found, tasks))),
         None => build_request(alloc, name, found),
@@ -90,7 +87,7 @@ fn build_request<'a>(
     found: &ArgMatches<'a>,
 ) -> Result<Request<'a>, AllocError>
     requires named { (name.now ≡ codes "check") ⊎ (name.now ≡ codes "verify") ⊎ (name.now ≡ codes "list")
-        ⊎ (name.now ≡ codes "fix") }
+        ⊎ (name.now ≡ codes "fix") ⊎ (name.now ≡ codes "missing") }
     requires no_tasks { spec.HasNoTasks (rows_of (found_of found.now)) }
     ensures { IfOk result (λ request.
         spec.IsFor request name.now (rows_of (found_of found.now))) }
@@ -103,6 +100,9 @@ fn build_request<'a>(
     }
     if name == "list" {
         return Ok(Request::List(list_args(alloc, found)?));
+    }
+    if name == "missing" {
+        return Ok(Request::Missing(list_args(alloc, found)?));
     }
     Ok(Request::Fix(check_args(alloc, found)?))
 }
@@ -159,23 +159,24 @@ fn order_command<'a>(alloc: Global) -> Result<Command<'a>, AllocError>
     let command = Command::new(alloc, "order")
         .about(help::ORDER_ABOUT)
         .after_help(help::ORDER_DETAILS);
-    with_build(alloc, command, true)
+    with_build(alloc, command, true, true)
 }
 
-/// The command with the options and operands of a build, whose makefile and listing must be given where that is required.
+/// The command with the options and operands of a build, whose makefile and whose listing must be given where that is required.
 fn with_build<'a>(
     alloc: Global,
     command: Command<'a>,
-    required: bool,
+    makefile: bool,
+    listing: bool,
 ) -> Result<Command<'a>, AllocError>
     ensures app { IfOk result (λ new.
-        app_of new ≡ spec.with_build required (app_of command.entry)) }
+        app_of new ≡ spec.with_build makefile listing (app_of command.entry)) }
     ensures local { IfOk result (λ new.
         (fields_of new).has_globals ≡ (fields_of command.entry).has_globals) }
 {
     command
-        .arg(option(alloc, "makefile", "MAKEFILE", help::MAKEFILE, required))?
-        .arg(option(alloc, "listing", "LISTING", help::LISTING, required))?
+        .arg(option(alloc, "makefile", "MAKEFILE", help::MAKEFILE, makefile))?
+        .arg(option(alloc, "listing", "LISTING", help::LISTING, listing))?
         .arg(option(alloc, "root", "DIR", help::ROOT, true))?
         .arg(option(alloc, "base", "BASE", help::BASE, false))?
         .arg(flag(alloc, "posix-base", help::POSIX_BASE))?

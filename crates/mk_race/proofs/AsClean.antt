@@ -1,6 +1,10 @@
 -- What is so of a build with no race and no violation.
-use Rattle.std.proofs.Common.{ℕ, zero, suc, ◌≡◌, ◌<◌, ◌+◌, ◌⊎◌, List, [], ◌∷◌, Ok, Contains, refl, sym, subst, ◌∙◌, inl, inr, arith}
+use Rattle.std.proofs.Common.{ℕ, zero, suc, ◌≡◌, ◌<◌, ◌+◌, ◌⊎◌, List, [], ◌∷◌, Ok, Err, IfOk, Option, None, Result, Contains, refl, sym, subst, ◌∙◌, inl, inr, arith}
 use Rattle.std.proofs.lemmas.Bool.{cases_order}
+use Rattle.mk_name.specs.Names.{Name}
+use Rattle.mk_name.specs.Gives.{Answers}
+use Rattle.mk_name.specs.declared.fault.Halt.{Halt}
+use Rattle.mk_name.specs.declared.fault.Halt.TheVariants as halts
 use Rattle.mk_jobs.specs.Jobs.{Jobs, Before, edge, further, Clash, IsPrerequisite, IsRaceFree, IsValid, prerequisites_of}
 use Rattle.mk_jobs.specs.Shape.{IsWellFormed}
 use Rattle.mk_jobs.proofs.JobsLemmas.{shape_valid}
@@ -10,9 +14,12 @@ use Rattle.mk_stale.proofs.Keeping.{as_from_clean}
 use Rattle.mk_decide.proofs.Finding.{race_is}
 use Rattle.mk_fix.specs.AllRaces.{AreRaces}
 use Rattle.mk_fix.proofs.Adding.{cons_cases, here, none_in, there}
-use Rattle.mk_missing.specs.Violations.{none_fixed}
-use Rattle.mk_race.specs.Missing.{BuildsAsClean}
+use Rattle.mk_missing.specs.Unlisted.{unlisted_names}
+use Rattle.mk_race.specs.Again.{IsChange}
+use Rattle.mk_race.specs.Missing.{BuildsAsClean, IsEmpty, IsMissingList, IsMissingListOf, LeavesAsClean}
 use Rattle.mk_race.specs.Stages.{IsPrepared, Texts}
+use Rattle.mk_race.specs.declared.again.Change.{Change}
+use Rattle.mk_race.specs.declared.missing.MissingList.{MissingList}
 use Rattle.mk_race.specs.declared.preparing.Prepared.{Prepared}
 use Rattle.mk_race.proofs.OneBuild.{build_is_one}
 
@@ -70,14 +77,37 @@ free_of_none jobs races shape are none a b clash = elim (cases_order a b) [
   | inr (inr more) ↦ inr (in_order jobs races b a shape are none more (turned_clash clash))
 ]
 
--- so builds of old trees leave what those of clean ones leave, where these jobs are declared too
-pub builds_as_clean : (texts : Texts) (footprints : List ℕ) (prepared : Prepared) (races : List (ℕ × ℕ)) → IsPrepared texts footprints (Ok prepared)
-    → IsWellFormed prepared.jobs → AreRaces prepared.jobs races → races ≡ [] → IsDeclared prepared.jobs none_fixed → BuildsAsClean texts footprints
-builds_as_clean texts footprints prepared races build shape are none declared = record {
+-- so builds of old trees leave what those of clean ones leave, where jobs are declared too
+pub leaves_as_clean : (jobs : Jobs) (listing : List Name) (races : List (ℕ × ℕ)) → IsWellFormed jobs → AreRaces jobs races → races ≡ []
+    → IsDeclared jobs (unlisted_names jobs listing) → LeavesAsClean jobs listing
+leaves_as_clean jobs listing races shape are none declared = λ programs opening clean a b good kept is_clean same of_opening of_clean.
+    as_from_clean jobs programs (unlisted_names jobs listing) opening clean a b (shape_valid shape) (free_of_none jobs races shape are none) declared
+    good kept is_clean same of_opening of_clean
+
+-- and so it is of the build that texts mean
+pub builds_as_clean : (texts : Texts) (footprints : List ℕ) (prepared : Prepared) (change : Option Change) → IsPrepared texts footprints (Ok prepared)
+    → IsChange texts prepared.jobs change → change ≡ None → LeavesAsClean prepared.jobs prepared.listing → BuildsAsClean texts footprints
+builds_as_clean texts footprints prepared change build is none as_clean = record {
   prepared = prepared;
   build = build;
   only = λ other is. build_is_one texts footprints prepared other build is;
-  as_clean = λ programs opening clean a b good kept is_clean same of_opening of_clean.
-      as_from_clean prepared.jobs programs none_fixed opening clean a b (shape_valid shape) (free_of_none prepared.jobs races shape are none) declared
-      good kept is_clean same of_opening of_clean;
+  again = subst (IsChange texts prepared.jobs) none is;
+  as_clean = as_clean;
 }
+
+-- what is listed of what was prepared, beside the change of a second build, is what is listed of the build
+pub changed_list : (texts : Texts) (footprints : List ℕ) (prepared : Prepared) (change : Option Change) (result : Result MissingList Halt)
+    → IsPrepared texts footprints (Ok prepared) → IsChange texts prepared.jobs change → Answers result (IsMissingListOf prepared change)
+    → Answers result (IsMissingList texts footprints)
+changed_list texts footprints prepared change (Ok listed) build is h = (Ok prepared, build, (change, is, h))
+changed_list texts footprints prepared change (Err halts.Memory) build is h = tt
+changed_list texts footprints prepared change (Err (halts.Fault reported)) build is h = (Ok prepared, build, (change, is, h))
+
+-- and where that is empty, builds of old trees leave what those of clean ones leave
+pub headline_of : (texts : Texts) (footprints : List ℕ) (prepared : Prepared) (change : Option Change) (result : Result MissingList Halt)
+    → IsPrepared texts footprints (Ok prepared) → IsChange texts prepared.jobs change → Answers result (IsMissingListOf prepared change)
+    → IfOk result (λ listed. IsEmpty listed → LeavesAsClean prepared.jobs prepared.listing)
+    → IfOk result (λ listed. IsEmpty listed → BuildsAsClean texts footprints)
+headline_of texts footprints prepared change (Ok listed) build is h leaves = λ empty.
+    builds_as_clean texts footprints prepared change build is (sym h.3 ∙ empty.change) (leaves empty)
+headline_of texts footprints prepared change (Err halt) build is h leaves = tt

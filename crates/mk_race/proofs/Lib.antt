@@ -10,4 +10,5 @@ mod Noting
 mod OfTasks
 mod OneBuild
 mod ProofTexts
+mod Replanned
 mod Staging

@@ -66,7 +66,7 @@ planned_listed texts given is =
     (subst (λ (g : Graphed). AreListed listing.0 g.plan) (sym made) (answer_listed book.0 listing.0 _ plan.0 plan.1))
 
 -- jobs stand on the plan that they are made of
-on_plan : (fault : Option Reported) (plan : Plan) (read : Footprints) (jobs : Jobs) → Ok jobs ≡ option_map_or (λ f. Err f) fault (Ok (jobs_with read plan)) → jobs.plan ≡ plan
+pub on_plan : (fault : Option Reported) (plan : Plan) (read : Footprints) (jobs : Jobs) → Ok jobs ≡ option_map_or (λ f. Err f) fault (Ok (jobs_with read plan)) → jobs.plan ≡ plan
 on_plan None plan read jobs e = ap (λ (j : Jobs). j.plan) (same_Ok _ _ e)
 on_plan (Some reported) plan read jobs e = absurd (cc e)
 

@@ -11,7 +11,7 @@ use Rattle.mk_name.specs.Names.{Name}
 use Rattle.mk_name.specs.Reported.{Reported}
 use Rattle.mk_name.specs.declared.fault.Halt.{Halt}
 use Rattle.mk_name.specs.declared.fault.Halt.TheVariants as halts
-use Rattle.mk_jobs.specs.Jobs.{Jobs, has_commands, maker_of, name_of, node_count}
+use Rattle.mk_jobs.specs.Jobs.{Jobs, has_commands}
 use Rattle.mk_jobs.specs.Plan.{Node, Plan, node_at, nobody}
 use Rattle.mk_jobs.specs.declared.maker.Maker.{Maker}
 use Rattle.mk_rules.specs.Book.{Book}
@@ -56,14 +56,6 @@ module _ (footprints : Footprints) (nodes : List Node) where
       ∙ ap (λ l. numbers ++ filter_map (unused_number footprints) l) (sym (drop_all n (enumerate_from 0 nodes) (omega (arith, past, length-enumerate_from 0 nodes))))
       ∙ so_far
 
-pub within_is : (jobs : Jobs) (n end : ℕ) → end ≡ node_count jobs → n < end → n < length jobs.plan.nodes
-unfolding node_count
-within_is jobs n end same less = subst (λ (k : ℕ). n < k) same less
-
-pub past_is : (jobs : Jobs) (n end : ℕ) → end ≡ node_count jobs → end ≤ n → length jobs.plan.nodes ≤ n
-unfolding node_count
-past_is jobs n end same past = subst (λ (k : ℕ). k ≤ n) same past
-
 -- the first of them is the number of a node
 first_or : (b : Bool) (rest : List ℕ) (from n bound : ℕ) → (slice_get rest 0 ≡ Some n → n < from + suc bound)
     → slice_get (cons_option (if b then Some from else None) rest) 0 ≡ Some n → n < from + suc bound
@@ -77,26 +69,23 @@ first_from footprints (node ∷ nodes) from n e =
     first_or (is_unused footprints node) (filter_map (unused_number footprints) (enumerate_from (from + 1) nodes)) from n (length nodes)
     (λ first. let later : n < (from + 1) + length nodes = first_from footprints nodes (from + 1) n first in omega (arith, later)) e
 
-pub first_within : (footprints : Footprints) (jobs : Jobs) (numbers : List ℕ) (n : ℕ) → numbers ≡ unused_in footprints jobs.plan.nodes → slice_get numbers 0 ≡ Some n
-    → n < node_count jobs
-unfolding node_count
-first_within footprints jobs numbers n all first =
-    let at : n < 0 + length jobs.plan.nodes = first_from footprints jobs.plan.nodes 0 n (ap (λ l. slice_get l 0) (sym all) ∙ first) in omega (arith, at)
+pub first_within : (footprints : Footprints) (nodes : List Node) (numbers : List ℕ) (n : ℕ) → numbers ≡ unused_in footprints nodes → slice_get numbers 0 ≡ Some n
+    → n < length nodes
+first_within footprints nodes numbers n all first =
+    let at : n < 0 + length nodes = first_from footprints nodes 0 n (ap (λ l. slice_get l 0) (sym all) ∙ first) in omega (arith, at)
 
-module _ (footprints : Footprints) (jobs : Jobs) (n : ℕ) (maker : Maker) (made : Bool) where
+module _ (footprints : Footprints) (nodes : List Node) (n : ℕ) (maker : Maker) (made : Bool) where
   -- a node that something makes is not unused
-  pub made_is_used : maker ≡ maker_of jobs n → made ≡ has_commands maker → made ≡ true → false ≡ is_unused footprints (node_at jobs.plan.nodes n)
-  unfolding maker_of
+  pub made_is_used : maker ≡ (node_at nodes n).maker → made ≡ has_commands maker → made ≡ true → false ≡ is_unused footprints (node_at nodes n)
   made_is_used is has so =
-      sym (ap (λ b. not b && is_some (footprint_at footprints (node_at jobs.plan.nodes n).name)) (sym (ap has_commands is) ∙ sym has ∙ so))
+      sym (ap (λ b. not b && is_some (footprint_at footprints (node_at nodes n).name)) (sym (ap has_commands is) ∙ sym has ∙ so))
 
   -- and any other is, where a line names it
-  pub unmade_is_unused : (name : Name) (named : Bool) → maker ≡ maker_of jobs n → made ≡ has_commands maker → made ≡ false → name ≡ name_of jobs n
-      → named ≡ is_some (footprint_at footprints name) → named ≡ is_unused footprints (node_at jobs.plan.nodes n)
-  unfolding maker_of name_of
+  pub unmade_is_unused : (name : Name) (named : Bool) → maker ≡ (node_at nodes n).maker → made ≡ has_commands maker → made ≡ false → name ≡ (node_at nodes n).name
+      → named ≡ is_some (footprint_at footprints name) → named ≡ is_unused footprints (node_at nodes n)
   unmade_is_unused name named is has so called given =
       given ∙ ap (λ x. is_some (footprint_at footprints x)) called
-      ∙ sym (ap (λ b. not b && is_some (footprint_at footprints (node_at jobs.plan.nodes n).name)) (sym (ap has_commands is) ∙ sym has ∙ so))
+      ∙ sym (ap (λ b. not b && is_some (footprint_at footprints (node_at nodes n).name)) (sym (ap has_commands is) ∙ sym has ∙ so))
 
 -- ---- the jobs with them
 

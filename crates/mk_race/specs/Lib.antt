@@ -1,3 +1,4 @@
+pub mod Again
 pub mod Fixed
 pub mod Judged
 pub mod Laws
@@ -10,5 +11,6 @@ pub mod Settings
 pub mod Stages
 pub mod Tasked
 pub mod TasksFixed
+pub mod TasksMissing
 pub mod Unused
 pub mod Verified

@@ -4,8 +4,8 @@ use Rattle.std.specs.List.{enumerate_from, filter_map}
 use Rattle.mk_name.specs.Reported.{Reported}
 use Rattle.mk_name.specs.declared.fault.Kind.TheVariants.{UnusedFootprint}
 use Rattle.mk_name.specs.declared.fault.Source.TheVariants as sources
-use Rattle.mk_jobs.specs.Jobs.{Jobs, has_commands, name_of}
-use Rattle.mk_jobs.specs.Plan.{Node, Plan}
+use Rattle.mk_jobs.specs.Jobs.{Jobs, has_commands}
+use Rattle.mk_jobs.specs.Plan.{Node, Plan, node_at}
 use Rattle.mk_rules.specs.Book.{Book}
 use Rattle.mk_foot.specs.Footprints.{Footprints, IsRead, footprint_at}
 use Rattle.mk_race.specs.Stages.{AreJobs, IsJobs, IsPrepared, Texts, ThenAny}
@@ -25,22 +25,22 @@ unused_number footprints placed = if is_unused footprints placed.1 then Some pla
 abbrev pub unused_in : Footprints → List Node → List ℕ
 unused_in footprints nodes = filter_map (unused_number footprints) (enumerate_from 0 nodes)
 
--- what is said of these nodes of jobs: the first of them, its name, and how many they are
-abbrev pub AreSaidBy : Jobs → List ℕ → Option Unused → Type 0
-AreSaidBy jobs numbers None = numbers ≡ []
-AreSaidBy jobs numbers (Some unused) =
-    (slice_get numbers 0 ≡ Some unused.node) × (unused.name ≡ name_of jobs unused.node) × (unused.count ≡ length numbers)
+-- what is said of the nodes with these numbers: the first of them, its name, and how many they are
+abbrev pub AreSaidBy : List Node → List ℕ → Option Unused → Type 0
+AreSaidBy nodes numbers None = numbers ≡ []
+AreSaidBy nodes numbers (Some unused) =
+    (slice_get numbers 0 ≡ Some unused.node) × (unused.name ≡ (node_at nodes unused.node).name) × (unused.count ≡ length numbers)
 
 -- the jobs of a plan, whose book this is, and what is said of the footprints of a text that lie unused; or the first fault of the jobs
 abbrev pub AreNoted : List ℕ → Book → Plan → List ℕ → Result (Jobs × Option Unused) Reported → Type 0
 AreNoted root book plan text (Ok noted) =
-    (read : Footprints) × IsRead root text (Ok read) × AreJobs plan book read (Ok noted.0) × AreSaidBy noted.0 (unused_in read noted.0.plan.nodes) noted.1
+    (read : Footprints) × IsRead root text (Ok read) × AreJobs plan book read (Ok noted.0) × AreSaidBy noted.0.plan.nodes (unused_in read noted.0.plan.nodes) noted.1
 AreNoted root book plan text (Err reported) = IsJobs root book plan text (Err reported)
 
 -- that of the nodes of a build whose footprints, which this text says, lie unused
 abbrev pub IsUnused : Prepared → List ℕ → Option Unused → Type 0
 IsUnused prepared text unused =
-    (read : Footprints) × IsRead prepared.root text (Ok read) × AreSaidBy prepared.jobs (unused_in read prepared.jobs.plan.nodes) unused
+    (read : Footprints) × IsRead prepared.root text (Ok read) × AreSaidBy prepared.jobs.plan.nodes (unused_in read prepared.jobs.plan.nodes) unused
 
 -- the jobs of a build with that; or its first fault
 abbrev pub IsNoted : Texts → List ℕ → Result Noted Reported → Type 0

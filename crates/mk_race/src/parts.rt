@@ -103,14 +103,14 @@ fn attached(
     ensures { Answers result (IsAttached graphed footprints) }
 {
     match footprints {
-        Ok(footprints) => jobs_on(alloc, graphed, &footprints),
+        Ok(footprints) => jobs_on(alloc, graphed, footprints),
         Err(fault) => Err(Halt::Fault(fault)),
     }
 }
 
 /// The jobs of a plan with these footprints.
-fn jobs_on(alloc: Global, graphed: Graphed, footprints: &Footprints) -> Result<Jobs, Halt>
-    ensures { Answers result (AreJobs graphed.plan graphed.book footprints.now) }
+fn jobs_on(alloc: Global, graphed: Graphed, footprints: Footprints) -> Result<Jobs, Halt>
+    ensures { Answers result (AreJobs graphed.plan graphed.book footprints) }
 {
     let Graphed { book, plan } = graphed;
     jobs_with(alloc, plan, &book, footprints)

@@ -59,7 +59,7 @@ fn jobs_of(
     ensures { Answers result (IsJobs root.now book.now plan footprints.now) }
 {
     let footprints = read_footprints(alloc, footprints, root)?;
-    jobs_with(alloc, plan, book, &footprints)
+    jobs_with(alloc, plan, book, footprints)
 }
 
 /// The jobs of a plan, whose book this is, with these footprints.
@@ -67,9 +67,9 @@ pub(crate) fn jobs_with(
     alloc: Global,
     plan: Plan,
     book: &Rulebook,
-    footprints: &Footprints,
+    footprints: Footprints,
 ) -> Result<Jobs, Halt>
-    ensures { Answers result (AreJobs plan book.now footprints.now) }
+    ensures { Answers result (AreJobs plan book.now footprints) }
 {
     match attach(alloc, plan, book, footprints) {
         Ok(jobs) => Ok(jobs),

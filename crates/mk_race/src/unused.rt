@@ -2,10 +2,10 @@
 //!
 //! A recorder that ran another makefile, or that spells a target in another way, writes footprints that no recipe of this
 //! build takes. Where such a target is a node that nothing makes, a race may hide behind it: so it is noted, or refused.
-ghost use Rattle.std.specs.Prelude.{◌≡◌, ◌++◌, ◌<◌, IfOk, Ok, OnOk};
+ghost use Rattle.std.specs.Prelude.{◌≡◌, ◌++◌, ◌<◌, IfOk, Ok, OnOk, length};
 ghost use Rattle.std.specs.Option.{option_to_list};
 ghost use Rattle.mk_name.specs.Gives.{Answers, Gives};
-ghost use Rattle.mk_jobs.specs.Jobs.{node_at, node_count};
+ghost use Rattle.mk_jobs.specs.Plan.{node_at};
 ghost use Rattle.mk_name.specs.declared.fault.Halt.TheVariants as halts;
 ghost use Rattle.mk_race.specs.Stages.{IsPrepared, texts_of};
 ghost use Rattle.mk_race.specs.Unused as spec;
@@ -118,24 +118,24 @@ fn jobs_noted(
     ensures { Answers result (spec.AreNoted root.now book.now plan footprints.now) }
 {
     let footprints = read_footprints(alloc, footprints, root)?;
-    let jobs = jobs_with(alloc, plan, book, &footprints)?;
-    let unused = unused_by(alloc, &jobs, &footprints)?;
+    let unused = unused_by(alloc, &plan, &footprints)?;
+    let jobs = jobs_with(alloc, plan, book, footprints)?;
     Ok((jobs, unused))
 }
 
-/// What is said of the nodes of jobs that nothing makes though their names are targets of these footprints. The only error is
+/// What is said of the nodes of a plan that nothing makes though their names are targets of these footprints. The only error is
 /// out of memory.
 fn unused_by(
     alloc: Global,
-    jobs: &Jobs,
+    plan: &Plan,
     footprints: &Footprints,
 ) -> Result<Option<Unused>, AllocError>
-    ensures { IfOk result (spec.AreSaidBy jobs.now (spec.unused_in footprints.now jobs.now.plan.nodes)) }
+    ensures { IfOk result (spec.AreSaidBy plan.now.nodes (spec.unused_in footprints.now plan.now.nodes)) }
 {
-    let numbers = unused_in(alloc, jobs, footprints)?;
+    let numbers = unused_in(alloc, plan, footprints)?;
     match numbers.first() {
         Some(first) => {
-            let name = jobs.name(*first).copy(alloc)?;
+            let name = plan.name(*first).copy(alloc)?;
             Ok(Some(Unused {
                 node: *first,
                 name,
@@ -147,12 +147,12 @@ fn unused_by(
 }
 
 /// The numbers of these nodes, rising. The only error is out of memory.
-fn unused_in(alloc: Global, jobs: &Jobs, footprints: &Footprints) -> Result<Vec<u32>, AllocError>
-    ensures { IfOk result (λ numbers. numbers.items ≡ spec.unused_in footprints.now jobs.now.plan.nodes) }
+fn unused_in(alloc: Global, plan: &Plan, footprints: &Footprints) -> Result<Vec<u32>, AllocError>
+    ensures { IfOk result (λ numbers. numbers.items ≡ spec.unused_in footprints.now plan.now.nodes) }
 {
     let mut numbers = Vec::new(alloc);
-    for n in 0..jobs.count() {
-        add_unused(&mut numbers, jobs, n, footprints)?;
+    for n in 0..plan.count() {
+        add_unused(&mut numbers, plan, n, footprints)?;
     }
     Ok(numbers)
 }
@@ -160,27 +160,27 @@ fn unused_in(alloc: Global, jobs: &Jobs, footprints: &Footprints) -> Result<Vec<
 /// Adds the number of a node, where nothing makes it though its name is a target of these footprints.
 fn add_unused(
     numbers: &mut Vec<u32>,
-    jobs: &Jobs,
+    plan: &Plan,
     n: u32,
     footprints: &Footprints,
 ) -> Result<(), AllocError>
-    requires { n < node_count jobs.now }
+    requires { n < length plan.now.nodes }
     ensures { OnOk result (numbers.new.items ≡ numbers.old.items
-        ++ option_to_list (spec.unused_number footprints.now (n, node_at jobs.now n))) }
+        ++ option_to_list (spec.unused_number footprints.now (n, node_at plan.now.nodes n))) }
 {
-    if is_unused(jobs, n, footprints) {
+    if is_unused(plan, n, footprints) {
         numbers.push(n)?;
     }
     Ok(())
 }
 
 /// Whether nothing makes a node, though its name is a target of these footprints.
-fn is_unused(jobs: &Jobs, n: u32, footprints: &Footprints) -> bool
-    requires { n < node_count jobs.now }
-    ensures { result ≡ spec.is_unused footprints.now (node_at jobs.now n) }
+fn is_unused(plan: &Plan, n: u32, footprints: &Footprints) -> bool
+    requires { n < length plan.now.nodes }
+    ensures { result ≡ spec.is_unused footprints.now (node_at plan.now.nodes n) }
 {
-    if has_recipe(jobs.maker(n)) {
+    if has_recipe(plan.maker(n)) {
         return false;
     }
-    footprints.has(jobs.name(n))
+    footprints.has(plan.name(n))
 }

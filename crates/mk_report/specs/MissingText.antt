@@ -99,13 +99,14 @@ late_pair jobs found late = of_file (file_at found late.0.0) (late_line jobs lat
 abbrev pub shared_pair : Jobs → Violations → ℕ × ℕ → List ℕ
 shared_pair jobs found pair = of_file (file_at found pair.0) (shared_lines jobs pair.1 (last_at found pair.0))
 
--- how many there are of each kind, how many races there are, and the counts
+-- how many there are of each kind, how many unlisted inputs and races there are, and the counts
 abbrev pub missing_head : Jobs → ℕ → Violations → List ℕ
 missing_head jobs races found =
     number_line (codes "missing") (length found.missing.items)
     ++ number_line (codes "late") (length found.late.items)
     ++ number_line (codes "shared") (length found.shared.items)
     ++ number_line (codes "present") (length found.present.items)
+    ++ number_line (codes "unlisted") found.unlisted
     ++ number_line (codes "races") races
     ++ counts_text jobs
 

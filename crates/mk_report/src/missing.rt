@@ -15,9 +15,9 @@ use mk_text::listing::Listing;
 use std::alloc::{AllocError, Global};
 
 /// The report of what was found in jobs (profile) with this listing, which have so many races: how many violations there are of
-/// each kind, how many races, the counts, and a line for each violation, kind by kind, in the order given. Behind it stands the
-/// line that declares it, if there is one: for an input that is missing and for a file that is shared, where a makefile can have
-/// it. A pair whose place is that of no file has no line. The only error is out of memory.
+/// each kind, how many inputs are unlisted, how many races, the counts, and a line for each violation, kind by kind, in the order
+/// given. Behind it stands the line that declares it, if there is one: for an input that is missing and for a file that is shared,
+/// where a makefile can have it. A pair whose place is that of no file has no line. The only error is out of memory.
 pub fn missing_report(
     alloc: Global,
     jobs: &Jobs,
@@ -49,6 +49,7 @@ fn push_head(
     push_number(out, b"late", found.late.len() as u64)?;
     push_number(out, b"shared", found.shared.len() as u64)?;
     push_number(out, b"present", found.present.len() as u64)?;
+    push_number(out, b"unlisted", found.unlisted as u64)?;
     push_number(out, b"races", races as u64)?;
     push_counts(out, jobs)
 }

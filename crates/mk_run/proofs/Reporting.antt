@@ -10,7 +10,8 @@ use Rattle.mk_report.specs.declared.answer.Answer.TheVariants as answers
 use Rattle.mk_race.specs.Judged.{HoldsOfRace, HoldsOfSafe, IsAnswered, IsSafe, NoScheduleShows}
 use Rattle.mk_race.specs.Parts.{AreReadFrom, texts_with}
 use Rattle.mk_race.specs.declared.input.Settings.{Settings}
-use Rattle.mk_run.specs.Run.{GaveAll, Given, IsFootprinted, IsListed, IsReported, outcome_of, texts_given}
+use Rattle.mk_read.specs.Read.{GaveAll}
+use Rattle.mk_run.specs.Run.{Given, IsFootprinted, IsListed, IsReported, outcome_of, texts_given}
 use Rattle.mk_run.specs.declared.outcome.Outcome.{Outcome}
 use Rattle.mk_run.specs.declared.outcome.Outcome.TheVariants.{Safe, Race, Refused}
 

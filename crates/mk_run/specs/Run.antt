@@ -1,15 +1,14 @@
 -- What a run reads from its devices, and what it reports.
-use Rattle.std.specs.Prelude.{◌≡◌, ◌⊎◌, ℕ, Bool, true, false, List, Option, Result, Ok}
-use Rattle.std.specs.Io.KnownBytes.{Consumes, IsAtEnd}
+use Rattle.std.specs.Prelude.{◌≡◌, ◌⊎◌, ℕ, Bool, true, false, List, Result}
 use Rattle.mk_name.specs.Names.{Name}
 use Rattle.mk_name.specs.Reported.{Reported}
 use Rattle.mk_name.specs.declared.fault.Source.{Source}
 use Rattle.mk_name.specs.declared.fault.Source.TheVariants as sources
 use Rattle.mk_text.specs.Listing.{listing_of}
-use Rattle.mk_text.specs.Spelling.{root_of}
 use Rattle.mk_device.specs.declared.device.ReadStop.{ReadStop}
 use Rattle.mk_device.specs.declared.device.ReadStop.TheVariants as stops
 use Rattle.mk_foot.specs.Footprints.{Footprints, IsRead}
+use Rattle.mk_read.specs.Read.{IsReadBelow}
 use Rattle.mk_report.specs.Reports.{IsReport}
 use Rattle.mk_report.specs.declared.answer.Answer.{Answer}
 use Rattle.mk_report.specs.declared.answer.Answer.TheVariants as answers
@@ -21,11 +20,6 @@ use Rattle.mk_run.specs.declared.outcome.IoStop.{IoStop}
 use Rattle.mk_run.specs.declared.outcome.IoStop.TheVariants.{Read, Write, Memory}
 use Rattle.mk_run.specs.declared.outcome.Outcome.{Outcome}
 use Rattle.mk_run.specs.declared.outcome.Outcome.TheVariants.{Safe, Race, Refused}
-
--- a device was read to its end, and gave these bytes: where it states what it has left, they are all that it had
-pub record GaveAll (old new : Option (List ℕ)) (bytes : List ℕ) : Type 0 where
-  pub gave : Consumes old new bytes
-  pub end : IsAtEnd new
 
 -- why a text was not read
 abbrev pub unread : Source → ReadStop → IoStop
@@ -70,12 +64,12 @@ outcome_of (answers.Safe jobs chains) = Safe
 outcome_of (answers.Race jobs trace) = Race
 outcome_of (answers.Refused reported) = Refused
 
--- what was read of a text that says this below the root, if the root is good
+-- what was read of the listing and of the footprints, if the root is good
 abbrev pub IsListed : List ℕ → List ℕ → Result (List Name) Reported → Type 0
-IsListed root text listed = (below : List ℕ) → root_of root ≡ Ok below → listing_of below text ≡ listed
+IsListed = IsReadBelow (λ below text listed. listing_of below text ≡ listed)
 
 abbrev pub IsFootprinted : List ℕ → List ℕ → Result Footprints Reported → Type 0
-IsFootprinted root text read = (below : List ℕ) → root_of root ≡ Ok below → IsRead below text read
+IsFootprinted = IsReadBelow IsRead
 
 -- the bytes that the devices gave
 pub record Given : Type 0 where

@@ -1,13 +1,16 @@
 //! What the four devices of a build give.
 ghost use Rattle.std.specs.Prelude.{◌≡◌, IfErr, IfOk, List, OnOk, false, is_err, true, ℕ};
-ghost use Rattle.mk_run.specs.Run.{GaveAll, HasStopped, IsFootprinted, IsListed, IsUnread, none_failed};
+ghost use Rattle.mk_read.specs.Read.{GaveAll, IsReadBelow};
+ghost use Rattle.mk_run.specs.Run.{HasStopped, IsFootprinted, IsListed, IsUnread, none_failed};
 
-use crate::footprints::read_footprints;
-use crate::listing::read_listing;
 use crate::outcome::{IoStop, unread};
-use mk_device::device::{Broken, Intake, read_all};
+use mk_device::device::{Intake, read_all};
+use mk_foot::foot_reader::FootReader;
 use mk_foot::footprints::Footprints;
 use mk_name::fault::{Fault, Source};
+use mk_read::devices::read_below;
+use mk_read::line_reader::LineReader;
+use mk_text::list_reader::ListReader;
 use mk_text::listing::Listing;
 use std::alloc::Global;
 
@@ -23,21 +26,6 @@ pub(crate) struct Makefiles {
 pub(crate) struct Lists {
     pub(crate) listing: Result<Listing, Fault>,
     pub(crate) footprints: Result<Footprints, Fault>,
-}
-
-/// Reads a device to its end. `Broken` comes exactly where the device fails.
-pub(crate) fn read_past<I: Intake>(device: &mut I) -> Result<(), Broken>
-    requires { I.has_failed device.old ≡ false }
-    ensures read { OnOk result ((bytes : List ℕ) × GaveAll (I.left device.old) (I.left device.new) bytes) }
-    ensures failed { I.has_failed device.new ≡ is_err result }
-{
-    let mut piece = [0u8; 65_536];
-    'reads: loop {
-        let n = device.read(&mut piece)?;
-        if n == 0 {
-            return Ok(());
-        }
-    }
 }
 
 /// The text that a device gives, read to its end. `IoStop::Read` of its source comes exactly where the device fails; the only
@@ -101,46 +89,30 @@ pub(crate) fn read_lists<L: Intake, F: Intake>(
     })) }
     ensures listing_first { L.has_failed listing.new ≡ true → footprints.new ≡ footprints.old }
 {
-    let listing = listing_in(alloc, root, listing)?;
-    let footprints = footprints_in(alloc, root, footprints)?;
+    let listing = list_in::<ListReader, L>(alloc, Source::Listing, root, listing)?;
+    let footprints = list_in::<FootReader, F>(alloc, Source::Footprints, root, footprints)?;
     Ok(Lists {
         listing,
         footprints,
     })
 }
 
-/// The listing that a device gives, as `read_listing` gives it.
-fn listing_in<I: Intake>(
+/// What a device gives says below a root, or its fault, as [`read_below`] reads it. `IoStop::Read` of its source comes exactly where
+/// the device fails; the only other error is out of memory.
+fn list_in<R: LineReader, I: Intake>(
     alloc: Global,
+    source: Source,
     root: &[u8],
     device: &mut I,
-) -> Result<Result<Listing, Fault>, IoStop>
+) -> Result<Result<R::Value, Fault>, IoStop>
     requires { I.has_failed device.old ≡ false }
-    ensures listing { IfOk result (λ listed. (text : List ℕ)
-        × GaveAll (I.left device.old) (I.left device.new) text × IsListed root.now text listed) }
+    ensures read { IfOk result (λ read. (text : List ℕ)
+        × GaveAll (I.left device.old) (I.left device.new) text × IsReadBelow R.says root.now text read) }
     ensures works { OnOk result (I.has_failed device.new ≡ false) }
-    ensures stop { IfErr result (λ stop. IsUnread Source.Listing stop (I.has_failed device.new)) }
+    ensures stop { IfErr result (λ stop. IsUnread source stop (I.has_failed device.new)) }
 {
-    match read_listing(alloc, root, device) {
-        Ok(listed) => Ok(listed),
-        Err(stop) => Err(unread(Source::Listing, stop)),
-    }
-}
-
-/// The footprints that a device gives, as `read_footprints` gives them.
-fn footprints_in<I: Intake>(
-    alloc: Global,
-    root: &[u8],
-    device: &mut I,
-) -> Result<Result<Footprints, Fault>, IoStop>
-    requires { I.has_failed device.old ≡ false }
-    ensures footprints { IfOk result (λ read. (text : List ℕ)
-        × GaveAll (I.left device.old) (I.left device.new) text × IsFootprinted root.now text read) }
-    ensures works { OnOk result (I.has_failed device.new ≡ false) }
-    ensures stop { IfErr result (λ stop. IsUnread Source.Footprints stop (I.has_failed device.new)) }
-{
-    match read_footprints(alloc, root, device) {
+    match read_below::<R, I>(alloc, root, device) {
         Ok(read) => Ok(read),
-        Err(stop) => Err(unread(Source::Footprints, stop)),
+        Err(stop) => Err(unread(source, stop)),
     }
 }

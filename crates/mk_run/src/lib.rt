@@ -7,9 +7,7 @@
 //! `specs/Run.antt` defines what is read and what is reported.
 #![tactic(auto)]
 
-mod footprints;
 mod inputs;
-mod listing;
 pub mod outcome;
 pub mod running;
 

@@ -4,8 +4,9 @@ ghost use Rattle.std.specs.Io.KnownBytes.{Appends};
 ghost use Rattle.mk_device.specs.Device.{AppendsBeginning};
 ghost use Rattle.mk_race.specs.Judged.{NoScheduleShows};
 ghost use Rattle.mk_report.specs.Reports.{IsReport};
+ghost use Rattle.mk_read.specs.Read.{GaveAll};
 ghost use Rattle.mk_run.specs.Run as spec;
-ghost use Rattle.mk_run.specs.Run.{GaveAll, Given, HasStopped, none_failed};
+ghost use Rattle.mk_run.specs.Run.{Given, HasStopped, none_failed};
 
 use crate::inputs::{Lists, Makefiles, read_lists, read_makefiles};
 use crate::outcome::{IoStop, Outcome, outcome_of};

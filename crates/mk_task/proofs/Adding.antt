@@ -34,13 +34,13 @@ pub line_new : (place : ℕ) (earlier : List Task) (line : Line) → has same_na
     → with_line place earlier line ≡ with_needs place earlier line (needs_from place (labels_of earlier) [] line.after)
 line_new place earlier line new = cond-false (has same_name (labels_of earlier) line.label) _ _ new
 
-same_side : (limit a b : ℕ) → (limit < a → limit < b) → (a ≤ limit → b ≤ limit) → nat_lt limit a ≡ nat_lt limit b
+pub same_side : (limit a b : ℕ) → (limit < a → limit < b) → (a ≤ limit → b ≤ limit) → nat_lt limit a ≡ nat_lt limit b
 same_side limit a b over under = elim (cases_lt limit a) [
   | inl more ↦ lt-ltb limit a more ∙ sym (lt-ltb limit b (over more))
   | inr less ↦ le-ltb limit a less ∙ sym (le-ltb limit b (under less))
 ]
 
-sides : (tasks : ℕ) (edges paths more others : ℕ) → nat_lt edge_limit edges ≡ nat_lt edge_limit more → nat_lt path_limit paths ≡ nat_lt path_limit others
+pub sides : (tasks : ℕ) (edges paths more others : ℕ) → nat_lt edge_limit edges ≡ nat_lt edge_limit more → nat_lt path_limit paths ≡ nat_lt path_limit others
     → limit_passed tasks edges paths ≡ limit_passed tasks more others
 sides tasks edges paths more others es ps =
     ap₂ (λ (b c : Bool). cond (nat_lt node_limit tasks || b) (Some TooManyTasks) (cond c (Some TasksTooLarge) None)) es ps
@@ -80,12 +80,12 @@ within_passed place earlier task edges paths o counts is =
     ap (unless_passed place (earlier ++ task ∷ [])) (sym (is ∙ passed_same earlier task edges paths counts))
 
 -- no limit is passed
-record AreFew (tasks edges paths : ℕ) : Type 0 where
-  few : tasks ≤ node_limit
-  few_edges : edges ≤ edge_limit
-  few_paths : paths ≤ path_limit
+pub record AreFew (tasks edges paths : ℕ) : Type 0 where
+  pub few : tasks ≤ node_limit
+  pub few_edges : edges ≤ edge_limit
+  pub few_paths : paths ≤ path_limit
 
-few_of : (tasks edges paths : ℕ) → limit_passed tasks edges paths ≡ None → AreFew tasks edges paths
+pub few_of : (tasks edges paths : ℕ) → limit_passed tasks edges paths ≡ None → AreFew tasks edges paths
 few_of tasks edges paths none = by (nat_lt node_limit tasks || nat_lt edge_limit edges) (nat_lt path_limit paths) refl refl none
   where
     by : (b c : Bool) → (nat_lt node_limit tasks || nat_lt edge_limit edges) ≡ b → nat_lt path_limit paths ≡ c

@@ -98,10 +98,10 @@ path_apart root p spelled less label = by p.tree refl
     by true e = cond-true p.tree _ _ e ∙ tree_apart root label p.name spelled (rw e at less)
     by false e = cond-false p.tree _ _ e ∙ file_apart label p.name spelled
 
-then_some : {X Y : Type 0} (f : X → Option Y) (o : Option X) (y : Y) → option_and_then f o ≡ Some y → (x : X) × (o ≡ Some x) × (f x ≡ Some y)
+pub then_some : {X Y : Type 0} (f : X → Option Y) (o : Option X) (y : Y) → option_and_then f o ≡ Some y → (x : X) × (o ≡ Some x) × (f x ≡ Some y)
 then_some f o y is = option_and_then_some f o y is (λ x here next. (x, here, next))
 
-map_some : {X Y : Type 0} (f : X → Y) (o : Option X) (y : Y) → option_map f o ≡ Some y → (x : X) × (o ≡ Some x) × (f x ≡ y)
+pub map_some : {X Y : Type 0} (f : X → Y) (o : Option X) (y : Y) → option_map f o ≡ Some y → (x : X) × (o ≡ Some x) × (f x ≡ y)
 map_some f None y is = absurd (let e : None ≡ Some y = is in cc)
 map_some f (Some x) y is = (x, refl, (let e : Some (f x) ≡ Some y = is in cc))
 
@@ -151,7 +151,7 @@ less_apart root d raw writes under is = elim (cases_Bool (list_any is_everything
       )
 ]
 
-said_plain : (root : List ℕ) (d : Data) (line : Line) → line_in root d ≡ Some line → IsPlainLine root line
+pub said_plain : (root : List ℕ) (d : Data) (line : Line) → line_in root d ≡ Some line → IsPlainLine root line
 said_plain root d line is =
     let label = then_some _ (option_and_then label_of (under_task d)) line is in
     let after = then_some _ (option_and_then labels_in (under_after d)) line label.2 in

@@ -1,5 +1,5 @@
-mod Adding
-mod Apart
+pub mod Adding
+pub mod Apart
 mod ReadTasks
 mod Shaped
 pub mod Starting

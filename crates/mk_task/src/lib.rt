@@ -11,10 +11,10 @@
 #![tactic(auto)]
 
 pub mod laws;
-mod line;
-mod making;
-mod needs;
+pub mod line;
+pub mod making;
+pub mod needs;
 pub mod reading;
-mod tasks;
+pub mod tasks;
 
 pub use crate::reading::read_tasks;

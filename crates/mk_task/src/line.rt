@@ -20,11 +20,11 @@ const LABEL_LIMIT: usize = 4096;
 
 /// What a line says: a label, the labels that it stands behind, and the paths that it reads and writes, as they stand there.
 #[derive(Debug, Drop)]
-pub(crate) struct Line {
-    pub(crate) label: Name,
-    pub(crate) after: Vec<Name>,
-    pub(crate) reads: Vec<Path>,
-    pub(crate) writes: Vec<Path>,
+pub struct Line {
+    pub label: Name,
+    pub after: Vec<Name>,
+    pub reads: Vec<Path>,
+    pub writes: Vec<Path>,
 }
 
 impl Model for Line {
@@ -129,8 +129,12 @@ fn writes_in(
     Ok(Some(writes))
 }
 
-/// The line that an object says.
-fn line_in(alloc: Global, object: &Document<'_>, root: &Root) -> Result<Option<Line>, AllocError>
+/// The line that an object says; none where it is bad. Other keys mean nothing. The only error is out of memory.
+pub fn line_in(
+    alloc: Global,
+    object: &Document<'_>,
+    root: &Root,
+) -> Result<Option<Line>, AllocError>
     ensures { IfOk result (λ line. line ≡ spec.line_in root.now (data_of object.now)) }
 {
     let Some(label) = own_label(alloc, object)? else {

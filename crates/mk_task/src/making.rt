@@ -86,7 +86,7 @@ fn node_of(alloc: Global, label: Name, needs: Vec<u32>) -> Result<PlanNode, Allo
 }
 
 /// The name of a task's own node, which no path spells. The only error is out of memory.
-fn own_name(alloc: Global, label: &Name) -> Result<Name, AllocError>
+pub fn own_name(alloc: Global, label: &Name) -> Result<Name, AllocError>
     ensures { IfOk result (λ name. name ≡ spec.own_name label.now) }
 {
     let mut bytes = Vec::from_slice(alloc, OWN)?;
@@ -95,7 +95,7 @@ fn own_name(alloc: Global, label: &Name) -> Result<Name, AllocError>
 }
 
 /// The paths in their order, each once. The only error is out of memory.
-fn in_order(alloc: Global, paths: Vec<Path>) -> Result<Vec<Path>, AllocError>
+pub fn in_order(alloc: Global, paths: Vec<Path>) -> Result<Vec<Path>, AllocError>
     ensures paths { IfOk result (λ list. list.items ≡ in_order paths.items) }
     ensures rising { IfOk result (λ list. IsRising list.items) }
 {

@@ -33,8 +33,8 @@ pub(crate) fn needs_of(
     Ok(in_order(alloc, &needs)?)
 }
 
-/// The numbers of a set, rising.
-fn in_order(alloc: Global, numbers: &BTreeSet<u32>) -> Result<Vec<u32>, AllocError>
+/// The numbers of a set, rising. The only error is out of memory.
+pub fn in_order(alloc: Global, numbers: &BTreeSet<u32>) -> Result<Vec<u32>, AllocError>
     ensures { IfOk result (λ list. list.items ≡ numbers.now.keys) }
 {
     let mut list = Vec::with_capacity(alloc, numbers.len())?;

@@ -128,8 +128,9 @@ fn has_label(labels: &Numbering, label: &Name) -> bool
     labels.number(label).is_some()
 }
 
-/// The limit that so many tasks, edges and paths pass, if they pass one.
-fn limit_passed(tasks: usize, edges: usize, paths: usize) -> Option<Kind>
+/// The limit that so many tasks, edges and paths pass, if they pass one: 20,000 tasks and 200,000 edges, and then 1,000,000
+/// paths.
+pub fn limit_passed(tasks: usize, edges: usize, paths: usize) -> Option<Kind>
     ensures { result ≡ spec.limit_passed tasks edges paths }
 {
     if tasks > NODE_LIMIT || edges > EDGE_LIMIT {

@@ -1,14 +1,18 @@
-//! What jobs do not declare: a header that is late too, a file of three writers, a target that is listed, and jobs that lack nothing.
+//! What jobs do not declare: a header that is late too, a file of three writers, a target that is listed, a header that is listed or
+//! unlisted, and jobs that lack nothing.
 use crate::small;
 use jobs_for_tests::making::{Made, jobs_of};
 use mk_jobs::jobs::Jobs;
 use mk_missing::violations::{Violations, find_violations};
+use mk_text::listing::Listing;
+use mk_text::root::Root;
 use std::alloc::Global;
 
 /// What is expected of jobs. A pair has the place of a file among all files that recipes touch, and a node.
 #[derive(Clone, Copy)]
 struct Expected<'a> {
     missing: &'a [(u32, u32)],
+    unlisted: usize,
     late: &'a [(u32, u32)],
     late_by: &'a [u32],
     shared: &'a [(u32, u32)],
@@ -17,6 +21,7 @@ struct Expected<'a> {
 
 const NOTHING: Expected<'static> = Expected {
     missing: &[],
+    unlisted: 0,
     late: &[],
     late_by: &[],
     shared: &[],
@@ -53,6 +58,29 @@ fn jobs_that_lack_something(rt: HostRuntime) {
     assert!(rt; is_found(alloc, &listed_object(), &listed));
 }
 
+#[test]
+fn header_listed_or_unlisted(rt: HostRuntime) {
+    let alloc = rt.alloc();
+    let missing = Expected {
+        missing: &[(1, 1)],
+        ..NOTHING
+    };
+    assert!(rt; finds_with(alloc, &header_not_named(), b"a.c\na.h\n", &missing));
+    let unlisted = Expected {
+        unlisted: 1,
+        ..NOTHING
+    };
+    assert!(rt; finds_with(alloc, &header_not_named(), b"a.c\n", &unlisted));
+}
+
+/// An object whose recipe looks for a header that no prerequisite stands for.
+fn header_not_named() -> [Made<'static>; 2] {
+    [
+        Made::file("a.c"),
+        Made::ruled("a.o", &[0], &["a.c", "a.h"], &["a.o"]),
+    ]
+}
+
 /// An object that is listed, and made all the same.
 fn listed_object() -> [Made<'static>; 2] {
     [
@@ -65,14 +93,24 @@ fn listed_object() -> [Made<'static>; 2] {
 }
 
 fn is_found(alloc: Global, made: &[Made<'_>], expected: &Expected<'_>) -> bool {
-    match jobs_of(alloc, made) {
-        Some(jobs) => finds(alloc, &jobs, expected),
-        None => false,
+    finds_with(alloc, made, b"", expected)
+}
+
+/// Whether this is found in jobs with the text of a listing.
+fn finds_with(alloc: Global, made: &[Made<'_>], text: &[u8], expected: &Expected<'_>) -> bool {
+    match (jobs_of(alloc, made), listing_of(alloc, text)) {
+        (Some(jobs), Some(listing)) => finds(alloc, &jobs, &listing, expected),
+        _ => false,
     }
 }
 
-fn finds(alloc: Global, jobs: &Jobs, expected: &Expected<'_>) -> bool {
-    match find_violations(alloc, jobs) {
+fn listing_of(alloc: Global, text: &[u8]) -> Option<Listing> {
+    let root = Root::read(alloc, b"/w").ok()?;
+    Listing::read(alloc, text, &root).ok()
+}
+
+fn finds(alloc: Global, jobs: &Jobs, listing: &Listing, expected: &Expected<'_>) -> bool {
+    match find_violations(alloc, jobs, listing) {
         Ok(found) => is_same(&found, expected),
         Err(_) => false,
     }
@@ -80,6 +118,7 @@ fn finds(alloc: Global, jobs: &Jobs, expected: &Expected<'_>) -> bool {
 
 fn is_same(found: &Violations, expected: &Expected<'_>) -> bool {
     found.missing.as_slice() == expected.missing
+        && found.unlisted == expected.unlisted
         && found.late.as_slice() == expected.late
         && found.late_by.as_slice() == expected.late_by
         && found.shared.as_slice() == expected.shared

@@ -18,7 +18,7 @@ pub(super) fn check_command<'a>(alloc: Global) -> Result<Command<'a>, AllocError
     let command = Command::new(alloc, "check")
         .about(help::CHECK_ABOUT)
         .after_help(help::CHECK_DETAILS);
-    with_tasks(alloc, command)?
+    with_tasks(alloc, command, false)?
         .arg(flag(alloc, "print-proof", help::PRINT_PROOF))?
         .arg(flag(alloc, "strict", help::STRICT))
 }

@@ -17,5 +17,5 @@ pub(super) fn fix_command<'a>(alloc: Global) -> Result<Command<'a>, AllocError>
     let command = Command::new(alloc, "fix")
         .about(help::FIX_ABOUT)
         .after_help(help::FIX_DETAILS);
-    with_tasks(alloc, command)?.arg(flag(alloc, "print-proof", help::FIX_PROOF))
+    with_tasks(alloc, command, false)?.arg(flag(alloc, "print-proof", help::FIX_PROOF))
 }

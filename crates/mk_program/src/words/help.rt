@@ -15,8 +15,8 @@ build: where it accepts a certificate, every run of the recipes leaves the same 
 writes the log of a parallel build as that of the same build with one job. `race order` and
 `race replay` end with 0 also on a build whose recipes race.
 
-With --tasks TASKS `check`, `list`, `fix` and `verify` take tasks that another tool knows, such as
-a recorder of builds, in place of a makefile.
+With --tasks TASKS `check`, `list`, `fix`, `missing` and `verify` take tasks that another tool
+knows, such as a recorder of builds, in place of a makefile.
 
 Statuses:
   0  check: the build is safe; list: there is no race; fix: the build is safe with the lines;
@@ -204,17 +204,28 @@ In a tree that was built before `make` runs only recipes whose targets are out o
 that reads a file which none of its prerequisites stands for does not run again when that file is
 edited, with one job as with eight.
 
-What comes out is how many there are of each kind, the number of races, those of nodes, of recipes
-that may run, of those that cannot and of .WAIT, and then a line for each of these kinds. NAME and
-NODE are files of the build:
+What comes out is how many there are of each kind, how many inputs are unlisted, how many races,
+nodes, recipes that may run, recipes that cannot and .WAIT there are, and then a line for each of
+these kinds. NAME and NODE are files of the build:
   missing PATH : NAME reads                NAME may stay old after an edit of PATH
   missing PATH : NAME reads NODE writes    the same, and NODE writes PATH last
   late PATH : NAME reads NODE writes       NODE writes PATH, and may do so after NAME
   shared PATH : NAME writes NODE writes    NODE writes PATH last, and may not run when NAME does
   present NAME                             a recipe makes NAME, and LISTING has it
+  plan NAME                                a second build, which finds what the first one made,
+                                           lacks NAME or makes it in another way: an inference rule
+                                           may find another source
+  plan : refused                           the second build is refused
 Behind a line may stand `add NAME: PATH` or the like: put that prerequisite into MAKEFILE, and ask
-again. `race list` shows the races. Inputs that are refused give `refused`, the fault, its place
-and names.
+again. `race list` shows the races. An input is unlisted where LISTING does not have the file and no
+recipe makes it, such as a header that a compiler looks for in each folder before its own, or a
+system header that LISTING leaves out. No line names it. Inputs that are refused give `refused`, the
+fault, its place and names.
+
+With --tasks TASKS, which stands in place of MAKEFILE, BASE, FILE, FOOTPRINTS and the operands, the
+same is said of tasks. A line of TASKS then has two keys more: `makes`, the file of its task, and
+`needs`, the files that make it run where they are newer. A task without them always runs. Behind
+`add NAME: PATH` put PATH into `needs` of the task that makes NAME. docs/FORMATS.md has the lines.
 
 A status of 0 means:
   - edit the sources and build, as often as you like: the files are those of a clean build;
@@ -222,7 +233,8 @@ A status of 0 means:
   - this is proved, where the premises hold.
 The premises are those of `race check`, and for each build these: it runs to its end, and from the
 same MAKEFILE; a recipe leaves the same after the same inputs, whatever stood there before; only
-sources are edited, and are newer than all files then. docs/THEOREM.md has them all.
+sources are edited, and are newer than all files then; unlisted inputs never change, and absent
+ones stay absent. docs/THEOREM.md has them all.
 
 Example, an object that uses a header, and does not say so:
   $ printf 'a.o: a.c\\n\\tcc -c a.c\\n' > makefile
@@ -233,6 +245,7 @@ Example, an object that uses a header, and does not say so:
   late 0
   shared 0
   present 0
+  unlisted 0
   races 0
   nodes 2
   recipes 1
@@ -244,8 +257,8 @@ Example, an object that uses a header, and does not say so:
 Statuses:
   0  nothing is listed, and no two recipes race
   1  something is listed, or two recipes race
-  2  the makefile, the base, an included text, the listing, the root, an operand or the footprints
-     is refused, or more than 1,000,000 pairs of recipes conflict
+  2  the makefile, the base, an included text, the listing, the root, an operand, the footprints or
+     the tasks are refused, or more than 1,000,000 pairs of recipes conflict
   3  a file cannot be read or written, memory runs out, or the command line is invalid
 ";
 

@@ -18,7 +18,7 @@ pub(super) fn list_command<'a>(alloc: Global) -> Result<Command<'a>, AllocError>
     let command = Command::new(alloc, "list")
         .about(help::LIST_ABOUT)
         .after_help(help::LIST_DETAILS);
-    with_tasks(alloc, command)
+    with_tasks(alloc, command, false)
 }
 
 /// What these matches of the subcommand ask to list. The only error is out of memory.

@@ -26,7 +26,7 @@ pub(super) fn mistake_in<'a>(name: &str, found: &ArgMatches<'a>) -> Option<Mista
             message: "the argument '--posix-base' cannot be used with '--base <BASE>'",
         });
     }
-    if let Some(message) = beside_tasks(found) {
+    if let Some(message) = beside_tasks(name, found) {
         return Some(Mistake {
             kind: ErrorKind::ArgumentConflict,
             message,
@@ -55,9 +55,9 @@ fn is_given<'a>(found: &ArgMatches<'a>, name: &str) -> bool
     found.get_str(name).is_some()
 }
 
-/// That tasks are named beside a file, an operand or a flag of a build: which of these is the first.
-fn beside_tasks<'a>(found: &ArgMatches<'a>) -> Option<&'static str>
-    ensures { is_some result ≡ spec.has_both (rows_of (found_of found.now)) }
+/// That the subcommand of this name has tasks beside a file, an operand or a flag of a build: which of these is the first.
+fn beside_tasks<'a>(name: &str, found: &ArgMatches<'a>) -> Option<&'static str>
+    ensures { is_some result ≡ spec.has_both name.now (rows_of (found_of found.now)) }
 {
     if !is_given(found, "tasks") {
         return None;
@@ -65,7 +65,7 @@ fn beside_tasks<'a>(found: &ArgMatches<'a>) -> Option<&'static str>
     if is_given(found, "makefile") {
         return Some("the argument '--tasks <TASKS>' cannot be used with '--makefile <MAKEFILE>'");
     }
-    if is_given(found, "listing") {
+    if name != "missing" && is_given(found, "listing") {
         return Some("the argument '--tasks <TASKS>' cannot be used with '--listing <LISTING>'");
     }
     if is_given(found, "base") {
@@ -97,6 +97,11 @@ fn lacking_files<'a>(name: &str, found: &ArgMatches<'a>) -> Option<&'static str>
 {
     if name == "order" || is_given(found, "tasks") {
         return None;
+    }
+    if name == "missing" && !is_given(found, "makefile") && !is_given(found, "footprints") {
+        return Some(
+            "the following required arguments were not provided:\n  --tasks <TASKS>, or --makefile <MAKEFILE> and --footprints <FOOTPRINTS>",
+        );
     }
     missing(
         is_given(found, "makefile"),

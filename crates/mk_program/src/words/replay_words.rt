@@ -27,7 +27,7 @@ pub(super) fn with_log<'a>(alloc: Global, command: Command<'a>) -> Result<Comman
     ensures local { IfOk result (λ new.
         (fields_of new).has_globals ≡ (fields_of command.entry).has_globals) }
 {
-    with_build(alloc, command, true)?
+    with_build(alloc, command, true, true)?
         .arg(option(alloc, "footprints", "FOOTPRINTS", help::FOOTPRINTS, true))?
         .arg(option(alloc, "log", "LOG", help::LOG, true))?
         .arg(limit(alloc))?

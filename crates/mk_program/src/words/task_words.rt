@@ -9,13 +9,17 @@ use crate::requests::{TaskArgs, TaskQuestion};
 use clap::{ArgMatches, Command};
 use std::alloc::{AllocError, Global};
 
-/// The command with the options and operands of a build and of tasks.
-pub(super) fn with_tasks<'a>(alloc: Global, command: Command<'a>) -> Result<Command<'a>, AllocError>
-    ensures app { IfOk result (λ new. app_of new ≡ spec.with_tasks (app_of command.entry)) }
+/// The command with the options and operands of a build and of tasks, whose listing must be given where that is required.
+pub(super) fn with_tasks<'a>(
+    alloc: Global,
+    command: Command<'a>,
+    listing: bool,
+) -> Result<Command<'a>, AllocError>
+    ensures app { IfOk result (λ new. app_of new ≡ spec.with_tasks listing (app_of command.entry)) }
     ensures local { IfOk result (λ new.
         (fields_of new).has_globals ≡ (fields_of command.entry).has_globals) }
 {
-    with_build(alloc, command, false)?
+    with_build(alloc, command, false, listing)?
         .arg(option(alloc, "footprints", "FOOTPRINTS", help::FOOTPRINTS, false))?
         .arg(option(alloc, "tasks", "TASKS", help::TASKS, false))
 }
@@ -23,7 +27,7 @@ pub(super) fn with_tasks<'a>(alloc: Global, command: Command<'a>) -> Result<Comm
 /// What these matches of the subcommand of this name ask about the tasks that they name.
 pub(super) fn task_args<'a>(name: &str, found: &ArgMatches<'a>, tasks: &'a str) -> TaskArgs<'a>
     requires named { (name.now ≡ codes "check") ⊎ (name.now ≡ codes "verify") ⊎ (name.now ≡ codes "list")
-        ⊎ (name.now ≡ codes "fix") }
+        ⊎ (name.now ≡ codes "fix") ⊎ (name.now ≡ codes "missing") }
     requires tasks { Some tasks.now ≡ first_of (codes "tasks") (rows_of (found_of found.now)) }
     ensures { spec.HasTasks result name.now (rows_of (found_of found.now)) }
 {
@@ -37,7 +41,7 @@ pub(super) fn task_args<'a>(name: &str, found: &ArgMatches<'a>, tasks: &'a str) 
 /// The question of the subcommand of this name.
 fn task_question<'a>(name: &str, found: &ArgMatches<'a>) -> TaskQuestion<'a>
     requires { (name.now ≡ codes "check") ⊎ (name.now ≡ codes "verify") ⊎ (name.now ≡ codes "list")
-        ⊎ (name.now ≡ codes "fix") }
+        ⊎ (name.now ≡ codes "fix") ⊎ (name.now ≡ codes "missing") }
     ensures { spec.IsQuestion result name.now (rows_of (found_of found.now)) }
 {
     if name == "check" {
@@ -52,6 +56,11 @@ fn task_question<'a>(name: &str, found: &ArgMatches<'a>) -> TaskQuestion<'a>
     }
     if name == "list" {
         return TaskQuestion::List;
+    }
+    if name == "missing" {
+        return TaskQuestion::Missing {
+            listing: value_in(found, "listing"),
+        };
     }
     TaskQuestion::Fix {
         print_proof: is_set(found, "print-proof"),

@@ -18,7 +18,7 @@ pub(super) fn verify_command<'a>(alloc: Global) -> Result<Command<'a>, AllocErro
     let command = Command::new(alloc, "verify")
         .about(help::VERIFY_ABOUT)
         .after_help(help::VERIFY_DETAILS);
-    with_tasks(alloc, command)?
+    with_tasks(alloc, command, false)?
         .arg(option(alloc, "proof", "PROOF", help::PROOF, true))?
         .arg(flag(alloc, "strict", help::STRICT))
 }

@@ -1,4 +1,5 @@
 use Rattle.std.proofs.lemmas.Result.{IfOk-weaker}
+use Rattle.mk_race.specs.Missing.{BuildsAsClean, IsMissingList}
 use Rattle.mk_race.specs.Stages.{texts_of}
 use Rattle.mk_program.proofs.Answering.{refusal_not_failed}
 use Rattle.mk_program.proofs.MissingAnswers.{listed_is, missing_not_failed, unlisted_is}
@@ -9,7 +10,8 @@ returns-in-Ok-clause-status c = IfOk-weaker c.listed_answer.result _ _ (λ answe
 
 pub returns-in-Ok-clause-answer : goal.returns-in-Ok-clause-answer
 returns-in-Ok-clause-answer c =
-    IfOk-weaker c.listed_answer.result _ _ (λ answer h. listed_is (texts_of c.args.input.now) c.args.input.now.footprints.now c.in-Ok.listed answer.status answer.text.items
+    IfOk-weaker c.listed_answer.result _ _ (λ answer h. listed_is (IsMissingList (texts_of c.args.input.now) c.args.input.now.footprints.now)
+    (BuildsAsClean (texts_of c.args.input.now) c.args.input.now.footprints.now) c.in-Ok.listed answer.status answer.text.items
     c.in-Ok.ensures.missing c.in-Ok.ensures.headline h.0 h.1) c.listed_answer.ensures
 
 pub returns-in-Err-clause-status : goal.returns-in-Err-clause-status
@@ -17,5 +19,6 @@ returns-in-Err-clause-status c = IfOk-weaker c.refused.result _ _ (λ answer h. 
 
 pub returns-in-Err-clause-answer : goal.returns-in-Err-clause-answer
 returns-in-Err-clause-answer c =
-    IfOk-weaker c.refused.result _ _ (λ answer h. unlisted_is (texts_of c.args.input.now) c.args.input.now.footprints.now c.in-Err.halt h.0 answer.status answer.text.items
+    IfOk-weaker c.refused.result _ _ (λ answer h. unlisted_is (IsMissingList (texts_of c.args.input.now) c.args.input.now.footprints.now)
+    (BuildsAsClean (texts_of c.args.input.now) c.args.input.now.footprints.now) c.in-Err.halt h.0 answer.status answer.text.items
     c.in-Err.ensures.missing h.1 h.2 h.3) c.refused.ensures

@@ -1,4 +1,8 @@
+use Rattle.std.proofs.Common.{◌≡◌, subst, sym}
 use Rattle.std.proofs.lemmas.Result.{err_from_is_err_and}
+use Rattle.mk_jobs.specs.Plan.{Plan}
+use Rattle.mk_race.specs.Unused.{AreSaidBy, unused_in}
+use Rattle.mk_race.proofs.Listed.{on_plan}
 use Rattle.mk_race.proofs.Noting.{among_noted, unattached}
 use Rattle.mk_race.proofs.Staging.{unread}
 use Rattle.mk_race.proofs.unused.jobs_noted.Goals as goal
@@ -19,4 +23,11 @@ returns-in_err-jobs c =
     c.in_ok-footprints.ensures c.in_err-jobs.ensures))
 
 pub returns : goal.returns
-returns c = (c.in_ok-footprints.footprints, c.in_ok-footprints.ensures, c.in_ok-jobs.ensures, c.in_ok-unused.ensures)
+returns c =
+    let read = c.in_ok-footprints.footprints in
+    let same : c.in_ok-jobs.jobs.plan ≡ c.args.plan = on_plan _ c.args.plan read c.in_ok-jobs.jobs c.in_ok-jobs.ensures in (
+      read,
+      c.in_ok-footprints.ensures,
+      c.in_ok-jobs.ensures,
+      subst (λ (plan : Plan). AreSaidBy plan.nodes (unused_in read plan.nodes) c.in_ok-unused.unused) (sym same) c.in_ok-unused.ensures,
+    )

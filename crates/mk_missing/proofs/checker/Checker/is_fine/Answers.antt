@@ -5,12 +5,12 @@ use Rattle.mk_missing.specs.Kinds.{IsFine, IsWrong, nodes_of}
 use Rattle.mk_missing.proofs.Using.{apart_if, together_if}
 use Rattle.mk_missing.proofs.checker.Checker.is_fine.Goals as goal
 
-pub returns-in-Missing-clause-wrong : goal.returns-in-Missing-clause-wrong
-returns-in-Missing-clause-wrong c = λ nay.
+pub returns-in-Unwatched-clause-wrong : goal.returns-in-Unwatched-clause-wrong
+returns-in-Unwatched-clause-wrong c = λ nay.
     let users = c.args.users.now in
     let n = c.args.n in
-    subst (λ (kind : Kind). IsWrong c.args.self.now kind n users.file) (sym c.in-Missing.is) (record {
-      input = (c.requires.users.inputs n).0 (subst (λ (kind : Kind). Contains (nodes_of kind users) n) c.in-Missing.is c.requires.node);
+    subst (λ (kind : Kind). IsWrong c.args.self.now kind n users.file) (sym c.in-Unwatched.is) (record {
+      input = (c.requires.users.inputs n).0 (subst (λ (kind : Kind). Contains (nodes_of kind users) n) c.in-Unwatched.is c.requires.node);
       unwatched = λ at. both_ways c.is_watched.result nay (c.is_watched.ensures.1 at);
     })
 

@@ -9,7 +9,7 @@ use Rattle.mk_program.proofs.words.check_words.check_command.Goals as goal
 pub returns-clause-app : goal.returns-clause-app
 returns-clause-app c =
     let named : app_of c.after_help-command.result ≡ new_app (codes "check") = search rules in
-    let tasks = c.in_ok-with_tasks.ensures.app ∙ ap with_tasks named in
+    let tasks = c.in_ok-with_tasks.ensures.app ∙ ap (with_tasks false) named in
     let first = c.in_ok-arg.ensures.shape c.flag.ensures.local ∙ ap₂ with_rule tasks c.flag.ensures.rule in
     IfOk-weaker c.arg-2.result _ _ (λ new h. h.shape c.flag-2.ensures.local ∙ ap₂ with_rule first c.flag-2.ensures.rule) c.arg-2.ensures
 

@@ -9,7 +9,7 @@ use Rattle.mk_program.proofs.words.fix_words.fix_command.Goals as goal
 pub returns-clause-app : goal.returns-clause-app
 returns-clause-app c =
     let named : app_of c.after_help-command.result ≡ new_app (codes "fix") = search rules in
-    let tasks = c.in_ok-with_tasks.ensures.app ∙ ap with_tasks named in
+    let tasks = c.in_ok-with_tasks.ensures.app ∙ ap (with_tasks false) named in
     IfOk-weaker c.arg.result _ _ (λ new h. h.shape c.flag.ensures.local ∙ ap₂ with_rule tasks c.flag.ensures.rule) c.arg.ensures
 
 pub returns-clause-local : goal.returns-clause-local

@@ -8,7 +8,7 @@ use Rattle.mk_program.proofs.words.list_words.list_command.Goals as goal
 pub returns-clause-app : goal.returns-clause-app
 returns-clause-app c =
     let named : app_of c.after_help-command.result ≡ new_app (codes "list") = search rules in
-    IfOk-weaker c.with_tasks.result _ _ (λ new h. h ∙ ap with_tasks named) c.with_tasks.ensures.app
+    IfOk-weaker c.with_tasks.result _ _ (λ new h. h ∙ ap (with_tasks false) named) c.with_tasks.ensures.app
 
 pub returns-clause-local : goal.returns-clause-local
 returns-clause-local c =

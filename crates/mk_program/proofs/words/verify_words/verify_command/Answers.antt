@@ -9,7 +9,7 @@ use Rattle.mk_program.proofs.words.verify_words.verify_command.Goals as goal
 pub returns-clause-app : goal.returns-clause-app
 returns-clause-app c =
     let named : app_of c.after_help-command.result ≡ new_app (codes "verify") = search rules in
-    let tasks = c.in_ok-with_tasks.ensures.app ∙ ap with_tasks named in
+    let tasks = c.in_ok-with_tasks.ensures.app ∙ ap (with_tasks false) named in
     let first = c.in_ok-arg.ensures.shape c.option.ensures.local ∙ ap₂ with_rule tasks c.option.ensures.rule in
     IfOk-weaker c.arg-2.result _ _ (λ new h. h.shape c.flag.ensures.local ∙ ap₂ with_rule first c.flag.ensures.rule) c.arg-2.ensures
 

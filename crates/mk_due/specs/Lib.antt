@@ -1,0 +1,4 @@
+pub mod Good
+pub mod Items
+pub mod JobsOf
+pub mod Lines

@@ -1,0 +1,71 @@
+-- Whether a second build, which finds what the first one made, is planned as the first.
+use Rattle.std.specs.Prelude.{ℕ, ◌≡◌, ◌<◌, ◌&&◌, not, Bool, List, [], ◌∷◌, ◌++◌, map, Option, Some, None, Result, Ok, Err, if◌then◌else◌}
+use Rattle.mk_name.specs.Names.{Name}
+use Rattle.mk_name.specs.Reported.{Reported}
+use Rattle.mk_jobs.specs.Jobs.{Jobs, is_phony, maker_of, name_of, node_count, prerequisites_of}
+use Rattle.mk_jobs.specs.Numbered.{number_of}
+use Rattle.mk_jobs.specs.Plan.{Node, names_of, node_at}
+use Rattle.mk_stale.specs.Watching.{makes_own}
+use Rattle.mk_race.specs.Stages.{IsPlanned, Texts}
+use Rattle.mk_race.specs.declared.again.Change.{Change}
+use Rattle.mk_race.specs.declared.again.Change.TheVariants as changes
+use Rattle.mk_race.specs.declared.planning.Planned.{Planned}
+
+-- a node is a product: it makes its own file, and is not phony
+abbrev pub is_product : Jobs → ℕ → Bool
+is_product jobs n = makes_own jobs n && not (is_phony jobs n)
+
+-- a newline and its name, if it is one
+abbrev pub product_line : Jobs → ℕ → List ℕ
+product_line jobs n = if is_product jobs n then 10 ∷ name_of jobs n else []
+
+-- those of all products below a number
+abbrev pub product_lines : Jobs → ℕ → List ℕ
+product_lines jobs ℕ.zero = []
+product_lines jobs (ℕ.suc n) = product_lines jobs n ++ product_line jobs n
+
+-- the texts of a second build: the products are listed too
+abbrev pub texts_again : Texts → Jobs → Texts
+texts_again texts jobs = record texts { listing = texts.listing ++ product_lines jobs (node_count jobs) }
+
+-- the name of a node of a plan
+abbrev pub name_in : List Node → ℕ → Name
+name_in nodes n = (node_at nodes n).name
+
+-- node n of the jobs and node m of a plan are made in the same way, of prerequisites of the same names
+pub record IsAlike (jobs : Jobs) (n : ℕ) (nodes : List Node) (m : ℕ) : Type 0 where
+  pub maker : maker_of jobs n ≡ (node_at nodes m).maker
+  pub needs : map (name_of jobs) (prerequisites_of jobs n) ≡ map (name_in nodes) (node_at nodes m).prerequisites
+
+abbrev pub IsAlikeIfAny : Jobs → ℕ → List Node → Option ℕ → Type 0
+IsAlikeIfAny jobs n nodes None = ⊥
+IsAlikeIfAny jobs n nodes (Some m) = IsAlike jobs n nodes m
+
+-- a plan keeps node n: it has a node of this name, which is made alike
+abbrev pub IsKept : Jobs → List Node → ℕ → Type 0
+IsKept jobs nodes n = IsAlikeIfAny jobs n nodes (number_of (names_of nodes) (name_of jobs n))
+
+-- node n is the first of the jobs that a plan does not keep
+pub record IsFirstLost (jobs : Jobs) (nodes : List Node) (n : ℕ) : Type 0 where
+  pub inside : n < node_count jobs
+  pub lost : IsKept jobs nodes n → ⊥
+  pub before : (k : ℕ) → k < n → IsKept jobs nodes k
+
+-- the first change that a plan makes, if it makes one
+abbrev pub IsChangeTo : Jobs → List Node → Option Change → Type 0
+IsChangeTo jobs nodes None = (n : ℕ) → n < node_count jobs → IsKept jobs nodes n
+IsChangeTo jobs nodes (Some (changes.Node n)) = IsFirstLost jobs nodes n
+IsChangeTo jobs nodes (Some changes.Refused) = ⊥
+
+-- that of a plan, if there is one; or there is none, since its texts are refused
+abbrev pub IsChangeBy : Jobs → Result Planned Reported → Option Change → Type 0
+IsChangeBy jobs (Ok planned) change = IsChangeTo jobs planned.plan.nodes change
+IsChangeBy jobs (Err reported) change = change ≡ Some changes.Refused
+
+-- that of the build that these texts mean
+abbrev pub IsChangeWith : Texts → Jobs → Option Change → Type 0
+IsChangeWith texts jobs change = (given : Result Planned Reported) × IsPlanned texts given × IsChangeBy jobs given change
+
+-- that of a second build
+abbrev pub IsChange : Texts → Jobs → Option Change → Type 0
+IsChange texts jobs change = IsChangeWith (texts_again texts jobs) jobs change

@@ -1,0 +1,33 @@
+//! What reads a text of lines that comes in pieces.
+ghost use Rattle.std.specs.Prelude.{◌++◌, [], List, Result, ℕ};
+ghost use Rattle.mk_name.specs.Gives.{Answers};
+ghost use Rattle.mk_name.specs.Reported.{Reported};
+
+use mk_name::fault::Halt;
+use mk_text::root::Root;
+use std::alloc::Global;
+
+/// Reads a text of lines below a root, in pieces, whatever the cuts between them.
+pub trait LineReader: Drop {
+    /// What a text says.
+    type Value;
+
+    /// The reader has read this text below this root.
+    ghost has_read: { Self → List ℕ → List ℕ → Type 0 };
+
+    /// What a text says below a root, or its first fault.
+    ghost says: { List ℕ → List ℕ → Result Self.Value Reported → Type 0 };
+
+    /// A reader that has read nothing, of texts below this root.
+    fn begin(alloc: Global, root: Root) -> Self
+        ensures { has_read result root [] };
+
+    /// Reads one more piece. A reader that met a fault, or is out of memory, reads on and keeps nothing more.
+    fn take(&mut self, piece: &[u8])
+        ensures { (root text : List ℕ) → has_read self.old root text
+            → has_read self.new root (text ++ piece.now) };
+
+    /// What all pieces say, whose last line needs no newline; or the first line's fault. The only other error is out of memory.
+    fn finish(self) -> Result<Self::Value, Halt>
+        ensures { (root text : List ℕ) → has_read self root text → Answers result (says root text) };
+}
