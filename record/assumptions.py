@@ -26,6 +26,19 @@ TEXTS = {
     "inherited": "targets that a later rule or a chain of rules asks for do the same whichever target's macros they inherit",
     "ages": "programs that nobody knows look at two files, and do not compare which is newer",
     "interpreters": "Perl, Python and other interpreters compare ages only of files that they looked at by name",
+    # What the answer on missing inputs takes for granted.
+    "later": "you edit sources, and what you edit gets a new time; makefiles, commands and the environment stay; each build ends well",
+    "traces": "a recipe leaves the same after the same inputs, whatever it left before, and writes its target whenever it runs",
+    "always": "recipes that run in every build have no missing inputs: their targets are phony, or are not there after the build",
+    "not-run": "targets that were there before the build, and did not run in it, have no missing inputs",
+    "unjudged": "recipes that are not looked at have no missing inputs: double colons, archive members, targets that are not written, prerequisites that are not known",
+    "beyond": "what lies outside of the project stays: compilers, system headers, /tmp",
+    "looks": "links, and what recipes look for and do not read, stay as they are, and so do the lists of folders",
+    "unlisted": "files that recipes looked for and did not find stay absent",
+    "outputs": "a recipe that makes several files writes them all whenever it runs",
+    "rewritten": "what another recipe writes to a target as well does no harm",
+    "named": "sources that each recipe which reads them names are left out, as the text would be too large",
+    "later-ring": "a prerequisite that closes a ring in a later build, which make drops, is not needed",
 }
 
 

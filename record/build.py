@@ -8,6 +8,7 @@ from typing import Dict, Iterable, List, Set, Tuple
 
 from record.ages import add_ages
 from record.assumptions import Assumptions
+from record.fixed import asked_ages, fixed_looks, remade_anyway
 from record.folders import add_folders
 from record.graph import Build, Graph, Node, Task, befores, order_tasks
 from record.macros import Use, uses
@@ -114,10 +115,11 @@ class Builder:
 
     def make_decisions(self) -> None:
         """A target that somebody writes, or one of whose prerequisites is written, is looked at, recipe or not."""
+        fixed = fixed_looks(self)
         for node in self.graph.nodes.values():
             own = self.of_node.get(node.label, -1)
             needed = self.looked_at(node, own) + self.followed(node, own)
-            if own < 0 and any(self.is_written(p) for p in needed):
+            if own < 0 and node.label not in fixed and any(self.is_written(p) for p in needed):
                 self.of_node[node.label] = self.add(node, "decision", node.label)
             elif own >= 0 and self.is_leaf(node):
                 acts = self.acts_of(node)
@@ -138,7 +140,7 @@ class Builder:
             mine = {own, self.look_of.get(node.label, -1)}
             others = [self.build.tasks[at].node for path in self.first_seen(node) for at in self.build.writers.get(path, set()) - mine]
             others = [o for o in others if o.name != node.name and node.name not in self.graph.base.also.get(o.name, [])]
-            if others and (self.has_effect(node) or any(len(self.looked_at(u, self.of_node.get(u.label, -1))) > 1 for u in users.get(node.label, []))):
+            if others and not remade_anyway(self, node, others) and (self.has_effect(node) or any(len(self.looked_at(u, self.of_node.get(u.label, -1))) > 1 for u in users.get(node.label, []))):
                 self.first_of[node.label] = self.add(node, "first", node.label + "@first")
 
     def has_effect(self, node: Node) -> bool:
@@ -292,14 +294,14 @@ class Builder:
     # ---------------------------------------------------------------- footprints
     def fill(self) -> None:
         """What each task reads and writes."""
-        build, created = self.build, self.created()
+        build, created, asked = self.build, self.created(), asked_ages(self)
         for label, at in self.of_node.items():
             task, node = build.tasks[at], self.graph.nodes[label]
             self.add_events(at, self.events(task), created)
             looker = self.look_of.get(label, at)
             self.add_events(looker, self.acts_of(node), created)
             if task.kind != "group":
-                self.add_decision(looker, at, node)
+                self.add_decision(looker, at, node, node.label in asked)
         for label, at in self.first_of.items():
             build.tasks[at].reads.update(self.first_seen(self.graph.nodes[label]))
         add_macros(self, created)
@@ -338,14 +340,15 @@ class Builder:
             elif kind == "A":
                 self.timed.setdefault(path, set()).add(at)
 
-    def add_decision(self, looker: int, at: int, node: Node) -> None:
-        """Make looks at a target and at its prerequisites."""
+    def add_decision(self, looker: int, at: int, node: Node, is_asked: bool) -> None:
+        """Make looks at a target and at its prerequisites. The age of a target alone counts where others ask for it."""
         task, writers = self.build.tasks[looker], self.build.writers
         names = self.looked_at(node, at)
         for path in names:
             if path in writers and writers[path] - {at, looker}:
                 task.reads.add(path)
-            self.timed.setdefault(path, set()).add(looker)
+            if len(names) > 1 or is_asked:
+                self.timed.setdefault(path, set()).add(looker)
         task.reads.update(path for path in self.followed(node, at) if writers.get(path, set()) - {at, looker})
         if node.name in self.graph.base.implicit:
             self.add_search(looker, node)
@@ -376,10 +379,7 @@ class Builder:
         for targets, prerequisites in graph.base.patterns:
             for target in targets:
                 head, _, tail = target.partition("%")
-                if "/" not in target:
-                    folder, last = os.path.split(name)
-                else:
-                    folder, last = "", name
+                folder, last = ("", name) if "/" in target else os.path.split(name)
                 if last.startswith(head) and last.endswith(tail) and len(last) > len(head) + len(tail):
                     stem = last[len(head): len(last) - len(tail)]
                     for one in prerequisites:

@@ -25,14 +25,19 @@ class Record:
     assumptions: List[Dict[str, Any]] = field(default_factory=list)
     builds: List[str] = field(default_factory=list)
     warm: List[str] = field(default_factory=list)  # files that the build makes and that were there before
+    stands_alone: bool = False  # their recipes did not run, and can run beside no other
     notes: List[str] = field(default_factory=list)
     hints: List[str] = field(default_factory=list)  # of a build that failed: who looks for what others make
     missingdeps: int = 0  # what `ninja -t missingdeps` finds
+    missing: Optional[Dict[str, Any]] = None  # with --missing: what its answer takes for granted, and why there may be none
 
     def text(self) -> str:
         """As it is written."""
         found = {"version": VERSION, **asdict(self)}
-        found["warm"] = {"count": len(self.warm), "example": shown(self.warm[0]) if self.warm else ""}
+        alone = found.pop("stands_alone")
+        if self.missing is None:
+            del found["missing"]
+        found["warm"] = {"count": len(self.warm), "example": shown(self.warm[0]) if self.warm else "", "alone": alone}
         return json.dumps(found, indent=1, ensure_ascii=True) + "\n"
 
 
@@ -47,7 +52,7 @@ def write_build(folder: Path, build: Build) -> None:
         about[label] = {"target": shown(task.node.name), "kind": task.kind, **place}
     edges = 0
     with open(folder / "tasks", "w", encoding="utf-8", errors="backslashreplace") as file:
-        for label, line in lines_of(build, root, labels):
+        for label, line in lines_of(build.tasks, root, labels):
             file.write(line + "\n")
             about.setdefault(label, {"target": "", "kind": "group", "file": "", "line": 0, "recipe": ""})
             edges += len(json.loads(line)["after"])

@@ -5,6 +5,7 @@ folder that is not there yet, and a removal conflict with all that nothing order
 """
 
 import os
+import re
 from dataclasses import dataclass, field
 from typing import TYPE_CHECKING, Dict, List, Set, Tuple
 
@@ -138,6 +139,9 @@ def add_folder(builder: "Builder", path: str, folder: Folder) -> None:
             if at not in folder.strict | folder.quiet and (at in folder.scripts or excused(tasks[at].works, path)):
                 folder.quiet.add(at)
                 folder.first_made[at] = -1
+    for at in [at for at in folder.users | folder.absent if makes_itself(builder, at, path)]:
+        folder.quiet.add(at)
+        folder.first_made[at] = -1
     for at in list(folder.strict):
         if excused(tasks[at].works, path):
             folder.strict.discard(at)
@@ -168,6 +172,17 @@ def add_folder(builder: "Builder", path: str, folder: Folder) -> None:
                 for kind, name, _ in events:
                     if kind in "CD" and os.path.dirname(name.rstrip("/")) == path:
                         mark(builder, name.rstrip("/"), "", {at}, {who})
+
+
+def makes_itself(builder: "Builder", at: int, path: str) -> bool:
+    """Whether a task is make's look at a folder that was there already, and its recipe, which did not run, is `mkdir -p` of the folder
+    alone: then whoever waits for this target finds the folder, and whether the recipe runs makes no difference."""
+    task = builder.build.tasks[at]
+    if builder.build.tool != "make" or task.kind != "decision" or task.node.path != path:
+        return False
+    lines = builder.graph.base.recipes.get(task.node.name, [])
+    only = re.compile(r"\s*[@+-]*\s*mkdir\s+(?:-p|--parents)\s+(?:\$@|\$\(@\)|%s)/?\s*" % re.escape(task.node.name))
+    return bool(lines) and all(only.fullmatch(line) for line in lines)
 
 
 def seen(builder: "Builder", path: str, at: int, makers: Set[int]) -> None:

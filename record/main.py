@@ -24,16 +24,18 @@ from record.granted import add_granted, idle_targets
 from record.graph import Build
 from record.judge import find_race, judge
 from record.lives import Life
+from record.missing import knows_missing, write_missing
+from record.missing_report import Question, missing_text
 from record.names import Names
 from record.ninja_import import beside, import_ninjas
 from record.ninja_import import versions as ninja_versions
 from record.ninja_runs import Kept, Ninja
 from record.owners import Make, Owners
 from record.progress import watched
-from record.report import Judged, read_json, report
+from record.report import Judged, colours, read_json, report
 from record.strace import read_trace, skipping
 from record.unasked import unasked
-from record.warm import warm_names
+from record.warm import stand_alone, warm_names
 from record.words import read_logs
 from record.wrapper import note_output
 
@@ -44,7 +46,9 @@ STRACE = ["strace", "-f", "-q", "-y", "--seccomp-bpf", "-s", "131072", "-e", "si
 EXAMPLE = """examples:
   race-record -- make -C src all       one serial build, then the verdict
   race-record -- cmake --build build   the same where ninja builds
-statuses: 0 safe, 1 races, 2 no verdict, 3 usage or a tool that is missing"""
+  race-record --missing -- make        also: which files recipes read and make does not know of
+statuses: 0 safe, with --missing also nothing missing, 1 races or missing inputs,
+          2 no verdict on one of the two, 3 usage or a tool that is missing"""
 WARM = "WARM: what was up to date did not run; record a clean tree (--fresh, make clean), or say --warm if builds start from this one"
 
 
@@ -174,6 +178,7 @@ def parse(args: List[str]) -> argparse.Namespace:
     parser.add_argument("--fresh", action="store_true", help="record a clean copy in the place of the folder that ninja builds in")
     parser.add_argument("--keep-trace", action="store_true", help="keep the trace in the record")
     parser.add_argument("--footprints", action="store_true", help="keep a listing and footprints of each build, for race check --makefile")
+    parser.add_argument("--missing", action="store_true", help="report missing inputs too: files whose edit does not make a target again")
     parser.add_argument("words", nargs=argparse.REMAINDER, metavar="-- COMMAND ..", help="what builds the project")
     found = parser.parse_args(args)
     if found.words[:1] == ["--"]:
@@ -212,6 +217,8 @@ def attempt(options: argparse.Namespace, words: List[str], tools: Dict[str, str]
     spool = Path(os.path.realpath(room))
     try:
         prepare_spool(spool, real)
+        if options.missing:
+            (spool / "again").touch()
         status, seconds = run_build(by_name(words, real), spool)
         record = Record(options.words, folder, status, round(seconds, 2), dict(tools))
         if status != 0:
@@ -222,8 +229,10 @@ def attempt(options: argparse.Namespace, words: List[str], tools: Dict[str, str]
         for number, build in zip(record.builds, found.builds if options.footprints else ()):
             if build.tool == "make":
                 write_footprints(out / "builds" / number, build, names, str(out))
+        if options.missing:
+            record.missing = write_missing(out, record, found.builds, names, spool)
         if options.keep_trace:
-            shutil.copytree(spool, out / "trace", ignore=shutil.ignore_patterns("bin", "real", "outputs"))
+            shutil.copytree(spool, out / "trace", ignore=shutil.ignore_patterns("bin", "real", "outputs", "again", "*.start", "stop.mk"))
         if status != 1 or not any(stage.jobs for ninja in found.ninjas for stage in ninja.stages):
             return record, False
         record.hints = hints(found.ninjas, names)
@@ -238,9 +247,9 @@ def attempt(options: argparse.Namespace, words: List[str], tools: Dict[str, str]
 def finish(record: Record, found: Imported, names: Names, warm: bool) -> None:
     """What is known when all builds are: whether they were cold, and what ninja itself finds."""
     record.warm = sorted({*warm_names(found.builds, found.ninjas, names), *found.idle})
-    for name in record.warm:
-        if warm:
-            found.assumed.add("up-to-date", name)
+    record.stands_alone = bool(record.warm) and stand_alone(record.warm, found.builds, found.ninjas)
+    for name in record.warm if warm or record.stands_alone else ():
+        found.assumed.add("up-to-date", name)
     if found.ninjas:
         record.tools["ninja"] = ninja_versions(found.ninjas)
         record.missingdeps, beyond = beside(found.ninjas, found.builds, names)
@@ -280,6 +289,8 @@ def run(options: argparse.Namespace) -> int:
     race = find_race(options.race)
     if race is None:
         return stop("the program race is missing (--race PROGRAM, $RACE, or on PATH)")
+    if options.missing and not knows_missing(race):
+        return stop("%s does not answer `race missing --tasks`: --missing needs a later version of race" % race)
     try:
         tools = versions()
     except Missing as missing:
@@ -296,12 +307,16 @@ def run(options: argparse.Namespace) -> int:
     except CannotClean as fault:
         return stop(str(fault))
     ended, judged = judge_record(out, race)
-    if ended == 0 and record.warm and not options.warm:
+    if ended == 0 and record.warm and not (options.warm or record.stands_alone):
         ended = 2
         record.holes.append(WARM)
         rewrite(out, record)
     print("\n".join(report(read_json(out / "record.json"), judged)))
-    return ended
+    if not options.missing:
+        return ended
+    question = Question.of(out, race)
+    print("\n" + "\n".join(missing_text(question, colours())))
+    return 2 if 2 in (ended, question.status()) else max(ended, question.status())
 
 
 def main(args: Optional[List[str]] = None) -> int:

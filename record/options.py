@@ -102,6 +102,13 @@ def own_jobs(args):
     return found
 
 
+def jobs_of_call(args):
+    """The same of what a recipe says by itself: where it hands MFLAGS on, these hold in a parallel build the number of jobs of the make
+    above, which wins over what stands before."""
+    at = max((at for at, word in enumerate(args) if word == WORDS[0]), default=-1)
+    return own_jobs(args[at + 1:])
+
+
 def asks_jobs(args, flags):
     """Whether a number of jobs is among make's words."""
     return bool(own_jobs(args)) or bool(re.search(r"(^| )-j|--jobserver", flags))

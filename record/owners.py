@@ -196,9 +196,10 @@ class Owners:
         table.sort()
         births = [t[0] for t in table]
         names = {n for _, r in rounds for n in r.nodes} | {v for _, r in rounds for v in r.vpath.values()}
+        apart = self.removed_last(make) | self.read_archives(make, names)
         pieces: List[Tuple[int, List[Tuple[str, str, int]]]] = []
         for act in make.life.acts:
-            if ready < act.place < end and not (act.word and act.word in names):
+            if ready < act.place < end and not (act.word and act.word in names) and id(act) not in apart:
                 pieces.append((act.place, [(act.kind, act.path, act.place)]))
         for life in make.life.children:
             if id(life) not in self.jobs and ready < life.born < end:
@@ -216,6 +217,18 @@ class Owners:
                             work.add("L", path + "\0" + pattern, when)
                     else:
                         work.add(kind, path, when)
+
+    def removed_last(self, make: Make) -> Set[int]:
+        """Where make removes intermediate files, once no recipe runs any more: that is beside nothing. The acts, by their ids."""
+        ended = max((life.died for life in make.life.children if id(life) in self.jobs), default=0)
+        names = {os.path.normpath(os.path.join(make.folder, name)) for r in make.words.rounds if r.base is not None for name in r.base.intermediate}
+        return {id(act) for act in make.life.acts if act.kind == "D" and act.place > ended and act.path in names}
+
+    @staticmethod
+    def read_archives(make: Make, names: Set[str]) -> Set[int]:
+        """Make's looks into archives, by which it finds the ages of members: they are looks at these targets. The acts, by their ids."""
+        archives = {os.path.normpath(os.path.join(make.folder, name.partition("(")[0])) for name in names if name.endswith(")")}
+        return {id(act) for act in make.life.acts if act.kind in "RSN" and act.path in archives}
 
     @staticmethod
     def first_looks(make: Make, names: Set[str], end: int) -> Dict[str, int]:

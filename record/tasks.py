@@ -1,9 +1,8 @@
 """The text of tasks that `race` reads: one JSON object a task."""
 
 import json
-from typing import Dict, Iterator, List, Set, Tuple
+from typing import Any, Dict, Iterator, List, Mapping, Sequence, Set, Tuple
 
-from record.build import Build
 from record.graph import Task
 
 LABEL_LIMIT = 4096
@@ -36,15 +35,15 @@ def labels_of(tasks: List[Task]) -> List[str]:
     return found
 
 
-def lines_of(build: Build, root: str, labels: List[str]) -> Iterator[Tuple[str, str]]:
-    """Labels and lines of the text; long lists of prerequisites that many share stand once."""
+def lines_of(tasks: Sequence[Task], root: str, labels: List[str], more: Mapping[int, Dict[str, Any]] = {}) -> Iterator[Tuple[str, str]]:
+    """Labels and lines of the text; long lists of prerequisites that many share stand once. `more` are keys of some tasks."""
     share: Dict[Tuple[int, ...], int] = {}
-    for task in build.tasks:
+    for task in tasks:
         key = tuple(sorted(task.after))
         if len(key) > 3:
             share[key] = share.get(key, 0) + 1
     sets: Dict[Tuple[int, ...], str] = {}
-    for task, label in zip(build.tasks, labels):
+    for at, (task, label) in enumerate(zip(tasks, labels)):
         key = tuple(sorted(task.after))
         after = [labels[a] for a in key]
         if share.get(key, 0) > 1:
@@ -54,9 +53,10 @@ def lines_of(build: Build, root: str, labels: List[str]) -> Iterator[Tuple[str, 
                     sets[key] += "+"
                 yield sets[key], line(sets[key], after, [], [])
             after = [sets[key]]
-        yield label, line(label, after, sorted(relative(root, p) for p in task.reads), sorted(relative(root, p) for p in task.writes))
+        reads, writes = (sorted(relative(root, p) for p in paths) for paths in (task.reads, task.writes))
+        yield label, line(label, after, reads, writes, **more.get(at, {}))
 
 
-def line(label: str, after: List[str], reads: List[str], writes: List[str]) -> str:
+def line(label: str, after: List[str], reads: List[str], writes: List[str], **more: Any) -> str:
     """One task."""
-    return json.dumps({"task": label, "after": after, "reads": reads, "writes": writes}, ensure_ascii=False, separators=(",", ":"))
+    return json.dumps({"task": label, "after": after, "reads": reads, "writes": writes, **more}, ensure_ascii=False, separators=(",", ":"))

@@ -13,7 +13,7 @@ import signal
 import stat
 import sys
 
-from record.options import WORDS, asked, asks_jobs, own_jobs, plain_args, without_words
+from record.options import WORDS, asked, asks_jobs, jobs_of_call, plain_args, without_words
 
 VERSION_LINE = re.compile(rb"# (GNU Make \d|Built for |Copyright \(C\)|License |This is free software|There is NO WARR)")
 QUOTED = rb"'[^\n]*'"
@@ -204,6 +204,14 @@ def open_log(spool, pid):
             number += 1
 
 
+def note_start(log, real, name, args):
+    """Keeps how this make was started, beside its log, where the recorder asks it again after the build: SPOOL/again says so."""
+    if os.path.exists(os.path.dirname(log) + "/again"):
+        words = [real, name, os.getcwd(), "%d" % len(args), *args, *("%s=%s" % pair for pair in os.environ.items())]
+        with open(log[:-len("make")] + "start", "wb") as file:
+            file.write(b"\0".join(os.fsencode(word) for word in words))
+
+
 def note_past(spool, args):
     """A make that prints its own words, and yet runs recipes: nobody can say what they do."""
     with open("%s/%d.past" % (spool, os.getpid()), "a", encoding="utf-8", errors="surrogateescape") as file:
@@ -255,13 +263,13 @@ def is_one_file(first, second):
         return False
 
 
-def head_of(args, flags, below, where, errors):
+def head_of(args, flags, below, slots, where, errors):
     """The first lines of a log: the words of make, and where its output goes."""
-    lines = (("ARGS", " ".join(args)), ("FLAGS", flags), ("BELOW", "%d" % below), ("JOBS", own_jobs(args)), ("OUTPUT", where), ("ERRORS", errors))
+    lines = (("ARGS", " ".join(args)), ("FLAGS", flags), ("BELOW", "%d" % below), ("JOBS", slots), ("OUTPUT", where), ("ERRORS", errors))
     return "".join("%s %s\n" % (key, text.replace("\n", " ")) for key, text in lines).encode("utf-8", "surrogateescape")
 
 
-def run_logged(spool, name, real, args, flags, below):
+def run_logged(spool, name, real, args, flags, below, slots):
     """Runs make with the recorder's words and keeps what it says; gives its raw status."""
     extra = WORDS + (["-j1"] if asks_jobs(args, flags) else [])
     where, errors = goes_to(spool, 1), "" if is_one_file(1, 2) else goes_to(spool, 2)
@@ -279,7 +287,8 @@ def run_logged(spool, name, real, args, flags, below):
     os.close(writing)
     signal.signal(signal.SIGTERM, lambda *_: os.kill(child, signal.SIGTERM))
     with open_log(spool, child) as log:
-        log.write(head_of(args, flags, below, where, errors))
+        note_start(log.name, real, name, args)
+        log.write(head_of(args, flags, below, slots, where, errors))
         try:
             raw = serve(Splitter(log, 1, where != ""), child, reading)
         except BrokenPipeError:
@@ -299,7 +308,7 @@ def main():
     if WORDS[0] in args and "MAKE_RESTARTS" in os.environ:  # make has remade a makefile and begins again
         os.execv(real, [name] + args)
     below = any(WORDS[0] in text for text in [*args, os.environ.get("MAKEFLAGS", "")])
-    args = plain_args(args)
+    slots, args = jobs_of_call(args), plain_args(args)
     flags = without_words(os.environ.get("MAKEFLAGS", ""))
     if "MAKEFLAGS" in os.environ:
         os.environ["MAKEFLAGS"] = flags
@@ -313,7 +322,7 @@ def main():
         signal.signal(signal.SIGPIPE, signal.SIG_DFL)
         signal.signal(signal.SIGINT, signal.SIG_DFL)
         os.execv(real, [name] + args)
-    raw = run_logged(spool, name, real, args, flags, below)
+    raw = run_logged(spool, name, real, args, flags, below, slots)
     if os.WIFSIGNALED(raw):
         signal.signal(os.WTERMSIG(raw), signal.SIG_DFL)
         os.kill(os.getpid(), os.WTERMSIG(raw))

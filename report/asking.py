@@ -5,6 +5,7 @@ from __future__ import annotations
 from pathlib import Path
 
 from record.judge import judge as ask
+from record.missing_report import Question
 from report.model import Assumption, Report, read_build, read_json
 
 
@@ -29,5 +30,6 @@ def judge(folder: Path, program: Path) -> Report:
         report.pairs += verdict.pairs
         report.recipes += build.about.get("counts", {}).get("recipes", 0)
     report.fixes = [*dict.fromkeys(report.fixes or [it.change for it in report.races])]
+    report.missing = Question.of(folder, str(program)) if "missing" in record else None
     report.verdict = "none" if report.holes or not report.builds else "race" if report.races else "safe"
     return report

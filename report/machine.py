@@ -6,6 +6,8 @@ import json
 from urllib.parse import quote
 
 from report import VERSION
+from record.missing import Found
+from record.missing_report import Judged, Question
 from report.kinds import KINDS
 from report.model import BadRecord, Race, Recipe, Report, Side
 from report.plain import summary
@@ -27,6 +29,25 @@ def race_object(race: Race, report: Report) -> dict:
     }
 
 
+def input_object(judged: Judged, it: Found, known: set[str]) -> dict:
+    """A missing input as the schema has it."""
+    file, line = judged.rule(it.reader)
+    return {
+        "fingerprint": judged.fingerprint(it), "known": judged.fingerprint(it) in known, "kind": it.kind, "build": judged.number,
+        "path": judged.name(it.path), "target": judged.target(it.reader), "file": file, "line": line,
+        "maker": judged.target(it.writer) if it.writer else "", "add": f"{judged.late(it)}: {judged.early(it)}" if judged.early(it) else "",
+    }
+
+
+def missing_object(missing: Question, known: set[str]) -> dict:
+    """What a record with --missing says of missing inputs."""
+    about = missing.record["missing"]
+    return {
+        "verdict": missing.verdict(), "judged": about["judged"], "inputs": [input_object(*it, known) for it in missing.all()],
+        "assumptions": [{key: it[key] for key in ("text", "count", "example")} for it in about["premises"]], "holes": missing.holes(),
+    }
+
+
 def as_json(report: Report) -> str:
     """The whole report as one object."""
     text = {
@@ -37,17 +58,20 @@ def as_json(report: Report) -> str:
         "fixes": {"lines": report.fixes if report.races else [], "checked": report.is_checked},
         "assumptions": [{"text": it.text, "count": it.count, "example": it.example} for it in report.assumptions],
         "holes": report.holes, "gone": report.gone,
+        **({"missing": missing_object(report.missing, report.known)} if report.missing else {}),
     }
     return json.dumps(text, indent=1, ensure_ascii=True) + "\n"
 
 
 def read_baseline(text: str) -> dict[str, str]:
-    """The races of a baseline, which is a report in JSON: their fingerprints, each with what to call it."""
+    """The races and missing inputs of a baseline, which is a report in JSON: their fingerprints, each with what to call it."""
     try:
         found = json.loads(text)
         if found["schema"] != "race-report" or found["version"] != VERSION:
             raise BadRecord(f"the baseline is no race-report of version {VERSION}")
-        return {it["fingerprint"]: f"{it['path']}: {it['first']['target']} and {it['second']['target']}" for it in found["races"]}
+        races = {it["fingerprint"]: f"{it['path']}: {it['first']['target']} and {it['second']['target']}" for it in found["races"]}
+        inputs = found.get("missing", {}).get("inputs", [])
+        return {**races, **{it["fingerprint"]: f"{it['target']}: {it['path']} was missing" for it in inputs}}
     except (ValueError, KeyError, TypeError) as error:
         raise BadRecord(f"the baseline cannot be read: {error}") from error
 

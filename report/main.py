@@ -28,7 +28,7 @@ example:
   race-report --makefile Makefile --listing listing --footprints footprints all
                                                judge a makefile of POSIX without a record, with its goal all
 
-status: 0 safe, or no race that the baseline has not; 1 races; 2 no verdict; 3 usage, a file or a missing tool
+status: 0 safe, or nothing that the baseline has not; 1 races, or missing inputs of a record that was asked for them; 2 no verdict; 3 usage, a file or a missing tool
 """
 
 
@@ -75,6 +75,7 @@ def hold_against(report: Report, baseline: Path) -> None:
     known = read_baseline(baseline.read_text(encoding="utf-8"))
     report.known = set(known)
     there = {it.fingerprint for it in report.races}
+    there |= {judged.fingerprint(it) for judged, it in report.missing.all()} if report.missing else set()
     report.gone = [what for fingerprint, what in known.items() if fingerprint not in there and report.verdict != "none"]
 
 

@@ -10,6 +10,7 @@ from collections.abc import Iterator
 from dataclasses import dataclass, field
 from pathlib import Path
 
+from record.missing_report import Question
 from record.ninja_fix import fix_text
 from report.kinds import Kind, kind_of
 
@@ -126,6 +127,7 @@ class Report:
     gone: list[str] = field(default_factory=list)
     is_direct: bool = False  # of a makefile, without a record
     is_of_ninja: bool = False  # no make ran in it
+    missing: Question | None = None  # of a record with --missing: what recipes read and make does not know of
 
     @property
     def is_checked(self) -> bool:
@@ -144,8 +146,13 @@ class Report:
         yield from groups.items()
 
     def status(self) -> int:
-        """0 safe or nothing new, 1 races, 2 no verdict."""
-        return 2 if self.verdict == "none" else int(bool(self.fresh()))
+        """0 safe or nothing new, 1 races or missing inputs, 2 no verdict on one of the two."""
+        missing = self.missing.verdict() if self.missing else "nothing"
+        return 2 if "none" in (self.verdict, missing) else int(bool(self.fresh()) or self.has_fresh_missing())
+
+    def has_fresh_missing(self) -> bool:
+        """Whether an input is missing that the baseline has not."""
+        return self.missing is not None and any(judged.fingerprint(it) not in self.known for judged, it in self.missing.all())
 
 
 def read_json(path: Path) -> dict:

@@ -6,6 +6,8 @@ from collections.abc import Iterator
 from html import escape
 from pathlib import PurePath
 
+from record.missing_report import missing_text
+from record.report import Colours
 from report.kinds import FORGOTTEN
 from report.model import Race, Report
 from report.pictures import graph, schedule
@@ -145,13 +147,22 @@ def fixes(report: Report) -> str:
             f"{escape(chr(10).join(report.fixes))}</pre>")
 
 
+def missing(report: Report) -> str:
+    """What recipes read and make does not know of, in the words of race-record."""
+    if report.missing is None:
+        return ""
+    heading, _, *lines = missing_text(report.missing, Colours())
+    return (f'<h2>{heading}</h2><pre class="all" tabindex="0" role="region" aria-label="What recipes read and make does not know of">'
+            f"{escape(chr(10).join(lines))}</pre>")
+
+
 def as_html(report: Report) -> str:
     """The whole page."""
     body = [
         f'<header class="verdict {report.verdict}"><h1>{HEADLINES[report.verdict]}</h1><p>{escape(summary(report))}</p>'
         f'<div class="where"><code>{escape(" ".join(report.words))}</code> in <code>{escape(report.folder)}</code></div></header>',
         listed("Why there is no verdict", [escape(it) for it in report.holes]), fixes(report), *races(report),
-        listed("Fixed since the baseline", [escape(it) for it in report.gone]), assumptions(report),
+        listed("Fixed since the baseline", [escape(it) for it in report.gone]), assumptions(report), missing(report),
     ]
     return ('<!DOCTYPE html><html lang="en"><head><meta charset="utf-8"/><meta name="viewport" content="width=device-width,initial-scale=1"/>'
             f'<meta name="color-scheme" content="light dark"/><title>{escape(title(report))}</title><style>{STYLE}</style></head>'

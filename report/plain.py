@@ -5,8 +5,14 @@ from __future__ import annotations
 from collections.abc import Iterator
 from textwrap import wrap
 
+from record.missing_report import missing_text
+from record.report import Colours
 from report.model import Race, Report
 
+MISSING = {
+    "missing": "{0} reads {1}, and is not made again when it changes", "late": "{0} reads {1}, and who writes that need not come first",
+    "shared": "{0} writes {1}, and so does a recipe that need not run then", "present": "{0} was there before the build",
+}
 HEADLINES = {"safe": "SAFE", "race": "RACE", "none": "NO VERDICT"}
 
 
@@ -60,6 +66,7 @@ def text(report: Report) -> str:
         such = f", such as {it.example}" if it.example else ""
         whole = it.text + (f" ({it.count}{such})" if it.count > 1 or such else "")
         lines += wrap(whole, 78, initial_indent="  - ", subsequent_indent="    ", break_long_words=False, break_on_hyphens=False)
+    lines += ["", *missing_text(report.missing, Colours())] if report.missing else []
     return "\n".join(lines).rstrip("\n") + "\n"
 
 
@@ -76,6 +83,17 @@ def annotation(level: str, title: str, message: str, file: str = "", line: int =
     return f"::{level} {place}title={escaped(title, True)}::{escaped(message)}"
 
 
+def missing_annotations(report: Report) -> list[str]:
+    """An annotation for each missing input, at the rule of the recipe that reads it."""
+    lines = []
+    for judged, it in report.missing.all() if report.missing else ():
+        add = f"\nAdd: {judged.late(it)}: {judged.early(it)}" if judged.early(it) else ""
+        message = f"{MISSING[it.kind].format(judged.target(it.reader), judged.name(it.path))}, so make may leave an old file behind.{add}"
+        level = "warning" if judged.fingerprint(it) in report.known else "error"
+        lines.append(annotation(level, f"missing input {judged.name(it.path)}", message, *judged.rule(it.reader)))
+    return lines + [annotation("error", "race: no verdict on missing inputs", it) for it in (report.missing.holes() if report.missing else ())]
+
+
 def github(report: Report) -> str:
     """An annotation for each race, at the recipe that has to wait; a warning for one that is known."""
     lines = []
@@ -86,6 +104,7 @@ def github(report: Report) -> str:
                    f"{early.target}: {early.place or 'no place known'}.\nFix: {race.change}")
         level = "warning" if race.fingerprint in report.known else "error"
         lines.append(annotation(level, f"race on {race.shown}", message, late.file, late.line))
+    lines += missing_annotations(report)
     lines += [annotation("error", "race: no verdict", it) for it in report.holes]
     lines += [annotation("notice", "race: fixed since the baseline", it) for it in report.gone]
     lines.append(annotation("notice", f"race: {HEADLINES[report.verdict].lower()}", summary(report)))

@@ -8,21 +8,29 @@ import shutil
 import signal
 import stat
 import subprocess
+import sys
+import time
 from dataclasses import dataclass, field, replace
 from pathlib import Path
-from typing import Dict, List, Optional
+from typing import Collection, Dict, List, Optional
 
 from fuzz_projects import Project
 
 HERE = Path(__file__).resolve().parent
+sys.path.insert(0, str(HERE.parent.parent))
+
+from record.assumptions import TEXTS  # noqa: E402
+
 RECORDER = HERE.parent.parent / "record" / "race-record"
 SECONDS = 120
 VERDICTS = {0: "safe", 1: "race", 2: "no verdict"}
 # What stands for $N TARGET: some targets are slow, most of the time; the number of the process says when.
 NAP = """#!/bin/sh
-case "$1" in %s) test $(($$ %% 3)) = 0 || exec sleep 0.0%d;; *) test $(($$ %% 7)) = 0 && exec sleep 0.01;; esac
+case "$1" in %s) test $(($$ %% 3)) = 0 || exec sleep %.3f;; *) test $(($$ %% 7)) = 0 && exec sleep %.3f;; esac
 exit 0
 """
+# The shortest delay in seconds: one on an idle machine, and the part of a serial build that it is on a busy one.
+DELAY, PART = 0.01, 0.025
 OWN = (".ninja_log", ".ninja_deps", ".ninja_lock")
 Tree = Dict[str, str]
 
@@ -34,6 +42,7 @@ class Outcome:
     status: int
     tree: Tree
     output: str = ""
+    seconds: float = 0
 
 
 @dataclass
@@ -41,7 +50,7 @@ class Result:
     """What came of one project."""
 
     seed: int
-    kind: str  # unstable, no verdict, changed, safe, wrong yes, race seen, race not seen
+    kind: str  # unstable, no verdict, changed, safe, assumption broken, wrong yes, race seen, race not seen
     verdict: str = ""
     builds: int = 0
     differed: int = 0
@@ -84,6 +93,7 @@ class Builder:
         self.folder = room / "project"
         self.random = random.Random(project.seed + 1)
         self.builds = 0
+        self.delay = DELAY
 
     def fresh(self) -> None:
         """The tree before the build."""
@@ -92,6 +102,8 @@ class Builder:
             path = self.folder / name
             path.parent.mkdir(parents=True, exist_ok=True)
             path.write_text(text)
+            if text.startswith("#!"):
+                path.chmod(0o755)
         for name, age in self.project.ages.items():
             os.utime(self.folder / name, (age, age))
 
@@ -101,20 +113,27 @@ class Builder:
         env = {k: v for k, v in os.environ.items() if not k.startswith("MAKE") and k != "MFLAGS"}
         if nap:
             env.update(N=nap, J="-j%d" % self.random.choice((2, 4)))  # J: for a ninja inside of a command
+        began = time.monotonic()
         with subprocess.Popen(words, cwd=self.folder, env=env, stdin=subprocess.DEVNULL, stdout=subprocess.PIPE, stderr=subprocess.STDOUT, start_new_session=True) as ran:
             try:
                 output = ran.communicate(timeout=SECONDS)[0]
             except subprocess.TimeoutExpired:
                 os.killpg(ran.pid, signal.SIGKILL)
                 output = ran.communicate()[0]
-        return Outcome(ran.returncode, tree_of(self.folder), output.decode("utf-8", "replace"))
+        return Outcome(ran.returncode, tree_of(self.folder), output.decode("utf-8", "replace"), time.monotonic() - began)
+
+    def serial(self) -> Outcome:
+        """A serial build, which says how long delays have to be."""
+        found = self.run(self.project.serial())
+        self.delay = max(DELAY, found.seconds * PART)
+        return found
 
     def nap(self) -> str:
         """A program that delays, at random."""
         path = self.room / ("nap%d" % self.builds)
         names = ["*[st]%d%s" % (n, part) for n in range(8) for part in ("", "[!0-9]*")]  # a target, and the others of its block
         slow = self.random.sample(names, self.random.randint(2, 8))
-        path.write_text(NAP % ("|".join(slow), self.random.randint(2, 5)))
+        path.write_text(NAP % ("|".join(slow), self.random.randint(2, 10) * self.delay, self.delay))
         path.chmod(0o755)
         return str(path)
 
@@ -129,36 +148,41 @@ class Builder:
         return self.run([str(self.recorder), "--warm", "--", *self.project.words()])
 
 
-def differences(first: Outcome, second: Outcome, unstable: List[str]) -> str:
-    """What two builds differ in, or nothing."""
+def differences(first: Outcome, second: Outcome, others: Collection[str] = ()) -> str:
+    """What two builds differ in, other than some files; or nothing."""
     if bool(first.status) != bool(second.status):
         return "status %d for %d" % (second.status, first.status)
-    names = sorted(n for n in set(first.tree) | set(second.tree) if n not in unstable and first.tree.get(n) != second.tree.get(n))
+    names = sorted(n for n in set(first.tree) | set(second.tree) if n not in others and first.tree.get(n) != second.tree.get(n))
     return "; ".join("%s: %s for %s" % (n, second.tree.get(n), first.tree.get(n)) for n in names[:3])
 
 
 def assumptions(output: str) -> List[str]:
-    """The lines under a yes."""
-    text = output.rpartition("safe, if:\n")[2] if "safe, if:\n" in output else ""
+    """The lines under a verdict that say what was taken for granted."""
+    text = re.split(r"(?m)^(?:safe, if|Assumed):\n", output)[-1] if re.search(r"(?m)^(?:safe, if|Assumed):\n", output) else ""
     return [re.sub(r"\s+", " ", one) for one in re.findall(r"  - ((?:.*\n?(?!  - ))*)", text)]
+
+
+def granted(project: Project, assumed: List[str]) -> List[str]:
+    """The files that may differ, since the recorder has printed the assumption that they break."""
+    return [name for name, key in project.assumed().items() if any(one.startswith(TEXTS[key]) for one in assumed)]
 
 
 def judge(project: Project, room: Path, runs: int, recorder: Path = RECORDER, shuffles: bool = False) -> Result:
     """Builds a project in all ways; what came of it."""
     builder = Builder(project, room, recorder)
-    serial = [builder.run(project.serial()), builder.run(project.serial())]
+    serial = [builder.serial(), builder.serial()]
     if serial[0].status:
         return Result(project.seed, "serial fails", about=serial[0].output[-300:])
-    if differences(serial[0], serial[1], []):
-        return Result(project.seed, "unstable", about=differences(serial[0], serial[1], []))
+    if differences(*serial):
+        return Result(project.seed, "unstable", about=differences(*serial))
     recorded = builder.recorded()
     if recorded.status == -signal.SIGKILL:
         return Result(project.seed, "too slow", about=recorded.output[-300:])
     if recorded.status not in VERDICTS:
         return Result(project.seed, "crash", about=recorded.output[-1500:])
     result = Result(project.seed, "", VERDICTS[recorded.status], assumed=assumptions(recorded.output))
-    changed = differences(serial[0], Outcome(0, recorded.tree), [])
-    if changed:
+    changed = differences(serial[0], Outcome(0, recorded.tree))
+    if changed and "asks for several jobs" not in recorded.output:  # then no serial build was recorded
         result.kind, result.about = "changed", changed
     elif result.verdict == "no verdict":
         result.kind, result.about = "no verdict", recorded.output[-600:]
@@ -168,15 +192,21 @@ def judge(project: Project, room: Path, runs: int, recorder: Path = RECORDER, sh
 
 
 def shake(builder: Builder, serial: Outcome, result: Result, runs: int, shuffles: bool) -> None:
-    """Parallel builds, until one differs."""
+    """Parallel builds, until one differs in more than files of an assumption that was printed."""
+    others = granted(builder.project, result.assumed)
+    is_safe, is_broken = result.verdict == "safe", False
     for _ in range(runs):
-        about = differences(serial, builder.parallel(shuffles and result.verdict == "race"), [])
+        parallel = builder.parallel(shuffles and not is_safe)
+        about = differences(serial, parallel, others)
+        is_broken = is_broken or bool(differences(serial, parallel))
         if about:
             result.differed, result.about = result.differed + 1, about
             break
     result.builds = builder.builds
-    is_safe = result.verdict == "safe"
-    result.kind = ("wrong yes" if is_safe else "race seen") if result.differed else ("safe" if is_safe else "race not seen")
+    if result.differed:
+        result.kind = "wrong yes" if is_safe else "race seen"
+    else:
+        result.kind = ("assumption broken" if is_broken else "safe") if is_safe else "race not seen"
 
 
 def shrink(project: Project, room: Path, runs: int, recorder: Path = RECORDER) -> Project:

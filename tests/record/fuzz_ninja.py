@@ -51,7 +51,7 @@ class NinjaDraw(Draw):
     """Draws one project; the parts of the other kind that fit are used as they are."""
 
     def __init__(self, seed: int, only: Optional[List[str]] = None) -> None:
-        super().__init__(seed)
+        super().__init__(seed, only)
         self.project = NinjaProject(seed, files=self.project.files)
         shapes: Dict[str, Callable[[str], Block]] = {
             "file": self.file, "header": self.header, "user": self.user, "folder": self.folder, "outputs": self.outputs, "row": self.row,
@@ -96,7 +96,7 @@ class NinjaDraw(Draw):
     # ---------------------------------------------------------------- shapes
     def file(self, name: str) -> Block:
         needs = self.needs()
-        return self.known(name, self.build(name, needs, "cat /dev/null %s > %s" % (needs.partition("|")[0], name)))
+        return self.known(name, self.build(name, needs, "cat /dev/null %s > %s" % (self.files_of(needs.partition("|")[0].split()), name)))
 
     def header(self, name: str) -> Block:
         self.headers.append(name + ".h")
@@ -124,6 +124,7 @@ class NinjaDraw(Draw):
         return self.known(name, text + self.build(name + ".r", reader, "cat %s.b > %s.r 2> /dev/null || true" % (name, name)))
 
     def row(self, name: str) -> Block:
+        self.phony.add(name)
         return self.known(name, "build %s: phony %s\n" % (name, self.needs().replace(" |@ ", " || ")))
 
     def restat(self, name: str) -> Block:

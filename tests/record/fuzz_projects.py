@@ -6,9 +6,10 @@ makefile. `$N` in a recipe is `:`, or what the environment says: that is where p
 
 import json
 import random
+import shutil
 from dataclasses import asdict, dataclass, field
 from pathlib import Path
-from typing import Callable, Dict, List, Mapping, Optional, Type
+from typing import Callable, Dict, List, Mapping, Optional, Set, Type
 
 FORGOTTEN = 0.25
 EXTRA = 0.4
@@ -33,46 +34,63 @@ STEPS = (
 
 @dataclass
 class Block:
-    """One or more rules, the targets of them that are goals, and the files that only they need."""
+    """One or more rules, the targets of them that are goals, the files that only they need, and those that an assumption is about:
+    what such a file holds is not judged where the recorder prints this assumption."""
 
     goals: List[str]
     text: str
     files: Dict[str, str] = field(default_factory=dict)
+    breaks: Dict[str, str] = field(default_factory=dict)
 
 
 @dataclass
 class Project:
-    """All that a build starts from."""
+    """All that a build starts from: `recorded` are words of the recorded command alone, `values` of each; `head` stands first in
+    the makefile, which is a script where `is_script`."""
 
     seed: int
     blocks: List[Block] = field(default_factory=list)
     files: Dict[str, str] = field(default_factory=dict)
     ages: Dict[str, int] = field(default_factory=dict)
     tool: str = "make"
+    recorded: List[str] = field(default_factory=list)
+    values: List[str] = field(default_factory=list)
+    head: str = ""
+    is_script: bool = False
+
+    def command(self) -> List[str]:
+        """What each build begins with."""
+        return ["./rules" if self.is_script else "make", *self.values]
 
     def words(self) -> List[str]:
         """The command that is recorded."""
-        return ["make"]
+        return self.command() + self.recorded
 
     def serial(self) -> List[str]:
         """A serial build."""
-        return ["make", "-j1"]
+        return self.command() + ["-j1"]
 
     def parallel(self, jobs: int, shuffle: int) -> List[str]:
         """A parallel build; `shuffle`, where it is not 0, says in which order make takes what it is asked for."""
-        return ["make", "-j%d" % jobs] + (["--shuffle=%d" % shuffle] if shuffle else [])
+        return self.command() + ["-j%d" % jobs] + (["--shuffle=%d" % shuffle] if shuffle else [])
 
     def makefile(self) -> str:
         """The text of the makefile."""
         goals = [goal for block in self.blocks for goal in block.goals]
-        return "N ?= :\n.PHONY: all\nall: %s\n" % " ".join(goals) + "".join(block.text for block in self.blocks)
+        return self.head + "N ?= :\n.PHONY: all\nall: %s\n" % " ".join(goals) + "".join(block.text for block in self.blocks)
 
     def all_files(self) -> Dict[str, str]:
-        """Names and texts."""
+        """Names and texts; what begins with `#!` is a program."""
         found = {"Makefile": self.makefile(), **self.files}
+        if self.is_script:
+            found["rules"] = "#!%s -f\n" % shutil.which("make") + self.makefile()
         for block in self.blocks:
             found.update(block.files)
         return found
+
+    def assumed(self) -> Dict[str, str]:
+        """The files that assumptions are about, each with its key."""
+        return {name: key for block in self.blocks for name, key in block.breaks.items()}
 
     def save(self, path: Path) -> None:
         """Keeps it to be run again."""
@@ -92,9 +110,11 @@ class Draw:
 
     def __init__(self, seed: int, only: Optional[List[str]] = None) -> None:
         self.random = random.Random(seed)
+        self.only, self.few = only or [], bool(only)
         self.project = Project(seed, files={"src0": "0\n", "src1": "1\n", "src2": "2\n", "p/k": "k\n"})
         self.done: List[str] = []  # targets that others may ask for
         self.headers: List[str] = []
+        self.phony: Set[str] = set()  # targets that are no files
         self.below = False
         shapes: Dict[str, Callable[[str], Block]] = {
             "file": self.file, "stamp": self.stamp, "header": self.header, "user": self.user, "pattern": self.pattern,
@@ -104,8 +124,8 @@ class Draw:
         self.shapes = [shapes[name] for name in shapes if not only or name in only]
 
     def draw(self) -> Project:
-        """The project: blocks in an order of their own."""
-        count = self.random.randint(2, 8)
+        """The project: blocks in an order of their own; few where shapes are asked for, so that one race does not hide another."""
+        count = self.random.randint(1, 2) if self.few else self.random.randint(2, 8)
         for number in range(count):
             shape = self.random.choice(self.shapes if number else self.shapes[:3])
             self.project.blocks.append(shape("t%d" % number))
@@ -132,6 +152,10 @@ class Draw:
         found = self.random.sample(self.done, min(len(self.done), self.random.choice((0, 0, 1, 1, 2))))
         return found + self.random.sample(("src0", "src1", "src2"), self.random.choice((0, 1)))
 
+    def files_of(self, prerequisites: List[str]) -> str:
+        """Those that are files, as words."""
+        return " ".join(name for name in prerequisites if name not in self.phony)
+
     def forgets(self) -> bool:
         """Whether a rule leaves out what it needs."""
         return self.random.random() < FORGOTTEN
@@ -152,7 +176,7 @@ class Draw:
     # ---------------------------------------------------------------- shapes
     def file(self, name: str) -> Block:
         prerequisites = self.prerequisites()
-        text = self.rule(name, prerequisites, "cat /dev/null %s > $@" % " ".join(prerequisites))
+        text = self.rule(name, prerequisites, "cat /dev/null %s > $@" % self.files_of(prerequisites))
         self.done.append(name)
         return Block([name], text)
 
@@ -160,6 +184,7 @@ class Draw:
         phony = self.random.random() < 0.3
         text = (".PHONY: %s\n" % name if phony else "") + self.rule(name, self.prerequisites(), "touch %s.made" % name if phony else "touch $@")
         self.done.append(name)
+        self.phony.update([name] if phony else [])
         return Block([name], text)
 
     def header(self, name: str) -> Block:
@@ -190,7 +215,7 @@ class Draw:
 
     def folder(self, name: str) -> Block:
         how = self.random.choice(("mkdir $@", "mkdir -p $@", "test -d $@ || mkdir $@"))
-        text = "%s.d:\n\t@$N $@; %s\n" % (name, how)
+        text = "%s.d:\n\t@%s%s\n" % (name, self.random.choice(("$N $@; ", "")), how)
         for part in ("a", "b"):
             bar = "" if self.forgets() else name + ".d"
             own = "mkdir -p $(@D); " if self.random.random() < 0.3 else ""
@@ -207,7 +232,7 @@ class Draw:
     def outputs(self, name: str) -> Block:
         colon = "&:" if self.random.random() < 0.5 else ":"
         prerequisites = " ".join(self.prerequisites())
-        text = "%s %s.b %s %s\n\t@$N $@; echo 1 >> %s; $N $@; echo 2 >> %s.b\n" % (name, name, colon, prerequisites, name, name)
+        text = "%s %s.b %s %s\n\t@$N $@; echo $@ >> %s; $N $@; echo $@ >> %s.b\n" % (name, name, colon, prerequisites, name, name)
         self.done += [name, name + ".b"]
         return Block([name, name + ".b"], text)
 
@@ -220,7 +245,7 @@ class Draw:
 
     def own(self, name: str) -> Block:
         """What make itself does."""
-        step = self.random.choice(("$(file >N.own,w)", "$(shell echo w > N.own)", "$(if $(wildcard N.own),,$(shell touch N.own))")).replace("N", name)
+        step = self.random.choice(("$(file >N.own,w)", "$(shell echo w > N.own)", "$(if $(wildcard N.own),,$(shell echo w > N.own))")).replace("N", name)
         reader = self.random.random() < 0.5
         text = ".PHONY: %s\n%s: %s ; %s\n" % (name, name, " ".join(self.prerequisites()), step)
         if reader:
@@ -238,7 +263,7 @@ class Draw:
 
     def expansion(self, name: str) -> Block:
         prerequisites = self.prerequisites()
-        text = ".SECONDEXPANSION:\n%s: $$(%s.needs)\n\t@$N $@; cat /dev/null %s > $@\n%s.needs = %s\n" % (name, name, " ".join(prerequisites), name, " ".join(prerequisites))
+        text = ".SECONDEXPANSION:\n%s: $$(%s.needs)\n\t@$N $@; cat /dev/null %s > $@\n%s.needs = %s\n" % (name, name, self.files_of(prerequisites), name, " ".join(prerequisites))
         self.done.append(name)
         return Block([name], text)
 
@@ -254,8 +279,10 @@ class Draw:
         loose = self.random.choice(SHARED) if self.random.random() < 0.3 else ""
         if loose:
             self.project.files[loose] = "w\n"
-        text = "%s: %s %s\n" % (name, " ".join(prerequisites), loose) + (".PHONY: %s\n" % name if self.random.random() < 0.5 else "%s: ; @touch $@\n" % name)
+        phony = self.random.random() < 0.5
+        text = "%s: %s %s\n" % (name, " ".join(prerequisites), loose) + (".PHONY: %s\n" % name if phony else "%s: ; @touch $@\n" % name)
         self.done.append(name)
+        self.phony.update([name] if phony else [])
         return Block([name], text)
 
     def inner(self, name: str) -> Block:
@@ -272,4 +299,5 @@ class Draw:
         words = self.random.choice(("", "", "", "-s ", "-j1 ", "-k "))
         text = ".PHONY: %s.all\n%s.all: %s\n\t@$N $@; $(MAKE) %s--no-print-directory -C %s\n%s" % (name, name, " ".join(self.prerequisites()), words, name, self.extra())
         self.done.append(name + ".all")
+        self.phony.add(name + ".all")
         return Block([name + ".all"], text, files)

@@ -38,6 +38,11 @@ def small(name: str) -> str:
     return "test_small.Makefiles.test_" + name
 
 
+def warm(name: str) -> str:
+    """The test of a tree in which targets are there."""
+    return "test_warm.Warm.test_" + name
+
+
 # Make's own looks lead to the same paths: without them a target is found by its name and its folder alone.
 LOOKS = ("build.py", "return {**self.make.looked.get(spelled, {}), **self.make.looked.get(node.name, {})}", "return {}")
 
@@ -67,7 +72,7 @@ TRACE: List[Guard] = [
     Guard("wrapper: what looks like the data base before that line", "wrapper.py", "elif self.next is not None and self.blank and packet.startswith(BASE):", "elif False:", "test_wrapper.Splits.test_recipe_whose_first_words_look_like_the_data_base"),
     Guard("wrapper: job lines of that recipe alone", "wrapper.py", "about.group(2) not in (None, self.job):", "False:", "test_wrapper.Splits.test_recipe_that_prints_words_of_make"),
     Guard("wrapper: words of a wrapper above", "options.py", '    if "--debug=v,j,m" not in flags:\n', "    if True:\n", "test_wrapper.Asked.test_words_of_a_wrapper_above_are_taken_out"),
-    Guard("wrapper: words that a recipe hands on", "wrapper.py", "    args = plain_args(args)\n", "", "test_output.Output.test_flags_that_a_recipe_hands_on"),
+    Guard("wrapper: words that a recipe hands on", "wrapper.py", "plain_args(args)\n", "args\n", "test_output.Output.test_flags_that_a_recipe_hands_on"),
     Guard("wrapper: make that begins again", "wrapper.py", 'if WORDS[0] in args and "MAKE_RESTARTS" in os.environ:', "if False:", case("remade-makefile")),
     Guard("wrapper: the data base of a make that goes on", "words.py", "    if len(bases) != len(words.read):\n", "    if False:\n", "test_words.Holes.test_data_base_that_a_recipe_prints_whole"),
     Guard("wrapper: a data base that is not whole", "words.py", "    if hole:\n", "    if False:\n", "test_words.Holes.test_data_base_that_is_cut"),
@@ -105,10 +110,17 @@ FOLDERS: List[Guard] = [
     Guard("folders: times", "folders.py", "    add_times(builder)\n    add_modes", "    add_modes", case("folder-time"), LOST_RACE),
     Guard("folders: modes", "folders.py", "    add_modes(builder)\n\n\ndef add_folder(", "\n\ndef add_folder(", case("folder-mode"), YES),
     Guard("folders: how many are in it", "folders.py", 'if kind == "h" and path in counted:', "if False:", small("folder_links_counted"), YES),
+    Guard("folders: a rule that comes late", "folders.py", "if makes_itself(builder, at, path)]:", "if False]:", small("folder_whose_rule_comes_late"), FALSE_RACE),
+    Guard("folders: a rule that comes late makes the folder alone", "folders.py", "all(only.fullmatch(line) for line in lines)", "True", small("folder_whose_rule_comes_late_and_does_more"), YES),
+    Guard("folders: ages that nobody asks for", "build.py", "if len(names) > 1 or is_asked:", "if True:", small("folder_whose_rule_comes_late"), FALSE_RACE),
     Guard("folders: there before the build", "folders.py", "    if existed and not folder.gone:\n", "    if False:\n", small("folder_there_already"), FALSE_RACE),
 ]
 GRAPH: List[Guard] = [
-    Guard("decisions: names that no rule makes", "build.py", "if own < 0 and any(self.is_written(p) for p in needed):", "if False:", case("no-rule"), YES),
+    Guard("decisions: names that no rule makes", "build.py", "if own < 0 and node.label not in fixed and any(self.is_written(p) for p in needed):", "if False:", case("no-rule"), YES),
+    Guard("decisions: files that stay as they are to make", "build.py", "node.label not in fixed and", "", small("age_that_nobody_asks_for"), FALSE_RACE),
+    Guard("decisions: ages that somebody asks for", "fixed.py", " or node.label in asked))", "))", small("age_that_somebody_asks_for"), YES),
+    Guard("decisions: files that are replaced", "fixed.py", ' if kind in "CD"}', ' if kind in ""}', small("file_that_is_replaced"), YES),
+    Guard("decisions: files that were not there", "fixed.py", 'builder.before.get(node.path) == "f" and node.path not in replaced', "True", case("no-rule"), YES),
     Guard("decisions: cold targets depend on no age", "build.py", "is_cold = self.before.get(node.path) is None and", "is_cold = False and", small("folder_as_prerequisite_cold"), FALSE_RACE),
     Guard("decisions: order-only has no age", "build.py", "p not in only and self.graph", "self.graph", small("folder_behind_a_bar"), FALSE_RACE),
     Guard("looks of leaves", "build.py", "elif own >= 0 and self.is_leaf(node):", "elif False:", small("look_of_a_leaf"), FALSE_RACE),
@@ -118,7 +130,11 @@ GRAPH: List[Guard] = [
     Guard("looks at links: no act beside the look", "replay.py", 'self.put(life, "R", link, word)', 'self.put(life, "R", link)', small("link_that_make_looks_at_again"), FALSE_RACE),
     Guard("looks of leaves: not where a recipe runs below", "build.py", "return node.label not in self._busy", "return True", small("look_behind_a_recipe"), YES),
     Guard("first looks", "build.py", "        self.make_first_looks()\n", "", small("first_look_at_a_target"), YES),
-    Guard("first looks: by what they change", "build.py", "if others and (self.has_effect(node) or", "if others and (True or", small("first_look_that_changes_nothing"), FALSE_RACE),
+    Guard("first looks: by what they change", "build.py", "and (self.has_effect(node) or", "and (True or", small("first_look_that_changes_nothing"), FALSE_RACE),
+    Guard("first looks: not where the target is remade anyway", "build.py", "not remade_anyway(self, node, others) and ", "", small("archive_members_in_order"), FALSE_RACE),
+    Guard("first looks: where the recipe did not run", "fixed.py", "if not node.jobs or ", "if ", small("first_look_at_a_target"), YES),
+    Guard("first looks: where the target goes", "fixed.py", 'kind in "Dc" and', 'kind in "c" and', small("first_look_at_a_target_that_goes"), YES),
+    Guard("first looks: where the target gets another age", "fixed.py", 'kind in "Dc" and', 'kind in "D" and', small("first_look_at_a_target_that_gets_older"), YES),
     Guard("chain of looks", "build.py", "        for (_, first), (_, second) in zip(looks, looks[1:]):\n            after[second].add(first)\n", "", small("two_own_acts_first"), FALSE_RACE),
     Guard("chain of looks: before recipes that come later", "build.py", "                if earlier:\n", "                if False:\n", small("two_own_acts_first"), FALSE_RACE),
     Guard("serial: .NOTPARALLEL", "build.py", "return self.graph.base.serial or", "return", case("not-parallel"), FALSE_RACE),
@@ -147,6 +163,8 @@ OWNERS: List[Guard] = [
     Guard("acts of make belong to somebody", "owners.py", "            owners = self.owners_at(make, rounds, table, births, place)\n", "            owners = set()\n", case("file-function"), YES),
     Guard("acts: to what had to be made since the last job", "owners.py", "            owners.update((number, t) for t, count", "            set().update((number, t) for t, count", case("shell-function-stranger"), YES),
     Guard("acts: not to what make looks at later", "owners.py", "{o for o in owners if looks.get(o[1], -1) < place} or owners", "owners", small("act_before_the_next_target"), FALSE_RACE),
+    Guard("acts: not the removal of intermediate files", "owners.py", "self.removed_last(make) | ", "", small("intermediate_file_that_make_removes"), FALSE_RACE),
+    Guard("acts: not the looks into archives", "owners.py", "self.removed_last(make) | self.read_archives(make, names)", "self.removed_last(make)", small("archive_beside_another_target"), FALSE_RACE),
     Guard("acts: what make lists", "owners.py", '                        for pattern in make.globs:\n                            work.add("L"', '                        for pattern in ():\n                            work.add("L"', case("make-wildcard"), YES),
     Guard("wildcards: computed patterns are *", "globs.py", '"(", "{")):\n            found.add("*")', '"(", "{")):\n            found.add(word)', small("wildcard_that_is_computed"), YES),
     Guard("folder of make -C", "owners.py", '            if act.kind == "U":\n                folder = act.path\n', "", small("decision_below_another_folder"), YES, LOOKS),
@@ -183,8 +201,10 @@ UNFILED: List[Guard] = [
     Guard("serial: the user's own -j1", "owners.py", "            return False\n        return self.words.slots", "            pass\n        return self.words.slots", small("jobs_of_a_makefile_and_one_job"), YES),
     Guard("serial: folders and values are no jobs", "options.py", 'letter, value = cluster.group(2, 3) if cluster else ("", "")', 'letter, value = ("j", "1") if word.endswith("j1") else ("", "")', small("folder_that_looks_like_one_job"), YES),
     Guard("serial: jobs that a recipe hands on", "wrapper.py", '[*args, os.environ.get("MAKEFLAGS", "")]', '[os.environ.get("MAKEFLAGS", "")]', small("jobs_that_a_recipe_hands_on"), YES),
+    Guard("serial: the user's own -j1, handed on", "options.py", "return own_jobs(args[at + 1:])", "return own_jobs(args)", small("own_jobs_that_a_recipe_hands_on"), YES),
     Guard("holes: several jobs at once", "words.py", 'words.holes.append("a makefile asks', 'str("a makefile asks', small("jobs_of_a_makefile"), "2 != "),
     Guard("wrapper: intermediate files", "wrapper.py", "Removing intermediate files\\.\\.\\.$|", "", "test_output.Output.test_intermediate_files"),
+    Guard("wrapper: order-only prerequisites", "wrapper.py", "older than|order-only for", "older than", "test_output.Output.test_order_only_prerequisite_of_a_target_that_is_there"),
     Guard("macros that recipes change", "build.py", "        add_macros(self, created)\n", "", small("macro_that_a_recipe_changes"), YES),
     Guard("macros: by way of others", "macros.py", "todo.extend(self.named_by(name))", "pass", small("macro_by_way_of_another"), YES),
     Guard("macros: in the environment", "macros.py", "(use.reads & changed) | exported", "use.reads & changed", small("macro_in_the_environment"), YES),
@@ -212,4 +232,12 @@ UNFILED: List[Guard] = [
     Guard("ages: in archives", "ages.py", 'or kind == "W" and packs', "", small("age_out_of_an_archive"), YES),
     Guard("ages: scripts that a script takes in", "shelltext.py", "script_compares(os.path.join(folder, n), folder, depth + 1)", "False", small("ages_by_a_script_that_is_taken_in"), YES),
 ]
-GUARDS = TRACE + NAMES + FOLDERS + GRAPH + AGES + OWNERS + UNFILED
+WARM: List[Guard] = [
+    Guard("warm: recipes that do not wait", "warm.py", "return all(label in ordered for", "return any(label in ordered for", warm("recipe_that_does_not_wait"), LOST_HOLE),
+    Guard("warm: two that are not in order", "warm.py", "if other.has_recipe or other.jobs)", "if other.jobs)", warm("two_that_are_not_in_order"), LOST_HOLE),
+    Guard("warm: made again", "warm.py", "if node.jobs or node.must or node.phony", "if node.phony", warm("target_that_is_made_again_alone"), LOST_HOLE),
+    Guard("warm: recipes that build", "warm.py", 'BUILDS = re.compile(r"make|ninja", re.I)', 'BUILDS = re.compile("(?!)")', warm("recipe_that_builds"), LOST_HOLE),
+    Guard("warm: several makes", "warm.py", "if ninjas or len(goals) != 1 or", "if not goals:\n        return False\n    if False and", warm("inner_make_beside_it"), LOST_HOLE),
+    Guard("warm: said", "main.py", "for name in record.warm if warm or record.stands_alone else ():", "for name in record.warm if warm else ():", warm("each_recipe_waits_for_it"), UNSAID),
+]
+GUARDS = TRACE + NAMES + FOLDERS + GRAPH + AGES + OWNERS + UNFILED + WARM

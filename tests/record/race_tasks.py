@@ -2,6 +2,7 @@
 """A small model of `race list`, `race check` and `race fix` over tasks: the oracle of tests, written apart from `race`.
 
     race_tasks.py list|check|fix --tasks FILE [--root DIR]
+    race_tasks.py missing --tasks FILE --listing FILE [--root DIR]      (missing_tasks.py)
 """
 
 import argparse
@@ -23,11 +24,15 @@ class Task:
 
 
 class Refused(Exception):
-    """A fault: its number and name, the line, and the label that it names."""
+    """A fault: its number and name, the line, and the names that it reports, as they are shown."""
 
-    def __init__(self, word: str, line: int, label: Optional[str] = None) -> None:
+    def __init__(self, word: str, line: int, *names: str) -> None:
         super().__init__(word)
-        self.word, self.line, self.label = word, line, label
+        self.word, self.line, self.names = word, line, names
+
+    def report(self) -> str:
+        """As the program prints it."""
+        return "\n".join(["refused", self.word, "at tasks %d" % self.line, *("name " + name for name in self.names)])
 
 
 def shown(text: str) -> str:
@@ -68,10 +73,10 @@ def read(root: str, text: str) -> List[Task]:
         except (ValueError, KeyError, TypeError):
             raise Refused("F29 BadTask", at) from None
         if label in numbers:
-            raise Refused("F30 TaskTwice", at, label)
+            raise Refused("F30 TaskTwice", at, shown(label))
         for name in after:
             if name not in numbers:
-                raise Refused("F31 UnknownTask", at, name)
+                raise Refused("F31 UnknownTask", at, shown(name))
         numbers[label] = len(tasks)
         tasks.append(Task(label, {numbers[n] for n in after}, [plain(root, p) for p in reads], [plain(root, p) for p in writes]))
     return tasks
@@ -178,6 +183,9 @@ def fixed(tasks: List[Task], root: str) -> Tuple[int, List[str]]:
 
 def main() -> int:
     """The program."""
+    if sys.argv[1:2] == ["missing"]:
+        import missing_tasks
+        return missing_tasks.main(sys.argv[2:])
     parser = argparse.ArgumentParser(description=__doc__, formatter_class=argparse.RawDescriptionHelpFormatter)
     parser.add_argument("command", choices=("list", "check", "fix"))
     parser.add_argument("--tasks", required=True)
@@ -187,7 +195,7 @@ def main() -> int:
         with open(options.tasks, encoding="utf-8") as file:
             tasks = read(options.root, file.read())
     except Refused as fault:
-        print("refused\n%s\nat tasks %d%s" % (fault.word, fault.line, "" if fault.label is None else "\nname " + shown(fault.label)))
+        print(fault.report())
         return 2
     if options.command == "fix":
         status, lines = fixed(tasks, options.root)

@@ -7,8 +7,12 @@ from pathlib import Path
 
 import support  # noqa: F401
 from fuzz_builds import Outcome, Result, assumptions, differences, judge, parts
+from fuzz_gadgets import COMMANDS, GadgetDraw
 from fuzz_ninja import NinjaDraw, NinjaProject
 from fuzz_projects import Block, Draw, Project, load
+from guard_shapes import SHAPES
+from guard_table import GUARDS
+from record.assumptions import TEXTS
 from record.ninja_manifest import read_manifest
 
 RACE = Project(1, [Block(["a"], "a: ; sleep 0.2; echo a > a\n"), Block(["b"], "b: ; cat a > b || true\n")])
@@ -29,6 +33,14 @@ class Judges(unittest.TestCase):
     def test_wrong_yes(self) -> None:
         result = self.result(RACE, "printf 'SAFE\\nsafe, if:\\n  - one\\n    more\\n  - two\\n'\n")
         self.assertEqual(("wrong yes", ["one more", "two"]), (result.kind, [a.strip() for a in result.assumed]))
+
+    def test_yes_that_prints_what_is_broken(self) -> None:
+        """A file that an assumption is about may differ where this assumption is printed, and no other file."""
+        broken = Project(1, [Block(["a", "b"], RACE.blocks[0].text + RACE.blocks[1].text, {}, {"b": "listings"})])
+        says = "printf 'SAFE\\nsafe, if:\\n  - %s (1, such\\n    as x)\\n'\n"
+        self.assertEqual("assumption broken", self.result(broken, says % TEXTS["listings"]).kind)
+        self.assertEqual("wrong yes", self.result(broken, says % TEXTS["output"]).kind)
+        self.assertEqual("wrong yes", self.result(RACE, says % TEXTS["listings"]).kind)
 
     def test_race_that_is_seen(self) -> None:
         self.assertEqual("race seen", self.result(RACE, "exit 1\n").kind)
@@ -62,9 +74,24 @@ class Projects(unittest.TestCase):
 
     def test_kept_and_loaded(self) -> None:
         with tempfile.TemporaryDirectory() as room:
-            for draw in (Draw, NinjaDraw):
+            for draw in (Draw, GadgetDraw, NinjaDraw):
                 draw(3).draw().save(Path(room) / "p.json")
                 self.assertEqual(draw(3).draw(), load(Path(room) / "p.json", {"make": Project, "ninja": NinjaProject}))
+
+    def test_gadgets(self) -> None:
+        """Over many seeds each shape is drawn, and what the command asks for; a shape alone is drawn where that is asked for."""
+        drawn = [GadgetDraw(seed).draw() for seed in range(150)]
+        text = "".join(project.makefile() for project in drawn)
+        for word in ("$(eval Vt", "$$(shell", "obj1", "$(MFLAGS)", "> $@ 2>&1", "| cat > $@", "mkdir -p -m 700", "touch -r", "cp -p", "tar xf", "find t", ": Vt", "ar rcD", ".x -s all"):
+            self.assertIn(word, text)
+        self.assertEqual({"-j1"}, {word for project in drawn for word in project.recorded})
+        self.assertTrue(any(p.is_script for p in drawn) and any(p.head for p in drawn) and any(p.values for p in drawn))
+        for name in {*SHAPES.values()} - set(COMMANDS):
+            self.assertTrue(all(block.text for block in GadgetDraw(1, [name]).draw().blocks), name)
+
+    def test_shapes_of_guards(self) -> None:
+        names = {guard.name for guard in GUARDS}
+        self.assertEqual(set(), set(SHAPES) - names)
 
     def test_manifests(self) -> None:
         """A seed is a manifest; over many seeds each kind of statement is drawn, and ninja reads what is drawn."""

@@ -134,5 +134,6 @@ class Asked(unittest.TestCase):
     def test_number_of_jobs_of_its_own_words(self) -> None:
         for args, wanted in ((["-j4"], "4"), (["-kj", "2", "all"], "2"), (["-j", "all"], "all"), (["--jobs=3"], "3"), (["--jobs", "3"], "3"), (["--jo=1"], "1"),
                              (["-j1", "-j8"], "8"), (["-Cobj1"], ""), (["-fobj1"], ""), (["-C", "-j1"], ""), (["-kC", "-j1"], ""), (["X=-v -j1"], ""),
-                             (["--file", "-j1"], ""), (["--", "-j1"], ""), (["--eval=-j1"], ""), (["-l2", "-j"], "all"), (["-O", "-j1"], "1"), (["-sj1"], "1")):
-            self.assertEqual(wanted, wrapper.own_jobs(args), args)
+                             (["--file", "-j1"], ""), (["--", "-j1"], ""), (["--eval=-j1"], ""), (["-l2", "-j"], "all"), (["-O", "-j1"], "1"), (["-sj1"], "1"),
+                             (["-p", "-j1", "--debug=v,j,m"], ""), (["-j1", "-p", "--debug=v,j,m"], ""), (["-p", "--debug=v,j,m", "-j1"], "1")):
+            self.assertEqual(wanted, wrapper.jobs_of_call(args), args)

@@ -1,0 +1,324 @@
+"""The tasks of an old tree, for `race missing`: what each recipe reads and writes, which file it makes, and which files make it run.
+
+A task that makes a file and whose prerequisites are known says both. Each other task always runs, so it misses nothing: it is counted.
+"""
+
+import os
+import re
+from dataclasses import dataclass
+from typing import Any, Dict, Iterable, Iterator, List, Optional, Set, Tuple
+
+from record.assumptions import Assumptions
+from record.database import Base
+from record.graph import Build, Node, Task, order_tasks
+from record.later import needs_of, phony_of
+from record.names import Names
+from record.tasks import labels_of, lines_of, relative
+
+CHANGES = "WCD"
+BYTE_CODE = re.compile(r"(.*/)__pycache__/([^/.]+)\.[^/]*$", re.S)
+NEVER = "@never"  # folders that no project has: names below this one stand for targets that never have a file,
+KEPT = "@kept"  # and below this one for the run of a recipe that leaves its target alone where nothing has changed
+NODES, EDGES, PATHS = 20_000, 200_000, 1_000_000  # what a text of tasks may hold
+COMPARES = re.compile(r"\bcmp\b|\bdiff\b.*(\|\||&&)|if[-_]change|if[-_]different", re.S)
+
+
+def is_below(path: str, folder: str) -> bool:
+    """Whether a path is a folder or below it."""
+    return path == folder or path.startswith(folder.rstrip("/") + "/")
+
+
+@dataclass
+class Seen:
+    """What the recipes of a build looked at and no task holds: it is taken that it stays as it is."""
+
+    outside: Set[str]
+    looks: Set[str]  # asked for, and not read; links; folders that were listed
+    absent: Set[str]
+
+
+class Footprints:
+    """What each recipe of a build reads and writes in the project."""
+
+    def __init__(self, build: Build, names: Names, out: str) -> None:
+        self.build, self.names, self.out = build, names, out
+        self.reads: List[Set[str]] = [set() for _ in build.tasks]
+        self.writes: List[Set[str]] = [set() for _ in build.tasks]
+        self.removes: List[Set[str]] = [set() for _ in build.tasks]
+        self.folders: List[Set[str]] = [set() for _ in build.tasks]  # that it makes, or finds made
+        self.seen = Seen(set(), set(), set())
+        self.known: Dict[str, bool] = {}  # names that are read: whether they can change and matter
+        for at, task in enumerate(build.tasks):
+            for kind, path in self.events(task) if task.kind == "recipe" else ():
+                self.take(at, kind, path)
+        self.written = set().union(*self.writes)
+        self.drop_temporaries()
+        for at in range(len(build.tasks)):
+            self.reads[at] = {path for path in self.reads[at] - self.writes[at] if self.is_input(path)}
+        self.seen.looks -= self.written.union(*self.reads)
+        self.seen.absent -= self.written
+
+    def events(self, task: Task) -> Iterable[Tuple[str, str]]:
+        """What a recipe did, and what make did for it."""
+        for work in task.works:
+            yield from work.events
+        acts = self.build.make.acts.get((self.build.graph.number, task.node.name)) if task.node.rule == 0 else None
+        looks = self.build.make.looked.get(task.node.name, {})
+        seen = min(looks.values(), default=0)  # what came earlier is what the makefiles call while they are read
+        yield from (event for event, place in acts.events.items() if place > seen) if acts is not None else ()
+
+    def is_inside(self, path: str) -> bool:
+        """Whether a name is in the project, and not in the record."""
+        return any(is_below(path, top) for top in self.names.tops) and not is_below(path, self.out)
+
+    def take(self, at: int, kind: str, path: str) -> None:
+        """One event."""
+        name, _, _ = path.rstrip("/").partition("\0")
+        if kind not in "RSNLWCDMTE":
+            return
+        code = BYTE_CODE.match(name)
+        if code and kind != "R":
+            return  # Python keeps what it has compiled, and holds it against the source
+        name = code.group(1) + code.group(2) + ".py" if code else name
+        if not self.is_inside(name):
+            if kind == "R":
+                self.seen.outside.add(name)
+        elif kind in "MTE" or path.endswith("/"):
+            self.folders[at].add(name)
+        elif kind in CHANGES:
+            self.writes[at].add(name)
+            if kind == "D":
+                self.removes[at].add(name)
+        elif kind == "R":
+            self.reads[at].add(name)
+        else:
+            (self.seen.absent if kind == "N" else self.seen.looks).add(name)
+
+    def drop_temporaries(self) -> None:
+        """Names that are gone before and after the build, where each recipe that touches them makes and removes them itself."""
+        gone = {path for path in self.written if path not in self.names.before and not os.path.lexists(path)}
+        for at, (reads, writes) in enumerate(zip(self.reads, self.writes)):
+            gone -= (reads | writes) - self.removes[at]
+        for at in range(len(self.reads)):
+            self.reads[at] -= gone
+            self.writes[at] -= gone
+        self.written -= gone
+
+    def is_input(self, path: str) -> bool:
+        """Whether a name that is read can change and matter: a file that is written here, or that is there."""
+        if path not in self.known:
+            is_link = self.names.before.get(path) == "l"
+            is_file = not os.path.isdir(path) and (path in self.names.before or os.path.lexists(path))
+            self.known[path] = path in self.written or is_file and not is_link
+            if is_link and not self.known[path]:
+                self.seen.looks.add(path)
+        return self.known[path]
+
+
+class OldTree:
+    """Makes the text; see the module."""
+
+    def __init__(self, build: Build, names: Names, later: Base, premises: Assumptions, out: str) -> None:
+        self.build, self.names, self.later, self.premises = build, names, later, premises
+        self.first = build.graph.base
+        self.phony = phony_of(self.first, later)
+        self.foot = Footprints(build, names, out)
+        self.tasks = [Task(t.label, t.node, t.kind, set(t.after), r, w) for t, r, w in zip(build.tasks, self.foot.reads, self.foot.writes)]
+        self.labels = labels_of(build.tasks)
+        self.makes: Dict[int, str] = {}
+        self.needs: Dict[int, List[str]] = {}
+        self.paths: Dict[str, List[str]] = {}  # by prerequisite
+        self.owners: Dict[int, str] = {}  # of a task that stands for an output: the label of the recipe
+        self.choose()
+        self.lend_names()
+        self.drop_lonely()
+        if self.is_too_large():
+            self.drop_named()
+        self.sort()
+        self.count()
+
+    # ---------------------------------------------------------------- which tasks say when they run
+    def spelled(self, name: str) -> str:
+        """A target as make looks for it: by `VPATH`, and of a member the archive."""
+        found = self.build.graph.round.vpath.get(name, name)
+        return found.partition("(")[0] if found.endswith(")") and "(" in found else found
+
+    def own_path(self, node: Node) -> str:
+        """The target's own name: a link is not followed."""
+        return self.names.find(self.build.folder, self.spelled(node.name), False).path
+
+    def choose(self) -> None:
+        """The tasks that make a file, and what they need."""
+        found: Dict[str, List[int]] = {}
+        for at, task in enumerate(self.tasks):
+            if task.kind == "recipe":
+                path, needs = self.own_path(task.node), self.paths_needed(task.node)
+                why = self.why_not(at, path, needs)
+                if why:
+                    self.premises.add(why, task.node.name)
+                else:
+                    self.needs[at] = [one for one in needs or () if one != path]
+                    stand_in = self.stand_in(KEPT, relative(self.build.folder, path))
+                    found.setdefault(stand_in if self.keeps(at) else path, []).append(at)
+        for path, who in found.items():
+            if len(who) == 1:
+                self.makes[who[0]] = path
+                self.tasks[who[0]].writes.add(path)
+            else:
+                self.premises.add("unjudged", self.tasks[who[0]].node.name, len(who))
+        self.needs = {at: self.needs[at] for at in self.makes}
+
+    def why_not(self, at: int, path: str, needs: Optional[List[str]]) -> str:
+        """Why a task has no file that says when it runs: the premise that counts it, or nothing."""
+        node = self.tasks[at].node
+        if node.name in self.phony or node.phony:
+            return "always"
+        if node.name in self.first.double or node.name.endswith(")") or not self.foot.is_inside(path):
+            return "unjudged"
+        if not self.is_there(node.name, path):
+            return "always"
+        return "unjudged" if needs is None or path not in self.tasks[at].writes | self.foot.folders[at] else ""
+
+    def is_there(self, name: str, path: str) -> bool:
+        """Whether a target has a file when the build has ended; an intermediate one is removed by make alone."""
+        return os.path.lexists(path) or name in self.first.intermediate
+
+    def stand_in(self, kind: str, name: str) -> str:
+        """A name that no file has, in the place of another."""
+        return "%s/%s/%s" % (self.build.folder.rstrip("/"), kind, name.strip("/") or "root")
+
+    def keeps(self, at: int) -> bool:
+        """Whether a recipe compares what it makes with what is there, and may leave its target alone: so it wakes nobody by itself."""
+        task = self.build.tasks[at]
+        ran = (" ".join(argv) for work in task.works for life in work.lives if not life.is_make for argv in life.ran)
+        return any(COMPARES.search(text) for text in (*self.first.recipes.get(task.node.name, ()), *ran))
+
+    def paths_needed(self, node: Node) -> Optional[List[str]]:
+        """The files that make a target run, those of all targets of its recipe."""
+        found: Dict[str, None] = {}
+        for name in (node.name, *self.first.also.get(node.name, [])):
+            needs = needs_of(name, self.first, self.later, self.build.graph.round.vpath)
+            if needs is None:
+                return None
+            for one in needs:
+                if one not in self.paths:
+                    self.paths[one] = list(self.paths_of(one))
+                found.update(dict.fromkeys(self.paths[one]))
+        return list(found)
+
+    def paths_of(self, name: str) -> Iterator[str]:
+        """The names on whose ages a prerequisite comes down: its own, and what it leads to. None of them is outside of the project."""
+        if name.startswith("-l") and name not in self.build.graph.round.vpath:
+            return
+        paths = [self.names.find(self.build.folder, self.spelled(name), follow).path for follow in (False, True)]
+        if name in self.phony or not self.is_there(name, paths[0]):
+            yield self.stand_in(NEVER, name)
+        else:
+            yield from (path for path in dict.fromkeys(paths) if self.foot.is_inside(path))
+
+    # ---------------------------------------------------------------- one maker for each name
+    def lend_names(self) -> None:
+        """What is needed and is another output of a recipe gets a task of its own behind that recipe; each target has one writer."""
+        makers, writing = {path: at for at, path in self.makes.items()}, self.writing()
+        for path in sorted({*makers, *(one for needs in self.needs.values() for one in needs)}):
+            writers = [at for at in writing.get(path, ()) if makers.get(path) != at]
+            for at in writers:
+                self.tasks[at].writes.discard(path)
+            also = [at for at in writers if path in makers or path in self.needs.get(at, ())]
+            if also:
+                self.premises.add("rewritten", relative(self.build.folder, path))
+            if len(writers) > len(also):
+                self.lend(path, [at for at in writers if at not in also])
+
+    def writing(self) -> Dict[str, List[int]]:
+        """For each name the tasks that write it."""
+        found: Dict[str, List[int]] = {}
+        for at, task in enumerate(self.tasks):
+            for path in task.writes:
+                found.setdefault(path, []).append(at)
+        return found
+
+    def lend(self, path: str, writers: List[int]) -> None:
+        """A task that stands for one more output of a recipe."""
+        at, is_before = len(self.tasks), self.build.is_before
+        for user, task in enumerate(self.tasks[: len(self.build.tasks)]):
+            if (path in task.reads or path in self.needs.get(user, ())) and all(is_before(one, user) for one in writers):
+                task.after.add(at)
+        label = self.tasks[writers[-1]].label + "@also"
+        self.tasks.append(Task(label, self.tasks[writers[-1]].node, "file", set(writers), set(), {path}))
+        while label in self.labels:
+            label += "+"
+        self.labels.append(label)
+        self.makes[at], self.needs[at] = path, [self.makes[one] for one in writers if one in self.makes and not self.keeps(one)]
+        self.owners[at] = self.labels[writers[-1]]
+        self.premises.add("outputs", relative(self.build.folder, path))
+
+    def drop_lonely(self) -> None:
+        """Names that one task alone touches say nothing, except that of its own file."""
+        count: Dict[str, int] = {}
+        for task in self.tasks:
+            for path in task.reads | task.writes:
+                count[path] = count.get(path, 0) + 1
+        for at, task in enumerate(self.tasks):
+            task.writes = {path for path in task.writes if count[path] > 1 or self.makes.get(at) == path}
+
+    def is_too_large(self) -> bool:
+        """Whether the text would pass a limit: files that are needed, and waiting for others, are nodes as well."""
+        files = {one for needs in self.needs.values() for one in needs} - set(self.makes.values())
+        edges = sum(len(needs) for needs in self.needs.values()) + sum(len(task.after) + 1 for task in self.tasks)
+        paths = sum(len(task.reads) + len(task.writes) for task in self.tasks)
+        return 2 * len(self.tasks) + len(files) > NODES or edges > EDGES or paths > PATHS
+
+    def drop_named(self) -> None:
+        """Leaves out the sources that each of their readers names: nobody misses them, and they wake nobody else."""
+        written = {*self.makes.values(), *(path for task in self.tasks for path in task.writes)}
+        unnamed = {path for at, task in enumerate(self.tasks) for path in task.reads.difference(self.needs.get(at, ())) if at in self.makes}
+        needed = {one for needs in self.needs.values() for one in needs if os.path.lexists(one)}
+        named = {*needed, *(path for task in self.tasks for path in task.reads)} - written - unnamed
+        self.premises.add("named", relative(self.build.folder, min(named, default="")), len(named))
+        for task in self.tasks:
+            task.reads -= named
+        self.needs = {at: [one for one in needs if one not in named] for at, needs in self.needs.items()}
+
+    def sort(self) -> None:
+        """Brings the tasks in an order in which each file is made before it is needed."""
+        makers = {path: at for at, path in self.makes.items()}
+        edges = [task.after | {makers[one] for one in self.needs.get(at, ()) if one in makers} for at, task in enumerate(self.tasks)]
+        keys = [(at, 0) if at < len(self.build.tasks) else (max(task.after), 1) for at, task in enumerate(self.tasks)]
+        order, dropped = order_tasks(self.tasks, edges, keys)
+        if dropped:
+            self.premises.add("later-ring", "make %s" % self.build.words, dropped)
+        place = {old: new for new, old in enumerate(order)}
+        for at, task in enumerate(self.tasks):
+            task.after = {place[one] for one in task.after if place[one] < place[at]}
+        self.needs = {place[at]: [one for one in needs if one not in makers or place[makers[one]] < place[at]] for at, needs in self.needs.items()}
+        self.makes = {place[at]: path for at, path in self.makes.items()}
+        self.owners = {place[at]: label for at, label in self.owners.items()}
+        self.tasks, self.labels = [self.tasks[at] for at in order], [self.labels[at] for at in order]
+
+    # ---------------------------------------------------------------- what comes out
+    def count(self) -> None:
+        """What is taken for granted of all that was looked at."""
+        seen = self.foot.seen
+        for kind, names in (("beyond", seen.outside), ("looks", seen.looks), ("unlisted", seen.absent)):
+            if names:
+                self.premises.add(kind, relative(self.build.folder, min(names)), len(names))
+
+    def judged(self) -> int:
+        """How many recipes say when they run."""
+        return sum(1 for at in self.makes if self.tasks[at].kind == "recipe")
+
+    def lines(self) -> Iterator[str]:
+        """The text of tasks."""
+        root = self.build.folder
+        more: Dict[int, Dict[str, Any]] = {}
+        for at, path in self.makes.items():
+            more[at] = {"makes": relative(root, path), "needs": list(dict.fromkeys(relative(root, one) for one in self.needs[at]))}
+            more[at].update({"of": self.owners[at]} if at in self.owners else {})
+        return (line for _, line in lines_of(self.tasks, root, self.labels, more))
+
+    def listing(self) -> List[str]:
+        """The files that tasks read or need, are there, and are made by none of them."""
+        made = {*self.makes.values(), *(path for task in self.tasks for path in task.writes)}
+        named = {*(path for task in self.tasks for path in task.reads), *(one for needs in self.needs.values() for one in needs)} - made
+        return sorted(relative(self.build.folder, path) for path in named if path in self.names.before or os.path.lexists(path))

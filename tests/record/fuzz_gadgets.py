@@ -1,0 +1,170 @@
+"""More shapes of makefiles for the fuzzer: what recipes share without a file that both name, such as macros of make and ages.
+
+Each was a cause of a wrong yes. Where a shape breaks an assumption that the recorder prints, its block says which files show that.
+The target of a block has its bare name, and all others have more behind it: delays distinguish the two.
+"""
+
+import shutil
+from typing import Callable, Dict, List, Optional
+
+from fuzz_projects import Block, Draw, Project
+
+HEAD = "N ?= :\n"
+# What the command or the head of the makefile asks for besides, and how often.
+COMMANDS = {"own-jobs": 0.1, "value-jobs": 0.05, "makefile-jobs": 0.03, "script": 0.03}
+# How a recipe changes a macro V, how another asks for it, and what stands before the rules.
+MACROS = (
+    ("$(eval V := $@)", "'$(V)'", ""), ("$(call V.set)", "'$(V)'", "V.set = $(eval V := set)\n"),
+    ("$(eval V += $@)", "'$(V.show)'", "V.show = $(V)\n"), ("$(eval V := $@)", "$$V", "export V\n"),
+)
+KEEPERS = ("cat NAME.s 2>/dev/null", "cat NAME.s 2>/dev/null", "echo 1")
+FOLDERS = ("mkdir -p NAME.d", "umask 077; mkdir -p NAME.d", "mkdir -p -m 700 NAME.d", "umask 022; mkdir -p -m 755 NAME.d")
+# How a file takes over the age of NAME, and its name.
+TAKES = (
+    ("touch $@; touch -r NAME $@", "NAME.r"), ("cp -p NAME $@", "NAME.r"), ("mv NAME NAME.x; touch $@", "NAME.x"), ("ln NAME NAME.x; touch $@", "NAME.x"),
+    ("tar -H posix -cf $@.tar NAME; mkdir NAME.o; tar xf $@.tar -C NAME.o; rm $@.tar; touch $@", "NAME.o/NAME"), ("cp NAME $@", "NAME.r"),
+)
+SHOWS = " && echo newer > $@ || echo older > $@"
+# How a recipe compares the age of X with that of NAME.b; the last one by a program that the recorder does not know.
+COMPARES = (
+    "test X -nt NAME.b" + SHOWS, "op=nt; test X -$$op NAME.b" + SHOWS, "sh ./NAME.sh X NAME.b" + SHOWS,
+    "$(MAKE) -s -f NAME.mk; touch $@", "cp %s $@.p; env -u MAKEFLAGS -u MFLAGS ./$@.p -rs -f NAME.mk; rm $@.p; touch $@" % shutil.which("make"),
+)
+# Ways to call a make in the folder NAMEobj1 that ask for one job only by their looks.
+CALLS = ("$(MAKE) -CNAMEobj1", "cd NAMEobj1 && $(MAKE) -fobj1", "$(MAKE) -C NAMEobj1 'X=-v -j1'", "env -u MAKEFLAGS $(MAKE) $(MFLAGS) -C NAMEobj1",
+         "$(MAKE) -kj 1 -C NAMEobj1")
+# Where what a make prints goes, and the assumption that this breaks.
+OUTPUTS = (("> $@", ""), ("> $@", ""), ("> $@ 2>&1", ""), ("| cat > $@", "output"), ("2> $@", "output"))
+# Makes inside that print something of their own, with the files that they start from.
+PRINTS: Dict[str, Dict[str, str]] = {
+    "all: x ; @echo done\nx: y | d ; @touch x\nd: ; @mkdir d\n": {"x": "", "y": ""},
+    "all: x.t\n%.t: %.i ; cp $< $@\n%.i: %.s ; cp $< $@\n": {"x.s": "s"},
+}
+LISTS = (("find NAME.d > $@", "listings"), ("find NAME.d | sort > $@", ""), ("ls NAME.d > $@", ""), ("echo NAME.d/* > $@", ""))
+
+
+class GadgetDraw(Draw):
+    """Draws a project of all shapes."""
+
+    def __init__(self, seed: int, only: Optional[List[str]] = None) -> None:
+        super().__init__(seed, only)
+        shapes: Dict[str, Callable[[str], Block]] = {
+            "macro": self.macro, "keeper": self.keeper, "handed": self.handed, "kept": self.kept, "prints": self.prints, "interpreter": self.interpreter,
+            "modes": self.modes, "ages": self.ages, "listing": self.listing, "inherited": self.inherited, "archive": self.archive,
+        }
+        self.shapes += [shapes[name] for name in shapes if not only or name in only]
+        if not self.shapes:
+            self.shapes, self.few = [self.file, self.user], False
+
+    def draw(self) -> Project:
+        project = super().draw()
+        chosen = [name for name, often in COMMANDS.items() if name in self.only or not self.only and self.random.random() < often]
+        if "own-jobs" in chosen:
+            project.recorded = ["-j1"]
+        if "value-jobs" in chosen:
+            project.values = ["X=-v -j1"]
+        if "makefile-jobs" in chosen:
+            project.head = "MAKEFLAGS += -j4\n"
+        project.is_script = "script" in chosen
+        return project
+
+    # ---------------------------------------------------------------- parts
+    def pair(self, first: str, second: str) -> List[str]:
+        """Two goals in some order."""
+        return self.random.sample((first, second), 2)
+
+    def unless(self, needed: str) -> str:
+        """A prerequisite, or nothing where the rule forgets it."""
+        return "" if self.random.random() < 0.5 else needed
+
+    def plain(self, target: str, prerequisites: str, step: str) -> str:
+        """A rule with one step."""
+        return "%s: %s\n\t@$N $@; %s\n" % (target, prerequisites, step)
+
+    # ---------------------------------------------------------------- shapes
+    def macro(self, name: str) -> Block:
+        """A recipe changes a macro of make, and another asks for it."""
+        sets, asks, head = self.random.choice(MACROS)
+        text = self.plain(name + ".s", " ".join(self.prerequisites()), "touch $@") + "%s: %s.s\n\t@%s$N $@; touch $@\n" % (name, name, sets)
+        text = head + text + self.plain(name + ".b", self.unless(name), "echo %s > $@" % asks)
+        self.done.append(name)
+        return Block(self.pair(name, name + ".b"), text.replace("V", "V" + name))
+
+    def keeper(self, name: str) -> Block:
+        """A macro that works out its value when it is first asked for."""
+        text = "V = $(eval V := $$(shell %s))$(V)\n" % self.random.choice(KEEPERS) + self.plain("NAME.s", "", "echo 1 > $@.t; $N $@; mv $@.t $@")
+        text += self.plain("NAME", "NAME.s", "echo $(V) > $@") + self.plain("NAME.b", self.unless("NAME.s"), "echo $(V) > $@")
+        self.done.append(name + ".s")
+        return Block(self.pair(name, name + ".b"), text.replace("V", "V" + name).replace("NAME", name))
+
+    def handed(self, name: str) -> Block:
+        """A make inside a recipe, called by words that look like a number of jobs."""
+        inner = HEAD + "all: s0 s1\n" + self.plain("s0", "", "echo $@ > $@.t; sleep 0.04; mv $@.t $@") + self.plain("s1", self.unless("s0"), "cat s0 > $@ 2>/dev/null || true")
+        text = ".PHONY: %s.all\n" % name + self.plain(name + ".all", " ".join(self.prerequisites()), self.random.choice(CALLS).replace("NAME", name) + " -s")
+        return Block([name + ".all"], text, {name + "obj1/Makefile": inner, name + "obj1/obj1": inner})
+
+    def kept(self, name: str) -> Block:
+        """What a make inside a recipe prints goes into a file."""
+        where, breaks = self.random.choice(OUTPUTS)
+        to = " >&2" if where.startswith("2") else ""
+        inner = HEAD + "all: s0 s1\n" + self.plain("s0", "", "sleep 0.04; echo $@%s; touch $@" % to) + self.plain("s1", self.unless("s0"), "echo $@%s; touch $@" % to)
+        files = {name + "/in.mk": inner, name + "/Makefile": inner}
+        if self.random.random() < 0.3:
+            files[name + "/Makefile"] = "all: ; @$(MAKE) -f in.mk\n"
+        text = self.plain(name + ".log", " ".join(self.prerequisites()), "$(MAKE) -s --no-print-directory -C %s %s" % (name, where))
+        return Block([name + ".log"], text, files, {name + ".log": breaks} if breaks else {})
+
+    def prints(self, name: str) -> Block:
+        """A make inside a recipe prints what it does; a recording must add nothing to it."""
+        inner = self.random.choice(sorted(PRINTS))
+        files = {name + "/Makefile": inner, **{"%s/%s" % (name, key): text for key, text in PRINTS[inner].items()}}
+        return Block([name + ".log"], self.plain(name + ".log", " ".join(self.prerequisites()), "$(MAKE) --no-print-directory -C %s > $@" % name), files)
+
+    def interpreter(self, name: str) -> Block:
+        """A script whose interpreter a recipe makes, and seldom one whose interpreter is make."""
+        if self.random.random() < 0.1:
+            inner = "#!%s -f\n" % shutil.which("make") + HEAD + "all: s0 s1\n" + self.plain("s0", "", "echo $@ > $@") + self.plain("s1", "", "cat s0 > $@ 2>/dev/null || true")
+            return Block([name], "%s:\n\t+@$N $@; ./%s.x -s all\n" % (name, name), {name + ".x": inner})
+        first = self.random.choice((name, name + ".m"))
+        files = {name + ".x": "#!./%s\nhello\n" % first, name + ".m": "#!./%s\n" % name}
+        text = self.plain(name, "", "cp %s $@.t; $N $@; mv $@.t $@" % shutil.which("cat"))
+        text += self.plain(name + ".b", self.unless(name), "./%s.x > $@ 2>/dev/null || true" % name)
+        return Block(self.pair(name, name + ".b"), text, files)
+
+    def modes(self, name: str) -> Block:
+        """Two recipes make one folder, each with a mode."""
+        one, two = self.random.choice(FOLDERS), self.random.choice(FOLDERS)
+        text = self.plain("NAME", " ".join(self.prerequisites()), one + "; echo 1 > $@") + self.plain("NAME.b", self.unless("NAME"), two + "; echo 2 > $@")
+        self.done.append(name)
+        return Block(self.pair(name, name + ".b"), text.replace("NAME", name))
+
+    def ages(self, name: str) -> Block:
+        """A recipe compares two ages, one of which a file has taken over."""
+        (take, taken), compare = self.random.choice(TAKES), self.random.choice(COMPARES)
+        text = self.plain("NAME", "", "sleep 0.06; touch $@") + self.plain("NAME.b", self.unless("NAME"), "sleep 0.02; touch $@")
+        text += self.plain("NAME.r", "NAME NAME.b", "sleep 0.02; " + take) + self.plain("NAME.c", "NAME.r", compare)
+        files = {"NAME.mk": "all: X\nX: NAME.b ; @echo made > NAME.made\n", "NAME.sh": ". ./NAME.lib\nnewer $1 $2\n", "NAME.lib": "newer() { test $1 -nt $2; }\n"}
+        files = {key.replace("NAME", name): one.replace("X", taken).replace("NAME", name) for key, one in files.items()}
+        breaks = {name + ".made": "ages"} if ".p -rs" in compare else {}
+        return Block([name + ".c"], text.replace("X", taken).replace("NAME", name), files, breaks)
+
+    def listing(self, name: str) -> Block:
+        """A recipe lists a folder that others fill."""
+        how, breaks = self.random.choice(LISTS)
+        text = self.plain("NAME.d/a", "", "touch $@") + self.plain("NAME.d/b", self.unless("NAME.d/a"), "touch $@") + self.plain("NAME", "NAME.d/a NAME.d/b", how)
+        return Block([name], text.replace("NAME", name), {name + ".d/k": "k\n"}, {name: breaks} if breaks else {})
+
+    def inherited(self, name: str) -> Block:
+        """A target that has the macros of whoever asks first."""
+        later = "NAME:: NAME.s\n\t@$N $@; touch NAME.t\nNAME:: NAME.c\n\t@$N $@; cp NAME.c $@\n"
+        text = "NAME: V = 1\n" + (later if self.random.random() < 0.5 else self.plain("NAME", "NAME.s NAME.c", "cp NAME.c $@")) + self.plain("NAME.b", "NAME.c", "cp NAME.c $@")
+        text += self.plain("NAME.s", "", "touch $@") + self.plain("NAME.c", "", "echo '$(V)' > $@")
+        breaks = {name + end: "inherited" for end in ("", ".b", ".c")} if later in text else {}
+        return Block([name, name + ".b"], text.replace("V", "V" + name).replace("NAME", name), {}, breaks)
+
+    def archive(self, name: str) -> Block:
+        """Two members of one archive."""
+        member = "%s.a(%s.%s): %s.%s %s\n\t@$N $@; ar rcD %s.a $<\n"
+        two = "%s.a(%s.y)" % (name, name)
+        text = member % (name, name, "x", name, "x", "", name) + member % (name, name, "y", name, "y", self.unless("%s.a(%s.x)" % (name, name)), name)
+        return Block(["%s.a(%s.x)" % (name, name), two], text, {name + ".x": "x\n", name + ".y": "y\n"})

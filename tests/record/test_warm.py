@@ -1,0 +1,64 @@
+"""Targets that were there before: which of them withhold the yes, where nobody said `--warm`."""
+
+import unittest
+from typing import Dict
+
+import support
+
+OLD = "touch -d 2001-01-01 s; touch -d 2002-01-01 "
+KEPT = "kept: s ; touch temporary; cp s kept\n"
+BOTH = "all: a b\na b: kept ; cp kept $@\n"
+
+
+class Warm(unittest.TestCase):
+    """Small makefiles, in a tree where something that they make is there."""
+
+    def status(self, makefile: str, kept: str = "kept", says: str = "", **files: str) -> int:
+        """The status of a recording; `kept` are the targets that are there."""
+        names: Dict[str, str] = {"Makefile": makefile, "s": "s", **{name: "1" for name in kept.split()}, **{n.replace("_", "."): t for n, t in files.items()}}
+        with support.Project(names) as project:
+            project.sh(OLD + kept)
+            outcome = project.record()
+        self.assertRegex(outcome.text(), r"(?m)^WARM  ")
+        self.assertIn(says, outcome.text())
+        return outcome.status
+
+    def test_each_recipe_waits_for_it(self) -> None:
+        self.assertEqual(0, self.status(BOTH + KEPT, says="targets that were up to date stay so (1, such"))
+
+    def test_one_after_the_other(self) -> None:
+        self.assertEqual(0, self.status(BOTH + KEPT.replace(": s", ": first") + "first: s ; cp s first\n", "first kept", "stay so (2, such"))
+
+    def test_recipe_that_does_not_wait(self) -> None:
+        self.assertEqual(2, self.status("all: c\n" + BOTH + KEPT + "all: c\nc: ; touch c\n"))
+
+    def test_two_that_are_not_in_order(self) -> None:
+        self.assertEqual(2, self.status("all: a b\na b: kept other ; cp kept $@\n" + KEPT + KEPT.replace("kept", "other"), "kept other"))
+
+    def test_target_that_is_made_again(self) -> None:
+        self.assertEqual(2, self.status("all: a b\na b: kept ; cp kept $@\nkept: new ; touch kept\nnew: ; touch new\n"))
+
+    def test_target_that_is_made_again_alone(self) -> None:
+        self.assertEqual(2, self.status("all: kept\nkept: new ; touch kept\nnew: s ; touch new\n"))
+
+    def test_recipe_that_builds(self) -> None:
+        self.assertEqual(2, self.status(BOTH + "kept: s ; $(MAKE) -f in.mk\n", in_mk="kept: ; touch kept\n"))
+
+    def test_inner_make(self) -> None:
+        self.assertEqual(2, self.status("all: ; $(MAKE) -f in.mk\n", in_mk=BOTH + KEPT))
+
+    def test_inner_make_beside_it(self) -> None:
+        self.assertEqual(2, self.status("all: a\na: kept ; $(MAKE) -f in.mk; touch a\n" + KEPT, in_mk="all: ; touch x\n"))
+
+    def test_make_that_had_nothing_to_do(self) -> None:
+        self.assertEqual(2, self.status(KEPT))
+
+    def test_double_colons(self) -> None:
+        self.assertEqual(2, self.status(BOTH + "kept:: s ; touch kept\nkept:: s ; touch kept\n"))
+
+    def test_race(self) -> None:
+        self.assertEqual(1, self.status("all: a b\na b: kept ; echo $@ > log\n" + KEPT))
+
+
+if __name__ == "__main__":
+    unittest.main()
