@@ -124,7 +124,7 @@ GRAPH: List[Guard] = [
     Guard("decisions: cold targets depend on no age", "build.py", "is_cold = self.before.get(node.path) is None and", "is_cold = False and", small("folder_as_prerequisite_cold"), FALSE_RACE),
     Guard("decisions: order-only has no age", "build.py", "p not in only and self.graph", "self.graph", small("folder_behind_a_bar"), FALSE_RACE),
     Guard("looks of leaves", "build.py", "elif own >= 0 and self.is_leaf(node):", "elif False:", small("look_of_a_leaf"), FALSE_RACE),
-    Guard("looks at links: what the first look led to", "build.py", "return [path for path, place in self.seen(node).items() if place < began] or [node.path]", "return [node.path]", small("link_that_a_recipe_makes"), FALSE_RACE),
+    Guard("looks at links: what the first look led to", "build.py", "return [path for path, place in self.seen(node).items() if place < began] or [node.path]", "return [node.path]", small("link_to_a_file_that_was_there"), FALSE_RACE),
     Guard("looks at links: what stood behind them", "build.py", "needed = self.looked_at(node, own) + self.followed(node, own)", "needed = self.looked_at(node, own)", small("link_of_a_target_that_is_kept"), YES),
     Guard("looks at links: they are read", "build.py", "        task.reads.update(path for path in self.followed(node, at)", "        set().update(path for path in self.followed(node, at)", small("link_that_is_replaced_later"), YES),
     Guard("looks at links: no act beside the look", "replay.py", 'self.put(life, "R", link, word)', 'self.put(life, "R", link)', small("link_that_make_looks_at_again"), FALSE_RACE),

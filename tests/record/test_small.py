@@ -132,6 +132,8 @@ SMALL: Dict[str, Small] = {
     "links_of_a_file_counted": Small("race", "all: a b\na: ; ln x y\nb: ; stat -c %h x > b\n", {"x": "x"}),
     "link_on_the_way": Small("race", "all: a b\na: ; ln -sfn e l\nb: ; cat l/x > b\n", {"d/x": "d", "e/x": "e"}, "ln -s d l"),
     "link_that_a_recipe_makes": Small("safe", "all: a b c\na: ; echo a > a\nb: a ; ln -sf a b\nc: b ; cat b > c\n"),
+    "link_to_a_file_that_was_there": Small(
+        "safe", "all: a b c\na: d ; cat d > a\nb: a ; ln -sf a b\nc: b ; cat b > c\n", {"a": "old\n", "d": "new\n"}, "touch -d 2020-01-01 a"),
     "link_that_make_looks_at_again": Small("safe", "all: b d\na: ; echo a > a\nb: a ; ln -sf a b\nc: ; echo c > c\nd: c ; cp c d\n"),
     "link_of_a_target_that_is_kept": Small("race", "all: gen t\nt: p ; touch t x\ngen: ; ln -sf e p; touch gen\n", {"d": "d", "e": "e", "t": "t"}, "ln -s d p; touch -d 2001-01-01 e; touch -d 2002-01-01 t"),
     "age_that_nobody_asks_for": Small("safe", "all: a b\na: ; touch s a\nb: s ; touch b\n", {"s": "s"}),
