@@ -28,5 +28,5 @@ MISSING_GUARDS: List[Guard] = [
     Guard("missing: other outputs", "due.py", "            if len(writers) > len(also):", "            if False:", tree("two outputs")),
     Guard("missing: what make does for a recipe", "due.py", "if place > seen)", "if False)", tree("a macro of the shell")),
     Guard("missing: what makefiles call", "due.py", "if place > seen)", "if True)", tree("what a makefile calls while it is read")),
-    Guard("missing: warm", "missing_report.py", 'else ["what was up to date did not run (WARM)"] if warm else []', "else []", verdict("warm"), "", ("main.py", "if ended == 0 and record.warm and not options.warm:", "if False:")),
+    Guard("missing: warm", "missing_report.py", 'else ["what was up to date did not run (WARM)"] if warm else []', "else []", verdict("warm"), "", ("main.py", "if ended == 0 and record.warm and not (options.warm or record.stands_alone):", "if False:")),
 ]

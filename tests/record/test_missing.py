@@ -71,9 +71,9 @@ def violations(text: str) -> Dict[str, Pairs]:
     for line in text.partition("Missing inputs\n")[2].splitlines():
         if line.startswith("make ") and "  in " in line:
             folder = os.path.basename(line.partition("  in ")[2])
-        elif line.startswith("MISSING  "):
-            path = line[len("MISSING  "):]
-        elif line.startswith("  ") and "is not made again" in line:
+        elif line.startswith(("MISSING  ", "SHARED  ")):
+            path = line.split("  ", 1)[1]
+        elif line.startswith("  ") and ("is not made again" in line or "may not run then" in line):
             found.setdefault(folder, set()).add((line.split()[0], path))
     return found
 
