@@ -9,6 +9,7 @@ use Rattle.mk_name.specs.Reported.{Reported}
 use Rattle.mk_jobs.specs.Jobs.{Jobs}
 use Rattle.mk_log.specs.Reading.{IsLogOf, entries_of, is_good, fault_at, first_fault, reported}
 use Rattle.mk_log.specs.Adding.{AddsLine}
+use Rattle.mk_log.specs.Nodes.{Build}
 use Rattle.mk_log.specs.Logs.{Log}
 
 -- what is known before the physical line of a number: the first fault is among those that are left, and the log is that of the
@@ -48,6 +49,11 @@ module _ (jobs : Jobs) (root : List ℕ) (texts : List (List ℕ)) (number : ℕ
           first = sym (at_first None (cond-true (is_good jobs root (take number texts) text) None (Some (reported (number + 1))) (sym added.0 ∙ fine))) ∙ before.first;
           known = subst (λ (ts : List (List ℕ)). IsLogOf (entries_of jobs root ts) new) (sym (take_more texts number text within ∙ ap (λ t. take number texts ++ t ∷ []) (sym is))) (added.1 fine);
         }
+
+-- how a log grows by a physical line, where the nodes are those of the jobs below the root
+pub by_nodes : (jobs : Jobs) (root : List ℕ) (build : Build) (old new : Log) (text : List ℕ) (good : Bool) → build ≡ record { jobs = jobs; root = root }
+    → AddsLine build.jobs build.root old text good new → AddsLine jobs root old text good new
+by_nodes jobs root build old new text good same adds = subst (λ (b : Build). AddsLine b.jobs b.root old text good new) same adds
 
 -- the text of a physical line
 pub text_is : (items : List (Bor (List ℕ))) (n : ℕ) (d : Bor (List ℕ)) → n < length items

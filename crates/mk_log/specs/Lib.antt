@@ -2,6 +2,7 @@ pub mod Adding
 pub mod Entries
 pub mod Gained
 pub mod Logs
+pub mod Nodes
 pub mod Objects
 pub mod Once
 pub mod Reading

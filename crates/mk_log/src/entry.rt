@@ -5,9 +5,9 @@ ghost use Rattle.mk_foot.specs.Json as lines;
 ghost use Rattle.mk_json.specs.Documents.{data_of};
 ghost use Rattle.mk_log.specs.Entries as spec;
 
+use crate::nodes::Nodes;
 use hex::FromHexError;
 use mk_foot::object::path_under;
-use mk_jobs::jobs::Jobs;
 use mk_json::{Document, Scratch};
 use mk_name::name::Name;
 use mk_sched::contents::Contents;
@@ -77,13 +77,14 @@ fn time_under(object: &Document<'_>) -> Option<u64>
 fn node_under(
     alloc: Global,
     object: &Document<'_>,
-    jobs: &Jobs,
-    root: &Root,
+    nodes: &mut Nodes<'_>,
 ) -> Result<Option<u32>, AllocError>
-    ensures { IfOk result (λ node. node ≡ spec.node_under jobs.now root.now (data_of object.now)) }
+    ensures node { IfOk result (λ node.
+        node ≡ spec.node_under nodes.old.jobs nodes.old.root (data_of object.now)) }
+    ensures keeps { nodes.new ≡ nodes.old }
 {
-    match path_under(alloc, object, "node", root)? {
-        Some(name) => Ok(jobs.number(&name)),
+    match object.text("node") {
+        Some(text) => nodes.number(alloc, text),
         None => Ok(None),
     }
 }
@@ -181,13 +182,14 @@ fn event_in(
     alloc: Global,
     word: &str,
     object: &Document<'_>,
-    jobs: &Jobs,
-    root: &Root,
+    nodes: &mut Nodes<'_>,
 ) -> Result<Option<Event>, AllocError>
-    ensures { IfOk result (λ event. event ≡ spec.event_in word.now jobs.now root.now (data_of object.now)) }
+    ensures event { IfOk result (λ event.
+        event ≡ spec.event_in word.now nodes.old.jobs nodes.old.root (data_of object.now)) }
+    ensures keeps { nodes.new ≡ nodes.old }
 {
-    match node_under(alloc, object, jobs, root)? {
-        Some(node) => event_by(alloc, word, node, object, root),
+    match node_under(alloc, object, nodes)? {
+        Some(node) => event_by(alloc, word, node, object, nodes.root()),
         None => Ok(None),
     }
 }
@@ -196,18 +198,19 @@ fn event_in(
 fn entry_in(
     alloc: Global,
     object: &Document<'_>,
-    jobs: &Jobs,
-    root: &Root,
+    nodes: &mut Nodes<'_>,
 ) -> Result<Option<Entry>, AllocError>
-    ensures { IfOk result (λ entry. entry ≡ spec.entry_in jobs.now root.now (data_of object.now)) }
+    ensures entry { IfOk result (λ entry.
+        entry ≡ spec.entry_in nodes.old.jobs nodes.old.root (data_of object.now)) }
+    ensures keeps { nodes.new ≡ nodes.old }
 {
     let Some(word) = object.text("do") else {
         return Ok(None);
     };
     if word == "file" {
-        return file_in(alloc, object, root);
+        return file_in(alloc, object, nodes.root());
     }
-    match event_in(alloc, word, object, jobs, root)? {
+    match event_in(alloc, word, object, nodes)? {
         Some(event) => Ok(Some(Entry::Happens(event))),
         None => Ok(None),
     }
@@ -218,14 +221,14 @@ pub(crate) fn entry_of(
     alloc: Global,
     text: &[u8],
     scratch: &mut Scratch,
-    jobs: &Jobs,
-    root: &Root,
+    nodes: &mut Nodes<'_>,
 ) -> Result<Option<Entry>, AllocError>
-    ensures { IfOk result (λ entry.
-        entry ≡ option_and_then (spec.entry_in jobs.now root.now) (lines.value_of text.now)) }
+    ensures entry { IfOk result (λ entry. entry
+        ≡ option_and_then (spec.entry_in nodes.old.jobs nodes.old.root) (lines.value_of text.now)) }
+    ensures keeps { nodes.new ≡ nodes.old }
 {
     match Document::read(alloc, text, scratch)? {
-        Some(object) => entry_in(alloc, &object, jobs, root),
+        Some(object) => entry_in(alloc, &object, nodes),
         None => Ok(None),
     }
 }

@@ -9,6 +9,7 @@ ghost use Rattle.mk_log.specs.declared.entry.Entry.TheVariants.{Holds};
 
 use crate::entry::{Entry, entry_of};
 use crate::log::Log;
+use crate::nodes::Nodes;
 use mk_foot::object::is_blank;
 use mk_jobs::jobs::Jobs;
 use mk_json::Scratch;
@@ -32,8 +33,9 @@ pub fn read_log(alloc: Global, text: &[u8], jobs: &Jobs, root: &Root) -> Result<
     let lines = physical_lines(alloc, text)?;
     let mut log = empty_log(alloc);
     let mut scratch = Scratch::new(alloc);
+    let mut nodes = Nodes::new(alloc, jobs, root)?;
     for (number, text) in lines.iter().enumerate() {
-        if !add_line(alloc, &mut log, text, &mut scratch, jobs, root)? {
+        if !add_line(alloc, &mut log, text, &mut scratch, &mut nodes)? {
             return Err(fault(alloc, number as u64 + 1));
         }
     }
@@ -63,15 +65,16 @@ fn add_line(
     log: &mut Log,
     text: &[u8],
     scratch: &mut Scratch,
-    jobs: &Jobs,
-    root: &Root,
+    nodes: &mut Nodes<'_>,
 ) -> Result<bool, AllocError>
-    ensures { IfOk result (λ good. AddsLine jobs.now root.now log.old text.now good log.new) }
+    ensures adds { IfOk result (λ good.
+        AddsLine nodes.old.jobs nodes.old.root log.old text.now good log.new) }
+    ensures keeps { nodes.new ≡ nodes.old }
 {
     if is_blank(text) {
         return Ok(true);
     }
-    match entry_of(alloc, text, scratch, jobs, root)? {
+    match entry_of(alloc, text, scratch, nodes)? {
         Some(entry) => add_entry(log, entry),
         None => Ok(false),
     }
