@@ -12,7 +12,7 @@ ghost use Rattle.mk_decide.specs.Races.{IsLeastRace};
 ghost use Rattle.mk_decide.specs.Verdicts.{AreChainsOf};
 
 use crate::before::Before;
-use crate::chains::chain;
+use crate::chains::fill_chain;
 use mk_jobs::jobs::Jobs;
 use mk_proof::certificate::Certificate;
 use std::alloc::{AllocError, Global};
@@ -56,18 +56,20 @@ pub(crate) fn certificate_of<B: Before>(
     ensures keeps { B.jobs before.new ≡ B.jobs before.old }
 {
     let mut chains = Certificate::new(alloc);
+    let mut nodes = Vec::new(alloc);
     for i in 0..pairs.len() {
         let (a, b) = pairs[i];
-        push_chain(alloc, jobs, before, &mut chains, a, b)?;
+        push_chain(jobs, before, &mut nodes, &mut chains, a, b)?;
     }
     Ok(chains)
 }
 
-/// Puts at the end the chain that leads from a to b. The only error is out of memory.
+/// Puts at the end the chain that leads from a to b. It is built in the nodes, whose room serves chain after chain. The only
+/// error is out of memory.
 fn push_chain<B: Before>(
-    alloc: Global,
     jobs: &Jobs,
     before: &mut B,
+    nodes: &mut Vec<u32>,
     chains: &mut Certificate,
     a: u32,
     b: u32,
@@ -83,8 +85,9 @@ fn push_chain<B: Before>(
     ensures keeps { B.jobs before.new ≡ B.jobs before.old }
 {
     let _count = chains.count();
-    match chain(alloc, jobs, before, a, b)? {
-        Some(nodes) => chains.push(&nodes),
-        None => Ok(()),
+    if fill_chain(jobs, before, a, b, nodes)? {
+        chains.push(nodes.as_slice())
+    } else {
+        Ok(())
     }
 }

@@ -1,5 +1,5 @@
 //! Chains of edges from one node to another.
-ghost use Rattle.std.specs.Prelude.{◌≡◌, ◌<◌, ◌↔◌, All, IfNone, IfOk, IfSome, IsSome, IsTrue, length};
+ghost use Rattle.std.specs.Prelude.{◌≡◌, ◌<◌, ◌↔◌, ◌∷◌, [], All, IfNone, IfOk, IfSome, IsSome, IsTrue, OnOk, length};
 ghost use Rattle.mk_jobs.specs.Jobs as spec;
 ghost use Rattle.mk_jobs.specs.Jobs.{IsValid, node_count};
 ghost use Rattle.mk_decide.specs.Chosen.{IsChosen, IsFirstFrom, IsLeastFrom, NoneFrom};
@@ -26,19 +26,52 @@ pub fn chain<B: Before>(
     ensures chosen { IfOk result (λ chain. IfSome chain (λ nodes. IsChosen jobs.now a b nodes.items)) }
     ensures keeps { B.jobs before.new ≡ B.jobs before.old }
 {
+    let mut nodes = Vec::new(alloc);
+    if fill_chain(jobs, before, a, b, &mut nodes)? {
+        Ok(Some(nodes))
+    } else {
+        Ok(None)
+    }
+}
+
+/// Says whether a is before b; if it is, the nodes become the chain that shows it, in place of what they were, as [`chain`] gives
+/// it. Both numbers must be below the count of nodes, and `before` must speak of the same jobs. The only error is out of memory.
+pub(crate) fn fill_chain<B: Before>(
+    jobs: &Jobs,
+    before: &mut B,
+    a: u32,
+    b: u32,
+    nodes: &mut Vec<u32>,
+) -> Result<bool, AllocError>
+    requires same { B.jobs before.old ≡ jobs.now }
+    requires first { a < node_count jobs.now }
+    requires last { b < node_count jobs.now }
+    ensures found { IfOk result (λ found. IsTrue found ↔ spec.Before jobs.now a b) }
+    ensures chosen { IfOk result (λ found. IsTrue found → IsChosen jobs.now a b nodes.new.items) }
+    ensures keeps { B.jobs before.new ≡ B.jobs before.old }
+{
     let count = jobs.count();
     prove!(a < count && b < count);
     if !before.before(a, b) {
-        return Ok(None);
+        return Ok(false);
     }
-    let mut nodes = vec![in alloc; b]?;
+    restart(nodes, b)?;
     let mut front = b;
     while let Some(p) = least_from(jobs, before, a, front) {
         nodes.push(p)?;
         front = p;
     }
     nodes.reverse();
-    Ok(Some(nodes))
+    Ok(true)
+}
+
+/// Makes this node alone of a list. The only error is out of memory.
+fn restart(nodes: &mut Vec<u32>, node: u32) -> Result<(), AllocError>
+    ensures { OnOk result (nodes.new.items ≡ node ∷ []) }
+{
+    nodes.clear();
+    nodes.push(node)?;
+    Ok(())
 }
 
 /// The least of the prerequisites of x to which a itself, or a chain from a, leads, if there is one.

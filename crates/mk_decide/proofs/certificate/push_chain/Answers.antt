@@ -1,5 +1,4 @@
-use Rattle.std.proofs.Common.{◌∙◌, ◌∷◌, ◌++◌, [], ℕ, List, Option, IfSome, Vec, map, ap, sym, subst}
-use Rattle.std.specs.Global.{Global}
+use Rattle.std.proofs.Common.{◌∙◌, ◌∷◌, ◌++◌, [], ℕ, List, map, ap, sym, subst}
 use Rattle.std.specs.List.Sorted.{IsStrictlySortedBy}
 use Rattle.std.proofs.lemmas.List.{map_push}
 use Rattle.mk_decide.specs.Chosen.{IsChosen}
@@ -12,11 +11,10 @@ pub push-requires : goal.push-requires
 push-requires g c =
     let jobs = c.args.jobs.now in
     let chains = c.args.chains.now in
-    let nodes = c.in-Some.nodes.items in
-    let chosen : IsChosen jobs c.args.a c.args.b nodes =
-    subst (λ (o : Option (Vec ℕ Global)). IfSome o (λ (v : Vec ℕ Global). IsChosen jobs c.args.a c.args.b v.items)) c.in-Some.is c.in_ok-nodes.ensures.chosen in
+    let nodes = c.fill_chain.new.nodes.items in
+    let chosen : IsChosen jobs c.args.a c.args.b nodes = c.in_ok-fill_chain.ensures.chosen c.if-branch.true in
     let ends = chosen_ends jobs c.args.a c.args.b nodes chosen in
     let rise : IsStrictlySortedBy pair_cmp (map ends_of (chains ++ nodes ∷ [])) =
     subst (IsStrictlySortedBy pair_cmp) (sym (map_push ends_of chains nodes ∙ ap (λ (p : ℕ × ℕ). map ends_of chains ++ p ∷ []) ends)) c.requires.rises in
-    subst (λ (ns : List ℕ). AreShapedChains (chains ++ ns ∷ [])) (sym c.deref.ensures.value)
+    subst (λ (ns : List ℕ). AreShapedChains (chains ++ ns ∷ [])) (sym c.as_slice.ensures.value)
     (chains_push chains nodes c.count-count.ensures.shaped c.requires.room (chosen_shaped jobs c.args.a c.args.b nodes c.requires.shape c.requires.second chosen) rise)

@@ -1,6 +1,6 @@
 use Rattle.std.proofs.Common.{◌≡◌}
 use Rattle.mk_decide.proofs.Choosing.{IsBuilt}
-use Rattle.mk_decide.proofs.chains.chain.Given as goal
+use Rattle.mk_decide.proofs.chains.fill_chain.Given as goal
 
 -- the chain from the front on, backwards; and the answers are still about these jobs
 abbrev pub invariant-loop-p : goal.invariant-loop-p
