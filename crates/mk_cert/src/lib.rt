@@ -1,8 +1,8 @@
-//! Certificates and traces: when they are good for jobs. Their types and texts stand in `mk_proof`, whose modules are passed
-//! on.
+//! Certificates and traces: when they are good for jobs. Their types and texts stand in `mk_proof`.
+//!
+//! [`accepting::accept`] says whether jobs accept a certificate, and [`accepting::accept_trace`] whether they accept a trace. Read
+//! `specs/Certificates.antt` first.
 #![tactic(auto)]
-
-pub use mk_proof::{certificate, proof, reading, step, trace, writing};
 
 pub mod accepting;
 mod clash;

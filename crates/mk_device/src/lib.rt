@@ -1,12 +1,9 @@
 //! The devices that texts come from and go to.
 //!
-//! [`Intake`] and [`Outlet`] are devices that give and take bytes; [`read_all`] and [`write_all`] use them up.
-//! [`Feed`](feed::Feed) and [`Sink`](sink::Sink) make them of std's readers and writers. `specs/Device.antt` says what is left of
-//! a device, and what was written to it.
+//! [`device::Intake`] and [`device::Outlet`] are devices that give and take bytes; [`device::read_all`] and [`device::write_all`]
+//! use them up. [`feed::Feed`] and [`sink::Sink`] make them of std's readers and writers. Read `specs/Device.antt` first.
 #![tactic(auto)]
 
 pub mod device;
 pub mod feed;
 pub mod sink;
-
-pub use device::{Broken, Intake, Outlet, ReadStop, read_all, write_all};

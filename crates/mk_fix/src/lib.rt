@@ -1,9 +1,8 @@
 //! All races of jobs, and the edges that fix them.
 //!
-//! `races` lists all races. `fix` finds the fix: the races that, as edges, make jobs race-free, and of which each is needed.
-//! `laws` has what holds of every fix: it is the only one, the weakest, and makes jobs determinate. `specs/Fixes.antt` says
-//! what a fix is. `added` makes the jobs with edges added, and `again` compares jobs with jobs that were made again, with edges
-//! added.
+//! `races` lists all races, and `fix` finds the fix: the races that, as edges, make jobs race-free, and of which each is
+//! needed. Read `specs/Fixes.antt` first; `laws` says that the fix is the only one and the weakest. `added` and `again` make
+//! and compare jobs with edges added.
 #![tactic(auto)]
 
 pub mod added;

@@ -19,8 +19,8 @@ use mk_text::root::Root;
 use std::alloc::{AllocError, Global};
 use std::marker::Model;
 
-/// How many paths footprints may read and write, counted with repeats.
-const PATH_LIMIT: usize = 1_000_000;
+/// How many paths footprints may read and write, counted with repeats; tasks may have as many.
+pub const PATH_LIMIT: usize = 1_000_000;
 
 /// Why a reader goes no further.
 #[derive(Clone, Copy, Debug)]

@@ -1,11 +1,9 @@
 //! The graph that the rules of makefiles make: who makes each name, what it needs, and the serial order.
 //!
-//! In goes a book of rules, a listing and goals; `planning::plan` answers the plan of all that the goals need, or the
-//! first fault of their graph. `specs/Makers.antt` says who makes a name and what it needs, `specs/Graph.antt` what a
-//! graph, a cycle and the serial order are, `specs/Answer.antt` what is answered. The plan itself stands in `mk_jobs`.
+//! [`planning::plan`] takes a book of rules, a listing and goals, and gives the plan of all that the goals need, or the first
+//! fault of their graph. Read `specs/Makers.antt` first, then `specs/Graph.antt` and `specs/Answer.antt`. The plan itself
+//! stands in `mk_jobs`.
 #![tactic(auto)]
-
-pub use mk_jobs::{maker, plan};
 
 mod assembly;
 mod collect;

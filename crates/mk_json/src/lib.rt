@@ -1,9 +1,8 @@
 //! Lines of JSON, read over the text itself.
 //!
-//! [`Document::read`] takes the bytes of a text and a [`Scratch`], and gives the [`Document`], or nothing where they are no
-//! JSON in UTF-8. What it means is what `serde_json` reads in it: `specs/Documents.antt`. The texts, the lists, the whole
-//! numbers and the `null`s under the keys of its object are then asked for one by one. No key and no text without escapes is
-//! copied, and one scratch serves text after text.
+//! [`document::Document::read`] takes the bytes of a text, and gives what the keys of its object have, or nothing where it is
+//! no JSON in UTF-8. What it means is what `serde_json` reads in it: read `specs/Documents.antt` first. No key and no text
+//! without escapes is copied.
 #![tactic(auto)]
 
 pub mod document;

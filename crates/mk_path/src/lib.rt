@@ -1,12 +1,8 @@
 //! The paths of footprints: a name, or a tree, which is a name and all that stands below it.
 //!
-//! `path` has the type `Path`, `spelling` its text, and `covering` tests whether some paths cover a name. What a path covers,
-//! and which path lies over which, stands in `specs/Paths.antt`: a tree covers what stands in its folder, by the list of the
-//! folders that a name stands in. `laws` says what follows, and that for plain names this is covering by full components
-//! (`specs/Laws.antt`). `taken` looks for the least name that some paths cover. `index` has the type `Index`, which numbers
-//! the paths that nodes read and write and knows the trees over each: it answers who reaches whom, and where two nodes
-//! overlap first; `specs/Uses.antt` says what that is. `bits` keeps marks in rows of words, and `table` rows of numbers in
-//! one vector.
+//! [`path::Path`] is such a path, `taken` and `covering` ask what some of them cover, and [`index::Index`] knows which nodes
+//! use a path and where two nodes overlap first. Read `specs/Paths.antt` first, then `specs/Uses.antt`. `bits` and `table`
+//! are rows of marks and of numbers.
 #![tactic(auto)]
 
 pub mod bits;

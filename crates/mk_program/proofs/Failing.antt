@@ -1,12 +1,12 @@
 -- Lemmas on failures: of the inputs, and of the words.
-use Rattle.std.proofs.Common.{Result, Ok, Err, IfOk, OnOk, IsErrOf, ◌≡◌, ◌≢◌, ◌⊎◌, inl, inr, List, [], Option, ℕ, String, Global, refl, subst}
+use Rattle.std.proofs.Common.{Result, Ok, Err, IfOk, OnOk, IsErrOf, ◌≡◌, ◌≢◌, ◌⊎◌, ◌∙◌, inl, inr, List, [], Option, ℕ, String, Global, refl, subst, sym}
 use Rattle.std.specs.Borrow.{Bor}
 use Rattle.clap.specs.Words.{HasKind, IsAmong, Kinds, kind_of}
 use Rattle.clap.specs.declared.error.Error.{Error}
 use Rattle.clap.specs.declared.error.kind.ErrorKind.{ErrorKind}
 use Rattle.clap.specs.declared.error.kind.ErrorKind.TheVariants.{OutOfMemory}
-use Rattle.mk_program.specs.Answers.{IsFailureOf, IsRequestFailure}
-use Rattle.mk_program.specs.CommandLine.{Asks, IsAnswerable, IsCall, asked, wrong}
+use Rattle.mk_program.specs.Answers.{IsAnswer, IsFailureOf, IsRequestFailure, IsSaid, MayAllBeRead}
+use Rattle.mk_program.specs.CommandLine.{Asks, IsCall, asked, wrong}
 use Rattle.mk_program.specs.Files.{Files}
 use Rattle.mk_program.specs.Includes.{IncludesMayBeRead, IncludesMayFail, IsFailure}
 use Rattle.mk_program.specs.Inputs.{IsShortOr, IsUnread}
@@ -16,6 +16,8 @@ use Rattle.mk_program.specs.declared.failures.Failure.TheVariants.{Memory, NotTe
 use Rattle.mk_program.specs.declared.failures.InputFile.TheVariants.{Include}
 use Rattle.mk_program.specs.declared.inputs.InputPath.{InputPath}
 use Rattle.mk_program.specs.declared.requests.Request.{Request}
+use Rattle.mk_program.specs.declared.statuses.Status.{Status}
+use Rattle.mk_program.specs.declared.statuses.Status.TheVariants.{Done, No, Refused}
 
 -- a failure to read the includes is one of the request
 pub of_includes : (files : Files) (request : Request) (given : Option (List ℕ)) (failure : Failure) → given ≡ includes_path request
@@ -71,25 +73,35 @@ no_value : {X E : Type 0} (P : X → Type 0) (r : Result X E) (e : E) → IsErrO
 no_value P (Ok x) e fails = cc
 no_value P (Err y) e fails = tt
 
--- right words are not refused, except out of memory
-pub right_words : {X E : Type 0} (P : X → Type 0) (words : List (Bor (List ℕ))) (error : Error) (r : Result X E) (e : E) → HasKind (wrong words) error
-    → (kind_of error ≡ OutOfMemory → IsErrOf r e) → wrong words ≡ [] → IfOk r P
-right_words P words error r e (inl memory) fails right = no_value P r e (fails memory)
-right_words P words error r e (inr among) fails right = absurd (subst (λ (kinds : Kinds). IsAmong (kind_of error) kinds) right among)
+-- the answer to what right words ask is what is said to them
+pub answered : (words : List (Bor (List ℕ))) (files : Files) (request : Request) (status : Status) (text note : List ℕ) → Asks request (asked words)
+    → wrong words ≡ [] → MayAllBeRead files request → IsAnswer request files.text status text note → IsSaid words files status text note
+answered words files request status text note asks right read is = record {
+  usable = inl right;
+  answer = λ _. (request, asks, is);
+  on_refused = λ _. (request, asks, is);
+  on_no = λ _. (request, asks, is);
+  read = λ _. (request, asks, read);
+  noted = λ _. right;
+}
 
-none_at_all : {X E : Type 0} (P : Type 0) (r : Result X E) (e : E) → IsErrOf r e → OnOk r P
-none_at_all P (Ok x) e fails = cc
-none_at_all P (Err y) e fails = tt
-
-answerable : {X E : Type 0} (kinds : Kinds) (kind : ErrorKind) (r : Result X E) → IsAmong kind kinds → OnOk r (IsCall kind) → OnOk r (IsAnswerable kinds)
-answerable kinds kind (Ok x) among call = inr (kind, call, among)
-answerable kinds kind (Err e) among call = tt
-
--- the words that call for the help or the version can be answered
-pub called : {X E : Type 0} (words : List (Bor (List ℕ))) (error : Error) (r : Result X E) (e : E) → HasKind (wrong words) error
-    → (kind_of error ≡ OutOfMemory → IsErrOf r e) → OnOk r (IsCall (kind_of error)) → OnOk r (IsAnswerable (wrong words))
-called words error r e (inl memory) fails call = none_at_all (IsAnswerable (wrong words)) r e (fails memory)
-called words error r e (inr among) fails call = answerable (wrong words) (kind_of error) r among call
+-- and so is the help or the version to words that call for it
+pub helped : {X E : Type 0} (words : List (Bor (List ℕ))) (files : Files) (error : Error) (r : Result X E) (e : E) (status : X → Status) (text note : X → List ℕ)
+    → HasKind (wrong words) error → (kind_of error ≡ OutOfMemory → IsErrOf r e) → IfOk r (λ x. status x ≡ Done) → IfOk r (λ x. note x ≡ [])
+    → OnOk r (IsCall (kind_of error)) → IfOk r (λ x. IsSaid words files (status x) (text x) (note x))
+helped words files error (Err f) e status text note has fails done none call = tt
+helped words files error (Ok x) e status text note (inl memory) fails done none call =
+    no_value (λ y. IsSaid words files (status y) (text y) (note y)) (Ok x) e (fails memory)
+helped words files error (Ok x) e status text note (inr among) fails done none call =
+    let not_right : wrong words ≡ [] → ⊥ = λ right. subst (λ (kinds : Kinds). IsAmong (kind_of error) kinds) right among in
+    record {
+      usable = inr (kind_of error, call, among);
+      answer = λ right. absurd (not_right right);
+      on_refused = λ is. absurd (let e : ◌≡◌ {A = Status} Done Refused = sym done ∙ is in cc);
+      on_no = λ is. absurd (let e : ◌≡◌ {A = Status} Done No = sym done ∙ is in cc);
+      read = λ right. absurd (not_right right);
+      noted = λ some. absurd (some none);
+    }
 
 -- errors that are the same
 pub errors_same : {X E : Type 0} (d e : E) → IsErrOf {T = X} (Err d) e → d ≡ e

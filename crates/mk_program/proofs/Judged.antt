@@ -18,6 +18,7 @@ use Rattle.mk_program.specs.Requests.{input_at, listing_input, proof_input}
 use Rattle.mk_program.specs.declared.failures.InputFile.{InputFile}
 use Rattle.mk_program.specs.declared.failures.InputFile.TheVariants as inputs
 use Rattle.mk_program.specs.declared.inputs.InputPath.{InputPath}
+use Rattle.mk_program.specs.declared.requests.Request.{Request}
 use Rattle.mk_program.specs.declared.requests.Request.TheVariants as requests
 use Rattle.mk_program.specs.declared.requests.TaskArgs.{TaskArgs}
 use Rattle.mk_program.specs.declared.requests.TaskQuestion.{TaskQuestion}
@@ -106,14 +107,17 @@ question_safe questions.List path root files answer asks reported tasks opened =
 question_safe (questions.Fix proof) path root files answer asks reported tasks opened = absurd (not_check (codes "fix") asks.0 asks.2 asks.3.0 refl)
 question_safe (questions.Missing listing) path root files answer asks reported tasks opened = absurd (not_check (codes "missing") asks.0 asks.2 asks.3.0 refl)
 
+-- who asks for the subcommand of another name does not ask to check
+not_asked : (name : Text) (request : Request) (o : Option (Text × List Row)) → ((found : Text × List Row) → Asks request (Some found) → found.0 ≡ name)
+    → (slice_index_or name 0 0 == 99) ≡ false → AskToCheck o → Asks request o → ⊥
+not_asked name request None named first check asks = absurd check
+not_asked name request (Some found) named first check asks = not_check name found.0 check (named found asks) first
+
 -- what is reported of a safe build, or of safe tasks, says that no schedule shows
 pub says_safe : (words : List (Bor Text)) (files : List ℕ → Option (List ℕ)) (text note : List ℕ) → AskToCheck (asked words)
     → IsAnswerTo words files Done text note → SaysSafe words files
-says_safe words files text note check (requests.Order build, asks, answer) = absurd (other (asked words) check asks)
-  where
-    other : (o : Option (Text × List Row)) → AskToCheck o → Asks (requests.Order build) o → ⊥
-    other None check asks = absurd check
-    other (Some found) check asks = not_check (codes "order") found.0 check asks.0 refl
+says_safe words files text note check (requests.Order build, asks, answer) =
+    absurd (not_asked (codes "order") (requests.Order build) (asked words) (λ found named. named.0) refl check asks)
 says_safe words files text note check (requests.Check args, asks, answer) =
     inl (
       args,
@@ -121,36 +125,18 @@ says_safe words files text note check (requests.Check args, asks, answer) =
       λ includes texts opened held.
           noted_safe args.build.strict _ (texts inputs.Footprints) args.print_proof text note (answer includes texts opened held),
     )
-says_safe words files text note check (requests.Verify args, asks, answer) = absurd (other (asked words) check asks)
-  where
-    other : (o : Option (Text × List Row)) → AskToCheck o → Asks (requests.Verify args) o → ⊥
-    other None check asks = absurd check
-    other (Some found) check asks = not_check (codes "verify") found.0 check asks.0 refl
-says_safe words files text note check (requests.Replay args, asks, answer) = absurd (other (asked words) check asks)
-  where
-    other : (o : Option (Text × List Row)) → AskToCheck o → Asks (requests.Replay args) o → ⊥
-    other None check asks = absurd check
-    other (Some found) check asks = not_check (codes "replay") found.0 check asks.0 refl
-says_safe words files text note check (requests.Serialise args, asks, answer) = absurd (other (asked words) check asks)
-  where
-    other : (o : Option (Text × List Row)) → AskToCheck o → Asks (requests.Serialise args) o → ⊥
-    other None check asks = absurd check
-    other (Some found) check asks = not_check (codes "serialise") found.0 check asks.0 refl
-says_safe words files text note check (requests.List args, asks, answer) = absurd (other (asked words) check asks)
-  where
-    other : (o : Option (Text × List Row)) → AskToCheck o → Asks (requests.List args) o → ⊥
-    other None check asks = absurd check
-    other (Some found) check asks = not_check (codes "list") found.0 check asks.0 refl
-says_safe words files text note check (requests.Missing args, asks, answer) = absurd (other (asked words) check asks)
-  where
-    other : (o : Option (Text × List Row)) → AskToCheck o → Asks (requests.Missing args) o → ⊥
-    other None check asks = absurd check
-    other (Some found) check asks = not_check (codes "missing") found.0 check asks.0 refl
-says_safe words files text note check (requests.Fix args, asks, answer) = absurd (other (asked words) check asks)
-  where
-    other : (o : Option (Text × List Row)) → AskToCheck o → Asks (requests.Fix args) o → ⊥
-    other None check asks = absurd check
-    other (Some found) check asks = not_check (codes "fix") found.0 check asks.0 refl
+says_safe words files text note check (requests.Verify args, asks, answer) =
+    absurd (not_asked (codes "verify") (requests.Verify args) (asked words) (λ found named. named.0) refl check asks)
+says_safe words files text note check (requests.Replay args, asks, answer) =
+    absurd (not_asked (codes "replay") (requests.Replay args) (asked words) (λ found named. named.0) refl check asks)
+says_safe words files text note check (requests.Serialise args, asks, answer) =
+    absurd (not_asked (codes "serialise") (requests.Serialise args) (asked words) (λ found named. named.0) refl check asks)
+says_safe words files text note check (requests.List args, asks, answer) =
+    absurd (not_asked (codes "list") (requests.List args) (asked words) (λ found named. named.0) refl check asks)
+says_safe words files text note check (requests.Missing args, asks, answer) =
+    absurd (not_asked (codes "missing") (requests.Missing args) (asked words) (λ found named. named.0) refl check asks)
+says_safe words files text note check (requests.Fix args, asks, answer) =
+    absurd (not_asked (codes "fix") (requests.Fix args) (asked words) (λ found named. named.0) refl check asks)
 says_safe words files text note check (requests.Tasks args, asks, answer) =
     inr (
       args,

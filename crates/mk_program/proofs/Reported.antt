@@ -16,9 +16,10 @@ pub ok_more : {X E : Type 0} (P Q : Type 0) (r : Result X E) → (P → Q) → O
 ok_more P Q (Ok x) more p = more p
 ok_more P Q (Err e) more p = tt
 
-pub value_more : {X E : Type 0} (P Q : Type 0) (r : Result X E) → (P → Q) → OnOk r P → IfOk r (λ x. Q)
-value_more P Q (Ok x) more p = more p
-value_more P Q (Err e) more p = tt
+-- a fact that holds where there is a value, and one of the value, give another
+pub with_fact : {X E : Type 0} (P Q : X → Type 0) (R : Type 0) (r : Result X E) → ((x : X) → R → P x → Q x) → OnOk r R → IfOk r P → IfOk r Q
+with_fact P Q R (Ok x) more f p = more x f p
+with_fact P Q R (Err e) more f p = tt
 
 pub always_ok : {X E : Type 0} (P : Type 0) (r : Result X E) → P → OnOk r P
 always_ok P (Ok x) p = p

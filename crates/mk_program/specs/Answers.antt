@@ -40,7 +40,7 @@ use Rattle.mk_report.specs.declared.answer.Answer.TheVariants as judged
 use Rattle.mk_sched.specs.declared.refusal.Refusal.{Refusal}
 use Rattle.mk_sched.specs.declared.replay.Replayed.{Replayed}
 use Rattle.mk_program.specs.ChangeText.{change_text}
-use Rattle.mk_program.specs.CommandLine.{Asks, HasMistake, asked, wrong}
+use Rattle.mk_program.specs.CommandLine.{Asks, HasMistake, IsAnswerable, asked, wrong}
 use Rattle.mk_program.specs.Files.{Files}
 use Rattle.mk_program.specs.Includes.{IncludesMayBeRead, IncludesMayFail, Pair, includes_in}
 use Rattle.mk_program.specs.Inputs.{Hold, InputsMayBeRead, IsShortOr, IsUnread}
@@ -405,6 +405,16 @@ IsRequestFailure files request failure =
 -- the files that these words name may be opened, and read
 abbrev pub AreRead : List (Bor Text) → Files → Type 0
 AreRead words files = (request : Request) × Asks request (asked words) × MayAllBeRead files request
+
+-- what is said to these words: the answer to what they ask, where nothing is wrong with them; or the help or the version, which
+-- is neither a refusal nor a no, and has no note
+pub record IsSaid (words : List (Bor Text)) (files : Files) (status : Status) (text note : List ℕ) : Type 0 where
+  pub usable : IsAnswerable (wrong words)
+  pub answer : wrong words ≡ [] → IsAnswerTo words files.text status text note
+  pub on_refused : status ≡ statuses.Refused → IsAnswerTo words files.text status text note
+  pub on_no : status ≡ statuses.No → IsAnswerTo words files.text status text note
+  pub read : wrong words ≡ [] → AreRead words files
+  pub noted : note ≢ [] → wrong words ≡ []
 
 -- the failure may come of these words and of these files
 abbrev pub IsFailureOf : List (Bor Text) → Files → Failure → Type 0

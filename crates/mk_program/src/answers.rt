@@ -7,7 +7,6 @@ ghost use Rattle.mk_race.specs.Stages.{IsPrepared, Texts, texts_of};
 ghost use Rattle.mk_program.specs.Answers as spec;
 ghost use Rattle.mk_program.specs.Includes.{shown};
 ghost use Rattle.mk_program.specs.Inputs.{AreTexts};
-ghost use Rattle.mk_program.specs.Noting.{note_of};
 ghost use Rattle.mk_program.specs.OrderText.{IsUnreported};
 ghost use Rattle.mk_program.specs.OutcomeText.{IsOutcomeText};
 ghost use Rattle.mk_program.specs.PlanText.{plan_text as text_of_plan};
@@ -19,7 +18,7 @@ use crate::includes::{IncludeText, pairs_of, read_includes};
 use crate::inputs::{InputText, read_inputs, text_of};
 use crate::listing::list_answer;
 use crate::missing::missing_answer;
-use crate::noting::{Reply, refused_reply, with_note, without_note};
+use crate::noting::{Question, Reply, noted_reply, without_note};
 use crate::openers::Opener;
 use crate::outcome_lines::outcome_text;
 use crate::plan_lines::plan_text;
@@ -34,7 +33,6 @@ use mk_race::input::Input;
 use mk_race::planning::{Planned, plan_of};
 use mk_race::preparing::Prepared;
 use mk_race::replaying::{Played, replay_prepared};
-use mk_race::unused::{Noted, prepare_noting};
 use mk_race::verifying::verify_prepared;
 use std::alloc::{AllocError, Global};
 use std::mem::forget;
@@ -44,6 +42,20 @@ use std::mem::forget;
 pub struct Answer {
     pub status: Status,
     pub text: Vec<u8>,
+}
+
+/// Whether a proof is accepted.
+#[derive(Clone, Copy)]
+struct Verifying<'a> {
+    proof: &'a [u8],
+}
+
+/// What a log is, where this many nodes may run at once, and with `tie` files of equal times count as newer.
+#[derive(Clone, Copy)]
+struct Replaying<'a> {
+    log: &'a [u8],
+    limit: u16,
+    tie: bool,
 }
 
 /// The answer to a request, and its note. The includes are read first; then all other files are opened before any of them is
@@ -163,8 +175,10 @@ fn verify_answer(
     let build = &verify.build;
     let operands = bytes_of(alloc, build.operands.as_slice())?;
     let input = input_of(build, operands.as_slice(), includes, texts);
-    let proof = text_of(texts, InputFile::Proof);
-    verify_over(alloc, &input, build.strict, proof)
+    let verifying = Verifying {
+        proof: text_of(texts, InputFile::Proof),
+    };
+    noted_reply(alloc, &input, build.strict, &verifying)
 }
 
 /// Whether a log is a run of a build, or why the inputs are refused; and the note.
@@ -184,8 +198,12 @@ fn replay_answer(
     let build = &replay.build;
     let operands = bytes_of(alloc, build.operands.as_slice())?;
     let input = input_of(build, operands.as_slice(), includes, texts);
-    let log = text_of(texts, InputFile::Log);
-    replay_over(alloc, &input, build.strict, log, replay.limit, replay.tie)
+    let replaying = Replaying {
+        log: text_of(texts, InputFile::Log),
+        limit: replay.limit,
+        tie: replay.tie,
+    };
+    noted_reply(alloc, &input, build.strict, &replaying)
 }
 
 /// What a build is judged by: its root and operands as they were given, and the texts that were read.
@@ -237,33 +255,12 @@ fn order_over(alloc: Global, input: &Input<'_>) -> Result<Answer, AllocError>
     }
 }
 
-/// Whether a proof is accepted for a build, or the report of the first fault of both; and the note.
-fn verify_over(
-    alloc: Global,
-    input: &Input<'_>,
-    strict: bool,
-    proof: &[u8],
-) -> Result<Reply, AllocError>
-    ensures status { IfOk result (λ reply. reply.answer.status ≢ Status.Failed) }
-    ensures answer { IfOk result (λ reply. spec.IsNotedVerify strict (texts_of input.now)
-        input.now.footprints.now proof.now reply.answer.status reply.answer.text.items reply.note.items) }
-{
-    match prepare_noting(alloc, input, strict) {
-        Ok(noted) => verify_noted(alloc, &noted, proof),
-        Err(halt) => refused_reply(alloc, halt),
-    }
-}
+impl Question for Verifying<'_> {
+    ghost says = { λ asked texts footprints. spec.IsVerifyAnswer texts footprints asked.proof.now };
 
-/// Whether a proof is accepted for a build of these jobs, or the report of its fault; and the note of the build.
-fn verify_noted(alloc: Global, noted: &Noted, proof: &[u8]) -> Result<Reply, AllocError>
-    ensures status { IfOk result (λ reply. reply.answer.status ≢ Status.Failed) }
-    ensures answer { IfOk result (λ reply. (texts : Texts) (footprints : List ℕ)
-        → IsPrepared texts footprints (Ok noted.now.prepared) → spec.IsVerifyAnswer texts
-        footprints proof.now reply.answer.status reply.answer.text.items) }
-    ensures note { IfOk result (λ reply. reply.note.items ≡ note_of noted.now.unused) }
-{
-    let answer = verdict_of(alloc, &noted.prepared, proof)?;
-    with_note(alloc, answer, &noted.unused)
+    fn answer(&self, alloc: Global, prepared: Prepared) -> Result<Answer, AllocError> {
+        verdict_of(alloc, &prepared, self.proof)
+    }
 }
 
 /// Whether a proof is accepted for a build of these jobs, or the report of its fault.
@@ -279,42 +276,12 @@ fn verdict_of(alloc: Global, prepared: &Prepared, proof: &[u8]) -> Result<Answer
     }
 }
 
-/// What a log is to a build, or the report of the first fault of both; and the note.
-fn replay_over(
-    alloc: Global,
-    input: &Input<'_>,
-    strict: bool,
-    log: &[u8],
-    limit: u16,
-    tie: bool,
-) -> Result<Reply, AllocError>
-    ensures status { IfOk result (λ reply. reply.answer.status ≢ Status.Failed) }
-    ensures answer { IfOk result (λ reply. spec.IsNotedReplay strict (texts_of input.now)
-        input.now.footprints.now log.now limit tie reply.answer.status reply.answer.text.items
-        reply.note.items) }
-{
-    match prepare_noting(alloc, input, strict) {
-        Ok(noted) => replay_noted(alloc, &noted, log, limit, tie),
-        Err(halt) => refused_reply(alloc, halt),
-    }
-}
+impl Question for Replaying<'_> {
+    ghost says = { λ asked texts footprints. spec.IsReplayAnswer texts footprints asked.log.now asked.limit asked.tie };
 
-/// What a log is to a build of these jobs, or the report of its fault; and the note of the build.
-fn replay_noted(
-    alloc: Global,
-    noted: &Noted,
-    log: &[u8],
-    limit: u16,
-    tie: bool,
-) -> Result<Reply, AllocError>
-    ensures status { IfOk result (λ reply. reply.answer.status ≢ Status.Failed) }
-    ensures answer { IfOk result (λ reply. (texts : Texts) (footprints : List ℕ)
-        → IsPrepared texts footprints (Ok noted.now.prepared) → spec.IsReplayAnswer texts
-        footprints log.now limit tie reply.answer.status reply.answer.text.items) }
-    ensures note { IfOk result (λ reply. reply.note.items ≡ note_of noted.now.unused) }
-{
-    let answer = played_of(alloc, &noted.prepared, log, limit, tie)?;
-    with_note(alloc, answer, &noted.unused)
+    fn answer(&self, alloc: Global, prepared: Prepared) -> Result<Answer, AllocError> {
+        played_of(alloc, &prepared, self.log, self.limit, self.tie)
+    }
 }
 
 /// What a log is to a build of these jobs, or the report of its fault.

@@ -1,22 +1,25 @@
 //! The answers to `race check`.
-ghost use Rattle.std.specs.Prelude.{◌≡◌, ◌≢◌, IfOk, List, Ok, map, ℕ};
-ghost use Rattle.mk_race.specs.Stages.{IsPrepared, Texts, texts_of};
+ghost use Rattle.std.specs.Prelude.{◌≡◌, ◌≢◌, IfOk, List, map, ℕ};
 ghost use Rattle.mk_report.specs.Reports.{IsReport};
 ghost use Rattle.mk_program.specs.Answers as spec;
 ghost use Rattle.mk_program.specs.Inputs.{AreTexts};
-ghost use Rattle.mk_program.specs.Noting.{note_of};
 
 use crate::answers::{Answer, bytes_of, input_of};
 use crate::failures::InputFile;
 use crate::inputs::InputText;
-use crate::noting::{Reply, refused_reply, with_note};
+use crate::noting::{Question, Reply, noted_reply};
 use crate::requests::CheckArgs;
 use crate::statuses::Status;
-use mk_race::input::Input;
 use mk_race::judging::judge_prepared;
-use mk_race::unused::{Noted, prepare_noting};
+use mk_race::preparing::Prepared;
 use mk_report::answer::{Answer as Judged, report};
 use std::alloc::{AllocError, Global};
+
+/// Whether a build is safe: by the report, or by its proof.
+#[derive(Clone, Copy)]
+struct Checking {
+    proof: bool,
+}
 
 /// Whether a build is safe, or its race, or why its inputs are refused; and the note.
 pub(crate) fn check_answer(
@@ -34,38 +37,19 @@ pub(crate) fn check_answer(
     let build = &check.build;
     let operands = bytes_of(alloc, build.operands.as_slice())?;
     let input = input_of(build, operands.as_slice(), includes, texts);
-    check_over(alloc, &input, build.strict, check.print_proof)
+    let checking = Checking {
+        proof: check.print_proof,
+    };
+    noted_reply(alloc, &input, build.strict, &checking)
 }
 
-/// The report of a build, or its proof, or the report of its first fault; and the note.
-fn check_over(
-    alloc: Global,
-    input: &Input<'_>,
-    strict: bool,
-    proof: bool,
-) -> Result<Reply, AllocError>
-    ensures status { IfOk result (λ reply. reply.answer.status ≢ Status.Failed) }
-    ensures answer { IfOk result (λ reply. spec.IsNotedCheck strict (texts_of input.now)
-        input.now.footprints.now proof reply.answer.status reply.answer.text.items reply.note.items) }
-{
-    match prepare_noting(alloc, input, strict) {
-        Ok(noted) => check_noted(alloc, noted, proof),
-        Err(halt) => refused_reply(alloc, halt),
+impl Question for Checking {
+    ghost says = { λ asked texts footprints. spec.IsCheckAnswer texts footprints asked.proof };
+
+    fn answer(&self, alloc: Global, prepared: Prepared) -> Result<Answer, AllocError> {
+        let judged = judge_prepared(alloc, prepared)?;
+        judged_answer(alloc, &judged, self.proof)
     }
-}
-
-/// The report of a build of these jobs, or its proof; and the note of the build.
-fn check_noted(alloc: Global, noted: Noted, proof: bool) -> Result<Reply, AllocError>
-    ensures status { IfOk result (λ reply. reply.answer.status ≢ Status.Failed) }
-    ensures answer { IfOk result (λ reply. (texts : Texts) (footprints : List ℕ)
-        → IsPrepared texts footprints (Ok noted.prepared) → spec.IsCheckAnswer texts
-        footprints proof reply.answer.status reply.answer.text.items) }
-    ensures note { IfOk result (λ reply. reply.note.items ≡ note_of noted.unused) }
-{
-    let Noted { prepared, unused } = noted;
-    let judged = judge_prepared(alloc, prepared)?;
-    let answer = judged_answer(alloc, &judged, proof)?;
-    with_note(alloc, answer, &unused)
 }
 
 /// What was judged of a build or of tasks, reported.

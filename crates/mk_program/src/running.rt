@@ -119,16 +119,8 @@ fn answer_written<'a, P: Opener, O: Outlet>(
     requires { O.has_failed out.old ≡ false }
     ensures status { IfOk result (λ reply. reply.answer.status ≢ Status.Failed) }
     ensures written { IfOk result (λ reply. Appends (O.written out.old) (O.written out.new) reply.answer.text.items) }
-    ensures answer { wrong words.entry.now ≡ [] → IfOk result (λ reply. spec.IsAnswerTo words.entry.now
-        (P.files opener.old).text reply.answer.status reply.answer.text.items reply.note.items) }
-    ensures refused { IfOk result (λ reply. reply.answer.status ≡ Status.Refused → spec.IsAnswerTo words.entry.now
-        (P.files opener.old).text reply.answer.status reply.answer.text.items reply.note.items) }
-    ensures no { IfOk result (λ reply. reply.answer.status ≡ Status.No → spec.IsAnswerTo words.entry.now
-        (P.files opener.old).text reply.answer.status reply.answer.text.items reply.note.items) }
-    ensures usage { OnOk result (IsAnswerable (wrong words.entry.now)) }
-    ensures note { IfOk result (λ reply. reply.note.items ≢ [] → wrong words.entry.now ≡ []) }
-    ensures read { wrong words.entry.now ≡ [] → IfOk result
-        (λ _. spec.AreRead words.entry.now (P.files opener.old)) }
+    ensures said { IfOk result (λ reply. spec.IsSaid words.entry.now (P.files opener.old)
+        reply.answer.status reply.answer.text.items reply.note.items) }
     ensures nothing { OnErr result (O.has_failed out.new ≡ false → out.new ≡ out.old) }
     ensures beginning { wrong words.entry.now ≡ [] → O.has_failed out.new ≡ true
         → spec.WritesBeginning words.entry.now (P.files opener.old).text (O.written out.old) (O.written out.new) }
@@ -149,16 +141,8 @@ fn answer_to<'a, P: Opener>(
     opener: &mut P,
 ) -> Result<Reply, Failure>
     ensures status { IfOk result (λ reply. reply.answer.status ≢ Status.Failed) }
-    ensures answer { wrong words.entry.now ≡ [] → IfOk result (λ reply. spec.IsAnswerTo words.entry.now
-        (P.files opener.old).text reply.answer.status reply.answer.text.items reply.note.items) }
-    ensures refused { IfOk result (λ reply. reply.answer.status ≡ Status.Refused → spec.IsAnswerTo words.entry.now
-        (P.files opener.old).text reply.answer.status reply.answer.text.items reply.note.items) }
-    ensures no { IfOk result (λ reply. reply.answer.status ≡ Status.No → spec.IsAnswerTo words.entry.now
-        (P.files opener.old).text reply.answer.status reply.answer.text.items reply.note.items) }
-    ensures usage { OnOk result (IsAnswerable (wrong words.entry.now)) }
-    ensures note { IfOk result (λ reply. reply.note.items ≢ [] → wrong words.entry.now ≡ []) }
-    ensures read { wrong words.entry.now ≡ [] → IfOk result
-        (λ _. spec.AreRead words.entry.now (P.files opener.old)) }
+    ensures said { IfOk result (λ reply. spec.IsSaid words.entry.now (P.files opener.old)
+        reply.answer.status reply.answer.text.items reply.note.items) }
     ensures write { IfErr result (λ failure. failure ≢ Failure.Write) }
     ensures failure { IfErr result (spec.IsFailureOf words.entry.now (P.files opener.old)) }
 {

@@ -1,5 +1,5 @@
 -- The shapes that certificates and traces keep.
-use Rattle.std.specs.Prelude.{ℕ, ◌≤◌, ◌<◌, ◌-◌, List, length, map, get_or}
+use Rattle.std.specs.Prelude.{ℕ, ◌≤◌, ◌<◌, ◌+◌, ◌-◌, List, length, map, get_or}
 use Rattle.std.specs.List.{All}
 use Rattle.std.specs.List.Sorted.{IsStrictlySortedBy}
 use Rattle.std.specs.Map.{keys_of}
@@ -13,7 +13,7 @@ abbrev pub greatest_node : ℕ
 greatest_node = 19999
 
 abbrev pub greatest_time : ℕ
-greatest_time = 20000
+greatest_time = greatest_node + 1
 
 abbrev pub most_chains : ℕ
 most_chains = 1000000

@@ -11,7 +11,7 @@ use std::marker::Model;
 /// The most chains of a certificate.
 pub const MOST_CHAINS: usize = 1_000_000;
 
-/// The greatest number of a node: a plan has at most 20,000 nodes, whose numbers begin at 0.
+/// The greatest number of a node: a plan has at most 20,000 nodes (`NODE_LIMIT` of `mk_jobs`), whose numbers begin at 0.
 pub const GREATEST_NODE: u32 = 19_999;
 
 /// Chains of node numbers (profile): at most a million, each of two or more numbers up to 19,999 of which each is below

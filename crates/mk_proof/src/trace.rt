@@ -10,7 +10,7 @@ use std::alloc::AllocError;
 use std::marker::Model;
 
 /// The greatest time of a node: a plan has no more nodes, so each can have a time of its own.
-pub const GREATEST_TIME: u32 = 20_000;
+pub const GREATEST_TIME: u32 = GREATEST_NODE + 1;
 
 /// Two nodes, a path on which they clash, times of nodes, and steps after which both nodes run (profile). The first node is
 /// below the second, the path has a byte, the numbers beside the times rise, no node is past 19,999 and no time past 20,000.

@@ -6,6 +6,7 @@ mod Fixings
 mod GoalsLemmas
 mod InOrder
 mod Listed
+mod NotedAhead
 mod Noting
 mod OfTasks
 mod OneBuild

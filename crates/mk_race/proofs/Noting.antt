@@ -16,8 +16,8 @@ use Rattle.mk_jobs.specs.Plan.{Node, Plan, node_at, nobody}
 use Rattle.mk_jobs.specs.declared.maker.Maker.{Maker}
 use Rattle.mk_rules.specs.Book.{Book}
 use Rattle.mk_foot.specs.Footprints.{Footprints, IsRead, footprint_at}
-use Rattle.mk_race.specs.Stages.{AreJobs, IsJobs, IsPlanned, IsPrepared, Texts, with_jobs}
-use Rattle.mk_race.specs.Unused.{AreNoted, AreSaidBy, IsNoted, IsNotedBy, is_unused, strictly, unused_fault, unused_in, unused_number}
+use Rattle.mk_race.specs.Stages.{IsJobs, IsPlanned, IsPrepared, Texts, with_jobs}
+use Rattle.mk_race.specs.Unused.{AreNoted, AreNotedOf, IsNoted, IsNotedBy, is_unused, strictly, unused_fault, unused_in, unused_number}
 use Rattle.mk_race.specs.declared.planning.Planned.{Planned}
 use Rattle.mk_race.specs.declared.unused.Noted.{Noted}
 use Rattle.mk_race.specs.declared.unused.Unused.{Unused}
@@ -109,11 +109,12 @@ module _ (root : List ℕ) (book : Book) (plan : Plan) (footprints : List ℕ) w
   among_jobs halts.Memory h = tt
   among_jobs (halts.Fault reported) h = h
 
-  -- a halt of the nodes with their footprints is one of the jobs
-  pub unattached : (read : Footprints) (halt : Halt) → IsRead root footprints (Ok read)
-      → HaltsAmong halt (AreJobs plan book read) → HaltsAmong halt (IsJobs root book plan footprints)
-  unattached read halts.Memory r h = tt
-  unattached read (halts.Fault reported) r h = (Ok read, r, h)
+  -- what is said of footprints is said of the text that they were read from
+  pub read_noted : (read : Footprints) (result : Result (Jobs × Option Unused) Halt) → IsRead root footprints (Ok read)
+      → Answers result (AreNotedOf book plan read) → Answers result (AreNoted root book plan footprints)
+  read_noted read (Ok found) r on = (read, r, on.0, on.1)
+  read_noted read (Err halts.Memory) r on = tt
+  read_noted read (Err (halts.Fault reported)) r on = (Ok read, r, on)
 
 pub noted_is : (texts : Texts) (footprints : List ℕ) (planned : Planned) (found : Jobs × Option Unused) (noted : Noted)
     → IsPlanned texts (Ok planned) → AreNoted planned.root planned.book planned.plan footprints (Ok found)

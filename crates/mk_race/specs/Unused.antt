@@ -1,6 +1,7 @@
 -- Footprints that lie unused, since nothing makes their target though the build has it; and the jobs of a build with them.
 use Rattle.std.specs.Prelude.{◌≡◌, ◌&&◌, ℕ, not, Bool, true, false, List, [], ◌∷◌, Result, Ok, Err, Option, None, Some, is_some, length, slice_get, if◌then◌else◌}
 use Rattle.std.specs.List.{enumerate_from, filter_map}
+use Rattle.mk_name.specs.Names.{Name}
 use Rattle.mk_name.specs.Reported.{Reported}
 use Rattle.mk_name.specs.declared.fault.Kind.TheVariants.{UnusedFootprint}
 use Rattle.mk_name.specs.declared.fault.Source.TheVariants as sources
@@ -8,7 +9,8 @@ use Rattle.mk_jobs.specs.Jobs.{Jobs, has_commands}
 use Rattle.mk_jobs.specs.Plan.{Node, Plan, node_at}
 use Rattle.mk_rules.specs.Book.{Book}
 use Rattle.mk_foot.specs.Footprints.{Footprints, IsRead, footprint_at}
-use Rattle.mk_race.specs.Stages.{AreJobs, IsJobs, IsPrepared, Texts, ThenAny}
+use Rattle.mk_race.specs.Parts.{IsPlannedWith}
+use Rattle.mk_race.specs.Stages.{AreJobs, IsJobs, IsPrepared, Texts, Then, ThenAny, with_jobs}
 use Rattle.mk_race.specs.declared.preparing.Prepared.{Prepared}
 use Rattle.mk_race.specs.declared.unused.Noted.{Noted}
 use Rattle.mk_race.specs.declared.unused.Unused.{Unused}
@@ -37,6 +39,12 @@ AreNoted root book plan text (Ok noted) =
     (read : Footprints) × IsRead root text (Ok read) × AreJobs plan book read (Ok noted.0) × AreSaidBy noted.0.plan.nodes (unused_in read noted.0.plan.nodes) noted.1
 AreNoted root book plan text (Err reported) = IsJobs root book plan text (Err reported)
 
+-- the same of footprints that were read ahead
+abbrev pub AreNotedOf : Book → Plan → Footprints → Result (Jobs × Option Unused) Reported → Type 0
+AreNotedOf book plan read (Ok noted) =
+    AreJobs plan book read (Ok noted.0) × AreSaidBy noted.0.plan.nodes (unused_in read noted.0.plan.nodes) noted.1
+AreNotedOf book plan read (Err reported) = AreJobs plan book read (Err reported)
+
 -- that of the nodes of a build whose footprints, which this text says, lie unused
 abbrev pub IsUnused : Prepared → List ℕ → Option Unused → Type 0
 IsUnused prepared text unused =
@@ -46,6 +54,12 @@ IsUnused prepared text unused =
 abbrev pub IsNoted : Texts → List ℕ → Result Noted Reported → Type 0
 IsNoted texts footprints (Ok noted) = IsPrepared texts footprints (Ok noted.prepared) × IsUnused noted.prepared footprints noted.unused
 IsNoted texts footprints (Err reported) = IsPrepared texts footprints (Err reported)
+
+-- the same of a build whose listing and footprints were read ahead
+abbrev pub IsNotedWith : Texts → Result (List Name) Reported → Result Footprints Reported → Result Noted Reported → Type 0
+IsNotedWith texts listed read =
+    ThenAny (IsPlannedWith texts listed) (λ planned. ThenAny (Then read (AreNotedOf planned.book planned.plan)) (λ found answer.
+    answer ≡ Ok (record { prepared = with_jobs planned found.0; unused = found.1 })))
 
 -- the fault of footprints that lie unused names the first of their targets
 abbrev pub unused_fault : Unused → Reported

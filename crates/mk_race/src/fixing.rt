@@ -40,7 +40,7 @@ pub enum Fixing {
 /// The lines that fix a build: behind its makefile they give its jobs the edges of their fix (see [`fix`]), and nothing else.
 /// It was read with them and judged again, so it is safe.
 ///
-/// The first fault is that of the jobs (see [`prepare`](crate::prepare)), and then `TooManyPairs` in the jobs at place 0,
+/// The first fault is that of the jobs (see [`prepare`](crate::preparing::prepare)), and then `TooManyPairs` in the jobs at place 0,
 /// where more than 1,000,000 pairs of recipes clash. The only other error is out of memory.
 pub fn fix_build(alloc: Global, input: &Input<'_>) -> Result<Fixing, Halt>
     ensures answer { Answers result (IsFixing (texts_of input.now) input.now.footprints.now) }

@@ -18,7 +18,7 @@ use std::alloc::{AllocError, Global};
 /// The answer of a build: safe, where any two of its recipes that conflict are ordered by prerequisites,
 /// with a certificate of that; a race, with the trace of the least one; or refused, with the first fault of its texts.
 ///
-/// The first fault is that of the jobs (see [`prepare`](crate::prepare)), and then `TooManyPairs` in the jobs at place 0,
+/// The first fault is that of the jobs (see [`prepare`](crate::preparing::prepare)), and then `TooManyPairs` in the jobs at place 0,
 /// where more than 1,000,000 pairs of recipes clash. The only error is out of memory.
 pub fn judge(alloc: Global, input: &Input<'_>) -> Result<Answer, AllocError>
     ensures answer { IfOk result (IsAnswered (texts_of input.now) input.now.footprints.now) }

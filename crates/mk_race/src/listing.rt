@@ -20,7 +20,7 @@ pub struct RaceList {
 
 /// All races of a build, each once, with its jobs.
 ///
-/// The first fault is that of the jobs (see [`prepare`](crate::prepare)), and then `TooManyPairs` in the jobs at place 0,
+/// The first fault is that of the jobs (see [`prepare`](crate::preparing::prepare)), and then `TooManyPairs` in the jobs at place 0,
 /// where more than 1,000,000 pairs of recipes clash. The only other error is out of memory.
 pub fn list_races(alloc: Global, input: &Input<'_>) -> Result<RaceList, Halt>
     ensures { Answers result (IsListed (texts_of input.now) input.now.footprints.now) }

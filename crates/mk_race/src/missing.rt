@@ -26,7 +26,7 @@ pub struct MissingList {
 /// All races and all violations of a build, each once, with its jobs; and the first change that a second build makes in its plan,
 /// which finds what the first one made (see [`change_of`]).
 ///
-/// The first fault is that of the jobs (see [`prepare`](crate::prepare)), and then `TooManyPairs` in the jobs at place 0,
+/// The first fault is that of the jobs (see [`prepare`](crate::preparing::prepare)), and then `TooManyPairs` in the jobs at place 0,
 /// where more than 1,000,000 pairs of recipes clash. The only other error is out of memory.
 pub fn list_missing(alloc: Global, input: &Input<'_>) -> Result<MissingList, Halt>
     ensures missing { Answers result (IsMissingList (texts_of input.now) input.now.footprints.now) }

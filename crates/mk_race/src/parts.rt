@@ -1,28 +1,30 @@
-//! From the texts of makefiles, and a listing and footprints that were read ahead, to the answer of a build.
+//! From the texts of makefiles, and a listing and footprints that were read ahead, to the jobs of a build and its answer.
 ghost use Rattle.std.specs.Prelude.{IfOk, List, ℕ};
 ghost use Rattle.mk_name.specs.Gives.{Answers};
 ghost use Rattle.mk_race.specs.Judged.{HoldsOfRace, HoldsOfSafe, IsAnswered, IsSafe, NoScheduleShows};
-ghost use Rattle.mk_race.specs.Parts.{AreJobsWith, AreReadFrom, IsAttached, IsGraphedWith, texts_with};
-ghost use Rattle.mk_race.specs.Stages.{AreJobs, texts_of};
+ghost use Rattle.mk_race.specs.Parts.{AreReadFrom, IsAttached, IsPlannedWith, IsPreparedWith, texts_with};
+ghost use Rattle.mk_race.specs.Stages.{IsPrepared, texts_of};
 
 use crate::input::{Input, Settings};
-use crate::judging::{decided, refused};
-use crate::planning::{Graphed, graph_of};
-use crate::preparing::jobs_with;
+use crate::judging::{judge_prepared, refused};
+use crate::planning::{Planned, graph_of};
+use crate::preparing::{Prepared, jobs_with};
 use crate::settings::goals_of;
 use mk_foot::footprints::Footprints;
+use mk_include::includes::Includes;
 use mk_jobs::jobs::Jobs;
+use mk_jobs::plan::Plan;
 use mk_macro::macros::Macros;
 use mk_name::fault::{Fault, Halt};
 use mk_report::answer::Answer;
-use mk_rules::includes::Includes;
+use mk_rules::rulebook::Rulebook;
 use mk_text::listing::Listing;
 use mk_text::root::Root;
 use std::alloc::{AllocError, Global};
 
 /// The answer of a build whose listing and footprints were read ahead, each into what it says or its first fault.
 ///
-/// Where these are the results of two texts below the root of the settings, the answer is that of [`judge`](crate::judge) for
+/// Where these are the results of two texts below the root of the settings, the answer is that of [`judge`](crate::judging::judge) for
 /// those texts: so a text may come in pieces, and need not be kept. Where the root is refused they count for nothing. The only
 /// error is out of memory.
 pub fn judge_parts(
@@ -45,6 +47,29 @@ pub fn judge_parts(
     // Where it is a race, a run from any store that fits can follow the trace, and then both recipes run.
     ensures holds { IfOk result HoldsOfRace }
 {
+    match prepare_parts(alloc, settings, base, makefile, listing, footprints) {
+        Ok(prepared) => judge_prepared(alloc, prepared),
+        Err(halt) => refused(halt),
+    }
+}
+
+/// The jobs of a build whose listing and footprints were read ahead, each into what it says or its first fault.
+///
+/// Where these are the results of two texts below the root of the settings, the jobs are those that
+/// [`prepare`](crate::preparing::prepare) gives for those texts, with the same first fault. Where the root is refused they count for
+/// nothing. The only other error is out of memory.
+pub fn prepare_parts(
+    alloc: Global,
+    settings: &Settings<'_>,
+    base: &[u8],
+    makefile: &[u8],
+    listing: Result<Listing, Fault>,
+    footprints: Result<Footprints, Fault>,
+) -> Result<Prepared, Halt>
+    ensures { (listed lines : List ℕ)
+        → AreReadFrom (texts_with settings.now base.now makefile.now listed) lines listing footprints
+        → Answers result (IsPrepared (texts_with settings.now base.now makefile.now listed) lines) }
+{
     let input = Input {
         base,
         makefile,
@@ -54,32 +79,40 @@ pub fn judge_parts(
         root: settings.root,
         operands: settings.operands,
     };
-    match jobs_ahead(alloc, &input, listing, footprints) {
-        Ok(jobs) => decided(alloc, jobs),
-        Err(halt) => refused(halt),
-    }
+    prepared_ahead(alloc, &input, listing, footprints)
 }
 
 /// The jobs of a build whose listing and footprints were read ahead; those of the input count for nothing.
-fn jobs_ahead(
+fn prepared_ahead(
     alloc: Global,
     input: &Input<'_>,
     listing: Result<Listing, Fault>,
     footprints: Result<Footprints, Fault>,
-) -> Result<Jobs, Halt>
-    ensures { Answers result (AreJobsWith (texts_of input.now) listing footprints) }
+) -> Result<Prepared, Halt>
+    ensures { Answers result (IsPreparedWith (texts_of input.now) listing footprints) }
 {
-    let graphed = graph_with(alloc, input, listing)?;
-    attached(alloc, graphed, footprints)
+    let planned = plan_ahead(alloc, input, listing)?;
+    let Planned {
+        root,
+        listing,
+        book,
+        plan,
+    } = planned;
+    let jobs = attached(alloc, &book, plan, footprints)?;
+    Ok(Prepared {
+        root,
+        listing,
+        jobs,
+    })
 }
 
-/// The rules of a build whose listing was read ahead, and the plan of what its goals need.
-fn graph_with(
+/// The plan of a build whose listing was read ahead; that of the input counts for nothing.
+pub(crate) fn plan_ahead(
     alloc: Global,
     input: &Input<'_>,
     listing: Result<Listing, Fault>,
-) -> Result<Graphed, Halt>
-    ensures { Answers result (IsGraphedWith (texts_of input.now) listing) }
+) -> Result<Planned, Halt>
+    ensures { Answers result (IsPlannedWith (texts_of input.now) listing) }
 {
     let root = Root::read(alloc, input.root)?;
     let goals = goals_of(alloc, input.operands, &root)?;
@@ -88,30 +121,29 @@ fn graph_with(
     match listing {
         Ok(listing) => {
             let goals = goals.as_slice();
-            graph_of(alloc, input, &root, goals, &includes, &mut macros, &listing)
+            let graphed = graph_of(alloc, input, &root, goals, &includes, &mut macros, &listing)?;
+            Ok(Planned {
+                root,
+                listing,
+                book: graphed.book,
+                plan: graphed.plan,
+            })
         }
         Err(fault) => Err(Halt::Fault(fault)),
     }
 }
 
-/// The jobs of a plan and of footprints that were read ahead.
+/// The jobs of a plan, whose book this is, and of footprints that were read ahead.
 fn attached(
     alloc: Global,
-    graphed: Graphed,
+    book: &Rulebook,
+    plan: Plan,
     footprints: Result<Footprints, Fault>,
 ) -> Result<Jobs, Halt>
-    ensures { Answers result (IsAttached graphed footprints) }
+    ensures { Answers result (IsAttached book.now plan footprints) }
 {
     match footprints {
-        Ok(footprints) => jobs_on(alloc, graphed, footprints),
+        Ok(footprints) => jobs_with(alloc, plan, book, footprints),
         Err(fault) => Err(Halt::Fault(fault)),
     }
-}
-
-/// The jobs of a plan with these footprints.
-fn jobs_on(alloc: Global, graphed: Graphed, footprints: Footprints) -> Result<Jobs, Halt>
-    ensures { Answers result (AreJobs graphed.plan graphed.book footprints) }
-{
-    let Graphed { book, plan } = graphed;
-    jobs_with(alloc, plan, &book, footprints)
 }

@@ -10,11 +10,11 @@ ghost use Rattle.mk_race.specs.Stages.{IsBookOf, IsGraphed, IsPlanned, texts_of,
 use crate::input::Input;
 use crate::settings::goals_of;
 use mk_graph::planning::plan;
+use mk_include::includes::Includes;
 use mk_jobs::plan::Plan;
 use mk_macro::macros::Macros;
 use mk_name::fault::{Halt, Source};
 use mk_name::name::Name;
-use mk_rules::includes::Includes;
 use mk_rules::reading::read_rules;
 use mk_rules::rulebook::Rulebook;
 use mk_text::line::Line;

@@ -68,7 +68,7 @@ pub struct Serialised {
 /// count as newer; then it has to be complete; then not too many pairs of nodes may clash; then the jobs have to be
 /// race-free; then there has to be room for the new times. The first of these that fails is answered.
 ///
-/// The first fault is answered: those of the jobs (see [`prepare`](crate::prepare)), then of the log by its lines, and for
+/// The first fault is answered: those of the jobs (see [`prepare`](crate::preparing::prepare)), then of the log by its lines, and for
 /// a complete run `TooManyPairs` in the jobs, at place 0, where more than 1,000,000 pairs of nodes clash. The only other
 /// error is out of memory.
 pub fn serialise_log(

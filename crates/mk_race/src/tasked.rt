@@ -24,7 +24,7 @@ pub fn prepare_tasks(alloc: Global, root: &[u8], tasks: &[u8]) -> Result<Jobs, H
     read_tasks(alloc, tasks, &root)
 }
 
-/// The answer of a text of tasks below a root, as [`judge`](crate::judge) gives that of a build: the tasks are safe, with a
+/// The answer of a text of tasks below a root, as [`judge`](crate::judging::judge) gives that of a build: the tasks are safe, with a
 /// certificate; or the trace of the least race; or the first fault. The only error is out of memory.
 pub fn judge_tasks(alloc: Global, root: &[u8], tasks: &[u8]) -> Result<Answer, AllocError>
     ensures answer { IfOk result (spec.IsAnswerTo (tasked root.now tasks.now)) }
@@ -42,7 +42,7 @@ pub fn judge_tasks(alloc: Global, root: &[u8], tasks: &[u8]) -> Result<Answer, A
 }
 
 /// All races of a text of tasks below a root, each once, with their jobs. The first fault is that of the jobs, and then
-/// `TooManyPairs` as [`list_races`](crate::list_races) reports it. The only other error is out of memory.
+/// `TooManyPairs` as [`list_races`](crate::listing::list_races) reports it. The only other error is out of memory.
 pub fn list_tasks(alloc: Global, root: &[u8], tasks: &[u8]) -> Result<RaceList, Halt>
     ensures { Answers result (spec.IsListedBelow root.now tasks.now) }
 {
@@ -51,7 +51,7 @@ pub fn list_tasks(alloc: Global, root: &[u8], tasks: &[u8]) -> Result<RaceList, 
     Ok(RaceList { jobs, found })
 }
 
-/// Whether a proof is accepted for a text of tasks below a root, as [`verify_proof`](crate::verify_proof) says it for a build.
+/// Whether a proof is accepted for a text of tasks below a root, as [`verify_proof`](crate::verifying::verify_proof) says it for a build.
 /// The first fault is that of the jobs, and then that of the proof. The only other error is out of memory.
 pub fn verify_tasks(alloc: Global, root: &[u8], tasks: &[u8], proof: &[u8]) -> Result<bool, Halt>
     ensures answer { Answers result (spec.IsVerifiedOf root.now tasks.now proof.now) }

@@ -33,7 +33,7 @@ pub fn prepare_due_tasks(
     })
 }
 
-/// All races and all violations of tasks below a root, with a listing, each once, as [`list_missing`](crate::list_missing) gives
+/// All races and all violations of tasks below a root, with a listing, each once, as [`list_missing`](crate::missing::list_missing) gives
 /// those of a build.
 ///
 /// The first fault is that of the jobs (see [`prepare_due_tasks`]), and then `TooManyPairs` in the jobs at place 0, where more

@@ -2,15 +2,17 @@
 //!
 //! A recorder that ran another makefile, or that spells a target in another way, writes footprints that no recipe of this
 //! build takes. Where such a target is a node that nothing makes, a race may hide behind it: so it is noted, or refused.
-ghost use Rattle.std.specs.Prelude.{◌≡◌, ◌++◌, ◌<◌, IfOk, Ok, OnOk, length};
+ghost use Rattle.std.specs.Prelude.{◌≡◌, ◌++◌, ◌<◌, IfOk, List, Ok, OnOk, length, ℕ};
 ghost use Rattle.std.specs.Option.{option_to_list};
 ghost use Rattle.mk_name.specs.Gives.{Answers, Gives};
 ghost use Rattle.mk_jobs.specs.Plan.{node_at};
 ghost use Rattle.mk_name.specs.declared.fault.Halt.TheVariants as halts;
-ghost use Rattle.mk_race.specs.Stages.{IsPrepared, texts_of};
+ghost use Rattle.mk_race.specs.Parts.{AreReadFrom, texts_with};
+ghost use Rattle.mk_race.specs.Stages.{IsPrepared, Then, texts_of};
 ghost use Rattle.mk_race.specs.Unused as spec;
 
-use crate::input::Input;
+use crate::input::{Input, Settings};
+use crate::parts::plan_ahead;
 use crate::planning::{Planned, plan_of};
 use crate::preparing::{Prepared, jobs_with};
 use mk_foot::footprints::Footprints;
@@ -21,6 +23,7 @@ use mk_jobs::recipe::has_recipe;
 use mk_name::fault::{Fault, Halt, Kind, Source};
 use mk_name::name::Name;
 use mk_rules::rulebook::Rulebook;
+use mk_text::listing::Listing;
 use mk_text::root::Root;
 use std::alloc::{AllocError, Global};
 
@@ -42,7 +45,7 @@ pub struct Noted {
     pub unused: Option<Unused>,
 }
 
-/// The jobs of a build as [`prepare`](crate::prepare) gives them, with its footprints that lie unused.
+/// The jobs of a build as [`prepare`](crate::preparing::prepare) gives them, with its footprints that lie unused.
 ///
 /// The first fault is that of the jobs, and then, where it is strict, `UnusedFootprint` in the jobs at the first node that
 /// nothing makes though its name is a footprint's target, which it names. The only other error is out of memory.
@@ -55,6 +58,40 @@ pub fn prepare_noting(alloc: Global, input: &Input<'_>, strict: bool) -> Result<
         return strictly(alloc, noted);
     }
     Ok(noted)
+}
+
+/// The same for a build whose listing and footprints were read ahead, each into what it says or its first fault: what
+/// [`prepare_noting`] gives for texts that these are the results of. Where the root is refused they count for nothing.
+pub fn note_parts(
+    alloc: Global,
+    settings: &Settings<'_>,
+    base: &[u8],
+    makefile: &[u8],
+    listing: Result<Listing, Fault>,
+    footprints: Result<Footprints, Fault>,
+    strict: bool,
+) -> Result<Noted, Halt>
+    ensures answer { (listed lines : List ℕ)
+        → AreReadFrom (texts_with settings.now base.now makefile.now listed) lines listing footprints
+        → Answers result (spec.IsNotedBy strict (texts_with settings.now base.now makefile.now listed) lines) }
+    ensures prepared { IfOk result (λ noted. (listed lines : List ℕ)
+        → AreReadFrom (texts_with settings.now base.now makefile.now listed) lines listing footprints
+        → IsPrepared (texts_with settings.now base.now makefile.now listed) lines (Ok noted.prepared)) }
+{
+    let input = Input {
+        base,
+        makefile,
+        includes: settings.includes,
+        listing: b"",
+        footprints: b"",
+        root: settings.root,
+        operands: settings.operands,
+    };
+    let noted = noted_ahead(alloc, &input, listing, footprints)?;
+    if !strict {
+        return Ok(noted);
+    }
+    strictly(alloc, noted)
 }
 
 /// The jobs of a build, where no footprints lie unused; else the fault of these.
@@ -118,6 +155,60 @@ fn jobs_noted(
     ensures { Answers result (spec.AreNoted root.now book.now plan footprints.now) }
 {
     let footprints = read_footprints(alloc, footprints, root)?;
+    noted_jobs(alloc, book, plan, footprints)
+}
+
+/// The jobs of a build whose listing and footprints were read ahead, with its footprints that lie unused; those of the input count for
+/// nothing.
+fn noted_ahead(
+    alloc: Global,
+    input: &Input<'_>,
+    listing: Result<Listing, Fault>,
+    footprints: Result<Footprints, Fault>,
+) -> Result<Noted, Halt>
+    ensures { Answers result (spec.IsNotedWith (texts_of input.now) listing footprints) }
+{
+    let planned = plan_ahead(alloc, input, listing)?;
+    let Planned {
+        root,
+        listing,
+        book,
+        plan,
+    } = planned;
+    let noted = noted_with(alloc, &book, plan, footprints)?;
+    let (jobs, unused) = noted;
+    let prepared = Prepared {
+        root,
+        listing,
+        jobs,
+    };
+    Ok(Noted { prepared, unused })
+}
+
+/// The jobs of a plan, whose book this is, with footprints that were read ahead, and what is said of those that lie unused.
+fn noted_with(
+    alloc: Global,
+    book: &Rulebook,
+    plan: Plan,
+    footprints: Result<Footprints, Fault>,
+) -> Result<(Jobs, Option<Unused>), Halt>
+    ensures { Answers result (Then footprints (spec.AreNotedOf book.now plan)) }
+{
+    match footprints {
+        Ok(footprints) => noted_jobs(alloc, book, plan, footprints),
+        Err(fault) => Err(Halt::Fault(fault)),
+    }
+}
+
+/// The jobs of a plan, whose book this is, with these footprints, and what is said of those that lie unused.
+fn noted_jobs(
+    alloc: Global,
+    book: &Rulebook,
+    plan: Plan,
+    footprints: Footprints,
+) -> Result<(Jobs, Option<Unused>), Halt>
+    ensures { Answers result (spec.AreNotedOf book.now plan footprints) }
+{
     let unused = unused_by(alloc, &plan, &footprints)?;
     let jobs = jobs_with(alloc, plan, book, footprints)?;
     Ok((jobs, unused))

@@ -17,7 +17,7 @@ use std::alloc::{AllocError, Global};
 /// conflict, so that every run of them leaves the same files; a trace just where it surely leads to two such recipes that
 /// run at once.
 ///
-/// The first fault is answered: those of the jobs (see [`prepare`](crate::prepare)), and then of the proof by its lines. The
+/// The first fault is answered: those of the jobs (see [`prepare`](crate::preparing::prepare)), and then of the proof by its lines. The
 /// only other error is out of memory.
 pub fn verify_proof(alloc: Global, input: &Input<'_>, proof: &[u8]) -> Result<bool, Halt>
     ensures answer { Answers result

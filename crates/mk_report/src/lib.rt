@@ -1,10 +1,7 @@
 //! The reports of answers.
 //!
-//! `answer` has the type `Answer`, and `report`, which makes the whole text. `safe` writes the report of jobs that are safe,
-//! `race` that of a race, and `races` that of all races; `counts`, `names` and `verb` write what they share. `fixes` writes the
-//! makefile lines that fix a build, and `not_fixed` what is said where there are none. `missing` writes the report of what keeps
-//! jobs from being declared, and `adding` the lines in it that declare it. `specs/ReportText.antt`, `specs/RacesText.antt`,
-//! `specs/FixText.antt` and `specs/MissingText.antt` define each line, and `specs/Reports.antt` the report of an answer.
+//! [`answer::report`] makes the text of an [`answer::Answer`]; the modules `safe`, `race`, `races`, `fixes`, `not_fixed` and
+//! `missing` write one kind of report each. Read `specs/Reports.antt` first, then `specs/ReportText.antt`: what each line is.
 #![tactic(auto)]
 
 mod adding;

@@ -1,10 +1,7 @@
-//! From four devices to a written report.
+//! From four devices to a written report, for callers without files.
 //!
 //! [`run`] reads the base, the makefile, the listing and the footprints of a build to their ends, judges them, and writes the
-//! report once ([`Outcome`]); or it says which device failed, or that memory ran out ([`IoStop`]). The makefiles are kept
-//! whole; the listing and the footprints come in pieces, and only what they say is kept.
-//!
-//! `specs/Run.antt` defines what is read and what is reported.
+//! report once; or it says which device failed, or that memory ran out. Read `specs/Run.antt` first.
 #![tactic(auto)]
 
 mod inputs;

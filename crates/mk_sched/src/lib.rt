@@ -1,4 +1,7 @@
 //! Schedules: what a list of events may be, what it leaves, and the laws of such lists.
+//!
+//! [`replay::replay`] says whether events are a run of jobs, and what they leave. Read `specs/Runs.antt` first, then
+//! `specs/Laws.antt`, which ends in the headline.
 #![tactic(auto)]
 
 pub mod contents;

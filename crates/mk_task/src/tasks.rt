@@ -7,6 +7,7 @@ ghost use Rattle.mk_task.specs.Tasks as spec;
 
 use crate::line::Line;
 use crate::needs::needs_of;
+use mk_foot::foot_reader::PATH_LIMIT;
 use mk_jobs::numbering::Numbering;
 use mk_jobs::plan::{EDGE_LIMIT, NODE_LIMIT};
 use mk_name::fault::{Fault, Halt, Kind, Source};
@@ -14,9 +15,6 @@ use mk_name::name::Name;
 use mk_path::path::Path;
 use std::alloc::Global;
 use std::marker::Model;
-
-/// How many paths tasks may read and write, counted with repeats.
-const PATH_LIMIT: usize = 1_000_000;
 
 /// A task: its label, the numbers of the earlier tasks that it stands behind, and the paths that it reads and writes.
 #[derive(Debug, Drop)]

@@ -1,7 +1,7 @@
 //! What is left of the macros behind a makefile, also where it has a fault.
 use crate::made::{expands, of_root};
+use mk_include::includes::Includes;
 use mk_macro::macros::Macros;
-use mk_rules::includes::Includes;
 use mk_rules::reading::read_rules;
 use mk_text::line::Line;
 use mk_text::lines::lines;

@@ -1,7 +1,7 @@
 //! Paths of texts for include lines that no list of files can hold.
 use crate::made::of_root;
+use mk_include::includes::Includes;
 use mk_name::fault::Halt;
-use mk_rules::includes::Includes;
 use mk_text::root::Root;
 use std::alloc::Global;
 

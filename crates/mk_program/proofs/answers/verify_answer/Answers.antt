@@ -11,5 +11,5 @@ pub returns-clause-answer : goal.returns-clause-answer
 returns-clause-answer c =
     let operands = ap texts c.as_slice-2.ensures.value ∙ c.in_ok-operands.ensures ∙ ap texts c.as_slice.ensures.value in
     let reported = c.input_of-input.ensures in
-    IfOk-weaker c.verify_over.result _ _ (λ reply h text are.
-    verify_reported _ _ _ _ _ _ c.args.verify.now.build.strict reply.answer.status reply.answer.text.items reply.note.items (reported.texts text are operands) (reported.footprints text are) (are _ _ c.text_of-proof.ensures) h) c.verify_over.ensures.answer
+    IfOk-weaker c.noted_reply.result _ _ (λ reply h text are.
+    verify_reported _ _ _ _ _ _ c.args.verify.now.build.strict reply.answer.status reply.answer.text.items reply.note.items (reported.texts text are operands) (reported.footprints text are) (are _ _ c.text_of.ensures) h) c.noted_reply.ensures.answer

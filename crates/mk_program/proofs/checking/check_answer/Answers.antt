@@ -11,6 +11,6 @@ pub returns-clause-answer : goal.returns-clause-answer
 returns-clause-answer c =
     let operands = ap texts c.as_slice-2.ensures.value ∙ c.in_ok-operands.ensures ∙ ap texts c.as_slice.ensures.value in
     let reported = c.input_of-input.ensures in
-    IfOk-weaker c.check_over.result _ _ (λ reply h text are.
+    IfOk-weaker c.noted_reply.result _ _ (λ reply h text are.
     check_reported _ _ _ _ c.args.check.now.build.strict c.args.check.now.print_proof reply.answer.status reply.answer.text.items reply.note.items
-    (reported.texts text are operands) (reported.footprints text are) h) c.check_over.ensures.answer
+    (reported.texts text are operands) (reported.footprints text are) h) c.noted_reply.ensures.answer

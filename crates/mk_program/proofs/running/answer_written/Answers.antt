@@ -10,5 +10,5 @@ returns-in-Err-clause-beginning g c =
       c.in_ok-reply.reply.answer.text.items,
       c.in_ok-reply.reply.note.items,
       rw c.as_slice.ensures.value at c.in-Err.ensures.beginning,
-      c.in_ok-reply.ensures.answer taken,
+      c.in_ok-reply.ensures.said.answer taken,
     )
