@@ -11,7 +11,8 @@ from record.assumptions import Assumptions
 from record.fixed import asked_ages, fixed_looks, remade_anyway
 from record.folders import add_folders
 from record.graph import Build, Graph, Node, Task, befores, order_tasks
-from record.macros import Use, uses
+from record.macros import Macros, Use, uses
+from record.memory import add_search, libraries, share_listings
 from record.names import Names, join
 from record.owners import Make, Work
 from record.unfiled import add_macros, add_outputs, count_listings
@@ -38,7 +39,9 @@ class Builder:
         self.timers: Dict[str, Set[int]] = {}  # folder: who changes its time
         self.aged: Dict[str, Set[int]] = {}  # name: who settles its age, as far as that was asked
         self.sources: Dict[str, List[Set[str]]] = {}  # name: those whose ages it may have
-        self.macros: Dict[str, Use] = uses(make, self.graph.base)
+        self.holes: List[str] = []
+        self.known = Macros(make, self.graph.base)
+        self.macros: Dict[str, Use] = uses(self.known)
 
     def path_of(self, name: str) -> str:
         """The real path of a target, as it was before the build or is now."""
@@ -50,6 +53,7 @@ class Builder:
         """All steps."""
         for node in self.graph.nodes.values():
             node.path = self.path_of(node.name)
+        share_listings(self)
         self.make_recipes()
         self.note_writers()
         self.make_decisions()
@@ -134,6 +138,9 @@ class Builder:
                 users.setdefault(one, []).append(node)
         late = self.graph.late()
         for node in self.graph.nodes.values():
+            if libraries(self, node):
+                self.first_of[node.label] = self.add(node, "first", node.label + "@first")
+                continue
             if node.phony or node.rule or node.label in late or self.is_leaf(node):
                 continue
             own = self.of_node.get(node.label, -1)
@@ -303,7 +310,8 @@ class Builder:
             if task.kind != "group":
                 self.add_decision(looker, at, node, node.label in asked)
         for label, at in self.first_of.items():
-            build.tasks[at].reads.update(self.first_seen(self.graph.nodes[label]))
+            node = self.graph.nodes[label]
+            build.tasks[at].reads.update(self.first_seen(node) + libraries(self, node))
         add_macros(self, created)
         add_outputs(self)
         count_listings(self, created)
@@ -351,41 +359,17 @@ class Builder:
                 self.timed.setdefault(path, set()).add(looker)
         task.reads.update(path for path in self.followed(node, at) if writers.get(path, set()) - {at, looker})
         if node.name in self.graph.base.implicit:
-            self.add_search(looker, node)
+            add_search(self, looker, node)
 
     def is_known(self, path: str) -> bool:
         """Whether the tree before the build says if a name was there."""
         return any(path == top or path.startswith(top.rstrip("/") + "/") for top in self.names.tops)
-
-    def add_search(self, at: int, node: Node) -> None:
-        """The search for implicit rules sees a name that a recipe writes, where make had not listed the folder before."""
-        for path in self.searched(self.make, self.graph, node.name):
-            if path in self.build.writers:
-                listed = self.make.listed.get(os.path.dirname(path), 1 << 60)
-                if listed < self.first_birth():
-                    self.assumed.add("search", path)
-                else:
-                    self.build.tasks[at].reads.add(path)
 
     def first_birth(self) -> int:
         """When the first recipe of this make began."""
         if self.began < 0:
             self.began = min((l.born for w in self.make.work.values() for l in w.lives), default=1 << 60)
         return self.began
-
-    def searched(self, make: Make, graph: Graph, name: str) -> Set[str]:
-        """The names that one step of the search looks for."""
-        found: Set[str] = set()
-        for targets, prerequisites in graph.base.patterns:
-            for target in targets:
-                head, _, tail = target.partition("%")
-                folder, last = ("", name) if "/" in target else os.path.split(name)
-                if last.startswith(head) and last.endswith(tail) and len(last) > len(head) + len(tail):
-                    stem = last[len(head): len(last) - len(tail)]
-                    for one in prerequisites:
-                        if "%" in one:
-                            found.add(os.path.normpath(os.path.join(make.folder, folder, one.replace("%", stem, 1))))
-        return found
 
     def drop_lonely(self) -> None:
         """Paths that one task alone touches say nothing; nor do reads of what nobody writes."""

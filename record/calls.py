@@ -22,6 +22,8 @@ HIDING = {"chroot", "pivot_root", "mount", "move_mount", "umount", "umount2", "s
 SCRIPTS = 5  # how many scripts may be the interpreter of one another; the kernel allows no more
 GIVEN_TIME = re.compile(r"tv_[nu]sec=\d+\}(?: /\*[^*]*\*/)?\]|modtime=")
 MODE = re.compile(r", (0[0-7]*)$")
+TIMED = re.compile(r"\s(-\w*w|--(wait|timeout))")  # `flock -w SECONDS`
+ANY_PORT = re.compile(r"_port=htons\(0\)")
 TEXT_END = re.compile(r'^.*"(?:[^"\\]|\\.)*"', re.S)
 
 
@@ -71,8 +73,14 @@ class Calls(Replay):
         elif name in HIDING and ok:
             self.holes.append("files that are opened after %s are not seen: %s" % (name, " ".join(life.argv)[:100]))
         elif name in ("connect", "bind"):
-            if ok and ("AF_UNIX" in call.args or name == "connect" and "AF_INET" in call.args):
+            if ok and "AF_UNIX" in call.args or "AF_INET" in call.args and not ANY_PORT.search(call.args):
                 self.sockets.append(" ".join(life.argv)[:100])
+
+    def on_flock(self, life: Life, call: Call, ok: bool) -> None:
+        """Who waits for a lock does the same whoever has it; who does not wait sees whether another has it."""
+        waits = "LOCK_NB" not in call.args and not TIMED.search(" ".join(life.argv))
+        if not (ok and (waits or "LOCK_UN" in call.args)):
+            self.locks.append("%s locks %s" % (" ".join(life.argv)[:60], "".join(folders(call.args)[:1])))
 
     def base_and_path(self, life: Life, call: Call) -> Tuple[str, str]:
         """The folder that the first path of an *at-call starts from, and the path."""
@@ -94,10 +102,17 @@ class Calls(Replay):
             self.put(life, "h", found.path)
         if life.is_query or traits.is_interpreter or self.ages(life):
             is_folder = found.inode is not None and found.inode.kind == "d"
-            if not is_folder or path != "." and not path.startswith("/") or shelltext.names_here(life.argv):
+            if not is_folder or not self.is_own(life, path, found) or shelltext.names_here(life.argv):
                 self.put(life, "A", found.path)
-        elif not traits.is_ageless and not life.is_make and "access" not in call.name and "readlink" not in call.name:
+        elif (not traits.is_ageless or self.is_inside(life.program)) and not life.is_make and "access" not in call.name and "readlink" not in call.name:
             self.put(life, "a", found.path)
+
+    @staticmethod
+    def is_own(life: Life, path: str, found: Found) -> bool:
+        """Whether a process looks at the folder that it is in, or at one above, as shells do by themselves; interpreters also at those
+        in which they look for modules."""
+        above = life.traits().is_interpreter or (life.folder.rstrip("/") + "/").startswith(found.path.rstrip("/") + "/")
+        return path == "." or path.startswith("/") and above
 
     def on_execve(self, life: Life, call: Call, ok: bool) -> None:
         program = first_text(call.args)

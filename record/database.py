@@ -45,22 +45,28 @@ class _Files:
     def __init__(self, base: Base) -> None:
         self.base, self.name = base, ""
         self.is_macro = False  # the next line sets a macro of one target
+        self.is_recipe = self.goes_on = False  # inside of a recipe; inside of one of its lines
 
     def line(self, text: str) -> None:
-        base = self.base
-        if text == "":
-            self.name = ""
-        elif text.startswith("\t"):
-            if self.name and text.strip():
-                base.recipes.setdefault(self.name, []).append(text[1:])
+        if self.is_recipe and (text or self.goes_on):
+            self.recipe(text)
+        elif text == "":
+            self.name, self.is_recipe = "", False
         elif text.startswith("#"):
             self.remark(text)
-        elif not self.name:
+        elif not self.name and not text.startswith("\t"):
             self.target(text)
+
+    def recipe(self, text: str) -> None:
+        """A line of a recipe. Each begins with a tab, or what `.RECIPEPREFIX` says; behind a backslash it goes on as it stands."""
+        if self.name and text.strip():
+            self.base.recipes.setdefault(self.name, []).append(text if self.goes_on else text[1:])
+        self.goes_on = (len(text) - len(text.rstrip("\\"))) % 2 == 1
 
     def remark(self, text: str) -> None:
         base = self.base
         self.is_macro = not self.name and bool(ORIGIN.match(text))
+        self.is_recipe = self.is_recipe or text.startswith("#  recipe to execute")
         place = PLACE.match(text)
         if place and self.name:
             base.places.setdefault(self.name, []).append((place.group(1), int(place.group(2))))

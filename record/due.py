@@ -9,18 +9,20 @@ from dataclasses import dataclass
 from typing import Any, Dict, Iterable, Iterator, List, Optional, Set, Tuple
 
 from record.assumptions import Assumptions
+from record.called import called, called_by
 from record.database import Base
 from record.graph import Build, Node, Task, order_tasks
+from record.keeping import asks_what_is_newer, keeps
 from record.later import needs_of, phony_of
 from record.names import Names
 from record.tasks import labels_of, lines_of, relative
 
 CHANGES = "WCD"
 BYTE_CODE = re.compile(r"(.*/)__pycache__/([^/.]+)\.[^/]*$", re.S)
+FIXED = re.compile(r"/\.git/objects/|/CMakeFiles/[^/]+\.dir/cmake_clean_target\.cmake$")  # no edit changes what git names by its sum, or CMake writes
 NEVER = "@never"  # folders that no project has: names below this one stand for targets that never have a file,
 KEPT = "@kept"  # and below this one for the run of a recipe that leaves its target alone where nothing has changed
 NODES, EDGES, PATHS = 20_000, 200_000, 1_000_000  # what a text of tasks may hold
-COMPARES = re.compile(r"\bcmp\b|\bdiff\b.*(\|\||&&)|if[-_]change|if[-_]different", re.S)
 
 
 def is_below(path: str, folder: str) -> bool:
@@ -47,12 +49,14 @@ class Footprints:
         self.removes: List[Set[str]] = [set() for _ in build.tasks]
         self.folders: List[Set[str]] = [set() for _ in build.tasks]  # that it makes, or finds made
         self.seen = Seen(set(), set(), set())
+        self.set_back: Set[str] = set()  # names whose time a recipe sets
         self.known: Dict[str, bool] = {}  # names that are read: whether they can change and matter
         for at, task in enumerate(build.tasks):
             for kind, path in self.events(task) if task.kind == "recipe" else ():
                 self.take(at, kind, path)
         self.written = set().union(*self.writes)
         self.drop_temporaries()
+        self.changes = [{path for path in self.reads[at] & self.writes[at] if self.is_read_first(task, path)} for at, task in enumerate(build.tasks)]
         for at in range(len(build.tasks)):
             self.reads[at] = {path for path in self.reads[at] - self.writes[at] if self.is_input(path)}
         self.seen.looks -= self.written.union(*self.reads)
@@ -65,7 +69,14 @@ class Footprints:
         acts = self.build.make.acts.get((self.build.graph.number, task.node.name)) if task.node.rule == 0 else None
         looks = self.build.make.looked.get(task.node.name, {})
         seen = min(looks.values(), default=0)  # what came earlier is what the makefiles call while they are read
-        yield from (event for event, place in acts.events.items() if place > seen) if acts is not None else ()
+        if acts is not None:
+            born = min((life.born for work in task.works for life in work.lives), default=1 << 60)
+            again = self.called_between(seen, born) if min(acts.events.values(), default=seen + 1) <= seen else set()
+            yield from (event for event, place in acts.events.items() if place > seen or event in again)
+
+    def called_between(self, seen: int, born: int) -> Set[Tuple[str, str]]:
+        """What make itself calls before a recipe starts: a file may be read for the recipe though it was read earlier too."""
+        return {event for life in called_by(self.build.make) if seen < life.born < born for event in life.events}
 
     def is_inside(self, path: str) -> bool:
         """Whether a name is in the project, and not in the record."""
@@ -73,7 +84,9 @@ class Footprints:
 
     def take(self, at: int, kind: str, path: str) -> None:
         """One event."""
-        name, _, _ = path.rstrip("/").partition("\0")
+        name, mark, other = path.rstrip("/").partition("\0")
+        if kind == "c" and mark and not other:
+            self.set_back.add(name)
         if kind not in "RSNLWCDMTE":
             return
         code = BYTE_CODE.match(name)
@@ -94,6 +107,13 @@ class Footprints:
         else:
             (self.seen.absent if kind == "N" else self.seen.looks).add(name)
 
+    @staticmethod
+    def is_read_first(task: Task, path: str) -> bool:
+        """Whether a recipe reads a file before it writes it."""
+        never = 1 << 60
+        read, written = (min((work.events.get((kind, path), never) for work in task.works for kind in kinds), default=never) for kinds in ("R", "WC"))
+        return read <= written
+
     def drop_temporaries(self) -> None:
         """Names that are gone before and after the build, where each recipe that touches them makes and removes them itself."""
         gone = {path for path in self.written if path not in self.names.before and not os.path.lexists(path)}
@@ -109,7 +129,7 @@ class Footprints:
         if path not in self.known:
             is_link = self.names.before.get(path) == "l"
             is_file = not os.path.isdir(path) and (path in self.names.before or os.path.lexists(path))
-            self.known[path] = path in self.written or is_file and not is_link
+            self.known[path] = path in self.written or is_file and not is_link and not FIXED.search(path)
             if is_link and not self.known[path]:
                 self.seen.looks.add(path)
         return self.known[path]
@@ -125,10 +145,13 @@ class OldTree:
         self.foot = Footprints(build, names, out)
         self.tasks = [Task(t.label, t.node, t.kind, set(t.after), r, w) for t, r, w in zip(build.tasks, self.foot.reads, self.foot.writes)]
         self.labels = labels_of(build.tasks)
+        self.writers = self.names_of_writers()
         self.makes: Dict[int, str] = {}
         self.needs: Dict[int, List[str]] = {}
         self.paths: Dict[str, List[str]] = {}  # by prerequisite
         self.owners: Dict[int, str] = {}  # of a task that stands for an output: the label of the recipe
+        self.kept: Set[int] = set()  # recipes that may leave their target alone where nothing has changed
+        self.fresh: Set[str] = set()  # what is made anew in each build
         self.choose()
         self.lend_names()
         self.drop_lonely()
@@ -158,8 +181,9 @@ class OldTree:
                     self.premises.add(why, task.node.name)
                 else:
                     self.needs[at] = [one for one in needs or () if one != path]
+                    self.note_run(at, path)
                     stand_in = self.stand_in(KEPT, relative(self.build.folder, path))
-                    found.setdefault(stand_in if self.keeps(at) else path, []).append(at)
+                    found.setdefault(stand_in if at in self.kept else path, []).append(at)
         for path, who in found.items():
             if len(who) == 1:
                 self.makes[who[0]] = path
@@ -187,18 +211,26 @@ class OldTree:
         """A name that no file has, in the place of another."""
         return "%s/%s/%s" % (self.build.folder.rstrip("/"), kind, name.strip("/") or "root")
 
-    def keeps(self, at: int) -> bool:
-        """Whether a recipe compares what it makes with what is there, and may leave its target alone: so it wakes nobody by itself."""
-        task = self.build.tasks[at]
-        ran = (" ".join(argv) for work in task.works for life in work.lives if not life.is_make for argv in life.ran)
-        return any(COMPARES.search(text) for text in (*self.first.recipes.get(task.node.name, ()), *ran))
+    def note_run(self, at: int, path: str) -> None:
+        """Notes whether a recipe may leave its target alone, or makes it anew in each build."""
+        task, never = self.build.tasks[at], self.stand_in(NEVER, "/")[: -len("root")]
+        is_forced = any(one in self.fresh or one.startswith(never) for one in self.needs[at])
+        asks = asks_what_is_newer(task.node.name, self.first)
+        if asks:
+            self.premises.add("newer", task.node.name)
+        if asks and is_forced:
+            self.needs[at] = [one for one in self.needs[at] if not one.startswith(never)]
+        if asks and is_forced or keeps(task, path, self.first, is_forced):
+            self.kept.add(at)
+        elif is_forced:
+            self.fresh.update({path}, self.tasks[at].writes)
 
     def paths_needed(self, node: Node) -> Optional[List[str]]:
         """The files that make a target run, those of all targets of its recipe."""
         found: Dict[str, None] = {}
         for name in (node.name, *self.first.also.get(node.name, [])):
             needs = needs_of(name, self.first, self.later, self.build.graph.round.vpath)
-            if needs is None:
+            if needs is None or any(self.is_lost(one) for one in needs):
                 return None
             for one in needs:
                 if one not in self.paths:
@@ -214,7 +246,33 @@ class OldTree:
         if name in self.phony or not self.is_there(name, paths[0]):
             yield self.stand_in(NEVER, name)
         else:
-            yield from (path for path in dict.fromkeys(paths) if self.foot.is_inside(path))
+            yield from (path for path in dict.fromkeys(paths) if self.foot.is_inside(path) and self.is_behind(name, path))
+
+    def is_lost(self, name: str) -> bool:
+        """Whether a prerequisite is one that this build has not met, and is not there under its own name: make may search for it."""
+        return name not in self.build.graph.round.nodes and name not in self.phony and not self.is_there(name, self.names.find(self.build.folder, name, False).path)
+
+    def names_of_writers(self) -> Dict[str, Set[str]]:
+        """For each path that a recipe writes the targets of these recipes."""
+        found: Dict[str, Set[str]] = {}
+        for task in self.tasks:
+            for path in task.writes if task.kind == "recipe" else ():
+                found.setdefault(path, set()).update((task.node.name, *self.first.also.get(task.node.name, ())))
+        return found
+
+    def is_behind(self, name: str, path: str) -> bool:
+        """Whether make looks at a path by this name when a recipe that writes it has ended: the name is the target of that recipe, or
+        has one of its own, be it empty, that runs behind it. Else make takes the age of the file as it was before."""
+        writers, seen = self.writers.get(path) if path not in self.names.before else None, set()
+        todo = [name, self.build.graph.round.vpath.get(name, name)]
+        while todo and writers:
+            one = todo.pop()
+            if one in writers or self.first.recipes.get(one) in [text for text in map(self.first.recipes.get, writers) if text]:
+                return True  # its own recipe, or one of `a b: c`
+            if one not in seen and any(one in base.recipes or one in base.places for base in (self.first, self.later)):
+                todo += [*self.first.prerequisites.get(one, ()), *self.later.prerequisites.get(one, ())]
+            seen.add(one)
+        return not writers
 
     # ---------------------------------------------------------------- one maker for each name
     def lend_names(self) -> None:
@@ -224,6 +282,8 @@ class OldTree:
             writers = [at for at in writing.get(path, ()) if makers.get(path) != at]
             for at in writers:
                 self.tasks[at].writes.discard(path)
+                if path in makers and path in self.foot.changes[at]:
+                    self.tasks[at].reads.add(path)
             also = [at for at in writers if path in makers or path in self.needs.get(at, ())]
             if also:
                 self.premises.add("rewritten", relative(self.build.folder, path))
@@ -249,7 +309,7 @@ class OldTree:
         while label in self.labels:
             label += "+"
         self.labels.append(label)
-        self.makes[at], self.needs[at] = path, [self.makes[one] for one in writers if one in self.makes and not self.keeps(one)]
+        self.makes[at], self.needs[at] = path, [self.makes[one] for one in writers if one in self.makes and one not in self.kept]
         self.owners[at] = self.labels[writers[-1]]
         self.premises.add("outputs", relative(self.build.folder, path))
 
@@ -303,6 +363,10 @@ class OldTree:
         for kind, names in (("beyond", seen.outside), ("looks", seen.looks), ("unlisted", seen.absent)):
             if names:
                 self.premises.add(kind, relative(self.build.folder, min(names)), len(names))
+        needed = {one for needs in self.needs.values() for one in needs}
+        for kind, found in (("times", self.foot.set_back & needed), ("called", called(self) if self.build.stage == "goals" else set())):
+            for path in sorted(found):
+                self.premises.add(kind, relative(self.build.folder, path))
 
     def judged(self) -> int:
         """How many recipes say when they run."""
@@ -315,6 +379,9 @@ class OldTree:
         for at, path in self.makes.items():
             more[at] = {"makes": relative(root, path), "needs": list(dict.fromkeys(relative(root, one) for one in self.needs[at]))}
             more[at].update({"of": self.owners[at]} if at in self.owners else {})
+            outputs = {relative(root, one): one for one in (self.tasks[at].writes if at in self.owners or KEPT in path else ()) if KEPT not in one}
+            loose = sorted(name for name, one in outputs.items() if not self.is_behind(name, one))
+            more[at].update({"loose": loose} if loose else {})
         return (line for _, line in lines_of(self.tasks, root, self.labels, more))
 
     def listing(self) -> List[str]:

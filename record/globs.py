@@ -3,6 +3,8 @@
 import re
 from typing import Dict, Iterator, List, Optional, Set
 
+from record.shelltext import loose
+
 CALL = re.compile(r"\$([({])wildcard[ \t]+")
 REFERENCE = re.compile(r"\$(?:\(([\w.-]+)(?::[^$(){}*?\[]*)?\)|\{([\w.-]+)(?::[^$(){}*?\[]*)?\}|(\w))")
 MAGIC = re.compile(r"[*?\[]")
@@ -100,5 +102,5 @@ def parts(words: Optional[str], macros: Macros) -> Set[str]:
         if any(mark in word for mark in (UNKNOWN, "$", "(", "{")):
             found.add("*")
         else:
-            found.update(part for part in word.split("/") if MAGIC.search(part))
-    return found
+            found.update(part for part in loose(word).split("/") if MAGIC.search(part))
+    return {part.replace(NAMED, "*") for part in found}

@@ -2,7 +2,7 @@
 
 import os
 import re
-from typing import Dict, List, Tuple
+from typing import Dict, Iterator, List, Tuple
 
 from record import shelltext
 from record.assumptions import Assumptions
@@ -25,6 +25,7 @@ def add_granted(owners: Owners, assumed: Assumptions, spool: str) -> None:
         named_flags(make, works, assumed, spool)
     at_once(owners, assumed)
     outlived(owners, assumed)
+    asked(owners, assumed)
 
 
 def idle_targets(owners: Owners, names: Names) -> List[str]:
@@ -79,6 +80,18 @@ def add_granted_by_ninja(ninjas: List[Ninja], owners: Owners, assumed: Assumptio
         outlived_of(job.life, owners, assumed)
 
 
+def asked(owners: Owners, assumed: Assumptions) -> None:
+    """Makes that only ask (`make -n`), and yet run several lines, which have a `+` or name $(MAKE): these may run at once."""
+    for life in owners.lives:
+        if life.is_query and sum(1 for child in life.children if does_more(owners, child)) > 1:
+            assumed.add("queries", " ".join(life.argv)[:60])
+
+
+def does_more(owners: Owners, life: Life) -> bool:
+    """Whether a process or one below it changes files, or is a make, which prints."""
+    return any(one.is_make or any(kind in "WCDMTX" for kind, _ in one.events) for one in owners.below(life))
+
+
 def at_once(owners: Owners, assumed: Assumptions) -> None:
     """Two processes of one recipe that touch a file at the same time."""
     for make in owners.makes:
@@ -114,10 +127,18 @@ def outlived(owners: Owners, assumed: Assumptions) -> None:
 
 
 def outlived_of(life: Life, owners: Owners, assumed: Assumptions) -> None:
-    """What a recipe left running, and what then changed files."""
+    """What a recipe left running, and what may then change files: those that it opens, and those that it or who started it had opened."""
     for one in owners.below(life):
-        if one.died > life.died and any(k in "WCDMTX" and place > life.died for (k, _), place in one.events.items()):
+        if one.died > life.died and any(k in "WCDMTX" for up in until(one, life) for k, _ in up.events):
             assumed.add("outlives", " ".join(one.argv)[:60])
+
+
+def until(life: Life, last: Life) -> Iterator[Life]:
+    """A life and those above it, up to one of them."""
+    for up in life.up():
+        yield up
+        if up is last:
+            return
 
 
 def overlap(who: List[Tuple[Life, bool]]) -> bool:

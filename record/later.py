@@ -121,10 +121,16 @@ def add_headers(base: Base, folder: str) -> None:
     for name in list(base.prerequisites):
         path = Path(folder, name + ".d")
         if path.is_file():
-            new = [one for one in words_of(path.read_text(errors="surrogateescape")) if one not in base.prerequisites[name]]
+            words = (short(one, folder) for one in words_of(path.read_text(errors="surrogateescape")))
+            new = [one for one in dict.fromkeys(words) if one not in base.prerequisites[name]]
             base.prerequisites[name] += new
             for one in new:
                 base.prerequisites.setdefault(one, [])
+
+
+def short(name: str, folder: str) -> str:
+    """A name as CMake writes it in its makefiles: from the folder that make works in, where it is below that."""
+    return name[len(folder.rstrip("/")) + 1:] if name.startswith(folder.rstrip("/") + "/") else name
 
 
 def words_of(text: str) -> List[str]:

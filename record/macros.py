@@ -3,20 +3,27 @@
 import os
 import re
 from dataclasses import dataclass, field
+from fnmatch import fnmatchcase
+from functools import cached_property
 from pathlib import Path
-from typing import Dict, Iterator, List, NamedTuple, Set
+from typing import Dict, Iterable, Iterator, List, NamedTuple, Set
 
 from record.database import Base
 from record.owners import Make
+from record.shelltext import shell_text
 from record.words import makefiles
 
-REFERENCE = re.compile(r"\$(?:[({](?:call[ \t]+|value[ \t]+)?([\w.-]+)|(\w))")
+BEGIN = re.compile(r"\$(?:[({](?:(?:call|value|origin|flavor)[ \t]+)?|(\w))")
 EVAL = re.compile(r"\$([({])eval[ \t]")
 SETS = re.compile(r"[ \t]*(?:override[ \t]+|export[ \t]+)*([\w.-]+)[ \t]*(\+|\?|!|:{0,3})=")
 ASSIGNED = re.compile(r"([\w.-]+)[ \t]*(?:[+?!]|:{1,3})?=((?:[^\n]*\\\n)*[^\n]*)")
 DEFINED = re.compile(r"(?ms)^[ \t]*define[ \t]+([\w.-]+)[^\n]*\n(.*?)^[ \t]*endef")
+# A line of a makefile that is a rule: what stands behind its colon, up to a recipe on the same line.
+RULE = re.compile(r"(?m)^(?!\t)[^\n=#]*?:(?![:=])((?:[^\n;#=]*\\\n)*[^\n;#]*)")
 BRACKETS = {"(": ")", "{": "}"}
 ANY = "*"  # macros that nobody can name
+# What each recipe asks for without a word: macros that make itself reads.
+IMPLIED = frozenset(("SHELL", ".SHELLFLAGS", "MAKEFLAGS", "MFLAGS", "GNUMAKEFLAGS", "MAKEOVERRIDES", "MAKE", "VPATH", "GPATH", ".LIBPATTERNS"))
 
 
 class Eval(NamedTuple):
@@ -43,8 +50,39 @@ def evals(text: str) -> Iterator[Eval]:
 
 
 def named(text: str) -> Set[str]:
-    """The macros that a text refers to."""
-    return {found.group(1) or found.group(2) for found in REFERENCE.finditer(text.replace("$$", "  "))}
+    """The macros that a text refers to; a name that is made of other macros is a pattern, with `*` for each of them."""
+    text = text.replace("$$", "  ")
+    found = {one.group(1) or name_at(text, one.end()) for one in BEGIN.finditer(text)}
+    return {ANY if name == ".VARIABLES" else name for name in found if name}
+
+
+def name_at(text: str, at: int) -> str:
+    """The name that begins at a place, up to a blank, a colon, a comma or a bracket."""
+    found = ""
+    while at < len(text) and text[at] not in " \t\n:,(){}":
+        if text[at] != "$":
+            found, at = found + text[at], at + 1
+        else:
+            found, at = found + "*", end_of(text, at + 1)
+    return found
+
+
+def end_of(text: str, at: int) -> int:
+    """Where a reference ends whose sign stands before a place."""
+    if at >= len(text) or text[at] not in BRACKETS:
+        return at + 1
+    opening, depth = text[at], 0
+    while at < len(text):
+        depth += (text[at] == opening) - (text[at] == BRACKETS[opening])
+        at += 1
+        if not depth:
+            break
+    return at
+
+
+def matching(names: Iterable[str], pattern: str) -> List[str]:
+    """The names that a pattern of `named` fits."""
+    return [name for name in names if fnmatchcase(name, pattern)]
 
 
 @dataclass
@@ -60,38 +98,63 @@ class Macros:
     """The macros of one make, by its makefiles and its data base."""
 
     def __init__(self, make: Make, base: Base) -> None:
-        self.base = base
+        self.make, self.base = make, base
         self.text = "\n".join(text_of(os.path.join(make.folder, name)) for name in sorted(makefiles(make.words)))
         self.is_used = "eval" in self.text or any("eval" in value for value in base.values.values())
-        self.texts: Dict[str, List[str]] = {}  # all that a macro may be, as far as makefiles and the data base show it
-        for found in [*ASSIGNED.finditer(self.text), *DEFINED.finditer(self.text)] if self.is_used else ():
-            self.texts.setdefault(found.group(1), []).append(found.group(2))
         self.named: Dict[str, Set[str]] = {}
+        self.ways: Dict[str, Set[str]] = {}
+        self.changed: Set[str] = set()  # those that recipes change
+
+    @cached_property
+    def texts(self) -> Dict[str, List[str]]:
+        """All that each macro may be, as far as makefiles and the data base show it."""
+        found: Dict[str, List[str]] = {name: [value] for name, value in self.base.values.items()}
+        for one in [*ASSIGNED.finditer(self.text), *DEFINED.finditer(self.text)]:
+            found.setdefault(one.group(1), []).append(one.group(2))
+        return found
+
+    @cached_property
+    def rule_words(self) -> Set[str]:
+        """The words that stand behind the colons of rules, and in macros that are named there."""
+        text = "\n".join(found.group(1) for found in RULE.finditer(self.text))
+        return {word for one in [text, *map(self.text_of, self.reached(text))] for word in one.split()}
 
     def text_of(self, name: str) -> str:
         """All texts that a macro may have."""
-        return "\n".join([*self.texts.get(name, ()), self.base.values.get(name, "")])
+        return "\n".join(self.texts.get(name, ()))
 
     def named_by(self, name: str) -> Set[str]:
-        """The macros that a macro refers to."""
+        """The macros that a macro refers to; those that a pattern fits."""
         if name not in self.named:
-            self.named[name] = named(self.text_of(name))
+            self.named[name] = set(matching(self.texts, name)) if "*" in name else named(self.text_of(name))
         return self.named[name]
 
     def reached(self, text: str) -> Set[str]:
         """All macros that a text refers to, also by way of others."""
-        seen: Set[str] = set()
-        todo = list(named(text))
-        while todo:
-            name = todo.pop()
-            if name not in seen:
-                seen.add(name)
-                todo.extend(self.named_by(name))
-        return seen
+        return {name for one in named(text) for name in self.reached_from(one)}
+
+    def reached_from(self, start: str) -> Set[str]:
+        """A macro, and all that it refers to, also by way of others."""
+        if start not in self.ways:
+            seen: Set[str] = set()
+            todo = [start]
+            while todo:
+                name = todo.pop()
+                if name not in seen:
+                    seen.add(name)
+                    todo.extend(self.named_by(name))
+            self.ways[start] = seen
+        return self.ways[start]
 
     def is_exported(self, name: str) -> bool:
-        """Whether each process of a recipe finds a macro in its environment."""
-        return bool(re.search(r"(?m)^[ \t]*export\b(?:[ \t]*$|[^\n]*\b%s\b)|\.EXPORT_ALL_VARIABLES" % re.escape(name), self.text))
+        """Whether each process of a recipe finds a macro in its environment, or make itself reads it for each recipe."""
+        exports = re.search(r"(?m)^[ \t]*export\b(?:[ \t]*$|[^\n]*\b%s\b)|\.EXPORT_ALL_VARIABLES" % re.escape(name), self.text)
+        return bool(exports) or name in IMPLIED or self.is_inherited(name)
+
+    def is_inherited(self, name: str) -> bool:
+        """Whether make may have found a macro in its own environment: then it hands that on to each recipe."""
+        callers = [life.argv for life in self.make.life.up() if life is not self.make.life and not life.is_make and not life.is_wrapper]
+        return name in os.environ or any(not shell_text(argv) or name + "=" in shell_text(argv) for argv in callers)
 
     def use(self, text: str) -> Use:
         """What expanding a recipe reads and writes."""
@@ -117,17 +180,18 @@ def text_of(path: str) -> str:
         return ""
 
 
-def uses(make: Make, base: Base) -> Dict[str, Use]:
+def uses(macros: Macros) -> Dict[str, Use]:
     """For each target whose recipe takes part: what its recipe does with the macros that some recipe changes."""
-    macros = Macros(make, base)
+    base = macros.base
     if not macros.is_used:
         return {}
     found = {name: macros.use("\n".join(lines)) for name, lines in base.recipes.items()}
-    changed = {name for use in found.values() for name in use.writes}
+    changed = macros.changed = {name for use in found.values() for name in use.writes}
     exported = {name for name in changed if name != ANY and macros.is_exported(name)}
     exported |= {one.name for lines in base.recipes.values() for one in evals("\n".join(lines)) if one.is_exported}
     for use in found.values():
-        use.reads = changed if ANY in changed and use.reads else (use.reads & changed) | exported
+        patterns = [name for name in use.reads if "*" in name]
+        use.reads = set(changed) if ANY in changed else (use.reads & changed) | exported | {n for one in patterns for n in matching(changed, one)}
     wanted = {name for use in found.values() for name in use.reads}
     for use in found.values():
         use.writes &= wanted

@@ -40,9 +40,9 @@ from record.words import read_logs
 from record.wrapper import note_output
 
 HERE = Path(__file__).resolve().parent
-CALLS = ("%file,fchdir,getdents64,getdents,clone,clone3,fork,vfork,fchmod,fchown,ftruncate,fsetxattr,fremovexattr,connect,bind,"
+CALLS = ("%file,fchdir,getdents64,getdents,clone,clone3,fork,vfork,fchmod,fchown,ftruncate,fsetxattr,fremovexattr,connect,bind,flock,"
          "umask,setns,open_by_handle_at,io_uring_setup")
-STRACE = ["strace", "-f", "-q", "-y", "--seccomp-bpf", "-s", "131072", "-e", "signal=none", "-e", "trace=" + CALLS]
+STRACE = ["strace", "-f", "-q", "-y", "--seccomp-bpf", "-s", "131072", "-e", "signal=hup,int,quit,abrt,kill,segv,pipe,term,xfsz", "-e", "trace=" + CALLS]
 EXAMPLE = """examples:
   race-record -- make -C src all       one serial build, then the verdict
   race-record -- cmake --build build   the same where ninja builds
@@ -101,7 +101,8 @@ def run_build(words: List[str], spool: Path) -> Tuple[int, float]:
     env["PATH"] = "%s:%s" % (spool / "bin", env.get("PATH", os.defpath))
     began = time.monotonic()
     old = signal.signal(signal.SIGINT, signal.SIG_IGN)
-    status = subprocess.call(STRACE + ["-o", str(spool / "trace"), "--"] + words, env=env)
+    heard = old if old in (signal.SIG_IGN, signal.SIG_DFL) else signal.SIG_DFL
+    status = subprocess.call(STRACE + ["-o", str(spool / "trace"), "--"] + words, env=env, preexec_fn=lambda: signal.signal(signal.SIGINT, heard))
     signal.signal(signal.SIGINT, old)
     return status, time.monotonic() - began
 
@@ -142,6 +143,8 @@ def import_record(spool: Path, names: Names, kept: Kept, real: str, folder: str,
         record.holes += ["a make that prints its own words (-d, -p, --debug) ran past the recorder: " + t for t in path.read_text(errors="replace").splitlines()]
     for socket in replay.sockets:
         assumed.add("sockets", socket)
+    for name in replay.locks:
+        assumed.add("locks", name)
     for name in replay.hard_links:
         assumed.add("hard-links", name)
     ninjas, of_ninja, holes = import_ninjas(replay.all, owners, names, kept, assumed, record.status == 0)
@@ -162,7 +165,9 @@ def import_record(spool: Path, names: Names, kept: Kept, real: str, folder: str,
         for number, one in enumerate(make.words.rounds):
             acts = [t for n, t in make.acts if n == number]
             if one.jobs or acts:
-                builds.append(Builder(make, number, names, assumed).run())
+                builder = Builder(make, number, names, assumed)
+                builds.append(builder.run())
+                record.holes += builder.holes
     builds = sorted(builds + of_ninja, key=lambda build: build.make.life.born)
     return Imported(builds, assumed, replay.all, ninjas, idle_targets(owners, names))
 

@@ -7,9 +7,9 @@ import json
 import re
 import subprocess
 import tempfile
-from dataclasses import dataclass, field
+from dataclasses import dataclass, field, replace
 from pathlib import Path
-from typing import Any, Dict, Iterator, List
+from typing import Any, Dict, Iterator, List, Set, Tuple
 
 from record.assumptions import Assumptions
 from record.due import KEPT, OldTree
@@ -82,6 +82,7 @@ class Found:
     reader: str
     writer: str = ""
     add: str = ""  # what to add to the prerequisites of the reader (of the writer where both write)
+    is_loose: bool = False  # no line helps: make knows no rule of the file, and whose rule makes it may leave its target alone
 
     @property
     def needed(self) -> str:
@@ -112,20 +113,22 @@ def knows_missing(race: str) -> bool:
         return ask(race, empty, empty, "/").returncode == 0
 
 
-def labels_in(tasks: Path) -> Dict[str, str]:
-    """The label of each name by which a report calls a task: the file that it makes, or the label itself."""
+def labels_in(tasks: Path) -> Tuple[Dict[str, str], Set[str]]:
+    """The label of each name by which a report calls a task: the file that it makes, or the label itself. And the files that have no rule."""
     found: Dict[str, str] = {}
+    loose: Set[str] = set()
     with open(tasks, encoding="utf-8", errors="surrogateescape") as lines:
         for one in map(json.loads, lines):
             label = one.get("of", one["task"])
             found.setdefault(one["task"], label)
             if "makes" in one:
                 found[one["makes"]] = label
-    return found
+            loose.update(one.get("loose", ()))
+    return found, loose
 
 
-def read_answer(lines: List[str], labels: Dict[str, str]) -> Iterator[Found]:
-    """The violations of a report; a line to add belongs to the one before it."""
+def read_answer(lines: List[str], labels: Dict[str, str], loose: Set[str]) -> Iterator[Found]:
+    """The violations of a report; a line to add belongs to the one before it, unless it names a file that has no rule."""
     called = lambda name: labels.get(unshown(name), unshown(name))
     last: List[Found] = []
     for text in lines:
@@ -138,7 +141,9 @@ def read_answer(lines: List[str], labels: Dict[str, str]) -> Iterator[Found]:
             yield from last
             last = [Found("present", unshown(present.group(1)), called(present.group(1)))]
         elif add and last:
-            last = [Found(last[0].kind, last[0].path, last[0].reader, last[0].writer, unshown(add.group(2)))]
+            file = unshown(add.group(2))
+            is_loose = (last[0].path if file.startswith(KEPT + "/") else file) in loose
+            last = [replace(last[0], add="" if is_loose else file, is_loose=is_loose)]
     yield from last
 
 
@@ -155,7 +160,7 @@ def judge_missing(race: str, folder: Path, root: str) -> Answer:
     ran = ask(race, folder / TASKS, folder / LISTING, root)
     lines = ran.stdout.splitlines()
     head = next((at for at, text in enumerate(lines) if text.startswith("waits ")), -1) + 1
-    answer = Answer(list(read_answer(lines[head:], labels_in(folder / TASKS))), max(0, count_of(lines[:head], "races")))
+    answer = Answer(list(read_answer(lines[head:], *labels_in(folder / TASKS))), max(0, count_of(lines[:head], "races")))
     counts = [count_of(lines[:head], word) for word in COUNTS]
     is_whole = -1 not in counts and sum(counts[:4]) == len(answer.found) and ran.returncode == (1 if any(counts) else 0)
     if not is_whole:

@@ -124,6 +124,11 @@ def add_line(judged: Judged, found: List[Found]) -> List[str]:
     """The line for the makefile, for those targets that have one."""
     adding = [one for one in found if judged.early(one)]
     late, early = (" ".join(dict.fromkeys(side(one) for one in adding)) for side in (judged.late, judged.early))
+    if not adding and any(one.is_loose for one in found):
+        return ["  no line helps alone: %s has no rule, and %s may stay as it is when its recipe runs" % (judged.name(found[0].path), judged.target(found[0].writer))]
+    if not adding and found[0].kind == "missing" and found[0].writer:
+        path, readers = judged.name(found[0].path), " ".join(dict.fromkeys(judged.late(one) for one in found))
+        return ["  add: %s: %s" % (readers, path), "  add: %s: %s ;" % (path, judged.target(found[0].writer))]
     return ["  add: %s: %s" % (late, early)] if adding else []
 
 

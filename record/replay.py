@@ -39,6 +39,7 @@ class Replay:
         self.holes: List[str] = []
         self.past: List[str] = []
         self.sockets: List[str] = []
+        self.locks: List[str] = []  # what was locked by somebody who does not wait for it, or not for long
         self.hard_links: List[str] = []
         self.outside: Dict[str, None] = {}  # names that changed, and of which the disk alone says what they were before
         self.fresh: Set[str] = set()  # names that were surely absent when they were made

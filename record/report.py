@@ -74,7 +74,10 @@ def race_text(about: Dict[str, Any], race: Race, fixes: List[str], is_fixed: boo
     own = race.path in (target(about, race.first), target(about, race.second))
     if race.first_does == race.second_does == "writes" and not meaning and not own:
         lines.append("  advice: give each recipe a name of its own for this file, such as %s.$@" % os.path.basename(name))
-    if "first" in (about["labels"].get(race.first, {}).get("kind"), about["labels"].get(race.second, {}).get("kind")):
+    lookers = [target(about, one) for one in (race.first, race.second) if about["labels"].get(one, {}).get("kind") == "first"]
+    if lookers:
+        if race.path not in lookers:
+            return lines + ["  advice: name %s itself as the prerequisite, not as -lNAME: make looks for a library when it first considers the target" % name]
         return lines + ["  advice: let one recipe alone write it; make asks whether it is there before that recipe has run"]
     fix = "%s: %s" % (target(about, race.second), target(about, race.first))
     if about.get("tool") == "ninja":

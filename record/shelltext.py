@@ -17,13 +17,18 @@ PROGRESS = ("cmake_progress_start", "cmake_progress_report", "cmake_echo_color")
 SORTERS = ("make", "gmake", "rm", "cp", "mv", "chmod", "chown", "rmdir", "git")
 MAKERS = ("install-sh", "mkinstalldirs", "libtool")
 INTERPRETERS = re.compile(r"(python|perl|ruby|node|lua|tclsh|php)[\d.]*$")
+TAKES_IN = re.compile(r"(^|[;&|({\n]\s*|\b(then|do|else)\s+)(\.|source|eval)\s")  # text of another file
+OPTIONS = re.compile(r"\bshopt\b|\s[-+]O\s")  # of bash, by which patterns say something else
 GLOB_WORD = re.compile(r"[^\s;|&<>()'\"`=]*[*?\[][^\s;|&<>()'\"`]*")
 # `ar` with `u` is not among them: it compares a file with the member's date in the archive, and a date that this build put
 # there was read from the file.
 AGES = re.compile(
-    r"(^|\s|\[)--?(nt|ot|[ac]?newer[\w-]*|mtime|mmin|atime|amin|cmin|ctime|f?printf)[\s=]|\b(cp|mv|rsync|tar)\s+([^;|&\n]*?\s)?(-\w*u|--update)"
-    r"|(?:\btest|\[)\s+(?![-!])\S+\s+\"?-?\$\S+\s+[^\s;&|\])]|\btar\s+\w*u|\bls\s+([^;|&\n]*?\s)?-\w*[tlc]|\bstat\b[^;|&\n]*%[WXYZwxyz]|--sort=time|\bdate\s+[^;|&\n]*-r")
+    r"(^|\s|\[)[\"']?--?(nt|ot|[ac]?newer[\w-]*|mtime|mmin|atime|amin|cmin|ctime|f?printf)[\"']?[\s=]|\b(cp|mv|rsync|tar)\s+([^;|&\n]*?\s)?(-\w*u|--update)"
+    r"|(?:\btest|\[)\s+(?![-!])\S+\s+\"?-?\$\S+\s+[^\s;&|\])]|\btar\s+\w*u|\bls\s+([^;|&\n]*?\s)?-\w*[tlc]|\bstat\b[^;|&\n]*%[WXYZwxyz]|--sort[= ]t|\bdate\s+[^;|&\n]*-r")
 TAKEN = re.compile(r"(?m)(?:^|[;&|{(]|\bthen\b|\bdo\b|\belse\b)[ \t]*(?:\.|source)[ \t]+([^\s;&|)#]+)")  # scripts that a script takes in
+# What is thrown away, and errors that are not: a folder that is there already is reported there.
+NOWHERE = re.compile(r"(?:\b2\s*|&)?>>?\s*/dev/null(?:\s*2>&1)?")
+KEPT_ERRORS = re.compile(r"\b2\s*>|&>|>\s*&|\|&")
 DIRECTORY = r"(?:\"[^\"]*\"|'[^']*'|[^\s;|&<>()'\"`]+)"
 
 
@@ -69,9 +74,21 @@ def patterns(argv: List[str], cut: bool) -> Iterable[str]:
     text = shell_text(argv)
     if not text or cut or "$" in text or "`" in text or re.search(r"\beval\b", text):
         return ["*"]
-    last = {os.path.basename(p.rstrip("/")) for p in GLOB_WORD.findall(text)}
-    middle = {part for word in GLOB_WORD.findall(text) for part in word.split("/") if re.search(r"[*?\[]", part)}
+    if OPTIONS.search(" ".join(argv)) or TAKES_IN.search(text):
+        return ["*"]
+    words = [loose(word) for word in GLOB_WORD.findall(text)]
+    last = {os.path.basename(word.rstrip("/")) for word in words}
+    middle = {part for word in words for part in word.split("/") if re.search(r"[*?]", part)}
     return sorted((last | middle) - {""}) or ["*"]
+
+
+def loose(pattern: str) -> str:
+    """A pattern of `*` and `?` alone that matches all that a shell's pattern does: one of several characters, and one that is quoted,
+    are any character, and several words in braces are any text."""
+    pattern, count = re.sub(r"\\.", "?", pattern), 1
+    while count:
+        pattern, count = re.subn(r"\{[^{}]*\}", "*", pattern)
+    return re.sub(r"\[[!^]?\]?(?:\[[:.=][^\]]*[:.=]\]|[^\]/])*\]|\[", "?", pattern)
 
 
 def is_quiet_mkdir(argv: List[str]) -> bool:
@@ -123,14 +140,25 @@ def is_excused(argv: List[str], folder: str) -> bool:
     forms = (
         r"mkdir\s+" + spelled + quiet + r"\s*\|\|\s*(?:true|:|test\s+-d\s+(?P=d)|\[\s+-d\s+(?P=d)\s+\])" + quiet + ends,
         r"(?:test\s+-[de]\s+" + spelled + r"|\[\s+-[de]\s+" + spelled.replace("?P<d>", "?P<d2>") + r"\s+\])" + quiet
-        + r"\s*\|\|\s*(?:mkdir\s+-p|install\s+-d)\s+" + DIRECTORY + quiet + ends,
+        + r"\s*\|\|\s*(?:mkdir\s+-p|install\s+-d)\s+(?P<made>" + DIRECTORY + ")" + quiet + ends,
     )
     begin = r"(?:^|[;\n({&]|\bthen|\bdo)\s*"
-    found = [m for form in forms for m in re.finditer(begin + form, text)]
-    spellings = {(m.groupdict().get("d") or m.groupdict().get("d2") or "").strip("'\"") for m in found}
+    found = [m for form in forms for m in re.finditer(begin + form, text) if "/dev/null" in m.group() or not KEPT_ERRORS.search(NOWHERE.sub(" ", text))]
+    spellings = {spelled_by(m) for m in found if makes_it(m)}
     if not any(folder.endswith("/" + os.path.normpath(s).lstrip("./")) for s in spellings if s):
         return False
     return len(re.findall(r"(?:-[defrwxs]\s+|\bls\s+|\bstat\s+)\S*" + re.escape(name) + r"(?![\w./-])", text)) <= 1
+
+
+def spelled_by(form: "re.Match[str]") -> str:
+    """The folder that a quiet form asks for."""
+    return (form.groupdict().get("d") or form.groupdict().get("d2") or "").strip("'\"")
+
+
+def makes_it(form: "re.Match[str]") -> bool:
+    """Whether a quiet form makes the folder that it asks for, or one below it."""
+    made = form.groupdict().get("made")
+    return made is None or (os.path.normpath(made.strip("'\"")) + "/").startswith(os.path.normpath(spelled_by(form)) + "/")
 
 
 def is_ageless(argv: List[str]) -> bool:
@@ -175,10 +203,12 @@ def script_compares(path: str, folder: str, depth: int = 0) -> bool:
 
 def compares_ages(argv: List[str], folder: str) -> bool:
     """Whether a process may depend on which of two files is newer."""
+    if base_name(argv) in SHELLS and len(argv) == 1:
+        return True  # its script comes from standard input, and nobody can read it
     if is_script(argv) and "libtool" not in argv[1]:
         return "-c" not in argv and script_compares(os.path.join(folder, argv[1]), folder)
     text = " ".join(argv) + " "
-    return bool(AGES.search(text)) or bool(shell_text(argv) and re.search(r"(^|[;&|\n]\s*)(\.|source|eval)\s", shell_text(argv)))
+    return bool(AGES.search(text)) or bool(TAKES_IN.search(shell_text(argv)))
 
 
 def looks_at_links(argv: List[str]) -> bool:

@@ -19,13 +19,16 @@ AT = r"(?:AT_FDCWD<[^>]*>, )?"
 # Common calls stand first, and a line with one text is tried before one with two: a trace has a thousand looks for each change.
 RESULT = r" = (?:\d|-1 E(?:NO|INVAL))"
 LOOKING = (
-    r"\d+ +(?:readlink(?:at)?|open(?:at)?|newfstatat|access|faccessat2?|statx?|lstat|statfs)\(" + AT + r'"FOLDERS[^"]*"'
+    r"\d+ +(?:readlink(?:at)?|open(?:at)?|newfstatat|access|faccessat2?|statx?|lstat|statfs)\(" + AT + r'"(FOLDERS[^"]*)"'
     r'(?:[^"]*' + RESULT + r'|[^"]*"[^"]*"[^"]*' + RESULT + r')|\d+ +newfstatat\(\d+<[^>]*>, "", [^"]* = 0$')
 NAMES = r"(?:creat|rename\w*|unlink\w*|rmdir|mkdir\w*|mknod\w*|link\w*|symlink\w*|truncate|[fl]?ch(?:mod|own)\w*|utime\w*|futimesat)\("
 FLAGS = r"O_(?:WRONLY|RDWR|CREAT|TRUNC)"
-CHANGING = r"\d+ +(?:open|openat2?)\(" + AT + r'"FOLDERS(?:[^"\\]|\\.)*", [^\n]*' + FLAGS + r"|\d+ +" + NAMES + r'[^\n]*"FOLDERS'
+# A name may be relative to a folder of the system: strace shows which file was opened, and where a call with a folder starts from.
+CHANGING = (
+    r"\d+ +(?:open|openat2?)\(" + AT + r'"(?:(?:[^"\\]|\\.)*\.\.)?FOLDERS(?:[^"\\]|\\.)*", [^\n]*' + FLAGS + r"|\d+ +(?:open|openat2?)\([^\n]*" + FLAGS
+    + r"[^\n]*= \d+<FOLDERS|\d+ +" + NAMES + r'[^\n]*(?:"(?:(?:[^"\\]|\\.)*\.\.)?|<)FOLDERS|\d+ +(?:chdir|fchdir)\([^\n]*(?:"(?:(?:[^"\\]|\\.)*\.\.)?|<)FOLDERS')
 # What each line that changes something has: a look for these is quick, and few lines have one.
-MARKS = [re.compile(FLAGS.encode()), re.compile((r"\n\d+ +" + NAMES).encode())]
+MARKS = [re.compile(FLAGS.encode()), re.compile((r"\n\d+ +(?:" + NAMES + r"|f?chdir\()").encode())]
 PLAIN = {"n": "\n", "t": "\t", "r": "\r", "v": "\v", "f": "\f"}
 
 
@@ -143,12 +146,29 @@ def has_change(trace: mmap.mmap, changes: "re.Pattern[bytes]") -> bool:
     return any(changes.match(line_at(trace, mark.end() - 1)) for marks in MARKS for mark in marks.finditer(trace))
 
 
-def skipping(trace: Path, tops: List[str]) -> "Optional[re.Pattern[str]]":
-    """What need not be read: looks at the system's folders, where nobody changes a name of them and no top is there."""
+class Skip:
+    """What need not be read: looks at the system's folders by names of which no link leads to a top."""
+
+    def __init__(self, looks: "re.Pattern[str]", tops: List[str]) -> None:
+        self.looks, self.tops = looks, tops
+        self.leads: Dict[str, bool] = {}  # by spelling: whether it leads to a top
+
+    def match(self, line: str) -> bool:
+        """Whether a line is such a look."""
+        found = self.looks.match(line)
+        path = found.group(1) if found is not None else None
+        if path is not None and path not in self.leads:
+            real = os.path.realpath(unescape(path))
+            self.leads[path] = any((real + "/").startswith(top.rstrip("/") + "/") for top in self.tops)
+        return found is not None and not (path is not None and self.leads[path])
+
+
+def skipping(trace: Path, tops: List[str]) -> Optional[Skip]:
+    """What need not be read, where nobody changes a name of the system's folders and no top is there."""
     safe = [p for p in SYSTEM if not any((t + "/").startswith("/%s/" % p) for t in tops)]
     if not safe:
         return None
-    folders_of_system = "/(?:%s)(?=[/\"])" % "|".join(safe)
+    folders_of_system = "/(?:%s)(?=[/\">])" % "|".join(safe)
     changes = re.compile(CHANGING.replace("FOLDERS", folders_of_system).encode())
     with open(trace, "rb") as file:
         if os.fstat(file.fileno()).st_size == 0:
@@ -156,10 +176,10 @@ def skipping(trace: Path, tops: List[str]) -> "Optional[re.Pattern[str]]":
         with mmap.mmap(file.fileno(), 0, access=mmap.ACCESS_READ) as whole:
             if has_change(whole, changes):
                 return None
-    return re.compile(LOOKING.replace("FOLDERS", folders_of_system))
+    return Skip(re.compile(LOOKING.replace("FOLDERS", folders_of_system)), tops)
 
 
-def read_trace(lines: Iterable[str], skip: "Optional[re.Pattern[str]]" = None) -> Iterator[Event]:
+def read_trace(lines: Iterable[str], skip: Optional[Skip] = None) -> Iterator[Event]:
     """The events of a trace, one at a time, except lines that `skip` matches."""
     open_calls: Dict[int, str] = {}
     for line in lines:

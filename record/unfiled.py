@@ -1,17 +1,19 @@
 """What recipes share that is no file: macros of make that a recipe changes, and the order of what a make prints; and the order in
 which a folder shows its names, which is only counted."""
 
+import re
 from collections import Counter
 from itertools import islice
 from typing import TYPE_CHECKING, Dict, Iterator, List, Set, Tuple
 
 from record.folders import each, mark
-from record.macros import keepers, own_path
+from record.macros import ANY, keepers, own_path
 
 if TYPE_CHECKING:
     from record.build import Builder
 
 Created = Dict[str, Dict[str, Set[int]]]
+TARGET = re.compile(r"\$(?:[@*]|[({][@*])")
 
 
 def add_macros(builder: "Builder", created: Created) -> None:
@@ -26,10 +28,14 @@ def add_macros(builder: "Builder", created: Created) -> None:
         who.setdefault(node.name, []).append(looker)
         for names, is_read in ((use.reads, True), (use.writes, False)):
             for name in names:
-                mark(builder, own_path(builder.make, "macro/" + name), "the macro %s of make" % name, {looker} if is_read else set(), set() if is_read else {looker})
+                about = "the macro %s of make" % name if name != ANY else "what $(eval ..) changes in make"
+                mark(builder, own_path(builder.make, "macro/" + name), about, {looker} if is_read else set(), set() if is_read else {looker})
+    if builder.known.changed and ".SECONDEXPANSION" in builder.graph.base.prerequisites:
+        builder.holes.append("a recipe changes a macro by $(eval ..), and make expands prerequisites a second time: make " + builder.build.words[:100])
     for targets in keepers(builder.macros).values():
         add_keepers(builder, [t for t in targets if t in who], who, created)
     count_inherited(builder)
+    count_grouped(builder)
 
 
 def count_inherited(builder: "Builder") -> None:
@@ -40,6 +46,17 @@ def count_inherited(builder: "Builder") -> None:
     for label in sorted(scoped & late):
         if users[label] > 1 and graph.nodes[label].jobs and not graph.nodes[label].rule:
             builder.assumed.add("inherited", graph.nodes[label].name)
+
+
+def count_grouped(builder: "Builder") -> None:
+    """Recipes of several targets that name the one for which they run, where the schedule may settle which that is."""
+    graph = builder.graph
+    for name, others in graph.base.also.items():
+        node = graph.nodes.get(name)
+        if node is not None and node.jobs and any(other in graph.nodes for other in others) and not builder.is_leaf(node):
+            text = "\n".join(graph.base.recipes.get(name, ()))
+            if any(TARGET.search(one) for one in (text, *map(builder.known.text_of, builder.known.reached(text)))):
+                builder.assumed.add("grouped", name)
 
 
 def add_keepers(builder: "Builder", targets: List[str], who: Dict[str, List[int]], created: Created) -> None:

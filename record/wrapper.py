@@ -269,6 +269,12 @@ def head_of(args, flags, below, slots, where, errors):
     return "".join("%s %s\n" % (key, text.replace("\n", " ")) for key, text in lines).encode("utf-8", "surrogateescape")
 
 
+def as_usual():
+    """Signals that Python or this program ignores do what they do without them."""
+    for one in (signal.SIGPIPE, signal.SIGXFSZ, signal.SIGINT):
+        signal.signal(one, signal.SIG_DFL)
+
+
 def run_logged(spool, name, real, args, flags, below, slots):
     """Runs make with the recorder's words and keeps what it says; gives its raw status."""
     extra = WORDS + (["-j1"] if asks_jobs(args, flags) else [])
@@ -278,8 +284,7 @@ def run_logged(spool, name, real, args, flags, below, slots):
     note_output(spool, writing, where)
     child = os.fork()
     if child == 0:
-        signal.signal(signal.SIGPIPE, signal.SIG_DFL)
-        signal.signal(signal.SIGINT, signal.SIG_DFL)
+        as_usual()
         if is_one_file(1, 2):
             os.dup2(writing, 2)
         os.dup2(writing, 1)
@@ -319,8 +324,7 @@ def main():
     if query:
         if not query & set("vhnqt"):
             note_past(spool, args)
-        signal.signal(signal.SIGPIPE, signal.SIG_DFL)
-        signal.signal(signal.SIGINT, signal.SIG_DFL)
+        as_usual()
         os.execv(real, [name] + args)
     raw = run_logged(spool, name, real, args, flags, below, slots)
     if os.WIFSIGNALED(raw):

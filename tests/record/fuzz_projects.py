@@ -232,7 +232,8 @@ class Draw:
     def outputs(self, name: str) -> Block:
         colon = "&:" if self.random.random() < 0.5 else ":"
         prerequisites = " ".join(self.prerequisites())
-        text = "%s %s.b %s %s\n\t@$N $@; echo $@ >> %s; $N $@; echo $@ >> %s.b\n" % (name, name, colon, prerequisites, name, name)
+        said = name if colon == "&:" else "$@"  # which target of a group stands for $@ is an assumption
+        text = "%s %s.b %s %s\n\t@$N $@; echo %s >> %s; $N $@; echo %s >> %s.b\n" % (name, name, colon, prerequisites, said, name, said, name)
         self.done += [name, name + ".b"]
         return Block([name, name + ".b"], text)
 

@@ -14,6 +14,10 @@ LOST_RACE = "1 != 2"
 UNSAID = "not found in"
 
 
+# What turns off that recipes see the listings which make keeps.
+MEMORY = ("memory.py", '                    work.add("L", folder + "\\0" + pattern, place)', "                    pass")
+
+
 @dataclass(frozen=True)
 class Guard:
     """One guard: its name, the module and the text that stands there once, what turns it off, and who sees it; and the edit
@@ -50,7 +54,7 @@ TRACE: List[Guard] = [
     Guard("devices are no files", "replay.py", "if DEVICES.match(path) and not self.is_inside(path):", "if False:", small("devices_are_no_files"), FALSE_RACE),
     Guard("devices: no path below a top is left out", "replay.py", "if DEVICES.match(path) and not self.is_inside(path):", "if DEVICES.match(path):", "test_replay.Footprints.test_no_path_below_a_top_is_left_out"),
     Guard("system: what somebody changes is read", "strace.py", "if has_change(whole, changes):", "if False:", "test_strace.Skips.test_look_where_somebody_changes_a_name"),
-    Guard("system: a top there is read", "strace.py", 'if not any((t + "/").startswith("/%s/" % p) for t in tops)', "", "test_strace.Skips.test_look_below_a_top"),
+    Guard("system: a change below a top is none elsewhere", "strace.py", 'if not any((t + "/").startswith("/%s/" % p) for t in tops)', "", "test_strace.Skips.test_change_below_a_top_leaves_other_folders_skipped"),
     Guard("lines: unreadable call", "strace.py", 'if not text.endswith("= ?"):\n                yield Unread(line.strip())', "", "test_strace.Lines.test_other_text_is_a_hole"),
     Guard("lines: no process number", "strace.py", "            if line.strip():\n                yield Unread(line.strip())", "            pass", "test_strace.Lines.test_other_text_is_a_hole"),
     Guard("lines: end without a beginning", "strace.py", 'if " = ?" not in text:\n                    yield Unread(line.strip())', "pass", "test_strace.Lines.test_other_text_is_a_hole"),
@@ -92,7 +96,8 @@ NAMES: List[Guard] = [
     Guard("removals are writes", "build.py", 'CHANGES = "WCD"', 'CHANGES = "WC"', small("removed_file"), YES),
     Guard("listings see what is created", "build.py", "task.reads.add(join(folder, name))", "pass", small("pattern_of_eval"), YES),
     Guard("patterns of computed text are *", "shelltext.py", 'cut or "$" in text or', "cut or", small("pattern_in_a_variable"), YES),
-    Guard("patterns of eval are *", "shelltext.py", r' or re.search(r"\beval\b", text)', "", small("pattern_of_eval"), YES),
+    Guard("patterns of eval are *", "shelltext.py", r' or re.search(r"\beval\b", text)', "", small("pattern_of_eval"), YES,
+          ("shelltext.py", 'OPTIONS.search(" ".join(argv)) or TAKES_IN.search(text)', "False")),
     Guard("patterns keep other names out", "build.py", " and fnmatchcase(name, pattern):", ":", case("glob-other-names"), FALSE_RACE),
     Guard("scripts are of their interpreter", "calls.py", "argv = argv if life.is_wrapper else shelltext.with_interpreter(argv, found.path)", "pass", small("script_that_compares_ages"), YES),
 ]
@@ -147,9 +152,9 @@ GRAPH: List[Guard] = [
     Guard("double colons: the age that make saw first", "ages.py", "if not own or build.tasks[a].node.name != own}", "if True}", small("double_colon_ages"), FALSE_RACE),
     Guard("double colons: what a later rule needs", "graph.py", "            self.hold_back(parts)\n", "", small("double_colon_holds_back"), FALSE_RACE),
     Guard("grouped targets wait for the one that runs", "graph.py", "                    member.prerequisites[name] = None\n", "                    pass\n", case("two-outputs-grouped"), FALSE_RACE),
-    Guard("searches: a folder not listed before", "build.py", "                    self.build.tasks[at].reads.add(path)\n", "                    pass\n", small("search_sees_a_name_that_goes"), YES),
-    Guard("searches: a folder listed before", "build.py", "if listed < self.first_birth():", "if False:", small("search_in_an_early_listing"), FALSE_RACE),
-    Guard("searches: said", "build.py", 'self.assumed.add("search", path)', "pass", small("search_in_an_early_listing"), UNSAID),
+    Guard("searches: a folder not listed before", "memory.py", "                builder.build.tasks[at].reads.add(path)\n", "                pass\n", small("search_sees_a_name_that_goes"), YES),
+    Guard("searches: a folder listed before", "memory.py", "if listed < builder.first_birth():", "if False:", small("search_in_an_early_listing"), FALSE_RACE),
+    Guard("searches: said", "memory.py", 'builder.assumed.add("search", path)', "pass", small("search_in_an_early_listing"), UNSAID),
     Guard("vpath: where a target is", "build.py", "spelled = self.graph.round.vpath.get(name, name)", "spelled = name", small("vpath_prerequisite"), YES, LOOKS),
     Guard("second rounds: one build each", "words.py", '        elif text.startswith("Updating makefiles"):\n            self.begin("makefiles")\n', "", small("race_among_makefiles"), YES),
 ]
@@ -165,7 +170,7 @@ OWNERS: List[Guard] = [
     Guard("acts: not to what make looks at later", "owners.py", "{o for o in owners if looks.get(o[1], -1) < place} or owners", "owners", small("act_before_the_next_target"), FALSE_RACE),
     Guard("acts: not the removal of intermediate files", "owners.py", "self.removed_last(make) | ", "", small("intermediate_file_that_make_removes"), FALSE_RACE),
     Guard("acts: not the looks into archives", "owners.py", "self.removed_last(make) | self.read_archives(make, names)", "self.removed_last(make)", small("archive_beside_another_target"), FALSE_RACE),
-    Guard("acts: what make lists", "owners.py", '                        for pattern in make.globs:\n                            work.add("L"', '                        for pattern in ():\n                            work.add("L"', case("make-wildcard"), YES),
+    Guard("acts: what make lists", "owners.py", '                        for pattern in make.globs:\n                            work.add("L"', '                        for pattern in ():\n                            work.add("L"', case("make-wildcard"), YES, MEMORY),
     Guard("wildcards: computed patterns are *", "globs.py", '"(", "{")):\n            found.add("*")', '"(", "{")):\n            found.add(word)', small("wildcard_that_is_computed"), YES),
     Guard("folder of make -C", "owners.py", '            if act.kind == "U":\n                folder = act.path\n', "", small("decision_below_another_folder"), YES, LOOKS),
     Guard("outer recipe has what its makes do", "owners.py", "        todo = [life]\n        while todo:\n            one = todo.pop()\n            yield one\n            todo.extend(one.children)", "        yield life", case("subdirs-parallel"), YES),
@@ -207,6 +212,35 @@ UNFILED: List[Guard] = [
     Guard("wrapper: order-only prerequisites", "wrapper.py", "older than|order-only for", "older than", "test_output.Output.test_order_only_prerequisite_of_a_target_that_is_there"),
     Guard("macros that recipes change", "build.py", "        add_macros(self, created)\n", "", small("macro_that_a_recipe_changes"), YES),
     Guard("macros: by way of others", "macros.py", "todo.extend(self.named_by(name))", "pass", small("macro_by_way_of_another"), YES),
+    Guard("macros: by computed names", "macros.py", 'found + "*", end_of(text, at + 1)', "found, end_of(text, at + 1)", small("macro_by_a_part_of_its_name"), YES),
+    Guard("macros: by patterns that fit", "macros.py", "if fnmatchcase(name, pattern)", "", small("macro_by_a_part_of_another_name"), FALSE_RACE),
+    Guard("macros: asked for by origin", "macros.py", "|origin|flavor", "", small("macro_by_its_origin"), YES),
+    Guard("macros: in the list of all", "macros.py", 'ANY if name == ".VARIABLES" else name', "name", small("macro_in_the_list_of_all"), YES),
+    Guard("macros: that make reads", "macros.py", " or name in IMPLIED", "", small("macro_that_make_reads"), YES),
+    Guard("macros: of the caller", "macros.py", "or self.is_inherited(name)", "", small("macro_that_the_caller_sets"), YES),
+    Guard("macros: more than a macro", "macros.py", "set(changed) if ANY in changed else", "", small("search_path_that_a_recipe_sets"), YES),
+    Guard("macros: second expansion", "unfiled.py", "if builder.known.changed and", "if False and", small("prerequisites_that_a_recipe_sets"), LOST_HOLE),
+    Guard("listings that make keeps", "memory.py", '                    work.add("L", folder + "\\0" + pattern, place)', "                    pass", small("listing_that_make_keeps"), YES),
+    Guard("listings that make keeps: for who asks", "memory.py", "(asked is None or folder in asked)", "True", small("listing_that_nobody_else_asks_for"), FALSE_RACE),
+    Guard("listings that make keeps: of other folders", "memory.py", "(asked is None or folder in asked)", "asked != set()", small("listings_of_two_folders"), FALSE_RACE),
+    Guard("libraries by their short names", "memory.py", "if not stems or", "if True or", small("library_by_its_short_name"), YES),
+    Guard("libraries: by macros", "macros.py", "[text, *map(self.text_of, self.reached(text))]", "[text]", small("library_by_a_macro"), YES),
+    Guard("libraries: not those that recipes link", "macros.py", r"(?m)^(?!\t)[^\n=#]*?:(?![:=])", r"(?m)^[^\n]*?[:=]", small("library_that_a_recipe_links"), FALSE_RACE),
+    Guard("queries: lines that run: said", "granted.py", "if does_more(owners, child)) > 1:", "if does_more(owners, child)) > 2:", small("query_that_runs_lines"), UNSAID),
+    Guard("queries: one line that runs", "granted.py", "if does_more(owners, child)) > 1:", "if does_more(owners, child)) > 0:", small("query_that_runs_one_line")),
+    Guard("locks: said", "calls.py", "self.locks.append(", "str(", small("lock_that_nobody_waits_for"), UNSAID),
+    Guard("locks: for a while", "calls.py", ' and not TIMED.search(" ".join(life.argv))', "", small("lock_that_somebody_waits_for_a_while"), UNSAID),
+    Guard("ports: said", "calls.py", ' or "AF_INET" in call.args and not ANY_PORT.search(call.args)', "", small("port"), UNSAID),
+    Guard("outlives: with an open file", "granted.py", "for up in until(one, life) for k, _ in up.events", "for k, _ in one.events", small("outlives_with_a_file_of_its_recipe"), UNSAID),
+    Guard("ages: a script from standard input", "shelltext.py", "if base_name(argv) in SHELLS and len(argv) == 1:", "if False:", small("ages_by_a_script_from_standard_input"), YES),
+    Guard("folders: errors that are kept", "shelltext.py", 'if "/dev/null" in m.group() or not KEPT_ERRORS.search(NOWHERE.sub(" ", text))', "", small("folder_made_or_true_and_said"), YES),
+    Guard("folders: the one that is made", "shelltext.py", "for m in found if makes_it(m)", "for m in found", small("folder_tested_and_another_made"), YES),
+    Guard("folders: one below it is made", "shelltext.py", "startswith(os.path.normpath(spelled_by(form)) + \"/\")", "endswith(os.path.normpath(spelled_by(form)) + \"/\")",
+          small("folder_tested_and_one_below_made"), FALSE_RACE),
+    Guard("ages: folders by whole names", "calls.py", 'path == "." or path.startswith("/") and above', 'path == "." or path.startswith("/")', small("ages_of_a_folder_by_its_whole_name"), YES),
+    Guard("recipes: behind another mark", "database.py", 'self.is_recipe = self.is_recipe or text.startswith("#  recipe to execute")', "pass", small("file_behind_another_mark_of_recipes"), YES),
+    Guard("recipes: behind an empty line", "database.py", "if self.is_recipe and (text or self.goes_on):", "if self.is_recipe and text:", small("macro_behind_an_empty_line"), YES),
+    Guard("system folders: links to a top", "strace.py", "return found is not None and not (path is not None and self.leads[path])", "return found is not None", "test_strace.Skips.test_link_that_leads_to_a_top"),
     Guard("macros: in the environment", "macros.py", "(use.reads & changed) | exported", "use.reads & changed", small("macro_in_the_environment"), YES),
     Guard("macros: of leaves", "build.py", " or node.name in self.macros:", ":", small("macro_of_leaves"), FALSE_RACE),
     Guard("macros: set by the recipe itself", "macros.py", "                found.reads.discard(one.name)\n", "                pass\n", small("macro_that_each_recipe_sets"), FALSE_RACE),
@@ -218,6 +252,9 @@ UNFILED: List[Guard] = [
     Guard("said: output for others", "unfiled.py", 'builder.assumed.add("output"', '(lambda *_: None)("output"', small("output_for_a_program"), UNSAID),
     Guard("what CMake counts", "replay.py", "if PROGRESS in path and", "if False and", "test_generators.Makefiles.test_targets_side_by_side", "(0, []) != (1"),
     Guard("said: what CMake counts", "main.py", 'assumed.add("progress", path)', "pass", "test_generators.Makefiles.test_targets_side_by_side", UNSAID),
+    Guard("said: targets of one recipe", "unfiled.py", 'builder.assumed.add("grouped"', '(lambda *_: None)("grouped"', small("target_of_several_that_runs_first"), UNSAID),
+    Guard("targets of one recipe: behind nothing", "unfiled.py", " and not builder.is_leaf(node):", ":", small("target_of_several_behind_nothing")),
+    Guard("targets of one recipe: that name none", "unfiled.py", "if any(TARGET.search(one) for one in", "if any(True for one in", small("targets_of_one_recipe_by_their_names")),
     Guard("said: macros that are inherited", "unfiled.py", 'builder.assumed.add("inherited"', '(lambda *_: None)("inherited"', small("macro_that_is_inherited"), UNSAID),
     Guard("said: programs that may compare ages", "ages.py", 'builder.assumed.add("ages"', '(lambda *_: None)("ages"', small("ages_by_a_program"), UNSAID),
     Guard("said: the order of listings", "unfiled.py", 'builder.assumed.add("listings"', '(lambda *_: None)("listings"', small("order_of_a_listing"), UNSAID),

@@ -74,7 +74,7 @@ class Answers(unittest.TestCase):
                 "shared u : b writes c writes", "add c: b", "present d")
         wanted = [Found("missing", "x y", "A", "", "x y"), Found("missing", "g", "A", "g.h"), Found("late", "t", "b", "c"),
                   Found("shared", "u", "b", "c", "b"), Found("present", "d", "d")]
-        self.assertEqual(wanted, list(read_answer(list(text), {"a.o": "A"})))
+        self.assertEqual(wanted, list(read_answer(list(text), {"a.o": "A"}, set())))
 
     def test_text(self) -> None:
         labels = {name: {"target": name, "kind": "recipe", "file": "m", "line": at} for at, name in enumerate("abc", 1)}

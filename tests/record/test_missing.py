@@ -3,6 +3,7 @@
 import json
 import os
 import subprocess
+import time
 import sys
 import unittest
 from pathlib import Path
@@ -48,7 +49,9 @@ PROJECTS: Dict[str, Tuple[str, Pairs]] = {
     "vpath": ("VPATH = sub\nall: x.o\nx.o: x.c\n\tcat $< sub/x.h > x.o\n", {("x.o", "sub/x.h")}),
     "double colons": ("all: a\na:: list\n\tcp list a\n", set()),
     "a make inside a rule": ("all: in/x\nin/x:\n\t$(MAKE) -C in\n", {("in/x", "in/Makefile"), ("in/x", "in/y")}),
-    "a make inside a phony rule": (".PHONY: all in\nall: a\nin:\n\t$(MAKE) -C in\na: in/x h.h\n\tcat in/x h.h list > a\nin/x: | in\n", {("a", "list")}),
+    "a make inside a phony rule": (".PHONY: all in\nall: a\nin:\n\t$(MAKE) -C in\na: in/x h.h\n\tcat in/x h.h list > a\nin/x: | in\n", {("a", "list"), ("a", "in/x")}),
+    "a make inside a phony rule, and a rule behind it": (
+        ".PHONY: all in\nall: a\nin:\n\t$(MAKE) -C in\na: in/x h.h\n\tcat in/x h.h list > a\nin/x: in ;\n", {("a", "list")}),
     "links": ("all: app\nl.1: list\n\tcp list l.1\nl: l.1\n\tln -sf l.1 l\napp: l\n\tcat l h.h > app\n", {("app", "h.h")}),
     "a pattern with two targets": (
         ".SUFFIXES:\nall: z\n%.c1 %.h1: %.y1\n\tcp $< $*.c1\n\tcp $< $*.h1\nz: p.c1 p.h1\n\tcat p.c1 p.h1 > z\n", set()),
@@ -58,6 +61,22 @@ PROJECTS: Dict[str, Tuple[str, Pairs]] = {
     "modules of Python": ("all: a b\na: list\n\tpython3 gen.py list > a\nb: list gen.py mod.py | a\n\tpython3 gen.py list > b\n", {("a", "gen.py"), ("a", "mod.py")}),
     "a phony target that is a file": ("all: a\n.PHONY: list\na: list\n\tcat list h.h > a\n", set()),
     "a macro of the shell": ("all: a\na: list\n\techo $(shell cat h.h) > a\n", {("a", "h.h")}),
+    "a macro of the shell in two places": (
+        "V = $(shell cat h.h)\nN := $(V)\n-include none.mk\nall: a\na: list\n\techo $(V) > a\n", {("a", "h.h")}),
+    "a make inside that always runs": ("all: b\nin/x: FORCE\n\t$(MAKE) -C in\nFORCE:\nb: in/x\n\tcat in/x h.h > b\n", {("b", "h.h")}),
+    "a file that is written where it differs": (
+        "all: a\nv.h: FORCE\n\ttest \"`cat v.h 2>/dev/null`\" = 1 || echo 1 > v.h\nFORCE:\na: v.h list\n\tcat v.h list h.h > a\n", {("a", "h.h")}),
+    "a recipe that asks what is newer": (
+        "new = $(filter-out FORCE,$?)\nall: a\na: list FORCE\n\t$(if $(new),cat list h.h > a)\nFORCE:\n", {("a", "h.h")}),
+    "a folder that is a target": ("all: a\no: list\n\tmkdir -p o\n\tcp list o/x\na: o\n\tcat o/x > a\n", {("a", "o/x")}),
+    "a folder that is made new": ("all: a\no: list\n\trm -rf o\n\tmkdir o\n\tcp list o/x\na: o\n\tcat o/x > a\n", set()),
+    "a second output that its dependencies name": (
+        "all: a\ns: list\n\tcp list g.h\n\ttouch s\na: a.c | s\n\tcat a.c g.h > a\n\techo 'a: g.h' > a.d\n-include a.d\n", {("a", "g.h")}),
+    "a second output whose rule has no recipe": ("all: c\na: list\n\tcp list a\n\tcp list t.h\nt.h: a\nc: t.h\n\tcat t.h > c\n", {("c", "t.h")}),
+    "another name of a generated header": (
+        "all: a\ng.h: list\n\tcp list g.h\na: a.c | g.h\n\tcat a.c g.h > a\n\techo 'a: $(CURDIR)/g.h' > a.d\n-include a.d\n", {("a", "g.h")}),
+    "a file that another recipe changes": ("all: b\na: list\n\tcp list a\nb: | a\n\tsed -i s/x/y/ a\n\tcat a h.h > b\n", {("b", "a"), ("b", "h.h")}),
+    "a name that make has to search": ("VPATH = sub\nall: a\na: list\n\tcat list h.h > a\n\techo 'a: x.h' > a.d\n-include a.d\n", set()),
 }
 FILES = {"a.c": "a\n", "b.c": "b\n", "h.h": "h\n", "list": "x\n", "gen.sh": "cat $1\n", "sub/x.c": "x\n", "sub/x.h": "h\n", "p.y1": "y\n",
          "in/Makefile": "x: y\n\tcp y x\n", "in/y": "y\n",
@@ -82,6 +101,7 @@ def is_made_again(folder: Path, target: str, path: str) -> bool:
     """Whether a target is made again where a file is edited, and make runs."""
     make(folder)
     before = os.stat(folder / target).st_mtime_ns
+    time.sleep(0.02)  # the clock of a file system has steps of some milliseconds
     with open(folder / path, "a") as file:
         file.write("more\n")
     make(folder)
@@ -220,6 +240,27 @@ class Verdicts(unittest.TestCase):
             outcome = project.record(options=["--missing"])
         self.assertEqual(2, outcome.status, outcome.text())
         self.assertIn("NO VERDICT  on missing inputs:", outcome.text())
+
+    def test_premises(self) -> None:
+        makefile = ("V := $(shell cat v)\nall: a b c\ninclude m.mk\nm.mk: list\n\techo 'X = 1' > m.mk\n"
+                    "a: list h.h\n\tcat list h.h > a\n\ttouch -r list a\nb: a\n\tcp a b\nc: list\n\tcat $? > c\n")
+        with support.Project({"Makefile": makefile, "v": "1\n", **FILES}) as project:
+            outcome = project.record(options=["--missing"])
+        found = {one["kind"]: one["example"] for one in (outcome.record or {})["missing"]["premises"]}
+        self.assertEqual(0, outcome.status, outcome.text())
+        self.assertEqual(("a", "m.mk", "c"), tuple(found.get(key) for key in ("times", "called", "newer")), outcome.text())
+
+    def test_searched(self) -> None:
+        with support.Project({"Makefile": PROJECTS["a name that make has to search"][0], **FILES}) as project:
+            outcome = project.record(options=["--missing"])
+        found = {one["kind"]: one["example"] for one in (outcome.record or {})["missing"]["premises"]}
+        self.assertEqual("a", found.get("unjudged"), outcome.text())
+
+    def test_no_line_helps(self) -> None:
+        with support.Project({"Makefile": PROJECTS["a folder that is a target"][0], **FILES}) as project:
+            outcome = project.record(options=["--missing"])
+        self.assertNotIn("add:", outcome.text())
+        self.assertIn("no line helps alone: o/x has no rule, and o may stay as it is when its recipe runs", outcome.text())
 
     def test_makefile_from_standard_input(self) -> None:
         makefile = "all: a\na: list ; cat list h.h > a\n"

@@ -15,7 +15,7 @@ OLD = "touch -d 2001-01-01 "
 
 @dataclass(frozen=True)
 class Small:
-    """A makefile, the verdict on it, the other files, lines of the shell that come before, and texts of the output."""
+    """A makefile, the verdict on it, the other files, lines of the shell that come before, and texts that the output has and lacks."""
 
     wanted: str
     makefile: str
@@ -23,6 +23,7 @@ class Small:
     setup: str = ""
     says: str = ""
     below: str = ""
+    lacks: str = ""
 
 
 SMALL: Dict[str, Small] = {
@@ -48,15 +49,42 @@ SMALL: Dict[str, Small] = {
     "jobs_of_a_makefile_and_one_job": Small("race", "MAKEFLAGS += -j4\nall: a b\na: ; sleep 0.1; echo a > a\nb: ; cat a > b\n"),
     # macros of make
     "macro_that_a_recipe_changes": Small("race", "all: s a b\ns: ; touch s\na: s ; $(eval X := set)touch a\nb: ; echo '$(X)' > b\n"),
+    "macro_behind_another_mark_of_recipes": Small("race", ".RECIPEPREFIX = >\nall: s a b\ns:\n> touch s\na: s\n> $(eval X := set)touch a\nb:\n> echo '$(X)' > b\n"),
+    "macro_behind_an_empty_line": Small("race", "all: s a b\ns: ; touch s\na: s\n\techo a; \\\n\n\t$(eval X := set)touch a\nb:\n\techo b \\\n'$(X)' > b\n"),
+    "file_behind_another_mark_of_recipes": Small("race", ".RECIPEPREFIX = >\n.PHONY: e\nall: s e u\ns:\n> touch s\ne: s\n> $(file >x,w)\nu:\n> cat x > u || true\n"),
     "macro_by_way_of_another": Small("race", "set = $(eval X := set)\nshow = echo '$(X)'\nall: s a b\ns: ; touch s\na: s ; $(call set)touch a\nb: ; $(show) > b\n"),
     "macro_in_the_environment": Small("race", "export X\nall: s a b\ns: ; touch s\na: s ; $(eval X := set)touch a\nb: ; echo $$X > b\n"),
     "macro_of_leaves": Small("safe", "N := 0\nall: a b\na b: ; $(eval N := $(N)x)echo $(N) > $@\n"),
     "macro_that_each_recipe_sets": Small("safe", "all: s a b\ns: ; touch s\na: s\na b: ; $(eval X := $@)echo $(X) > $@\n"),
     "macro_that_is_ordered": Small("safe", "all: s a b\ns: ; touch s\na: s ; $(eval X := set)touch a\nb: a ; echo '$(X)' > b\n"),
+    "macro_by_a_computed_name": Small("race", "W = X\nall: s a b\ns: ; touch s\na: s ; $(eval X := set)touch a\nb: ; echo '$($(W))' > b\n"),
+    "macro_by_a_part_of_its_name": Small("race", "W = X\nall: s a b\ns: ; touch s\na: s ; $(eval V_X := set)touch a\nb: ; echo '$(V_$(W))' > b\n"),
+    "macro_by_a_part_of_another_name": Small("safe", "W = X\nall: s a b\ns: ; touch s\na: s ; $(eval U_X := set)echo '$(U_X)' > a\nb: ; echo '$(V_$(W))' > b\n"),
+    "macro_by_its_origin": Small("race", "all: s a b\ns: ; touch s\na: s ; $(eval X := set)touch a\nb: ; echo '$(origin X)' > b\n"),
+    "macro_in_the_list_of_all": Small("race", "all: s a b\ns: ; touch s\na: s ; $(eval X := set)touch a\nb: ; echo '$(filter X,$(.VARIABLES))' > b\n"),
+    "macro_that_make_reads": Small("race", "all: s a b\ns: ; touch s\na: s ; $(eval .SHELLFLAGS := -xc)touch a\nb: ; echo $$- > b\n"),
+    "macro_that_the_caller_sets": Small("race", "all: ; X=1 $(MAKE) -f in.mk\n", {"in.mk": "all: s a b\ns: ; touch s\na: s ; $(eval X := set)touch a\nb: ; echo $$X > b\n"}),
+    "search_path_that_a_recipe_sets": Small("race", "all: s a b.o\ns: ; touch s\na: s ; $(eval vpath %.c src)touch a\nb.o: b.c ; echo $< > b.o\nb.c: ; touch b.c\n", {"src/b.c": ""}, says="changes in make"),
+    "prerequisites_that_a_recipe_sets": Small("no verdict", ".SECONDEXPANSION:\nall: s a b\ns: ; touch s\na: s ; $(eval X := more)touch a\nb: $$(X) ; echo $^ > b\nmore: ; touch more\n", says="expands prerequisites a second time"),
+    # what make keeps of what it saw
+    "listing_that_make_keeps": Small("race", "all: a b c\na: ; echo 1 > d/n; touch a\nb: a ; echo '$(wildcard d/*)' > b\nc: ; echo '$(wildcard d/*)' > c\n", {"d/k": "k"}),
+    "listing_that_nobody_else_asks_for": Small("safe", "all: a b c\na: ; echo 1 > d/n; touch a\nb: a ; echo '$(wildcard d/*)' > b\nc: ; echo > c\n", {"d/k": "k"}),
+    "library_by_its_short_name": Small("race", "all: libx.a p\nlibx.a: ; touch libx.a\np: m -lx ; echo $^ > p\nm: ; touch m\n", says="not as -lNAME"),
+    "library_by_a_macro": Small("race", "LIBS = -lx\nall: libx.a p\nlibx.a: ; touch libx.a\np: m $(LIBS) ; echo $^ > p\nm: ; touch m\n"),
+    "library_that_a_recipe_links": Small("safe", "LIBS = -lx\nall: libx.a p\nlibx.a: ; touch libx.a\np: m libx.a ; echo $(LIBS) > p\nm: ; touch m\n"),
     "macro_that_keeps_its_value": Small("safe", "V = $(eval V := $$(shell echo 1))$(V)\nall: s a b\ns: ; touch s\na: s\na b: ; echo $(V) > $@\n"),
     "macro_that_keeps_what_it_read": Small("race", "V = $(eval V := $$(shell cat s))$(V)\nall: s a b\ns: ; echo 1 > s\na: s\na b: ; echo $(V) > $@\n"),
+    "target_of_several_that_runs_first": Small("safe", "all: c a b\na b &: s ; echo $@ | tee a > b\nc: a ; cp a c\ns: ; touch s\n", says="the target that they run for"),
+    "target_of_several_behind_nothing": Small("safe", "all: a b\na b &: ; echo $@ | tee a > b\n", lacks="the target that they run for"),
+    "targets_of_one_recipe_by_their_names": Small("safe", "all: c a b\na b &: s ; echo x | tee a > b\nc: a ; cp a c\ns: ; touch s\n", lacks="the target that they run for"),
     "macro_that_is_inherited": Small("safe", "all: a b\na: X = 1\na:: s ; touch t\na:: c ; cp c a\nb: c ; cp c b\ns: ; touch s\nc: ; echo '$(X)' > c\n", says="macros they inherit"),
     "macro_that_is_inherited_at_once": Small("safe", "all: a b\na: X = 1\na: s c ; cp c a\nb: c ; cp c b\ns: ; touch s\nc: ; echo '$(X)' > c\n"),
+    "library_in_a_search_path": Small("safe", "vpath %.a d\nall: d/libx.a p\nd/libx.a: ; echo x > $@\np: -lx ; cat $^ > $@\n", {"d/k": "k"}),
+    "library_by_its_short_name_that_was_there": Small("safe", "p: -lx ; cat $^ > $@\n", {"libx.a": "x"}),
+    "listing_that_make_keeps_of_a_new_folder": Small("race", "all: a b c\na: ; mkdir d/n; touch a\nb: a ; echo '$(wildcard d/*)' > b\nc: ; echo '$(wildcard d/*)' > c\n", {"d/k": "k"}),
+    "listing_that_all_wait_for": Small("safe", "all: a b c\na: ; echo a > d/n; touch a\nb c: a ; echo '$(wildcard d/*)' > $@\n", {"d/k": "k"}),
+    "listings_of_two_folders": Small("safe", "all: d/b e/c\nd/n: ; echo 1 > d/n\nd/b: d/n\nd/b e/c: ; echo '$(wildcard $(@D)/n*)' > $@\n", {"d/k": "k", "e/n1": "n"}),
+    "listing_by_another_pattern": Small("safe", "L = $(wildcard d/*.c)\nall: a b c\na: ; echo a > d/n.o; touch a\nb: a ; echo '$L' > b\nc: ; echo '$(L:.c=.o)' > c\n", {"d/k.c": "k"}),
     # what makes print
     "output_in_a_file": Small("race", "all: ; $(MAKE) -s -f in.mk > out\n", {"in.mk": "all: a b\na b: ; @echo $@\n"}, says="order of what make prints"),
     "output_in_a_file_of_one_recipe": Small("safe", "all: ; $(MAKE) -s -f in.mk > out\n", {"in.mk": "all: a b\na: ; @echo $@\nb: ; @touch b\n"}),
@@ -85,10 +113,16 @@ SMALL: Dict[str, Small] = {
     "age_that_touch_sets_to_now": Small("safe", "all: c\na b: ; touch $@\nr: a b ; test -f a; cp a r; touch r\nc: r ; test r -nt b || true; touch c\n"),
     "age_of_a_copy_that_is_new": Small("safe", "all: c\na b: ; touch $@\nr: a b ; cp a r\nc: r ; test r -nt b || true; touch c\n"),
     "ages_by_a_word_in_a_variable": Small("race", "all: c\na b: ; touch $@\nc: a b ; op=nt; test a -$$op b || true; touch c\n"),
+    "ages_by_a_script_from_standard_input": Small("race", "all: c\na b: ; touch $@\nc: a b ; sh < s > c || true\n", {"s": "test a -nt b\n"}),
     "ages_by_a_script_that_is_taken_in": Small("race", "all: c\na b: ; touch $@\nc: a b ; sh ./s || true; touch c\n", {"s": ". ./lib\nnewer a b\n", "lib": "newer() { test $1 -nt $2; }\n"}),
     "no_ages_by_a_script_that_is_taken_in": Small("safe", "all: c\na b: ; touch $@\nc: a b ; sh ./s || true; touch c\n", {"s": ". ./lib\nboth a b\n", "lib": "both() { test -f $1 && test -f $2; }\n"}),
     "ages_by_a_program": Small("safe", "all: c\nage: age.c ; cc -o age age.c\na b: ; touch $@\nc: a b age ; ./age a b > c\n", {
         "age.c": "#include <sys/stat.h>\nint main(int n, char **v) { struct stat a, b; stat(v[1], &a); stat(v[2], &b); return a.st_mtime > b.st_mtime + 9; }\n"}, says="programs that nobody knows"),
+    "ages_by_a_program_with_a_known_name": Small("safe", "all: c\ntest: age.c ; cc -o test age.c\na b: ; touch $@\nc: a b test ; ./test a b > c\n", {
+        "age.c": "#include <sys/stat.h>\nint main(int n, char **v) { struct stat a, b; return stat(v[1], &a) | stat(v[2], &b); }\n"}, says="programs that nobody knows"),
+    "ages_of_a_folder_by_its_whole_name": Small("race", "all: c\na: ; touch d/n a\nb: ; touch y b\nc: a b ; find $(CURDIR)/d -maxdepth 0 -newer $(CURDIR)/y > c\n", setup="mkdir d"),
+    "ages_by_a_quoted_word": Small("race", "all: c\na b: ; touch $@\nc: a b ; [ a \"-nt\" b ] || true; touch c\n"),
+    "ages_by_two_words_of_ls": Small("race", "all: c\na b: ; touch $@\nc: a b ; ls --sort time a b > c\n"),
     "ages_by_nobody": Small("safe", "all: c\na b: ; touch $@\nc: a b ; cp a b c 2>/dev/null || cat a b > c\n"),
     # listings
     "sorted_listing": Small("safe", ".PHONY: a b\nall: c\na b: ; touch d/$@\nc: a b ; ls d > c; echo d/* >> c\n", setup="mkdir d"),
@@ -124,6 +158,11 @@ SMALL: Dict[str, Small] = {
     "folder_behind_a_bar": Small("safe", "all: gen u\ngen: ; echo x > d/n; touch gen\nu: s | d ; cat s > u\nd: ; mkdir d\n", {"s": "s", "u": "u"}, "mkdir d; " + OLD + "u"),
     "folder_made_by_two_who_fail": Small("race", "all: a b\na b: ; mkdir d || echo second > $@\n"),
     "folder_made_or_true": Small("safe", "all: a b\na b: ; mkdir d 2>/dev/null || true; echo $@ > d/$@\n"),
+    "folder_made_or_true_and_said": Small("race", "all: a b\na b: ; (mkdir d || true; echo $@) > $@ 2>&1\n"),
+    "folder_made_or_true_and_said_by_a_shell": Small("race", "all: a b\na b: ; exec 2> $@; mkdir d || true\n"),
+    "folder_made_or_true_beside_errors": Small("safe", "all: a b\na b: ; mkdir d 2>/dev/null || true; echo $@ > $@ 2>&1\n"),
+    "folder_tested_and_another_made": Small("race", "all: a b\na: ; mkdir -p d; touch a\nb: ; test -d d || mkdir -p e; touch b\n"),
+    "folder_tested_and_one_below_made": Small("safe", "all: a b\na b: ; test -d d || mkdir -p d/e; touch $@\n"),
     "folder_looked_at_first": Small("race", "all: a b\na b: ; test -d d && echo there > $@; mkdir -p d\n"),
     "folder_tested_or_made": Small("safe", "all: a b\na b: ; test -d d || mkdir -p d; echo $@ > d/$@\n"),
     "folder_that_cannot_be_removed": Small("race", "all: a b\na: ; echo x > d/f\nb: ; rmdir d || true\n", setup="mkdir d"),
@@ -146,7 +185,17 @@ SMALL: Dict[str, Small] = {
     "absent_file": Small("race", "all: b a\na: ; echo a > a\nb: ; cat a > b || true\n"),
     "removed_file": Small("race", "all: a b\na: ; rm x\nb: ; cat x > b || true\n", {"x": "x"}),
     "pattern_in_a_variable": Small("race", "all: a b\na: ; echo a > d/n1\nb: ; p=d/n; echo $$p* > b\n", {"d/n2": "k"}),
-    "pattern_of_eval": Small("race", "all: a b\na: ; echo a > d/n\nb: ; eval \"echo d/\"\\* > b\n", {"d/k": "k"}),
+    "pattern_of_several_words": Small("race", "SHELL = /bin/bash\nall: a b\na: ; echo a > d/n1\nb: ; echo d/{n,k}* > b\n", {"d/k": "k"}),
+    "pattern_of_a_class": Small("race", "all: a b\na: ; echo a > d/1\nb: ; echo d/[[:digit:]]* > b\n", {"d/2": "k"}),
+    "pattern_of_all_but_one": Small("race", "SHELL = /bin/bash\nall: a b\na: ; echo a > d/n\nb: ; echo d/[^x]* > b\n", {"d/k": "k"}),
+    "pattern_with_a_backslash": Small("race", "all: a b\na: ; echo a > d/n.1\nb: ; echo d/n\\.* > b\n", {"d/n.2": "k"}),
+    "pattern_with_an_option_of_bash": Small("race", "SHELL = /bin/bash\nall: a b\na: ; echo a > d/N\nb: ; shopt -s nocaseglob; echo d/n* > b\n", {"d/n1": "k"}),
+    "pattern_of_other_names": Small("safe", "all: a b\na: ; echo a > d/n\nb: ; echo d/[ab][!x]*.o > b\n", {"d/k": "k"}),
+    "pattern_of_a_script_that_is_taken_in": Small("race", "all: a b\na: ; echo a > d/n; touch a\nb: ; . ./s; echo e/*.x\n", {"s": "echo d/*\n", "d/k": "k", "e/1.x": ""}),
+    "wildcard_of_a_class": Small("race", "all: a b\na: ; echo a > d/1\nb: ; echo $(wildcard d/[[:digit:]]*) > b\n", {"d/2": "k"}),
+    "wildcard_of_all_but_one": Small("race", "all: a b\na: ; echo a > d/n\nb: ; echo $(wildcard d/[^x]*) > b\n", {"d/k": "k"}),
+    "wildcard_with_a_macro_in_its_name": Small("race", "Q = d/\nP = $(Q)n\nall: a b\na: ; echo a > d/n1\nb: ; echo $(wildcard $P*) > b\n", {"d/k": "k"}),
+    "pattern_of_eval": Small("race", "all: a b\na: ; echo a > d/new\nb: ; eval \"echo d/\"\\* > b\n", {"d/k": "k"}),
     "script_that_compares_ages": Small("race", "all: c\na: ; touch x\nb: ; touch y\nc: a b ; ./newer > c\n", {
         "newer": "#!" + sys.executable + "\nimport os\nprint(os.stat('x').st_mtime > os.stat('y').st_mtime)\n"}, "chmod +x newer"),
     "folder_as_prerequisite_cold": Small("safe", "all: d/a d/b\nd/a d/b: d ; echo $@ > $@\nd: ; mkdir d\n"),
@@ -170,6 +219,9 @@ SMALL: Dict[str, Small] = {
     "wildcard_that_is_computed": Small("race", "q = y\np = *.$q\nall: a b\na: ; echo a > d/n.y\nb: ; echo $(wildcard d/$p) > b\n", {"d/k": "k"}),
     # what is taken for granted
     "outlives": Small("safe", "all: ; (sleep 0.2; echo x > x) > /dev/null 2>&1 &\n\techo y > y\n\tsleep 0.5\n", says="when its recipe had ended"),
+    "outlives_with_an_open_file": Small("safe", "all: a b\na: ; (sleep 0.4; echo x) > x & sleep 0.1; touch a\nb: a ; sleep 0.6; touch b\n", says="when its recipe had ended"),
+    "outlives_with_a_file_of_its_recipe": Small("safe", "all: a b\na: ; exec 3> x; (sleep 0.4; echo x >&3) & sleep 0.1; touch a\nb: a ; sleep 0.6; touch b\n", says="when its recipe had ended"),
+    "killed_and_not_outliving": Small("safe", "all: ; sh -c 'echo x > x; kill -9 $$$$' || sleep 0.1; touch all\n", lacks="when its recipe had ended"),
     "up_to_date": Small("safe", "all: b\na: s ; cp s a\nb: a ; cp a b\n", {"s": "s", "a": "s"}, OLD + "s", says="targets that were up to date stay so (1, such"),
     "all_up_to_date": Small("safe", "a: s ; cp s a\n", {"s": "s", "a": "s"}, OLD + "s", says="targets that were up to date"),
     "unwritten": Small("safe", "all: a b\na: ; echo a > x\nb: ; ln -s y b\n.PHONY: all\n", says="that do not write their own target were seen (1,"),
@@ -187,6 +239,13 @@ SMALL: Dict[str, Small] = {
     "whole_environment": Small("safe", "all: ; @env > all\n", says="names MAKEFLAGS or PATH"),
     "hard_links": Small("safe", "all: ; ln x y\n", {"x": "x"}, says="files got a second name"),
     "sockets": Small("safe", "all: ; python3 -c \"import socket; socket.socket(socket.AF_UNIX).bind('s')\"\n", says="a process talks to a server"),
+    "port": Small("safe", "all: ; python3 -c \"import socket; socket.socket().bind(('127.0.0.1', 28917))\"\n", says="opens a port"),
+    "port_that_is_free": Small("safe", "all: ; python3 -c \"import socket; socket.socket().bind(('127.0.0.1', 0))\"\n", lacks="opens a port"),
+    "lock_that_nobody_waits_for": Small("safe", "all: ; flock -n d touch all\n", {"d/x": "x"}, says="asks for a lock"),
+    "lock_that_somebody_waits_for_a_while": Small("safe", "all: ; flock -w 1 d touch all\n", {"d/x": "x"}, says="asks for a lock"),
+    "lock_that_all_wait_for": Small("safe", "all: ; flock d touch all\n", {"d/x": "x"}, lacks="asks for a lock"),
+    "query_that_runs_lines": Small("safe", "all: ; $(MAKE) -n -f in.mk\n", {"in.mk": "all: a b\na b: ; +touch $@\n"}, says="a make that only asks"),
+    "query_that_runs_one_line": Small("safe", "all: ; $(MAKE) -n -f in.mk\n", {"in.mk": "all: a\na: ; +touch $@\n"}, lacks="a make that only asks"),
     "status_of_the_command": Small("no verdict", "all: ; touch all\n", says="the build ended with status 3"),
     "two_builds_at_once": Small("safe", "all: a\na: ; sleep 0.2; touch a\n", {"other.mk": "all: b\nb: ; sleep 0.2; touch b\n"}, says="two makes or ninjas ran at once"),
 }
@@ -209,6 +268,7 @@ def test_of(name: str, small: Small) -> Callable[[unittest.TestCase], None]:
             outcome = project.record(COMMANDS.get(name, ["make"]), ["--warm"])
         self.assertEqual(STATUSES[small.wanted], outcome.status, outcome.text()[-1500:] + outcome.stderr.decode()[-800:])
         self.assertIn(small.says, outcome.text())
+        self.assertFalse(small.lacks and small.lacks in " ".join(outcome.text().split()), outcome.text())
 
     return test
 

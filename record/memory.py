@@ -1,0 +1,107 @@
+"""What make keeps in its memory from one target to the next: folders that it listed, and libraries that it looked for."""
+
+import os
+import re
+from typing import TYPE_CHECKING, Dict, Iterator, List, Optional, Set
+
+from record.globs import MAGIC, arguments
+from record.graph import Node
+from record.macros import ANY
+from record.owners import Work
+
+if TYPE_CHECKING:
+    from record.build import Builder
+
+LIBRARIES = "lib%.so lib%.a"
+PLAIN = re.compile(r"\$(?:[({]([\w.-]+)[)}]|(\w))")
+DEPTH = 8  # how often macros are put in the places of their names
+
+
+def share_listings(builder: "Builder") -> None:
+    """Make lists a folder once. A recipe that looks for names there later sees the same, and in another order it may be the first."""
+    make, began = builder.make, builder.first_birth()
+    late = {folder: place for folder, place in make.listed.items() if place > began}
+    for node in builder.graph.nodes.values() if late else ():
+        asked = folders_asked(builder, node) if node.rule == 0 and (node.jobs or node.must and node.has_recipe) else set()
+        for folder, place in late.items():
+            if place < birth(builder, node) and (asked is None or folder in asked):
+                work = make.acts.setdefault((builder.number, node.name), Work())
+                for pattern in make.globs:
+                    work.add("L", folder + "\0" + pattern, place)
+
+
+def birth(builder: "Builder", node: Node) -> int:
+    """When the last process of a target's recipe began."""
+    works = [builder.make.work[id(job)] for job in node.jobs if id(job) in builder.make.work]
+    return max((life.born for work in works for life in work.lives), default=1 << 60)
+
+
+def folders_asked(builder: "Builder", node: Node) -> Optional[Set[str]]:
+    """The folders in which the recipe of a target looks for names by `wildcard`; None where nobody can say which."""
+    known, base = builder.known, builder.graph.base
+    text = "\n".join(base.recipes.get(node.name, ()))
+    reached = known.reached(text)
+    texts = [text, *map(known.text_of, reached)]
+    calls = [call for one in texts for call in arguments(one)]
+    if ANY in reached or sum(one.count("wildcard") for one in texts) > len(calls) or None in calls:
+        return None
+    words = [word for call in calls for word in filled(call or "", node.name, base.values).split()]
+    if words and (base.scoped or known.changed) or any("$" in word or MAGIC.search(os.path.dirname(word)) for word in words):
+        return None
+    return {builder.names.find(builder.make.folder, os.path.dirname(word) or ".", True).path for word in words}
+
+
+def filled(text: str, target: str, values: Dict[str, str]) -> str:
+    """A text of a target's recipe, with the macros that have a value in their places."""
+    text = re.sub(r"\$[({]@D[)}]", lambda _: os.path.dirname(target) or ".", text)
+    text = re.sub(r"\$(?:@|[({]@[)}])", lambda _: target, text)
+    for _ in range(DEPTH):
+        text = PLAIN.sub(lambda found: values.get(found.group(1) or found.group(2), found.group()), text)
+    return text
+
+
+def libraries(builder: "Builder", node: Node) -> List[str]:
+    """The paths of a target's prerequisites that makefiles may call `-lNAME`: make looks for those when it first considers the target."""
+    nodes = builder.graph.nodes
+    names = [name for name in node.prerequisites if name in nodes and builder.build.writers.get(nodes[name].path)]
+    names = [name for name in names if not (os.path.dirname(name) and nodes[name].has_recipe)]  # a search path finds targets before they are there
+    stems = {name: stem for name in names for stem in stems_of(builder, name)}
+    if not stems or "-l" not in builder.known.text:
+        return []
+    words = builder.known.rule_words
+    return [nodes[name].path for name, stem in stems.items() if "-l" + stem in words or any(word.startswith("-l") and "$" in word for word in words)]
+
+
+def stems_of(builder: "Builder", name: str) -> Iterator[str]:
+    """What NAME may be where make has found a file for `-lNAME`."""
+    for pattern in builder.graph.base.values.get(".LIBPATTERNS", LIBRARIES).split():
+        head, _, tail = pattern.partition("%")
+        last = os.path.basename(name)
+        if last.startswith(head) and last.endswith(tail) and len(last) > len(head) + len(tail):
+            yield last[len(head): len(last) - len(tail)]
+
+
+def add_search(builder: "Builder", at: int, node: Node) -> None:
+    """The search for implicit rules sees a name that a recipe writes, where make had not listed the folder before."""
+    for path in searched(builder, node.name):
+        if path in builder.build.writers:
+            listed = builder.make.listed.get(os.path.dirname(path), 1 << 60)
+            if listed < builder.first_birth():
+                builder.assumed.add("search", path)
+            else:
+                builder.build.tasks[at].reads.add(path)
+
+
+def searched(builder: "Builder", name: str) -> Set[str]:
+    """The names that one step of the search looks for."""
+    found: Set[str] = set()
+    for targets, prerequisites in builder.graph.base.patterns:
+        for target in targets:
+            head, _, tail = target.partition("%")
+            folder, last = ("", name) if "/" in target else os.path.split(name)
+            if last.startswith(head) and last.endswith(tail) and len(last) > len(head) + len(tail):
+                stem = last[len(head): len(last) - len(tail)]
+                for one in prerequisites:
+                    if "%" in one:
+                        found.add(os.path.normpath(os.path.join(builder.make.folder, folder, one.replace("%", stem, 1))))
+    return found
