@@ -94,13 +94,13 @@ def lay_tasks(folder: pathlib.Path) -> Laid:
     return Laid(["check", "--tasks", "tasks", "--root", "/w"], folder, python("tasks"))
 
 
-def log(module: ModuleType, command: str) -> Input:
-    """The log of bench/replay or bench/serialise, an eighth of its events."""
+def log(module: ModuleType, command: str, limit: int) -> Input:
+    """The log of bench/replay or bench/serialise, an eighth of its events, with as many jobs as it has at a time."""
 
     def lay_out(folder: pathlib.Path) -> Laid:
         module.lay_out(folder)
         module.write_log(folder, EVENTS)
-        return Laid([command, *BUILD, *FOOTPRINTS, "--log", "log"], folder, python("log"))
+        return Laid([command, *BUILD, *FOOTPRINTS, "--log", "log", "--limit", str(limit)], folder, python("log"))
 
     return Input(command, lay_out)
 
@@ -174,7 +174,7 @@ INPUTS = [
     build("list", "temporaries", builds.lay_temporaries),
     build("fix", "header", builds.lay_readers),
     build("fix", "temporaries", builds.lay_temporaries),
-    log(REPLAY, "replay"),
-    log(SERIALISE, "serialise"),
+    log(REPLAY, "replay", 1),
+    log(SERIALISE, "serialise", SERIALISE.TOGETHER),
     *[example(cmd) for cmd in sorted(EXAMPLES.glob("*/*/cmd"))],
 ]
