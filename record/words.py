@@ -65,7 +65,8 @@ class Words:
     status: Optional[int] = None
     rounds: List[Round] = field(default_factory=list)
     jobs: Dict[int, List[Job]] = field(default_factory=dict)  # process number: its jobs, in order
-    read: List[List[str]] = field(default_factory=list)  # makefiles of each start
+    read: List[List[str]] = field(default_factory=list)  # makefiles that each start read before it made anything
+    included: List[str] = field(default_factory=list)  # makefiles that recipes include while make expands them
     holes: List[str] = field(default_factory=list)
 
     def values(self) -> Dict[str, str]:
@@ -151,7 +152,8 @@ class _Reader:
         elif text.startswith("EXIT "):
             words.status = int(text[5:])
         elif READING.match(text) and words.read:
-            words.read[-1].append(READING.match(text).group(1))  # type: ignore[union-attr]
+            is_making = self.round is not None and self.round.start == len(words.read) - 1
+            (words.included if is_making else words.read[-1]).append(READING.match(text).group(1))  # type: ignore[union-attr]
         elif self.round is not None:
             self.target(text)
 
@@ -232,4 +234,4 @@ def read_logs(spool: Path) -> List[Words]:
 
 def makefiles(words: Words) -> Set[str]:
     """All makefiles that a make read."""
-    return {name for start in words.read for name in start}
+    return {name for names in (*words.read, words.included) for name in names}

@@ -35,6 +35,7 @@ MUST = re.compile(rb" *Must remake target '(.*)'\.\n")
 STARTED = re.compile(rb"Putting child (0x[0-9a-f]+) \((.*)\) PID ")
 REMADE = re.compile(rb" *(?:Successfully remade|Failed to remake) target file '(.*)'\.\n")
 OF_JOB = re.compile(rb"(Live|Reaping winning|Reaping losing|Removing) child (0x[0-9a-f]+) |Got a SIGCHLD; \d+ unreaped")
+INCLUDED = re.compile(rb"Reading makefile " + QUOTED + rb"( \([^)]*\))+\.\.\.\n")
 BASE = b"# Make data base, printed on"
 DIRECTORY = re.compile(rb"# ([^\n]*: (Entering|Leaving) (directory|an unknown directory))")
 
@@ -116,7 +117,10 @@ class Splitter:
         return False
 
     def is_early(self, packet):
-        """The same where no recipe runs for all that make has said: its first words may come before make's line about it."""
+        """The same where no recipe runs for all that make has said: its first words may come before make's line about it.
+
+        An included makefile is make's own word there: a recipe may include one while make expands it.
+        """
         must, begun, remade = MUST.match(packet), STARTED.match(packet), REMADE.match(packet)
         if self.next is None:
             self.next, self.is_said = must.group(1) if must else None, False
@@ -125,7 +129,7 @@ class Splitter:
         elif remade and remade.group(1) == self.next:
             self.next = None
         else:
-            return bool(WORD_LINE.match(packet))
+            return bool(WORD_LINE.match(packet)) and not INCLUDED.match(packet)
         return False
 
     def take(self, packet):

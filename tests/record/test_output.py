@@ -47,6 +47,11 @@ class Output(unittest.TestCase):
                 "b: ; @echo \"Putting child 0x1 (a) PID 5 on the chain.\"; echo '# Finished Make data base on Monday'\n")
         self.assertEqual(0, self.both(text))
 
+    def test_makefiles_that_a_recipe_includes(self) -> None:
+        text = "all: x y\nx:\n\t$(eval include v.mk)@echo $(V) > x; echo first\ny: x\n\t$(eval -include no.mk)$(eval include v.mk)@echo $(V)y > y; echo $(V)\n"
+        self.assertEqual(0, self.both(text, v_mk="V = 1\n"))
+        self.assertEqual(1, self.both(text.replace("all:", "all: v.mk") + "v.mk: ; @echo V = 2 > v.mk\n"))
+
     def test_race_behind_words_of_make(self) -> None:
         self.assertEqual(1, self.both("all: a b\na: ; @echo; echo '# Make data base, printed on x'; touch a\nb: ; @echo hello; cp a b\n"))
 
