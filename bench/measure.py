@@ -4,12 +4,16 @@ from __future__ import annotations
 import json
 import pathlib
 import resource
+import shutil
 import subprocess
 import sys
 import tempfile
 import time
 from dataclasses import dataclass
 
+PEER = pathlib.Path(__file__).resolve().parent / "peer"
+# Where Debian's packages put the sources of crates.
+CRATES = pathlib.Path("/usr/share/cargo/registry")
 # A reader of lines of JSON, which keeps nothing: the peer of what reads footprints, tasks or a log.
 READ_BY_PYTHON = (sys.executable, "-c", "import json, sys\nfor line in open(sys.argv[1], encoding='utf-8'): json.loads(line)")
 
@@ -51,3 +55,14 @@ def read_by_python(log: pathlib.Path) -> float:
         for line in lines:
             json.loads(line)
     return time.perf_counter() - begin
+
+
+def built_peer(room: pathlib.Path) -> pathlib.Path | None:
+    """The Rust program of bench/peer, built in a folder; None where cargo or the sources of serde_json are missing."""
+    if not shutil.which("cargo") or not any(CRATES.glob("serde_json-*")):
+        return None
+    source = shutil.copytree(PEER, room / "peer")
+    settings = ['source.crates-io.replace-with="debian"', f'source.debian.directory="{CRATES}"']
+    command = ["cargo", "build", "-q", "--release", "--offline", *(word for it in settings for word in ("--config", it))]
+    subprocess.run(command, cwd=source, check=True)
+    return source / "target" / "release" / "peer"

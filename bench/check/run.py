@@ -15,11 +15,13 @@ PROGRAM is the built program (crates/race/out/race). The builds:
 
 Printed are, for each, the best wall time of N runs (three) of `race check` and its user time; the wall time of the part that
 makes the jobs (`race verify` with a proof that is none, which is refused once the jobs are made), of `race verify` with the
-proof that `race check --print-proof` gives, and of Python's json module on the footprints alone; and the greatest peak memory
-of a `race check`. Last come a million chains through 1,415 of 20,000 nodes, of which none clash, for `race verify`. With
+proof that `race check --print-proof` gives, and of Python's json module on the footprints alone; the user time of a Rust
+program without a proof that reads the footprints and sorts their paths, or makes the chains of `log` (bench/peer; it wants cargo
+and Debian's package librust-serde-json-dev, and is left out without); and the greatest peak memory of a `race check`. Last come a million chains through 1,415 of 20,000 nodes, of which none clash, for `race verify`. With
 --keep the inputs are left in FOLDER. Nothing here is a test.
 """
 import argparse
+import math
 import os
 import pathlib
 import sys
@@ -29,20 +31,29 @@ TOP = pathlib.Path(__file__).resolve().parents[2]
 sys.dont_write_bytecode = True
 sys.path.insert(0, str(TOP / "bench"))
 
-from builds import lay_dense, lay_free, lay_hostile, lay_log, lay_paths, lay_sparse, lay_trees
-from measure import Run, best, read_by_python
+from builds import BEHIND, lay_dense, lay_free, lay_hostile, lay_log, lay_paths, lay_sparse, lay_trees
+from measure import Run, best, built_peer, read_by_python
 
 BUILDS = {"log": lay_log, "free": lay_free, "sparse": lay_sparse, "paths": lay_paths, "dense": lay_dense, "trees": lay_trees}
 
 
+# What the peer in Rust does for a build, where it is not the sort of its footprints.
+CHAINS = {"log": ["chains", "1414", str(BEHIND)]}
+
+
 class Bench:
-    def __init__(self, program, runs):
-        self.program, self.runs = program, runs
+    def __init__(self, program, runs, peer):
+        self.program, self.runs, self.peer = program, runs, peer
 
     def best(self, folder, *words) -> Run:
         """The best of the runs of a command on the build of a folder."""
         inputs = ["--makefile", "makefile", "--listing", "listing", "--footprints", "footprints", "--root", "/w"]
         return best(self.runs, folder, [self.program, words[0], *inputs, *words[1:]])
+
+    def peer_seconds(self, name, folder) -> float:
+        """The user time of the peer in Rust; not a number where it is not there."""
+        words = CHAINS.get(name, ["sort", "footprints"])
+        return best(self.runs, folder, [str(self.peer), *words]).user if self.peer else math.nan
 
 
 def bench_build(bench, name, lay_out, folder):
@@ -56,7 +67,7 @@ def bench_build(bench, name, lay_out, folder):
     words = " ".join(it.out.split(b"\n", 1)[0].decode() for it in (check, verify))
     if not jobs.out.startswith(b"refused\nF25 "):
         words += ", and the jobs are not made"
-    times = (check.seconds, check.user, jobs.seconds, verify.seconds, read_by_python(folder / "footprints"))
+    times = (check.seconds, check.user, jobs.seconds, verify.seconds, read_by_python(folder / "footprints"), bench.peer_seconds(name, folder))
     proof = (folder / "proof").stat().st_size
     print(f"{name:>8}{size:11}{proof:11}{''.join(f'{it:8.2f}' for it in times)}{check.memory:8.1f}  {words}", flush=True)
 
@@ -67,9 +78,9 @@ def main():
     parser.add_argument("--runs", type=int, default=3)
     parser.add_argument("--keep", type=pathlib.Path)
     args = parser.parse_args()
-    bench = Bench(os.path.abspath(args.program), args.runs)
-    print(f"{'build':>8}{'bytes':>11}{'proof':>11}{'check':>8}{'user':>8}{'jobs':>8}{'verify':>8}{'python':>8}{'MiB':>8}  answers")
+    print(f"{'build':>8}{'bytes':>11}{'proof':>11}{'check':>8}{'user':>8}{'jobs':>8}{'verify':>8}{'python':>8}{'rust':>8}{'MiB':>8}  answers")
     with tempfile.TemporaryDirectory(prefix="race-bench-") as scratch:
+        bench = Bench(os.path.abspath(args.program), args.runs, built_peer(pathlib.Path(scratch)))
         for name, lay_out in BUILDS.items():
             folder = (args.keep or pathlib.Path(scratch)) / name
             folder.mkdir(parents=True, exist_ok=True)

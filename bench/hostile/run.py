@@ -362,8 +362,8 @@ LINES = {
     "additions to one macro": (40_000, 0.0002, 72),
     "one entry of many words, repeated": (1_600, 0.015, 2_560),
     "one entry of many references, repeated": (10_000, 0.002, 0),
-    "references through a long word": (20, 1.5, 0),
-    "references through a long value": (1, 10, 72 * 1_000),
+    "references through a long word": (20, 0.2, 0),
+    "references through a long value": (1, 2, 72 * 1_000),
     "include lines of large texts": (5_000_000, 0.000002, 0.3),
     "a million pairs in order": (1_000_000, 0.000002, 0.07),
 }
