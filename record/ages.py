@@ -1,7 +1,7 @@
 """Ages that are compared: where two tasks that nothing orders write two names, and somebody compares which is newer."""
 
 from itertools import combinations
-from typing import TYPE_CHECKING, Dict, Iterator, Set, Tuple
+from typing import TYPE_CHECKING, Dict, Iterator, List, Set, Tuple
 
 from record import shelltext
 from record.owners import Make, Work
@@ -23,16 +23,23 @@ def add_ages(builder: "Builder") -> None:
         names = builder.looked_at(node, at)
         for path in names[1:]:
             compare(builder, at, names[0], path, node.name)
-        for work in build.tasks[at].works:
-            inner_ages(builder, at, work)
-            ages_by_words(builder, at, work)
+        for who, work in works_of(builder, at):
+            inner_ages(builder, who, work)
+            ages_by_words(builder, who, work)
+
+
+def works_of(builder: "Builder", at: int) -> List[Tuple[int, Work]]:
+    """What a task ran, and what make itself ran for it, as by `$(shell ..)`, with the task that has that."""
+    task = builder.build.tasks[at]
+    acts = builder.acts_work(task.node) if builder.build.tool == "make" and task.kind == "recipe" else None
+    return [*((at, work) for work in task.works), *([(builder.look_of.get(task.label, at), acts)] if acts is not None else [])]
 
 
 def note_sources(builder: "Builder") -> None:
     """Which names take over the age of which others: a file that is moved or linked, and one whose time a program sets, as `cp -p`
     and `touch -r` do, from what it looked at. An archive keeps the ages of what was put in."""
-    for task in builder.build.tasks:
-        for life in (life for work in task.works for life in work.lives):
+    for at in range(len(builder.build.tasks)):
+        for life in (life for _, work in works_of(builder, at) for life in work.lives):
             looked = {path for kind, path in life.events if kind in "RS" and (path in builder.build.writers or path in builder.timers)}
             packs = any(shelltext.base_name(argv) in PACKERS for argv in life.ran)
             for kind, path in life.events:

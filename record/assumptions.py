@@ -4,14 +4,16 @@ from dataclasses import dataclass
 from typing import Dict, List
 
 TEXTS = {
-    "serial": "make decides goals in this order, without --shuffle, and recipes do not use MAKEFLAGS, the number of processors, a terminal, standard input, or files that were opened for them before make began",
+    "serial": "make decides goals in this order, without --shuffle, and recipes do not use MAKEFLAGS, the number of processors, a terminal, standard input, descriptors of a job server, or files that were opened for them before make began",
     "ninja": "commands of ninja do not look at the number of jobs, the number of processors or a terminal, and nobody looks at the order of what ninja prints",
     "ties": "build statements with one command were distinguished by ninja's log",
     "up-to-date": "builds start from this tree: targets that were up to date stay so",
     "unasked": "builds have the same goals: recipes that nothing asked for are not judged",
     "unwritten": "all processes of recipes that do not write their own target were seen",
     "at-once": "two processes of one recipe touch a file at the same time",
-    "sockets": "a process talks to a server, whose files nobody saw, or opens a port, which is free",
+    "sockets": "a process talks to a server, whose files nobody saw, or opens a port, which is free, or shares memory with processes of its own recipe alone",
+    "processes": "who lists the processes that run (ps, pgrep), or waits for changes of files (inotify), does the same whatever else runs",
+    "read-times": "who asks when a file was read last (test -N, find -anewer) does the same whoever has read it",
     "locks": "who asks for a lock of a file, and does not wait for it, does the same where another one has it",
     "queries": "what a make that only asks (-n, -q, -t) runs by `+` or $(MAKE) does the same in any order",
     "hard-links": "files got a second name; links that were outside of the project before are not known",
@@ -27,6 +29,7 @@ TEXTS = {
     "tops": "two makes or ninjas ran at once, and no make or ninja started them",
     "grouped": "recipes that name the target that they run for do the same for each target of their rule, whichever make looks at first",
     "inherited": "targets that a later rule or a chain of rules asks for do the same whichever target's macros they inherit",
+    "beside": "a process that no recipe started changed files while make ran, and no recipe touches these",
     "ages": "programs that nobody knows look at two files, and do not compare which is newer",
     "interpreters": "Perl, Python and other interpreters compare ages only of files that they looked at by name",
     # What the answer on missing inputs takes for granted.

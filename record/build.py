@@ -4,7 +4,7 @@ import bisect
 import os
 import re
 from fnmatch import fnmatchcase
-from typing import Dict, Iterable, List, Set, Tuple
+from typing import Dict, Iterable, List, Optional, Set, Tuple
 
 from record.ages import add_ages
 from record.assumptions import Assumptions
@@ -79,7 +79,7 @@ class Builder:
 
     def make_recipes(self) -> None:
         for node in self.graph.nodes.values():
-            acts = self.make.acts.get((self.number, node.name)) if node.rule == 0 else None
+            acts = self.acts_work(node)
             if node.jobs or acts is not None or (node.must and node.has_recipe):
                 at = self.add(node, "recipe", node.label)
                 self.of_node[node.label] = at
@@ -90,8 +90,12 @@ class Builder:
         for work in task.works:
             yield from work.events
 
+    def acts_work(self, node: Node) -> Optional[Work]:
+        """What make did itself for a target; of a double-colon target it may have been for each of its rules."""
+        return self.make.acts.get((self.number, node.name))
+
     def acts_of(self, node: Node) -> Iterable[Tuple[str, str]]:
-        work = self.make.acts.get((self.number, node.name)) if node.rule == 0 else None
+        work = self.acts_work(node)
         if work is None:
             return ()
         if not self.build.writers:

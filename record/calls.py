@@ -6,18 +6,22 @@ from typing import Callable, Dict, NamedTuple, Tuple
 
 from record import shelltext
 from record.lives import Life
+from record.moves import Moves
 from record.names import Found, Inode
-from record.replay import DEVICES, Replay
-from record.strace import Call, first_text, folders, is_cut, remembered, texts
+from record.replay import DEVICES
+from record.strace import Call, first_text, folders, is_cut, remembered, texts, unescape
 
 WRITING = re.compile(r"O_WRONLY|O_RDWR|O_TRUNC|O_CREAT")
 LOOKS = {"stat", "lstat", "access", "getxattr", "lgetxattr", "listxattr", "llistxattr", "statfs", "newfstatat",
          "faccessat", "faccessat2", "name_to_handle_at", "statx", "fstatat64", "readlink", "readlinkat", "statfs64", "stat64", "lstat64"}
-NOFOLLOW = {"lstat", "lstat64", "lgetxattr", "llistxattr", "readlink", "readlinkat", "unlink", "rmdir", "lchown"}
-CHANGES = {"chmod", "chown", "lchown", "utime", "utimes", "truncate", "setxattr", "lsetxattr", "removexattr", "fchmodat",
+NOFOLLOW = {"lstat", "lstat64", "lgetxattr", "llistxattr", "readlink", "readlinkat", "unlink", "rmdir", "lchown", "lsetxattr", "lremovexattr"}
+CHANGES = {"chmod", "chown", "lchown", "utime", "utimes", "truncate", "setxattr", "lsetxattr", "removexattr", "lremovexattr", "fchmodat",
            "fchmodat2", "fchownat", "utimensat", "futimesat", "fchmod", "fchown", "ftruncate", "fsetxattr", "fremovexattr"}
 TIMES = {"utime", "utimes", "utimensat", "futimesat"}
 # After these, what a process opens is not what the trace names, or is not in the trace at all.
+OF_PROCESS = re.compile(r"/proc/(?:(\d+)/|loadavg$)")
+SHARING = {"shmget", "semget", "msgget", "mq_open"}
+SOCKET = re.compile(r'sun_path="((?:[^"\\]|\\.)*)"')
 HIDING = {"chroot", "pivot_root", "mount", "move_mount", "umount", "umount2", "setns", "open_by_handle_at", "io_uring_setup"}
 SCRIPTS = 5  # how many scripts may be the interpreter of one another; the kernel allows no more
 GIVEN_TIME = re.compile(r"tv_[nu]sec=\d+\}(?: /\*[^*]*\*/)?\]|modtime=")
@@ -53,7 +57,7 @@ def flags_of(args: str) -> str:
     return TEXT_END.sub("", args)
 
 
-class Calls(Replay):
+class Calls(Moves):
     """The calls, one method each."""
 
     def call(self, life: Life, call: Call) -> None:
@@ -72,9 +76,21 @@ class Calls(Replay):
             handler(self, life, call, ok)
         elif name in HIDING and ok:
             self.holes.append("files that are opened after %s are not seen: %s" % (name, " ".join(life.argv)[:100]))
-        elif name in ("connect", "bind"):
-            if ok and "AF_UNIX" in call.args or "AF_INET" in call.args and not ANY_PORT.search(call.args):
-                self.sockets.append(" ".join(life.argv)[:100])
+        elif name in SHARING and ok:
+            self.sockets.append(" ".join(life.argv)[:100])
+
+    def on_bind(self, life: Life, call: Call, ok: bool) -> None:
+        """A socket with a name is a file, which whoever talks to it opens."""
+        if ok and "AF_UNIX" in call.args or "AF_INET" in call.args and not ANY_PORT.search(call.args):
+            self.sockets.append(" ".join(life.argv)[:100])
+        path = SOCKET.search(call.args)
+        found = self.found(life, unescape(path.group(1)), True) if path is not None else None
+        if found is not None and call.name == "bind" and ok:
+            self.write(life, found, True)
+        elif found is not None:
+            self.put_look(life, found, call.error not in ("ENOENT", "ENOTDIR"), "R")
+
+    on_connect = on_bind
 
     def on_flock(self, life: Life, call: Call, ok: bool) -> None:
         """Who waits for a lock does the same whoever has it; who does not wait sees whether another has it."""
@@ -104,8 +120,14 @@ class Calls(Replay):
             is_folder = found.inode is not None and found.inode.kind == "d"
             if not is_folder or not self.is_own(life, path, found) or shelltext.names_here(life.argv):
                 self.put(life, "A", found.path)
-        elif (not traits.is_ageless or self.is_inside(life.program)) and not life.is_make and "access" not in call.name and "readlink" not in call.name:
+        elif traits.asks_size and found.inode is not None and found.inode.kind == "d":
+            self.put(life, "A", found.path)
+        elif self.is_unknown(life) and "access" not in call.name and "readlink" not in call.name:
             self.put(life, "a", found.path)
+
+    def is_unknown(self, life: Life) -> bool:
+        """Whether nobody knows if a program compares the ages of what it looks at, or of what it has opened."""
+        return (not life.traits().is_ageless or self.is_inside(life.program)) and not life.is_make
 
     @staticmethod
     def is_own(life: Life, path: str, found: Found) -> bool:
@@ -115,18 +137,19 @@ class Calls(Replay):
         return path == "." or path.startswith("/") and above
 
     def on_execve(self, life: Life, call: Call, ok: bool) -> None:
-        program = first_text(call.args)
-        if program is None:
+        program = first_text(call.args) or "".join(folders(call.args)[:1])
+        if not program:
             return
         if not ok:
             if not life.is_wrapper:
                 self.look(life, program, False, True)
                 self.look_at_interpreters(life, program)
             return
-        words = texts(call.args)
+        words = [program, *texts(call.args)[1:]]
         argv = words[1:]
         was_wrapper, was_make = life.is_wrapper, life.is_make
         forked = was_wrapper and not life.ran
+        life.taken = ()
         found = self.names.find(life.folder, words[0], True)
         life.is_wrapper = words[0].startswith(self.spool + "/bin/")
         argv = argv if life.is_wrapper else shelltext.with_interpreter(argv, found.path)
@@ -138,10 +161,15 @@ class Calls(Replay):
         life.ran.append(argv)
         if life.is_wrapper:
             return
+        self.is_open_shell = self.is_open_shell or shelltext.sets_options(argv, life.folder)
+        if shelltext.asks_reads(argv, life.folder):
+            self.askers.append(" ".join(argv)[:100])
         if os.path.realpath(found.path) == self.real or found.path == self.real:
             self.begin_make(life, was_wrapper, was_make, forked)
         else:
             life.is_make = life.is_make and life.number >= 0 and was_make
+            if shelltext.is_other_make(found.path, self.real):
+                self.past.append(" ".join(life.argv)[:200])
         self.look(life, words[0], True, True, "R")
         self.look_at_interpreters(life, words[0])
 
@@ -186,7 +214,10 @@ class Calls(Replay):
 
     def on_open(self, life: Life, call: Call, ok: bool) -> None:
         base, path = self.base_and_path(life, call)
-        if ok and DEVICES.match(path) and call.opened.startswith("/") and not DEVICES.match(call.opened):
+        if ok and DEVICES.match(path):
+            if not call.opened.startswith("/") or DEVICES.match(call.opened) and not self.is_inside(call.opened):
+                self.note_watcher(life, path)
+                return  # a pipe, a terminal or the like
             base, path = "", call.opened
         flags = flags_of(call.args)
         changes = call.name == "creat" or bool(WRITING.search(flags))
@@ -201,10 +232,9 @@ class Calls(Replay):
         found = self.found(life, path, follow, base)
         if call.opened.startswith("/") and call.opened != found.path and not DEVICES.match(call.opened):
             self.holes.append("a name leads to another file than the record says: %s is %s, and not %s" % (path, call.opened, found.path))
+        life.handle = (call.result, found.path) if "O_PATH" in flags else (-1, "")
         if not changes:
-            folder = found.inode is not None and found.inode.kind == "d"
-            self.put_links(life, found)
-            self.put_look(life, found, True, "S" if folder else "R")
+            self.on_read(life, found)
             return
         if "O_EXCL" in flags:
             self.fresh.add(found.path)
@@ -214,15 +244,45 @@ class Calls(Replay):
 
     on_openat = on_openat2 = on_creat = on_open
 
+    def note_watcher(self, life: Life, path: str) -> None:
+        """What the kernel shows of another process, or of all of them."""
+        match = OF_PROCESS.match(path)
+        if match is not None and not life.is_make and match.group(1) not in {str(one.pid) for one in life.threads or (life,)}:
+            self.watchers.append(" ".join(life.argv)[:100])
+
+    def on_inotify_add_watch(self, life: Life, call: Call, ok: bool) -> None:
+        """Who waits for changes sees what runs beside it."""
+        self.look(life, "".join(texts(call.args)[:1]), ok, True)
+        self.watchers.append(" ".join(life.argv)[:100])
+
+    on_fanotify_mark = on_inotify_add_watch
+
+    def on_read(self, life: Life, found: Found) -> None:
+        """A file or a folder is opened, and not to change it."""
+        is_folder = found.inode is not None and found.inode.kind == "d"
+        self.put_links(life, found)
+        self.put_look(life, found, True, "S" if is_folder else "R")
+        traits = life.traits()
+        if is_folder or life.is_query:
+            return
+        if life.is_make:
+            self.is_open_shell = self.is_open_shell or shelltext.sets_options_in(found.path)
+        elif traits.is_shell:
+            life.taken += (found.path,) if shelltext.takes_in(life.argv, found.path) else ()
+        elif not traits.is_interpreter and (self.ages(life) or self.is_unknown(life)):
+            self.put(life, "A" if self.ages(life) else "a", found.path)
+
     def on_getdents64(self, life: Life, call: Call, ok: bool) -> None:
         where = folders(call.args)
         if not ok or not where:
             return
         if life.is_make:
             self.put(life, "Q", where[0])
+        elif where[0] == "/proc":
+            self.watchers.append(" ".join(life.argv)[:100])
         else:
             for pattern in shelltext.patterns(life.argv, life.cut):
-                self.put(life, "L", where[0] + "\0" + pattern)
+                self.put(life, "L", where[0] + "\0" + ("*" if self.is_open_shell or life.taken else pattern))
             if not shelltext.sorts_names(life.argv):
                 self.put(life, "l", where[0])
 
@@ -287,82 +347,6 @@ class Calls(Replay):
 
     on_rmdir = on_unlinkat = on_unlink
 
-    def two(self, life: Life, call: Call) -> Tuple[Found, Found]:
-        words = texts(call.args)
-        where = folders(call.args)
-        bases = where if len(where) == 2 else [life.folder, life.folder]
-        follow = "AT_SYMLINK_FOLLOW" in call.args
-        return (self.found(life, words[0].rstrip("/"), follow, bases[0]), self.found(life, words[1].rstrip("/"), False, bases[1]))
-
-    def on_rename(self, life: Life, call: Call, ok: bool) -> None:
-        if len(texts(call.args)) < 2:
-            return
-        old, new = self.two(life, call)
-        if not ok:
-            self.put(life, "N" if old.inode is None else "S", old.path)
-            self.put(life, "N" if new.inode is None else "S", new.path)
-            if new.missing and new.missing != new.path:
-                self.put(life, "N", new.missing)
-            return
-        self.put(life, "R", old.path)
-        self.put(life, "c", new.path + "\0" + old.path)
-        if "RENAME_EXCHANGE" in call.args:
-            self.holes.append("two names were exchanged in one step: " + old.path)
-        if old.folder is None or new.folder is None:
-            return
-        inode = self.names.take(old.folder, old.name) or Inode("f")
-        gone = self.names.take(new.folder, new.name)
-        self.put(life, "D", old.path)
-        self.put(life, "C", new.path)
-        self.put(life, "W", new.path)
-        for other in self.names.aliases(gone):
-            self.put(life, "H", other)
-        if inode.kind == "d":
-            for name, _ in self.names.below(inode, ""):
-                self.put(life, "D", old.path + name)
-                self.put(life, "C", new.path + name)
-                self.put(life, "W", new.path + name)
-        self.names.put(new.folder, new.name, inode)
-
-    on_renameat = on_renameat2 = on_rename
-
-    def on_link(self, life: Life, call: Call, ok: bool) -> None:
-        if len(texts(call.args)) < 2:
-            return
-        old, new = self.two(life, call)
-        self.put(life, "R" if ok else "S" if old.inode else "N", old.path)
-        if not ok:
-            self.put(life, "S" if call.error == "EEXIST" else "N", new.path)
-            return
-        inode = old.inode or Inode("f")
-        self.fresh.add(new.path)
-        self.put(life, "C", new.path)
-        self.put(life, "W", new.path)
-        self.put(life, "c", new.path + "\0" + old.path)
-        for other in self.names.aliases(inode):
-            self.put(life, "H", other)
-        if new.folder is not None:
-            self.names.put(new.folder, new.name, inode)
-        self.hard_links.append(new.path)
-
-    on_linkat = on_link
-
-    def on_symlink(self, life: Life, call: Call, ok: bool) -> None:
-        words, where = texts(call.args), folders(call.args)
-        if len(words) < 2:
-            return
-        found = self.found(life, words[1].rstrip("/"), False, where[-1] if where else life.folder)
-        if not ok:
-            self.put(life, "S" if call.error == "EEXIST" else "N", found.path)
-            return
-        self.fresh.add(found.path)
-        self.put(life, "C", found.path)
-        self.put(life, "W", found.path)
-        if found.folder is not None:
-            self.names.put(found.folder, found.name, Inode("l", words[0]))
-
-    on_symlinkat = on_symlink
-
     def on_change(self, life: Life, call: Call, ok: bool) -> None:
         base, path = self.base_and_path(life, call)
         if not path:
@@ -386,5 +370,5 @@ Handler = Callable[[Calls, Life, Call, bool], None]
 HANDLERS: Dict[str, Handler] = {
     **dict.fromkeys(CHANGES, Calls.on_change),
     **dict.fromkeys(LOOKS, Calls.on_look),
-    **{name[len("on_"):]: handler for name, handler in vars(Calls).items() if name.startswith("on_")},
+    **{name[len("on_"):]: handler for kind in (Moves, Calls) for name, handler in vars(kind).items() if name.startswith("on_")},
 }

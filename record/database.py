@@ -8,6 +8,7 @@ TARGET = re.compile(r"^(.*?)(::?)(?: (.*))?$")
 PLACE = re.compile(r"^#  recipe to execute \(from '(.*)', line (\d+)\):")
 ORIGIN = re.compile(r"# (makefile|environment|command line|default|automatic|'override' directive)")
 VALUE = re.compile(r"^([^\s:#=]+) (?:=|:=|::=|:::=) ?(.*)$")
+LINES_TEXT = "$(lines)*"  # what stands for a macro of several lines
 LINES = re.compile(r"^define ([^\s:#=]+)")
 PATTERN = re.compile(r"^([^#\t:=]*%[^:=]*)::?(?!=) *(.*)$")
 
@@ -105,7 +106,7 @@ def before_files(base: Base, text: str, previous: str) -> None:
     if value:
         base.values[value.group(1)] = value.group(2)
     if lines:
-        base.values[lines.group(1)] = "$(lines)*"
+        base.values[lines.group(1)] = LINES_TEXT
 
 
 def read_base(lines: List[str]) -> Base:

@@ -10,6 +10,7 @@ from dataclasses import dataclass, field
 from typing import TYPE_CHECKING, Dict, List, Set, Tuple
 
 from record import shelltext
+from record.lives import Life
 from record.owners import Work
 
 if TYPE_CHECKING:
@@ -35,7 +36,18 @@ class Folder:
 
 def excused(works: List[Work], folder: str) -> bool:
     """Whether the text of a recipe makes a folder in a quiet form, which does not show who was first."""
-    return any(shelltext.is_excused(argv, folder) for work in works for life in work.lives for argv in life.ran)
+    return any(shelltext.is_excused(argv, folder) and not keeps_errors(life, argv) for work in works for life in work.lives for argv in life.ran)
+
+
+def keeps_errors(life: Life, own: List[str]) -> bool:
+    """Whether who started a shell may keep its errors: another text of the recipe, or a program that is no shell."""
+    for up in life.up():
+        if up.is_make or up.is_ninja:
+            return False
+        ran = up.ran[:up.ran.index(own)] if up is life else up.ran
+        if not all(shelltext.hands_on(argv) for argv in ran):
+            return True
+    return False
 
 
 def parents(path: str) -> List[str]:
@@ -89,7 +101,7 @@ def each(builder: "Builder") -> List[Tuple[int, List[Tuple[str, str, int]]]]:
     for at, task in enumerate(builder.build.tasks):
         if task.kind == "recipe":
             found.append((at, [(k, p, s) for w in task.works for (k, p), s in w.events.items()]))
-            acts = builder.make.acts.get((builder.number, task.node.name)) if task.node.rule == 0 else None
+            acts = builder.acts_work(task.node) if builder.build.tool == "make" else None
             if acts is not None:
                 looker = builder.look_of.get(task.label, at)
                 found.append((looker, [(k, p, s) for (k, p), s in acts.events.items()]))

@@ -25,6 +25,7 @@ def add_granted(owners: Owners, assumed: Assumptions, spool: str) -> None:
         named_flags(make, works, assumed, spool)
     at_once(owners, assumed)
     outlived(owners, assumed)
+    beside(owners, assumed)
     asked(owners, assumed)
 
 
@@ -117,8 +118,7 @@ def outlived(owners: Owners, assumed: Assumptions) -> None:
     """Processes that act on files when their recipe has ended, and makes that run beside each other without a make above."""
     for make in owners.makes:
         for life in make.life.children:
-            if id(life) in owners.jobs:
-                outlived_of(life, owners, assumed)
+            outlived_of(life, owners, assumed)
     tops = [m.life for m in owners.makes if not any(l.is_make for l in m.life.up() if l is not m.life)]
     tops.sort(key=lambda l: l.born)
     for first, second in zip(tops, tops[1:]):
@@ -126,8 +126,24 @@ def outlived(owners: Owners, assumed: Assumptions) -> None:
             assumed.add("tops", " ".join(second.argv)[:60])
 
 
+def beside(owners: Owners, assumed: Assumptions) -> None:
+    """What changes files while a make runs, and was started by no recipe: nobody knows beside which recipe it runs."""
+    tops = [m.life for m in owners.makes if not any(up.is_make or up.is_ninja for up in m.life.up() if up is not m.life)]
+    for life in owners.lives:
+        if not any(up.is_make or up.is_ninja for up in life.up()) and any(changes_beside(life, top) for top in tops):
+            assumed.add("beside", " ".join(life.argv)[:60])
+
+
+def changes_beside(life: Life, top: Life) -> bool:
+    """Whether a process changes files while a make runs; one that is above the make may wait for it."""
+    places = [place for (kind, _), place in life.events.items() if kind in "WCDMTX"]
+    if life in top.up():
+        return any(top.born < place < top.died for place in places)
+    return bool(places) and life.born < top.died and life.died > top.born
+
+
 def outlived_of(life: Life, owners: Owners, assumed: Assumptions) -> None:
-    """What a recipe left running, and what may then change files: those that it opens, and those that it or who started it had opened."""
+    """What a recipe, or a call of `$(shell ..)`, left running, and what may then change files: those that it opens, and those that it or who started it had opened."""
     for one in owners.below(life):
         if one.died > life.died and any(k in "WCDMTX" for up in until(one, life) for k, _ in up.events):
             assumed.add("outlives", " ".join(one.argv)[:60])

@@ -57,6 +57,8 @@ class Life:
     children: List["Life"] = field(default_factory=list)
     threads: List["Life"] = field(default_factory=list)  # those that change their folder together, with this one
     mask: int = 0  # the bits that names are made without
+    handle: Tuple[int, str] = (-1, "")  # the descriptor that it got last, and what stands behind it, where that only stands for a name
+    taken: Tuple[str, ...] = ()  # files that a shell read which its text does not name as its input
     known: Optional[Traits] = None
 
     def traits(self) -> Traits:

@@ -8,6 +8,7 @@ from functools import cached_property
 from pathlib import Path
 from typing import Dict, Iterable, Iterator, List, NamedTuple, Set
 
+from record.database import LINES_TEXT as LINES
 from record.database import Base
 from record.owners import Make
 from record.shelltext import shell_text
@@ -99,8 +100,11 @@ class Macros:
 
     def __init__(self, make: Make, base: Base) -> None:
         self.make, self.base = make, base
-        self.text = "\n".join(text_of(os.path.join(make.folder, name)) for name in sorted(makefiles(make.words)))
-        self.is_used = "eval" in self.text or any("eval" in value for value in base.values.values())
+        paths = [os.path.join(make.folder, name) for name in sorted(makefiles(make.words))]
+        self.text = "\n".join(text_of(path) for path in paths)
+        self.is_lost = not all(os.path.exists(path) for path in paths)  # then macros of several lines may hold anything
+        recipes = (line for lines in base.recipes.values() for line in lines)
+        self.is_used = self.is_lost and LINES in base.values.values() or any("eval" in text for text in (self.text, *base.values.values(), *recipes))
         self.named: Dict[str, Set[str]] = {}
         self.ways: Dict[str, Set[str]] = {}
         self.changed: Set[str] = set()  # those that recipes change
@@ -149,7 +153,7 @@ class Macros:
     def is_exported(self, name: str) -> bool:
         """Whether each process of a recipe finds a macro in its environment, or make itself reads it for each recipe."""
         exports = re.search(r"(?m)^[ \t]*export\b(?:[ \t]*$|[^\n]*\b%s\b)|\.EXPORT_ALL_VARIABLES" % re.escape(name), self.text)
-        return bool(exports) or name in IMPLIED or self.is_inherited(name)
+        return self.is_lost or bool(exports) or name in IMPLIED or self.is_inherited(name)
 
     def is_inherited(self, name: str) -> bool:
         """Whether make may have found a macro in its own environment: then it hands that on to each recipe."""
@@ -164,6 +168,8 @@ class Macros:
         for name in found.reads:
             for one in evals(self.text_of(name)):
                 (found.keeps if one.name == name and one.is_fresh else found.writes).add(one.name)
+        if self.is_lost and any(self.base.values.get(name) == LINES for name in found.reads):
+            found.writes.add(ANY)
         for one in own:
             found.writes.add(one.name)
             before = self.reached(text[:one.end])

@@ -41,7 +41,7 @@ from record.wrapper import note_output
 
 HERE = Path(__file__).resolve().parent
 CALLS = ("%file,fchdir,getdents64,getdents,clone,clone3,fork,vfork,fchmod,fchown,ftruncate,fsetxattr,fremovexattr,connect,bind,flock,"
-         "umask,setns,open_by_handle_at,io_uring_setup")
+         "shmget,semget,msgget,mq_open,umask,setns,open_by_handle_at,io_uring_setup")
 STRACE = ["strace", "-f", "-q", "-y", "--seccomp-bpf", "-s", "131072", "-e", "signal=hup,int,quit,abrt,kill,segv,pipe,term,xfsz", "-e", "trace=" + CALLS]
 EXAMPLE = """examples:
   race-record -- make -C src all       one serial build, then the verdict
@@ -141,12 +141,10 @@ def import_record(spool: Path, names: Names, kept: Kept, real: str, folder: str,
     record.holes += ["a make ran past the recorder: " + p for p in replay.past]
     for path in sorted(spool.glob("*.past")):
         record.holes += ["a make that prints its own words (-d, -p, --debug) ran past the recorder: " + t for t in path.read_text(errors="replace").splitlines()]
-    for socket in replay.sockets:
-        assumed.add("sockets", socket)
-    for name in replay.locks:
-        assumed.add("locks", name)
-    for name in replay.hard_links:
-        assumed.add("hard-links", name)
+    for kind, found in (("sockets", replay.sockets), ("processes", replay.watchers), ("read-times", replay.askers), ("locks", replay.locks),
+                        ("hard-links", replay.hard_links), ("ages", replay.rewritten())):
+        for example in found:
+            assumed.add(kind, example)
     ninjas, of_ninja, holes = import_ninjas(replay.all, owners, names, kept, assumed, record.status == 0)
     record.holes += holes
     if not owners.makes and not ninjas:

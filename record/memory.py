@@ -22,7 +22,7 @@ def share_listings(builder: "Builder") -> None:
     make, began = builder.make, builder.first_birth()
     late = {folder: place for folder, place in make.listed.items() if place > began}
     for node in builder.graph.nodes.values() if late else ():
-        asked = folders_asked(builder, node) if node.rule == 0 and (node.jobs or node.must and node.has_recipe) else set()
+        asked = folders_asked(builder, node) if node.jobs or node.must and node.has_recipe else set()
         for folder, place in late.items():
             if place < birth(builder, node) and (asked is None or folder in asked):
                 work = make.acts.setdefault((builder.number, node.name), Work())

@@ -197,20 +197,22 @@ class Owners:
         births = [t[0] for t in table]
         names = {n for _, r in rounds for n in r.nodes} | {v for _, r in rounds for v in r.vpath.values()}
         apart = self.removed_last(make) | self.read_archives(make, names)
-        pieces: List[Tuple[int, List[Tuple[str, str, int]]]] = []
+        pieces: List[Tuple[int, List[Tuple[str, str, int]], Work]] = []
         for act in make.life.acts:
             if ready < act.place < end and not (act.word and act.word in names) and id(act) not in apart:
-                pieces.append((act.place, [(act.kind, act.path, act.place)]))
+                pieces.append((act.place, [(act.kind, act.path, act.place)], Work()))
         for life in make.life.children:
             if id(life) not in self.jobs and ready < life.born < end:
                 work = Work()
                 self.take(work, life)
-                pieces.append((life.born, [(k, p, s) for (k, p), s in work.events.items()]))
+                pieces.append((life.born, [(k, p, s) for (k, p), s in work.events.items()], work))
         looks = self.first_looks(make, names, end)
-        for place, events in pieces:
+        for place, events, ran in pieces:
             owners = self.owners_at(make, rounds, table, births, place)
             for number, target in {o for o in owners if looks.get(o[1], -1) < place} or owners:
                 work = make.acts.setdefault((number, target), Work())
+                work.lives += ran.lives
+                work.makes += ran.makes
                 for kind, path, when in events:
                     if kind == "Q":
                         for pattern in make.globs:

@@ -1,27 +1,18 @@
 """Plays the events of a trace, in its order, in the name space, and keeps what each life of a process did."""
 
+import os
 import re
 from typing import Dict, List, Set
 
 from record import shelltext
 from record.lives import Act, Life
 from record.names import Found, Inode, Names
+from record.proc import NUMBER, is_hidden, plain_path
 from record.strace import Begun, Call, Ended, Event, Unread
 
 DEVICES = re.compile(r"/dev/(null|zero|full|u?random|tty\w*|ptmx|console|std(in|out|err)|fd(/.*)?|pts(/.*)?)$|/proc(/|$)|/sys(/|$)")
 
 PROGRESS = "/CMakeFiles/Progress"
-
-OWN = re.compile(r"/proc/(self|thread-self|\d+)/(cwd|root)(/.*|$)", re.S)
-
-
-def own_path(life: Life, path: str) -> str:
-    """A path by way of the folder or the root that /proc shows of the process itself, without that way."""
-    match = OWN.match(path) if path.startswith("/proc/") else None
-    if match is None or match.group(1).isdigit() and int(match.group(1)) != life.pid:
-        return path
-    return (life.folder if match.group(2) == "cwd" else "") + match.group(3) or "/"
-
 
 class Replay:
     """Plays the events of a trace in the name space and keeps what each life did."""
@@ -46,6 +37,10 @@ class Replay:
         self.makers: List[str] = []
         self.progress: List[str] = []  # folders in which CMake counts what is built
         self.aged: Dict[str, bool] = {}
+        self.scripts: Dict[str, int] = {}  # those whose text compares no ages, and when they were first asked
+        self.watchers: List[str] = []  # who lists the processes that run, or waits for changes of files
+        self.askers: List[str] = []  # who asks when a file was read last
+        self.is_open_shell = bool(shelltext.SHELL_MACROS & {*os.environ})  # shells may have other options than their words say
 
     # ---------------------------------------------------------------- processes
     def life(self, pid: int) -> Life:
@@ -65,16 +60,24 @@ class Replay:
     def ages(self, life: Life) -> bool:
         """Whether the process may compare ages."""
         traits = life.traits()
+        if traits.is_shell and (self.is_open_shell or any(shelltext.script_compares(path, life.folder) for path in life.taken)):
+            return True
         if traits.ages is None:
             key = "\0".join(life.argv[:8])
             if key not in self.aged:
                 self.aged[key] = shelltext.compares_ages(life.argv, life.folder)
+            if not self.aged[key] and shelltext.is_script(life.argv):
+                self.scripts.setdefault(self.names.find(life.folder, life.argv[1], True).path, self.place)
             traits.ages = self.aged[key]
         return traits.ages
 
+    def rewritten(self) -> List[str]:
+        """Scripts that were changed when they had run: what is read of them now is not what ran."""
+        return [path for life in self.all for path, place in life.changed.items() if place > self.scripts.get(path, 1 << 60)]
+
     @staticmethod
     def inherit(child: Life, parent: Life) -> None:
-        child.folder, child.cut, child.mask = parent.folder, parent.cut, parent.mask
+        child.folder, child.cut, child.mask, child.taken = parent.folder, parent.cut, parent.mask, parent.taken
         child.argv = child.argv or parent.argv
         child.is_wrapper = parent.is_wrapper if not child.ran else child.is_wrapper
 
@@ -126,6 +129,8 @@ class Replay:
     # ---------------------------------------------------------------- events
     def put(self, life: Life, kind: str, path: str, word: str = "") -> None:
         if DEVICES.match(path) and not self.is_inside(path):
+            if is_hidden(kind, path):
+                self.holes.append("a file is known by the number of its descriptor alone: %s of %s" % (path, " ".join(life.argv)[:60]))
             return
         if path.startswith(self.spool):
             return
@@ -145,7 +150,8 @@ class Replay:
         return any(path == top or path.startswith(top.rstrip("/") + "/") for top in self.tops)
 
     def found(self, life: Life, path: str, follow: bool, base: str = "", word: str = "") -> Found:
-        found = self.names.find(base or life.folder, own_path(life, path), follow)
+        plain = plain_path(life, path, self.lives)
+        found = Found(plain, None, None, "") if NUMBER.match(plain) else self.names.find(base or life.folder, plain, follow)
         self.put_links(life, found, word)
         return found
 

@@ -1,8 +1,10 @@
 """What the words of a process say: folders made for oneself, patterns of names, ages that are compared."""
 
+import filecmp
 import fnmatch
 import os
 import re
+from functools import lru_cache
 from typing import Iterable, List, Optional
 
 SHELLS = ("sh", "dash", "bash", "ksh", "zsh", "ash")
@@ -17,15 +19,36 @@ PROGRESS = ("cmake_progress_start", "cmake_progress_report", "cmake_echo_color")
 SORTERS = ("make", "gmake", "rm", "cp", "mv", "chmod", "chown", "rmdir", "git")
 MAKERS = ("install-sh", "mkinstalldirs", "libtool")
 INTERPRETERS = re.compile(r"(python|perl|ruby|node|lua|tclsh|php)[\d.]*$")
-TAKES_IN = re.compile(r"(^|[;&|({\n]\s*|\b(then|do|else)\s+)(\.|source|eval)\s")  # text of another file
-OPTIONS = re.compile(r"\bshopt\b|\s[-+]O\s")  # of bash, by which patterns say something else
+TAKES_IN = re.compile(r"(^|[;&|({\n`!]\s*|\b(then|do|else|elif|if|while|until|time|command|builtin)\s+|\b\w+=\S*\s+)(\.|source|eval)\s")  # text of another file
+OPTIONS = re.compile(r"\b(shopt|compgen|GLOBIGNORE)\b|\s[-+]O\s")  # of bash, by which patterns say something else, or nothing
+# Macros in the environment that give bash other options, and functions there: then the words of a shell do not say what it does.
+SHELL_MACROS = {"BASHOPTS", "SHELLOPTS"}
+SETS_OPTIONS = re.compile(r"\b(BASHOPTS|SHELLOPTS|BASH_FUNC_)|\bexport\s+-\w*f|\b(declare|typeset)\s+-(?=\w*x)\w*f")
+READ_TIMES = re.compile(r"(?:\btest|\[)\s[^;&|\n]*-N\s|\bfind\b[^;|\n]*\s-(?:anewer|amin|atime|used|newera\w|newer\wa)\s|\bstat\b[^;|&\n]*%[-+ 0#'\d.]*[xX]"
+                        r"|\bls\s([^;|&\n]*?\s)?(?:-\w*u|--time=(?:a|u))")
+QUALIFIED = re.compile(r"[\w*?\])/>]\(")  # a pattern of zsh that may ask for ages, as `*(om)` does
+KEPT = 4096  # how many files are remembered
+MAKES = ("make", "gmake", "remake")
+PASSING = ("env", "nice", "ionice", "setsid", "timeout", "flock", "time", "stdbuf")  # they leave errors to who runs in their place
 GLOB_WORD = re.compile(r"[^\s;|&<>()'\"`=]*[*?\[][^\s;|&<>()'\"`]*")
+TIME_OF_STAT = re.compile(r"%[-+ 0#'\d.]*[WXYZwxyz]|\s(-\w*t|--t)")
+FORMAT_OF_STAT = re.compile(r"\s(-\w*c|--f|--p)")
+# The words by which a program shows or compares ages, by its name.
+SHOWS_AGES = {
+    "ls": re.compile(r"\s(-\w*[tlcugon]|--(fu|fo|so|ti))"),
+    "date": re.compile(r"\s(-\w*r|--ref)"),
+    "tar": re.compile(r"^\s\w*[uN]|\s(-\w*[uN]|--(ne|af|up|keep-n))"),
+    "find": re.compile(r"\s-(f?ls|used)\s"),
+    "cp": re.compile(r"\s(-\w*u|--u)"),
+    "mv": re.compile(r"\s(-\w*u|--u)"),
+}
 # `ar` with `u` is not among them: it compares a file with the member's date in the archive, and a date that this build put
 # there was read from the file.
 AGES = re.compile(
-    r"(^|\s|\[)[\"']?--?(nt|ot|[ac]?newer[\w-]*|mtime|mmin|atime|amin|cmin|ctime|f?printf)[\"']?[\s=]|\b(cp|mv|rsync|tar)\s+([^;|&\n]*?\s)?(-\w*u|--update)"
-    r"|(?:\btest|\[)\s+(?![-!])\S+\s+\"?-?\$\S+\s+[^\s;&|\])]|\btar\s+\w*u|\bls\s+([^;|&\n]*?\s)?-\w*[tlc]|\bstat\b[^;|&\n]*%[WXYZwxyz]|--sort[= ]t|\bdate\s+[^;|&\n]*-r")
-TAKEN = re.compile(r"(?m)(?:^|[;&|{(]|\bthen\b|\bdo\b|\belse\b)[ \t]*(?:\.|source)[ \t]+([^\s;&|)#]+)")  # scripts that a script takes in
+    r"(^|\s|\[)[\"'\\]*-[\"'\\]*-?([no][\"'\\]*t|[ac]?newer[\w-]*|mtime|mmin|atime|amin|cmin|ctime|f?printf)[\"'\\]*[\s=]|\b(cp|mv|rsync|tar)\s+([^;|&\n]*?\s)?(-\w*u|--update)"
+    r"|(?:\btest|\[)\s+(?:!\s+)?(?![-!])\S+\s+\"?-?\$\S+\s+[^\s;&|\])]|\btar\s+\w*u|\bls\s+([^;|&\n]*?\s)?-\w*[tlc]|\bstat\b[^;|&\n]*%[WXYZwxyz]|--sort[= ]t|\bdate\s+[^;|&\n]*-r")
+TAKEN = re.compile(r"(?m)(?:^|[;&|{(!]|\b(?:then|do|else|elif|if|while|until|time|command|builtin)\b|\w=\S*[ \t])[ \t]*(?:\.|source)[ \t]+([^\s;&|)#]+)")  # scripts that a script takes in
+COMPUTED = re.compile(r"\beval[ \t]+[\"']?(?:\$\(|`)")  # the text that a program prints
 # What is thrown away, and errors that are not: a folder that is there already is reported there.
 NOWHERE = re.compile(r"(?:\b2\s*|&)?>>?\s*/dev/null(?:\s*2>&1)?")
 KEPT_ERRORS = re.compile(r"\b2\s*>|&>|>\s*&|\|&")
@@ -74,12 +97,26 @@ def patterns(argv: List[str], cut: bool) -> Iterable[str]:
     text = shell_text(argv)
     if not text or cut or "$" in text or "`" in text or re.search(r"\beval\b", text):
         return ["*"]
-    if OPTIONS.search(" ".join(argv)) or TAKES_IN.search(text):
+    if OPTIONS.search(" ".join(argv)) or TAKES_IN.search(text) or base_name(argv) in ("ksh", "zsh"):
         return ["*"]
-    words = [loose(word) for word in GLOB_WORD.findall(text)]
+    words = glob_words(text)
     last = {os.path.basename(word.rstrip("/")) for word in words}
     middle = {part for word in words for part in word.split("/") if re.search(r"[*?]", part)}
     return sorted((last | middle) - {""}) or ["*"]
+
+
+def glob_words(text: str) -> List[str]:
+    """The words of a shell's text with patterns, as loose patterns. A word that goes on behind a quote, or behind a backslash and a blank,
+    may hold any text there."""
+    found = []
+    for match in GLOB_WORD.finditer(text):
+        word, before, behind = match.group(), text[:match.start()], text[match.end():]
+        bare = word.rstrip("\\")
+        begins = "*" if before[-1:] in ("'", '"', "=") or before[-2:-1] == "\\" else ""
+        ends = "*" if behind[:1] in ("'", '"') or bare != word else ""
+        pattern = begins + loose(bare) + ends
+        found.append("*" if re.search(r"[{}]", pattern) else pattern)
+    return found
 
 
 def loose(pattern: str) -> str:
@@ -198,11 +235,49 @@ def script_compares(path: str, folder: str, depth: int = 0) -> bool:
     except OSError:
         return True
     taken = [name.strip("'\"") for name in TAKEN.findall(text)]
-    return bool(AGES.search(text)) or depth > 3 or any("$" in n or script_compares(os.path.join(folder, n), folder, depth + 1) for n in taken)
+    return bool(AGES.search(text) or COMPUTED.search(text)) or depth > 3 or any("$" in n or script_compares(os.path.join(folder, n), folder, depth + 1) for n in taken)
+
+
+def shows_ages(argv: List[str]) -> bool:
+    """Whether a program shows or compares ages, by words that are its own."""
+    name, text = base_name(argv), "".join(" " + word for word in argv[1:]) + " "
+    if name == "zsh":
+        return bool(QUALIFIED.search(text))
+    if name == "stat":
+        return not FORMAT_OF_STAT.search(text) or bool(TIME_OF_STAT.search(text))
+    return name in SHOWS_AGES and bool(SHOWS_AGES[name].search(text))
+
+
+def asks_size(argv: List[str]) -> bool:
+    """Whether a program shows how large a folder is: some file systems count its names."""
+    text = "".join(" " + word for word in argv[1:]) + " "
+    return base_name(argv) == "stat" and (not FORMAT_OF_STAT.search(text) or bool(re.search(r"%[-+ 0#'\d.]*[sbB]", text)))
+
+
+def asks_reads(argv: List[str], folder: str) -> bool:
+    """Whether a program, or a script, may ask when a file was read last."""
+    if base_name(argv) not in SHELLS and base_name(argv) not in ("test", "[", "find", "stat", "ls"):
+        return False
+    text = " ".join(argv) + " "
+    if is_script(argv):
+        text += contents(os.path.join(folder, argv[1]))
+    return bool(READ_TIMES.search(text))
+
+
+@lru_cache(KEPT)
+def contents(path: str) -> str:
+    """The text of a script; nothing where it is gone."""
+    try:
+        with open(path, errors="replace") as file:
+            return file.read(1 << 18)
+    except OSError:
+        return ""
 
 
 def compares_ages(argv: List[str], folder: str) -> bool:
     """Whether a process may depend on which of two files is newer."""
+    if shows_ages(argv):
+        return True
     if base_name(argv) in SHELLS and len(argv) == 1:
         return True  # its script comes from standard input, and nobody can read it
     if is_script(argv) and "libtool" not in argv[1]:
@@ -223,6 +298,45 @@ def looks_at_links(argv: List[str]) -> bool:
     return bool(INTERPRETERS.match(name)) and "-c" not in argv[:1] and ("stat" in text)
 
 
+def sets_options(argv: List[str], folder: str) -> bool:
+    """Whether the words of a process give shells that it starts options or functions by way of the environment."""
+    return bool(SETS_OPTIONS.search(" ".join(argv))) or is_script(argv) and sets_options_in(os.path.join(folder, argv[1]))
+
+
+@lru_cache(KEPT)
+def sets_options_in(path: str) -> bool:
+    """Whether a makefile or a script does so."""
+    try:
+        with open(path, errors="replace") as file:
+            return bool(SETS_OPTIONS.search(file.read(1 << 22)))
+    except OSError:
+        return False
+
+
+def takes_in(argv: List[str], path: str) -> bool:
+    """Whether a shell with a text of its own that reads a file may take it in, as by `BASH_ENV`: its text does not name it as input."""
+    text = shell_text(argv)
+    if not text or path.startswith(("/usr/", "/lib", "/etc/", "/proc/", "/dev/")):
+        return False
+    return not re.search(r"<\s*[^\s;|&<>()]*" + re.escape(os.path.basename(path)), text)
+
+
+@lru_cache(KEPT)
+def is_other_make(path: str, real: str) -> bool:
+    """Whether a program is a make beside the one that the recorder knows: a copy of it under another name, or another of its name."""
+    try:
+        is_named = os.path.basename(path) in MAKES and not first_words(path)
+        return is_named or os.path.getsize(path) == os.path.getsize(real) and filecmp.cmp(path, real, shallow=False)
+    except OSError:
+        return False
+
+
+def hands_on(argv: List[str]) -> bool:
+    """Whether a program leaves the errors of what it starts to the place where its own go."""
+    text = shell_text(argv)
+    return not KEPT_ERRORS.search(NOWHERE.sub(" ", text)) if text else base_name(argv) in PASSING
+
+
 class Traits:
     """What the words of a process say of all its looks, found once for the words."""
 
@@ -232,6 +346,8 @@ class Traits:
         self.looks_at_links = looks_at_links(argv)
         self.is_interpreter = is_interpreter(argv)
         self.is_ageless = is_ageless(argv)
+        self.asks_size = asks_size(argv)
+        self.is_shell = base_name(argv) in SHELLS
         self.shows_progress = shows_progress(argv)
         self.ages: Optional[bool] = None  # whether it compares ages, as far as that was asked
 

@@ -10,7 +10,7 @@ from typing import Callable, Dict, Iterable, Iterator, List, NamedTuple, Optiona
 
 KEPT, SHORT = 1 << 14, 1000  # how many texts are remembered, and how long they are at most
 Answer = TypeVar("Answer")
-CALL = re.compile(r"(\w+)\((.*)\)\s+= (-?\d+|\?)(?:<((?:[^<>\\]|\\.)*)>)?(?: (E\w+))?(?: \(.*\))?$", re.S)
+CALL = re.compile(r"(\w+)\((.*)\)\s+= (-?\d+|\?)(?:<((?:[^<>\\]|\\.)*)>(?:\(deleted\))?)?(?: (E\w+))?(?: \(.*\))?$", re.S)
 ESCAPE = re.compile(r"\\([0-7]{1,3}|x[0-9a-f]{2}|.)", re.S)
 TEXT = re.compile(r'"((?:[^"\\]|\\.)*)"(\.\.\.)?')
 FOLDER = re.compile(r"(?:AT_FDCWD|\d+)<((?:[^<>\\]|\\.)*)>")
@@ -216,3 +216,5 @@ def read_trace(lines: Iterable[str], skip: Optional[Skip] = None) -> Iterator[Ev
             continue
         if call.result is not None:
             yield Call(pid, call.name, call.args, call.result, call.error, call.opened)
+        elif call.name.startswith("open"):  # it waited for another process, as at a named pipe, until a signal came
+            yield Call(pid, call.name, call.args, -1, "ENXIO")

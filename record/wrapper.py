@@ -36,6 +36,7 @@ STARTED = re.compile(rb"Putting child (0x[0-9a-f]+) \((.*)\) PID ")
 REMADE = re.compile(rb" *(?:Successfully remade|Failed to remake) target file '(.*)'\.\n")
 OF_JOB = re.compile(rb"(Live|Reaping winning|Reaping losing|Removing) child (0x[0-9a-f]+) |Got a SIGCHLD; \d+ unreaped")
 INCLUDED = re.compile(rb"Reading makefile " + QUOTED + rb"( \([^)]*\))+\.\.\.\n")
+ENDS_OF_RECIPE = re.compile(rb"(?:Got a SIGCHLD; \d+ unreaped children\.\n)*(?:Live|Reaping winning|Reaping losing|Removing)\Z")
 BASE = b"# Make data base, printed on"
 DIRECTORY = re.compile(rb"# ([^\n]*: (Entering|Leaving) (directory|an unknown directory))")
 
@@ -132,7 +133,37 @@ class Splitter:
             return bool(WORD_LINE.match(packet)) and not INCLUDED.match(packet)
         return False
 
-    def take(self, packet):
+    def take(self, data):
+        """What was read: one write of make or of a recipe. Where a recipe has opened /dev/stdout anew, what make writes behind its words may
+        come with them."""
+        first, data = self.cut(data, False)
+        self.take_one(first)
+        while data:
+            first, data = self.cut(data, True)
+            self.take_one(first)
+
+    def cut(self, data, goes_on):
+        """The first part of what was read, and the rest: the words of a recipe end where make names its own number of it, and what make
+        writes in one piece has one line a write."""
+        at = self.own_line(data)
+        if at > 0:
+            return data[:at], data[at:]
+        end = data.find(b"\n") + 1
+        is_own = not self.job and (goes_on or 0 < end < len(data) and not self.base and WORD_LINE.match(data[:end]))
+        end = end if at == 0 or is_own else 0
+        return (data[:end], data[end:]) if end else (data, b"")
+
+    def own_line(self, data):
+        """Where the first of make's lines about the recipe that runs stands, or its line about the one that it starts; -1 where there is none."""
+        if self.job:
+            at = data.find(b" child " + self.job + b" ")
+            found = ENDS_OF_RECIPE.search(data[:at]) if at >= 0 else None
+            return -1 if found is None else found.start()
+        if self.next is not None:
+            return next((found.start() for found in STARTED.finditer(data) if found.group(2) == self.next), -1)
+        return -1
+
+    def take_one(self, packet):
         """One write of make or of a recipe."""
         if self.unclear:
             self.take_unclear(packet)

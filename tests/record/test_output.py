@@ -36,6 +36,9 @@ class Output(unittest.TestCase):
             left = {str(p.relative_to(project.folder)): p.read_bytes().replace(here, b".") for p in kept}
         return status, out.replace(here, b"."), left
 
+    def test_recipes_that_open_their_output_anew(self) -> None:
+        self.both("T := $(shell seq 99)\nall: $T\n$T: ; @echo $@ > /dev/stdout; printf x | tee /dev/fd/1\n")
+
     def test_odd_output_of_recipes(self) -> None:
         self.both("all: a b c\na: ; @echo; echo; printf 'x'\nb: ; @printf '\\n'; printf '\\000\\377\\n\\n'\nc: ; @seq 1 9000; seq 1 3000 | tr '\\n' ' '\n")
 

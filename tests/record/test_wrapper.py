@@ -44,6 +44,15 @@ class Splits(unittest.TestCase):
                      b"Removing child 0x60 PID 9 from chain.\n"):
             self.assertEqual((text, MUST + BEGIN + END), split(MUST, BEGIN, text, END), text)
 
+    def test_words_that_come_with_those_of_a_recipe(self) -> None:
+        ends = b"Got a SIGCHLD; 1 unreaped children.\nReaping winning child 0x5f PID 7 \n"
+        more = b"Removing child 0x5f PID 7 from chain.\n Successfully remade target file 'a'.\n Must remake target 'b'.\n"
+        other = b"Putting child 0x60 (b) PID 8 on the chain.\n"
+        self.assertEqual((b"xy", MUST + BEGIN + ends + more), split(MUST, BEGIN, b"xy" + ends + more))
+        self.assertEqual((b"x", MUST + BEGIN + END), split(MUST, b"x" + BEGIN, END))
+        self.assertEqual((b"x", MUST + BEGIN + END), split(MUST + BEGIN + b"x" + END))
+        self.assertEqual((b"x\necho b\ny\nz", MUST + BEGIN + ends + more + other), split(MUST, BEGIN, b"x\n" + ends + more + b"echo b\n" + other + b"y\nz"))
+
     def test_recipe_that_speaks_before_the_line_about_it(self) -> None:
         for text in (b"Must remake target 'z'.\n", b" Considering target file 'b'.\n", b"Putting child 0x1 (b) PID 8 on the chain.\n"):
             self.assertEqual((text, MUST + BEGIN + END), split(MUST, text, BEGIN, END), text)

@@ -1,0 +1,84 @@
+"""The guards of what is seldom met; guard_table.py says what each part of one is."""
+
+from typing import List
+
+from guard_table import LOST_HOLE, UNSAID, YES, Guard
+
+
+def seen(name: str) -> str:
+    """The test of a makefile of test_seen.py."""
+    return "test_seen.Makefiles.test_" + name
+
+
+def trace(name: str) -> str:
+    """A test of lines of a trace."""
+    return "test_seen.Traces.test_" + name
+
+
+def words(name: str) -> str:
+    """A test of what the words of programs say."""
+    return "test_seen.Words.test_" + name
+
+
+SEEN_GUARDS: List[Guard] = [
+    Guard("moved folders: come and go", "moves.py", "            self.move_folder(life, old.path, new.path)\n", "", seen("folder_that_is_moved"), YES),
+    Guard("moved folders: those below", "moves.py", "                    self.move_folder(life, old.path + name, new.path + name)\n", "                    pass\n", trace("folders_below_one_that_is_moved")),
+    Guard("moved names: two of one file", "moves.py", "if old.inode is not None and old.inode is new.inode:", "if False:", trace("a_file_that_is_moved_to_its_other_name")),
+    Guard("proc: folders of other processes", "proc.py", "owner = lives.get(int(match.group(1))) if match.group(1).isdigit() else life", "owner = None if match.group(1).isdigit() else life", seen("folder_of_another_process"), YES),
+    Guard("proc: numbers: a hole", "replay.py", "if is_hidden(kind, path):", "if False:", seen("file_by_its_number"), LOST_HOLE),
+    Guard("proc: numbers that stand for a name", "proc.py", "return life.handle[1] + match.group(2)", "return path", trace("a_number_that_stands_for_a_name")),
+    Guard("proc: numbers of open files", "calls.py", 'if "O_PATH" in flags else (-1, "")', "", trace("a_number_of_an_open_file_is_a_hole")),
+    Guard("proc: not by the recorder's own numbers", "replay.py", 'Found(plain, None, None, "") if NUMBER.match(plain) else ', "", seen("file_by_its_number"), LOST_HOLE),
+    Guard("lines: files that are gone", "strace.py", r"(?:\(deleted\))?", "", seen("file_that_had_no_name"), "0 != 2"),
+    Guard("patterns: behind a word", "shelltext.py", 'ends = "*" if', 'ends = "" if', words("words_that_go_on")),
+    Guard("patterns: before a word", "shelltext.py", 'begins = "*" if', 'begins = "" if', words("words_that_go_on")),
+    Guard("patterns: in braces with blanks", "shelltext.py", 'found.append("*" if re.search(r"[{}]", pattern) else pattern)', "found.append(pattern)", words("words_that_go_on")),
+    Guard("patterns: quoted words", "shelltext.py", 'ends = "*" if', 'ends = "" if', seen("pattern_of_a_quoted_word"), YES),
+    Guard("patterns: behind an equals sign", "shelltext.py", """("'", '"', "=")""", """("'", '"')""", seen("pattern_behind_an_equals_sign"), YES),
+    Guard("patterns: scripts behind if", "shelltext.py", "|elif|if|while|until|time|command|builtin)\\s+", ")\\s+", seen("pattern_of_a_script_behind_if"), YES, ("shelltext.py", "    if not text or path.startswith((", "    return False\n    if not text or path.startswith((")),
+    Guard("patterns: other shells", "shelltext.py", ' or base_name(argv) in ("ksh", "zsh")', "", words("texts_that_list_without_a_pattern")),
+    Guard("patterns: names that bash completes", "shelltext.py", "|compgen", "", words("texts_that_list_without_a_pattern")),
+    Guard("shells: what they read first", "calls.py", "life.taken += (found.path,) if", "life.taken += () if", seen("pattern_of_what_a_shell_reads_first"), YES),
+    Guard("shells: options in the environment", "calls.py", "self.is_open_shell or shelltext.sets_options_in(found.path)", "self.is_open_shell", seen("pattern_of_options_in_the_environment"), YES),
+    Guard("shells: ages by what they read first", "replay.py", "any(shelltext.script_compares(path, life.folder) for path in life.taken)", "False", seen("ages_by_what_a_shell_reads_first"), YES),
+    Guard("shells: functions in the environment", "shelltext.py", "SETS_OPTIONS.search(\" \".join(argv))", "False", words("who_sets_options")),
+    Guard("ages: operators behind a backslash", "shelltext.py", r"""[\"'\\]*-[\"'\\]*-?(""", "-(", words("operators_that_are_spelled_in_another_way")),
+    Guard("ages: negated operators", "shelltext.py", r"(?:!\s+)?(?![-!])", "(?![-!])", seen("ages_by_a_negated_macro"), YES),
+    Guard("ages: by words of their own", "shelltext.py", "    if shows_ages(argv):\n        return True\n", "", seen("ages_by_all_of_stat"), YES),
+    Guard("ages: of what make calls", "ages.py", ", *([(builder.look_of.get(task.label, at), acts)] if acts is not None else [])", "", seen("ages_by_a_function"), YES),
+    Guard("ages: of makes that make calls", "owners.py", "                work.makes += ran.makes\n", "", seen("ages_in_a_make_of_a_function"), YES),
+    Guard("ages: that make copies", "owners.py", "                work.lives += ran.lives\n", "", seen("age_that_a_function_copies"), YES),
+    Guard("ages: scripts behind if", "shelltext.py", "|elif|if|while|until|time|command|builtin)\\b", ")\\b", seen("ages_by_a_script_behind_if"), YES),
+    Guard("ages: texts that are printed", "shelltext.py", " or COMPUTED.search(text)", "", seen("ages_by_a_text_that_is_printed"), YES),
+    Guard("ages: scripts that are changed", "main.py", '("ages", replay.rewritten())', '("ages", [])', seen("ages_by_a_script_that_is_changed_then"), UNSAID),
+    Guard("acts: of later rules", "build.py", "        return self.make.acts.get((self.number, node.name))\n", "        return self.make.acts.get((self.number, node.name)) if node.rule == 0 else None\n", seen("act_of_a_second_rule"), YES),
+    Guard("said: processes that a function leaves", "granted.py", "        for life in make.life.children:\n", "        for life in (one for one in make.life.children if id(one) in owners.jobs):\n", seen("background_of_a_function"), UNSAID),
+    Guard("ages: patterns of zsh", "shelltext.py", 'if name == "zsh":', "if False:", words("who_shows_ages")),
+    Guard("lines: opens that a signal ends", "strace.py", 'elif call.name.startswith("open"):', "elif False:", seen("named_pipe_that_nobody_writes"), YES),
+    Guard("ages: stat without a format", "shelltext.py", "return not FORMAT_OF_STAT.search(text) or bool(TIME_OF_STAT.search(text))", "return bool(TIME_OF_STAT.search(text))", words("who_shows_ages")),
+    Guard("ages: of what is opened", "calls.py", '"A" if self.ages(life) else "a"', '"a"', seen("ages_by_a_file_that_tar_opens"), YES),
+    Guard("ages: of what an unknown program opens", "calls.py", "(self.ages(life) or self.is_unknown(life))", "self.ages(life)", trace("what_an_unknown_program_opens")),
+    Guard("folders: how large they are", "calls.py", "elif traits.asks_size and", "elif False and", seen("size_of_a_folder"), YES),
+    Guard("folders: errors that a shell above keeps", "folders.py", " and not keeps_errors(life, argv)", "", seen("folder_made_or_true_in_another_shell"), YES),
+    Guard("folders: errors that a program above keeps", "shelltext.py", "if text else base_name(argv) in PASSING", "", seen("folder_made_or_true_for_a_program"), YES),
+    Guard("folders: programs that hand errors on", "shelltext.py", 'PASSING = ("env", ', "PASSING = (", seen("folder_made_or_true_behind_env"), "0 != 1"),
+    Guard("makes: copies", "shelltext.py", "filecmp.cmp(path, real, shallow=False)", "False", seen("copy_of_make"), LOST_HOLE),
+    Guard("makes: others of its name", "shelltext.py", "return is_named or", "return", seen("another_make"), LOST_HOLE),
+    Guard("makes: scripts are none", "shelltext.py", "in MAKES and not first_words(path)", "in MAKES", seen("script_that_is_called_make")),
+    Guard("macros: of makefiles that are gone", "macros.py", "for text in (self.text, *base.values.values(), *recipes))", "for text in (self.text, *base.values.values()))", seen("macro_of_a_makefile_that_goes"), YES),
+    Guard("macros: of lines that are gone", "macros.py", "            found.writes.add(ANY)\n", "            pass\n", seen("macro_of_lines_of_a_makefile_that_goes"), YES),
+    Guard("sockets: their names", "calls.py", "            self.write(life, found, True)\n        elif found is not None:", "            pass\n        elif found is not None:", seen("name_of_a_socket"), YES),
+    Guard("sockets: memory: said", "calls.py", "elif name in SHARING and ok:", "elif False:", seen("memory"), UNSAID),
+    Guard("processes: listed: said", "calls.py", 'elif where[0] == "/proc":', "elif False:", seen("processes"), UNSAID),
+    Guard("processes: others: said", "calls.py", "                self.note_watcher(life, path)\n", "", seen("process_of_make"), UNSAID),
+    Guard("processes: changes that they wait for", "calls.py", "        self.look(life, \"\".join(texts(call.args)[:1]), ok, True)\n        self.watchers", "        return\n        self.watchers", trace("who_waits_for_changes")),
+    Guard("beside make: said", "granted.py", "    beside(owners, assumed)\n", "", seen("process_beside_make"), UNSAID),
+    Guard("beside make: what is above it", "granted.py", "return any(top.born < place < top.died for place in places)", "return False", seen("script_beside_make"), UNSAID),
+    Guard("beside make: not before it", "granted.py", "return any(top.born < place < top.died for place in places)", "return bool(places)", seen("script_before_make")),
+    Guard("times of reading: said", "calls.py", "if shelltext.asks_reads(argv, life.folder):", "if False:", seen("times_of_reading"), UNSAID),
+    Guard("times of reading: by scripts", "shelltext.py", "text += contents(", "str(contents)[:0] + str(", seen("times_of_reading_by_a_script"), UNSAID),
+    Guard("links: attributes of their own", "calls.py", '"removexattr", "lremovexattr", "fchmodat"', '"removexattr", "fchmodat"', trace("attributes_of_a_link")),
+    Guard("programs by their numbers", "calls.py", ' or "".join(folders(call.args)[:1])', "", trace("a_program_by_its_number")),
+    Guard("wrapper: words in one piece with a recipe's", "wrapper.py", "        if at > 0:\n", "        if False:\n", "test_wrapper.Splits.test_words_that_come_with_those_of_a_recipe"),
+    Guard("wrapper: one line a write behind them", "wrapper.py", "end = end if at == 0 or is_own else 0", "end = end if at == 0 else 0", "test_wrapper.Splits.test_words_that_come_with_those_of_a_recipe"),
+]
