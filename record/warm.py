@@ -1,5 +1,6 @@
 """Cold and warm: whether something that a build makes was there before it."""
 
+import os
 import re
 from typing import Dict, List, Set
 
@@ -18,13 +19,19 @@ def warm_names(builds: List[Build], ninjas: List[Ninja], names: Names) -> List[s
     found: Set[str] = set()
     for build in builds:
         if build.tool == "make" and build.stage == "goals":
-            found.update(node.path for node in build.graph.nodes.values() if node.has_recipe and not node.phony)
+            found.update(node.path for node in build.graph.nodes.values() if node.has_recipe and not node.phony and not is_new_link(build, node, names))
     for build in builds:
         if build.tool == "make" and build.stage == "makefiles":
             found.difference_update(node.path for node in build.graph.nodes.values())
     for ninja in ninjas:
         found.update(targets_of(ninja, names))
     return sorted(path for path in found if names.before.get(path) in ("f", "l"))
+
+
+def is_new_link(build: Build, node: Node, names: Names) -> bool:
+    """Whether a target is a link that the build has made: what it leads to may have been there before, and is no target."""
+    own = names.find(build.folder, build.graph.round.vpath.get(node.name, node.name), False).path
+    return os.path.islink(own) and own not in names.before
 
 
 def targets_of(ninja: Ninja, names: Names) -> Set[str]:

@@ -56,6 +56,12 @@ class Warm(unittest.TestCase):
     def test_double_colons(self) -> None:
         self.assertEqual(2, self.status(BOTH + "kept:: s ; touch kept\nkept:: s ; touch kept\n"))
 
+    def test_link_that_is_made(self) -> None:
+        for there, wanted in (("", 0), ("touch -d 2001-01-01 t; ln -s t l", 2)):
+            with support.Project({"Makefile": "all: a\nl: s ; ln -sf t l\na: l ; cp l a\n", "s": "s", "t": "t"}) as project:
+                project.sh(there)
+                self.assertEqual(wanted, project.record().status, there)
+
     def test_race(self) -> None:
         self.assertEqual(1, self.status("all: a b\na b: kept ; echo $@ > log\n" + KEPT))
 
