@@ -148,7 +148,7 @@ class _Reader:
         elif text.startswith("SAID ") and text[5:] in self.children:
             self.children[text[5:]].is_said = True
         elif text.startswith("Need a job token; "):
-            words.holes.append("a makefile asks for several jobs, and so they ran; say -j1: make " + words.args)
+            words.holes.append("a makefile or GNUMAKEFLAGS asks for several jobs, and so they ran; say -j1: make " + words.args)
         elif text.startswith("EXIT "):
             words.status = int(text[5:])
         elif READING.match(text) and words.read:

@@ -45,7 +45,7 @@ SMALL: Dict[str, Small] = {
     "own_jobs_that_a_recipe_hands_on": Small("race", "all: ; env -u MAKEFLAGS $(MAKE) $(MFLAGS) -f in.mk\n", {"in.mk": "all: a b\na: ; echo a > a\nb: ; cp a b\n"}),
     "jobs_before_those_that_a_recipe_hands_on": Small("race", "all: ; env -u MAKEFLAGS $(MAKE) -j1 $(MFLAGS) -f in.mk\n", {"in.mk": "all: a b\na: ; echo a > a\nb: ; cp a b\n"}),
     "jobs_behind_those_that_a_recipe_hands_on": Small("safe", "all: ; env -u MAKEFLAGS $(MAKE) $(MFLAGS) -j1 -f in.mk\n", {"in.mk": "all: a b\na: ; echo a > a\nb: ; cp a b\n"}),
-    "jobs_of_a_makefile": Small("no verdict", "MAKEFLAGS += -j4\nall: a b\na: ; sleep 0.1; echo a > a\nb: ; cat a > b || true\n", says="asks for several jobs"),
+    "jobs_of_a_makefile": Small("no verdict", "MAKEFLAGS += -j4\nall: a b\na: ; sleep 0.1; echo a > a\nb: ; cat a > b || true\n", says="a makefile or GNUMAKEFLAGS asks for several jobs"),
     "jobs_of_a_makefile_and_one_job": Small("race", "MAKEFLAGS += -j4\nall: a b\na: ; sleep 0.1; echo a > a\nb: ; cat a > b\n"),
     # macros of make
     "macro_that_a_recipe_changes": Small("race", "all: s a b\ns: ; touch s\na: s ; $(eval X := set)touch a\nb: ; echo '$(X)' > b\n"),
