@@ -238,7 +238,7 @@ class Calls(Moves):
             return
         if "O_EXCL" in flags:
             self.fresh.add(found.path)
-        if "O_WRONLY" not in flags and call.name != "creat":
+        if "O_WRONLY" not in flags and "O_TRUNC" not in flags and call.name != "creat":
             self.put(life, "R", found.path)
         self.write(life, found, False)
 

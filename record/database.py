@@ -36,6 +36,7 @@ class Base:
     implicit: Set[str] = field(default_factory=set)
     patterns: List[Tuple[List[str], List[str]]] = field(default_factory=list)
     values: Dict[str, str] = field(default_factory=dict)  # the text of macros; `$(lines)*` for one of several lines
+    bodies: Dict[str, List[str]] = field(default_factory=dict)  # by macro: its lines, and its values for single targets and patterns
     scoped: Set[str] = field(default_factory=set)  # targets with macros of their own
     serial: bool = False
 
@@ -85,6 +86,7 @@ class _Files:
         if self.is_macro or not match:
             if match:
                 self.base.scoped.add(match.group(1))
+                own_value(self.base, match.group(3) or "", text)
             self.is_macro = False
             return
         base, self.name = self.base, match.group(1)
@@ -97,6 +99,13 @@ class _Files:
             base.double.setdefault(self.name, []).append(Colons(first.split(), second.split()))
 
 
+def own_value(base: Base, text: str, line: str) -> None:
+    """A macro that one target, or the targets of a pattern, have for themselves."""
+    value = VALUE.match(text)
+    if value:
+        base.bodies.setdefault(value.group(1), []).append(line)
+
+
 def before_files(base: Base, text: str, previous: str) -> None:
     """A line of the parts that list macros and implicit rules; a macro stands behind the line that says where it is from."""
     pattern, is_macro = PATTERN.match(text), ORIGIN.match(previous)
@@ -107,15 +116,20 @@ def before_files(base: Base, text: str, previous: str) -> None:
         base.values[value.group(1)] = value.group(2)
     if lines:
         base.values[lines.group(1)] = LINES_TEXT
+    if is_macro and text.startswith("# "):
+        own_value(base, text[2:], text)
 
 
 def read_base(lines: List[str]) -> Base:
     """What one data base says."""
     base = Base()
     files = _Files(base)
-    inside, previous = False, ""
+    inside, previous, several = False, "", ""
     for text in lines:
-        if text.startswith("# Files"):
+        if several:
+            several = several if text != "endef" else ""
+            base.bodies.setdefault(several, []).append(text) if several else None
+        elif text.startswith("# Files"):
             inside = True
         elif text.startswith("# files hash-table stats"):
             break
@@ -123,5 +137,7 @@ def read_base(lines: List[str]) -> Base:
             files.line(text)
         else:
             before_files(base, text, previous)
+            found = LINES.match(text)
+            several = found.group(1) if found and ORIGIN.match(previous) else ""
         previous = text
     return base

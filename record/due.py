@@ -4,145 +4,32 @@ A task that makes a file and whose prerequisites are known says both. Each other
 """
 
 import os
-import re
-from dataclasses import dataclass
-from typing import Any, Dict, Iterable, Iterator, List, Optional, Set, Tuple
+from typing import Any, Dict, Iterator, List, Mapping, Optional, Set
 
 from record.assumptions import Assumptions
-from record.called import called, called_by
 from record.database import Base
 from record.graph import Build, Node, Task, order_tasks
-from record.keeping import asks_what_is_newer, keeps
+from record.keeping import asks_what_is_newer, expands_by_files, keeps
 from record.later import needs_of, phony_of
+from record.looked import Footprints
+from record.macros import Macros
 from record.names import Names
 from record.tasks import labels_of, lines_of, relative
 
-CHANGES = "WCD"
-BYTE_CODE = re.compile(r"(.*/)__pycache__/([^/.]+)\.[^/]*$", re.S)
-FIXED = re.compile(r"/\.git/objects/|/CMakeFiles/[^/]+\.dir/cmake_clean_target\.cmake$")  # no edit changes what git names by its sum, or CMake writes
 NEVER = "@never"  # folders that no project has: names below this one stand for targets that never have a file,
 KEPT = "@kept"  # and below this one for the run of a recipe that leaves its target alone where nothing has changed
 NODES, EDGES, PATHS = 20_000, 200_000, 1_000_000  # what a text of tasks may hold
 
 
-def is_below(path: str, folder: str) -> bool:
-    """Whether a path is a folder or below it."""
-    return path == folder or path.startswith(folder.rstrip("/") + "/")
-
-
-@dataclass
-class Seen:
-    """What the recipes of a build looked at and no task holds: it is taken that it stays as it is."""
-
-    outside: Set[str]
-    looks: Set[str]  # asked for, and not read; links; folders that were listed
-    absent: Set[str]
-
-
-class Footprints:
-    """What each recipe of a build reads and writes in the project."""
-
-    def __init__(self, build: Build, names: Names, out: str) -> None:
-        self.build, self.names, self.out = build, names, out
-        self.reads: List[Set[str]] = [set() for _ in build.tasks]
-        self.writes: List[Set[str]] = [set() for _ in build.tasks]
-        self.removes: List[Set[str]] = [set() for _ in build.tasks]
-        self.folders: List[Set[str]] = [set() for _ in build.tasks]  # that it makes, or finds made
-        self.seen = Seen(set(), set(), set())
-        self.set_back: Set[str] = set()  # names whose time a recipe sets
-        self.known: Dict[str, bool] = {}  # names that are read: whether they can change and matter
-        for at, task in enumerate(build.tasks):
-            for kind, path in self.events(task) if task.kind == "recipe" else ():
-                self.take(at, kind, path)
-        self.written = set().union(*self.writes)
-        self.drop_temporaries()
-        self.changes = [{path for path in self.reads[at] & self.writes[at] if self.is_read_first(task, path)} for at, task in enumerate(build.tasks)]
-        for at in range(len(build.tasks)):
-            self.reads[at] = {path for path in self.reads[at] - self.writes[at] if self.is_input(path)}
-        self.seen.looks -= self.written.union(*self.reads)
-        self.seen.absent -= self.written
-
-    def events(self, task: Task) -> Iterable[Tuple[str, str]]:
-        """What a recipe did, and what make did for it."""
-        for work in task.works:
-            yield from work.events
-        acts = self.build.make.acts.get((self.build.graph.number, task.node.name)) if task.node.rule == 0 else None
-        looks = self.build.make.looked.get(task.node.name, {})
-        seen = min(looks.values(), default=0)  # what came earlier is what the makefiles call while they are read
-        if acts is not None:
-            born = min((life.born for work in task.works for life in work.lives), default=1 << 60)
-            again = self.called_between(seen, born) if min(acts.events.values(), default=seen + 1) <= seen else set()
-            yield from (event for event, place in acts.events.items() if place > seen or event in again)
-
-    def called_between(self, seen: int, born: int) -> Set[Tuple[str, str]]:
-        """What make itself calls before a recipe starts: a file may be read for the recipe though it was read earlier too."""
-        return {event for life in called_by(self.build.make) if seen < life.born < born for event in life.events}
-
-    def is_inside(self, path: str) -> bool:
-        """Whether a name is in the project, and not in the record."""
-        return any(is_below(path, top) for top in self.names.tops) and not is_below(path, self.out)
-
-    def take(self, at: int, kind: str, path: str) -> None:
-        """One event."""
-        name, mark, other = path.rstrip("/").partition("\0")
-        if kind == "c" and mark and not other:
-            self.set_back.add(name)
-        if kind not in "RSNLWCDMTE":
-            return
-        code = BYTE_CODE.match(name)
-        if code and kind != "R":
-            return  # Python keeps what it has compiled, and holds it against the source
-        name = code.group(1) + code.group(2) + ".py" if code else name
-        if not self.is_inside(name):
-            if kind == "R":
-                self.seen.outside.add(name)
-        elif kind in "MTE" or path.endswith("/"):
-            self.folders[at].add(name)
-        elif kind in CHANGES:
-            self.writes[at].add(name)
-            if kind == "D":
-                self.removes[at].add(name)
-        elif kind == "R":
-            self.reads[at].add(name)
-        else:
-            (self.seen.absent if kind == "N" else self.seen.looks).add(name)
-
-    @staticmethod
-    def is_read_first(task: Task, path: str) -> bool:
-        """Whether a recipe reads a file before it writes it."""
-        never = 1 << 60
-        read, written = (min((work.events.get((kind, path), never) for work in task.works for kind in kinds), default=never) for kinds in ("R", "WC"))
-        return read <= written
-
-    def drop_temporaries(self) -> None:
-        """Names that are gone before and after the build, where each recipe that touches them makes and removes them itself."""
-        gone = {path for path in self.written if path not in self.names.before and not os.path.lexists(path)}
-        for at, (reads, writes) in enumerate(zip(self.reads, self.writes)):
-            gone -= (reads | writes) - self.removes[at]
-        for at in range(len(self.reads)):
-            self.reads[at] -= gone
-            self.writes[at] -= gone
-        self.written -= gone
-
-    def is_input(self, path: str) -> bool:
-        """Whether a name that is read can change and matter: a file that is written here, or that is there."""
-        if path not in self.known:
-            is_link = self.names.before.get(path) == "l"
-            is_file = not os.path.isdir(path) and (path in self.names.before or os.path.lexists(path))
-            self.known[path] = path in self.written or is_file and not is_link and not FIXED.search(path)
-            if is_link and not self.known[path]:
-                self.seen.looks.add(path)
-        return self.known[path]
-
-
 class OldTree:
     """Makes the text; see the module."""
 
-    def __init__(self, build: Build, names: Names, later: Base, premises: Assumptions, out: str) -> None:
+    def __init__(self, build: Build, names: Names, later: Base, premises: Assumptions, out: str, turned: Mapping[int, Set[str]] = {}) -> None:
         self.build, self.names, self.later, self.premises = build, names, later, premises
         self.first = build.graph.base
         self.phony = phony_of(self.first, later)
-        self.foot = Footprints(build, names, out)
+        self.foot = Footprints(build, names, out, turned)
+        self.known = Macros(build.make, self.first)
         self.tasks = [Task(t.label, t.node, t.kind, set(t.after), r, w) for t, r, w in zip(build.tasks, self.foot.reads, self.foot.writes)]
         self.labels = labels_of(build.tasks)
         self.writers = self.names_of_writers()
@@ -191,6 +78,9 @@ class OldTree:
             else:
                 self.premises.add("unjudged", self.tasks[who[0]].node.name, len(who))
         self.needs = {at: self.needs[at] for at in self.makes}
+        own = {path for at, needs in self.needs.items() for path in self.foot.both[at].difference(needs)}
+        for path in sorted(own):
+            self.premises.add("own", relative(self.build.folder, path))
 
     def why_not(self, at: int, path: str, needs: Optional[List[str]]) -> str:
         """Why a task has no file that says when it runs: the premise that counts it, or nothing."""
@@ -215,12 +105,13 @@ class OldTree:
         """Notes whether a recipe may leave its target alone, or makes it anew in each build."""
         task, never = self.build.tasks[at], self.stand_in(NEVER, "/")[: -len("root")]
         is_forced = any(one in self.fresh or one.startswith(never) for one in self.needs[at])
-        asks = asks_what_is_newer(task.node.name, self.first)
+        asks = asks_what_is_newer(task.node.name, self.known)
+        acts = self.build.make.acts.get((self.build.graph.number, task.node.name))
         if asks:
             self.premises.add("newer", task.node.name)
         if asks and is_forced:
             self.needs[at] = [one for one in self.needs[at] if not one.startswith(never)]
-        if asks and is_forced or keeps(task, path, self.first, is_forced):
+        if asks and is_forced or keeps(task, path, self.first, is_forced) or is_forced and expands_by_files(task, self.known, acts):
             self.kept.add(at)
         elif is_forced:
             self.fresh.update({path}, self.tasks[at].writes)
@@ -362,11 +253,11 @@ class OldTree:
         seen = self.foot.seen
         for kind, names in (("beyond", seen.outside), ("looks", seen.looks), ("unlisted", seen.absent)):
             if names:
-                self.premises.add(kind, relative(self.build.folder, min(names)), len(names))
-        needed = {one for needs in self.needs.values() for one in needs}
-        for kind, found in (("times", self.foot.set_back & needed), ("called", called(self) if self.build.stage == "goals" else set())):
-            for path in sorted(found):
-                self.premises.add(kind, relative(self.build.folder, path))
+                example = min(names, key=lambda path: (os.path.isdir(path) and not os.path.islink(path), not os.path.lexists(path), path))
+                self.premises.add(kind, relative(self.build.folder, example), len(names))
+        timed = self.foot.set_back & {*self.makes.values(), *(one for needs in self.needs.values() for one in needs)}
+        for path in sorted(timed):
+            self.premises.add("times", relative(self.build.folder, path))
 
     def judged(self) -> int:
         """How many recipes say when they run."""
@@ -388,4 +279,4 @@ class OldTree:
         """The files that tasks read or need, are there, and are made by none of them."""
         made = {*self.makes.values(), *(path for task in self.tasks for path in task.writes)}
         named = {*(path for task in self.tasks for path in task.reads), *(one for needs in self.needs.values() for one in needs)} - made
-        return sorted(relative(self.build.folder, path) for path in named if path in self.names.before or os.path.lexists(path))
+        return sorted(relative(self.build.folder, path) for path in named if path in self.names.before or path in self.foot.gone or os.path.lexists(path))

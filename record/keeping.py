@@ -5,16 +5,17 @@ A make inside a recipe makes only what is stale. A script compares what it makes
 
 import os
 import re
-from typing import Dict, Iterator, List
+from typing import Dict, Optional
 
 from record.database import Base
 from record.graph import Task
+from record.macros import Macros
+from record.owners import Work
 
 COMPARES = re.compile(r"\bcmp\b|\bdiff\b.*(\|\||&&)|if[-_]change|if[-_]different|\b(cp|mv)\b.* (-[a-zA-Z]*u|--update)|\binstall\b.* (-[a-zA-Z]*C|--compare)"
                       r"|\brsync\b", re.S)
 NEWER = re.compile(r"\$(\?|[({]\?)")
-CALLED = re.compile(r"\$[({](?:call\s+)?([^\s$(){},:]+)")
-MACROS = 1000  # how many macros a recipe may lead to
+FILES = re.compile(r"\$[({](wildcard|file)\b")
 PLAIN = {"ar", "chmod", "cp", "install", "ln", "mkdir", "mv", "ranlib", "rm", "tee", "touch"}  # they look at what they write anyway
 
 
@@ -51,24 +52,22 @@ def looks_first(task: Task) -> bool:
                 written[path] = min(place, written.get(path, place))
         for life in work.lives:
             is_plain = bool(life.argv) and os.path.basename(life.argv[0]) in PLAIN
-            if not is_plain and any(kind in "RSN" and place < written.get(path, place) for (kind, path), place in life.events.items()):
+            if not is_plain and any(kind in "RSN" and path in written and place < written[path] + (kind == "R") for (kind, path), place in life.events.items()):
                 return True
     return False
 
 
-def texts_of(name: str, base: Base) -> Iterator[str]:
-    """The recipe of a target, and the macros that it leads to."""
-    todo: List[str] = list(base.recipes.get(name, ()))
-    known: Dict[str, None] = {}
-    while todo and len(known) < MACROS:
-        text = todo.pop()
-        yield text
-        for macro in CALLED.findall(text):
-            if macro not in known and macro in base.values:
-                known[macro] = None
-                todo.append(base.values[macro])
-
-
-def asks_what_is_newer(name: str, base: Base) -> bool:
+def asks_what_is_newer(name: str, known: Macros) -> bool:
     """Whether a recipe is expanded by which prerequisites are newer: it does nothing where none of them is."""
-    return any(NEWER.search(text) for text in texts_of(name, base))
+    text = "\n".join(known.base.recipes.get(name, ()))
+    return any(NEWER.search(one.replace("$$", "  ")) for one in (text, *map(known.text_of, known.reached(text))))
+
+
+def expands_by_files(task: Task, known: Macros, acts: Optional[Work]) -> bool:
+    """Whether make looks at files when it expands a recipe, which may be empty then: by functions, or by a process that it calls
+    and that looks at what the recipe writes."""
+    text = "\n".join(known.base.recipes.get(task.node.name, ()))
+    values = known.base.values
+    texts = [text, *(one for name in known.reached(text) for one in (values.get(name, ""), *known.base.bodies.get(name, ())))]
+    written = {path for work in task.works for kind, path in work.events if kind in "CW"}
+    return any(FILES.search(one) for one in texts) or acts is not None and any(kind in "RSN" and path in written for kind, path in acts.events)

@@ -152,8 +152,11 @@ class Macros:
 
     def is_exported(self, name: str) -> bool:
         """Whether each process of a recipe finds a macro in its environment, or make itself reads it for each recipe."""
-        exports = re.search(r"(?m)^[ \t]*export\b(?:[ \t]*$|[^\n]*\b%s\b)|\.EXPORT_ALL_VARIABLES" % re.escape(name), self.text)
-        return self.is_lost or bool(exports) or name in IMPLIED or self.is_inherited(name)
+        return self.is_lost or self.is_named_in_export(name) or name in IMPLIED or self.is_inherited(name)
+
+    def is_named_in_export(self, name: str) -> bool:
+        """Whether a makefile exports a macro, by its name or with all others."""
+        return bool(re.search(r"(?m)^[ \t]*export\b(?:[ \t]*$|[^\n]*\b%s\b)|\.EXPORT_ALL_VARIABLES" % re.escape(name), self.text))
 
     def is_inherited(self, name: str) -> bool:
         """Whether make may have found a macro in its own environment: then it hands that on to each recipe."""

@@ -233,7 +233,7 @@ def attempt(options: argparse.Namespace, words: List[str], tools: Dict[str, str]
             if build.tool == "make":
                 write_footprints(out / "builds" / number, build, names, str(out))
         if options.missing:
-            record.missing = write_missing(out, record, found.builds, names, spool)
+            record.missing = write_missing(out, record, found.builds, names, found.lives, spool)
         if options.keep_trace:
             shutil.copytree(spool, out / "trace", ignore=shutil.ignore_patterns("bin", "real", "outputs", "again", "*.start", "stop.mk"))
         if status != 1 or not any(stage.jobs for ninja in found.ninjas for stage in ninja.stages):

@@ -6,7 +6,8 @@ from typing import TYPE_CHECKING, Dict, Iterator, List, Optional, Set
 
 from record.globs import MAGIC, arguments
 from record.graph import Node
-from record.macros import ANY
+from record.macros import ANY, Macros
+from record.names import Names
 from record.owners import Work
 
 if TYPE_CHECKING:
@@ -22,7 +23,7 @@ def share_listings(builder: "Builder") -> None:
     make, began = builder.make, builder.first_birth()
     late = {folder: place for folder, place in make.listed.items() if place > began}
     for node in builder.graph.nodes.values() if late else ():
-        asked = folders_asked(builder, node) if node.jobs or node.must and node.has_recipe else set()
+        asked = folders_asked(builder.known, builder.names, node) if node.jobs or node.must and node.has_recipe else set()
         for folder, place in late.items():
             if place < birth(builder, node) and (asked is None or folder in asked):
                 work = make.acts.setdefault((builder.number, node.name), Work())
@@ -36,9 +37,9 @@ def birth(builder: "Builder", node: Node) -> int:
     return max((life.born for work in works for life in work.lives), default=1 << 60)
 
 
-def folders_asked(builder: "Builder", node: Node) -> Optional[Set[str]]:
-    """The folders in which the recipe of a target looks for names by `wildcard`; None where nobody can say which."""
-    known, base = builder.known, builder.graph.base
+def words_asked(known: Macros, node: Node) -> Optional[List[str]]:
+    """The words of `wildcard` in the recipe of a target; None where nobody can say them."""
+    base = known.base
     text = "\n".join(base.recipes.get(node.name, ()))
     reached = known.reached(text)
     texts = [text, *map(known.text_of, reached)]
@@ -48,7 +49,13 @@ def folders_asked(builder: "Builder", node: Node) -> Optional[Set[str]]:
     words = [word for call in calls for word in filled(call or "", node.name, base.values).split()]
     if words and (base.scoped or known.changed) or any("$" in word or MAGIC.search(os.path.dirname(word)) for word in words):
         return None
-    return {builder.names.find(builder.make.folder, os.path.dirname(word) or ".", True).path for word in words}
+    return words
+
+
+def folders_asked(known: Macros, names: Names, node: Node) -> Optional[Set[str]]:
+    """The folders in which the recipe of a target looks for names by `wildcard`; None where nobody can say which."""
+    words = words_asked(known, node)
+    return None if words is None else {names.find(known.make.folder, os.path.dirname(word) or ".", True).path for word in words}
 
 
 def filled(text: str, target: str, values: Dict[str, str]) -> str:

@@ -11,14 +11,18 @@ from dataclasses import dataclass, field, replace
 from pathlib import Path
 from typing import Any, Dict, Iterator, List, Set, Tuple
 
+from record.anew import Anew
 from record.assumptions import Assumptions
+from record.called import called
 from record.due import KEPT, OldTree
 from record.folder import Record
 from record.graph import Build
 from record.judge import unshown
 from record.later import Laters, phony_of
+from record.lives import Life
 from record.names import Names
 from record.tasks import relative, shown
+from record.turned import Turned
 
 TASKS, LISTING = "missing-tasks", "missing-listing"
 FOUND = re.compile(r"^(missing|late|shared) (\S+) : (\S+) (reads|writes)(?: (\S+) writes)?$")
@@ -28,7 +32,7 @@ COUNTS = ("missing", "late", "shared", "present", "races")
 
 
 # ---------------------------------------------------------------- what is recorded
-def write_missing(out: Path, record: Record, builds: List[Build], names: Names, spool: Path) -> Dict[str, Any]:
+def write_missing(out: Path, record: Record, builds: List[Build], names: Names, lives: List[Life], spool: Path) -> Dict[str, Any]:
     """The tasks of old trees beside those of each build; what they take for granted, and why there may be no answer."""
     laters, premises = Laters(spool), Assumptions()
     premises.add("later", "")
@@ -36,16 +40,23 @@ def write_missing(out: Path, record: Record, builds: List[Build], names: Names, 
     if record.warm:
         premises.add("not-run", relative(record.folder, record.warm[0]), len(record.warm))
     holes: List[str] = []
+    turned = Turned(builds, names, lives, str(out))
     judged = 0
     for number, build in zip(record.builds, builds):
+        later = laters.base(build.make) if build.tool == "make" else None
         if build.tool != "make":
             holes.append("statements of ninja are not looked at: %s in %s" % (build.words or "ninja", build.folder))
-        elif not asks(build):
-            count_always(build, premises)
-        else:
-            later = laters.base(build.make)
-            if later is not None:
-                judged += write_old_tree(out / "builds" / number, OldTree(build, names, later, premises, str(out)))
+        elif later is not None:
+            holes += ["a later build is another one, where nothing is edited: " + why for why in Anew(build, later, names).holes()]
+            if asks(build) or id(build) in turned.reads:
+                judged += write_old_tree(out / "builds" / number, OldTree(build, names, later, premises, str(out), turned.reads.get(id(build), {})))
+            else:
+                count_always(build, premises)
+    for kind, paths in (("called", called(builds, turned)), ("again", turned.again)):
+        for path in sorted(paths):
+            premises.add(kind, relative(record.folder, path))
+    holes += ["a later build finds %s otherwise, where nothing is edited: %s looks for it, and it changes behind that" % (relative(record.folder, path), who)
+              for path, who in turned.holes.items()]
     holes += ["what make knows in a later build is not known: " + why for why in laters.faults.values()]
     found = [{"kind": a.kind, "count": a.count, "example": shown(a.example), "text": a.text()} for a in premises.all()]
     return {"judged": judged, "holes": [shown(hole) for hole in holes], "premises": found}

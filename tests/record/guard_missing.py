@@ -16,6 +16,11 @@ def verdict(name: str) -> str:
     return "test_missing.Verdicts.test_" + name
 
 
+def later(name: str) -> str:
+    """A test of a later build that is another one."""
+    return "test_anew.Later.test_" + name
+
+
 # What turns off that a recipe which always runs, and looks at a file before it writes it, is seen.
 FIRST = ("keeping.py", "is_forced and looks_first(task))", "False)")
 MISSING_GUARDS: List[Guard] = [
@@ -26,11 +31,11 @@ MISSING_GUARDS: List[Guard] = [
     Guard("missing: phony prerequisites", "due.py", "if name in self.phony or not self.is_there(name, paths[0]):", "if not self.is_there(name, paths[0]):", tree("a phony target that is a file")),
     Guard("missing: intermediate files", "due.py", " or name in self.first.intermediate", "", tree("an intermediate file")),
     Guard("missing: targets that are kept", "keeping.py", "    return any(COMPARES.search", "    return False and any(COMPARES.search", tree("a file that is kept where nothing has changed"), beside=FIRST),
-    Guard("missing: temporaries", "due.py", "            gone -= (reads | writes) - self.removes[at]\n", "            gone.clear()\n", tree("a temporary")),
+    Guard("missing: temporaries", "looked.py", "            gone -= (reads | writes) - self.removes[at]\n", "            gone.clear()\n", tree("a temporary")),
     Guard("missing: other outputs", "due.py", "            if len(writers) > len(also):", "            if False:", tree("two outputs")),
-    Guard("missing: what make does for a recipe", "due.py", "if place > seen or event in again)", "if False)", tree("a macro of the shell")),
-    Guard("missing: what makefiles call", "due.py", "if place > seen or event in again)", "if True)", tree("what a makefile calls while it is read")),
-    Guard("missing: what makefiles and a recipe call", "due.py", "if place > seen or event in again)", "if place > seen)", tree("a macro of the shell in two places")),
+    Guard("missing: what make does for a recipe", "looked.py", "if place > seen or event in again)", "if False)", tree("a macro of the shell")),
+    Guard("missing: what makefiles call", "looked.py", "if place > seen or event in again)", "if True)", tree("what a makefile calls while it is read")),
+    Guard("missing: what makefiles and a recipe call", "looked.py", "if place > seen or event in again)", "if place > seen)", tree("a macro of the shell in two places")),
     Guard("missing: a make inside", "keeping.py", "any(work.makes or work.ninjas for work in task.works)", "False", tree("a make inside that always runs"), beside=FIRST),
     Guard("missing: a recipe that looks first", "keeping.py", "is_forced and looks_first(task))", "False)", tree("a file that is written where it differs")),
     Guard("missing: what is newer", "due.py", "        if asks and is_forced:", "        if False:", tree("a recipe that asks what is newer")),
@@ -42,5 +47,45 @@ MISSING_GUARDS: List[Guard] = [
     Guard("missing: files that are changed", "due.py", "if path in makers and path in self.foot.changes[at]:", "if False:", tree("a file that another recipe changes")),
     Guard("missing: names that are searched", "due.py", "if needs is None or any(self.is_lost(one) for one in needs):", "if needs is None:", verdict("searched")),
     Guard("missing: lines that do not help", "missing.py", 'add="" if is_loose else file', "add=file", verdict("no_line_helps")),
+    Guard("missing: what later recipes make", "turned.py", "            task = None if os.path.isdir(path) else self.task_apart(mine, chain)\n", "            continue\n", tree("a file that a later recipe makes")),
+    Guard("missing: what later recipes list", "turned.py", 'elif kind == "L":', "elif False:", tree("a pattern that a later recipe adds to")),
+    Guard("missing: new folders", "turned.py", "if one != folder and is_below(one, folder) and one not in self.names.before:", "if False:", tree("a new folder that is searched")),
+    Guard("missing: what find prints", "turned.py", "pattern = found_by(life.argv) or pattern", "pattern = pattern", tree("a new folder that is searched")),
+    Guard("missing: what later recipes remove", "turned.py", 'return self.is_there(path) == (kind in "NR")', "return self.is_there(path)", tree("a file that a later recipe removes")),
+    Guard("missing: lists in recipes", "turned.py", "events.update(self.expanded_lists(build, known, task))", "pass", tree("a list that a recipe is expanded by")),
+    Guard("missing: names in recipes", "turned.py", 'yield ("S" if self.was_there(path, born) else "N", path), born', "pass", tree("a name that a recipe is expanded by")),
+    Guard("missing: processes in recipes", "turned.py", "if event in seen} if acts is not None", "if False} if acts is not None", tree("a process that a recipe is expanded by")),
+    Guard("missing: modules", "turned.py", 'MODULES = (".py", ".pyc", ".so")', 'MODULES = (".so",)', tree("a module that a later recipe makes")),
+    Guard("missing: phony recipes", "missing.py", "if asks(build) or id(build) in turned.reads:", "if asks(build):", later("phony_recipes_too")),
+    Guard("missing: what nobody orders", "missing.py", "              for path, who in turned.holes.items()]", "              for path, who in ()]", later("calls")),
+    Guard("missing: looks of who calls a make", "turned.py", "                self.again[path] = None\n", "                pass\n", later("premises")),
+    Guard("missing: files of who calls a make", "called.py", "found = turned.settling()", "found = set()", later("premises")),
+    Guard("missing: files that make reads", "called.py", "found.update(act.path for act in make.life.acts if act.kind", "found.update(act.path for act in () if act.kind", later("premises")),
+    Guard("missing: makefiles of dependencies", "called.py", "return bool(MACRO.search(text)) or any(", "return bool(MACRO.search(text)) or False and any(", later("premises")),
+    Guard("missing: sources that are changed", "due.py", 'self.premises.add("own", relative(self.build.folder, path))', "pass", later("premises")),
+    Guard("missing: times of goals", "due.py", "{*self.makes.values(), *(one for", "{*(one for", later("premises")),
+    Guard("missing: looks at what others read", "looked.py", "self.seen.looks |= self.own_looks[at] - self.reads[at] - self.written", "self.seen.looks |= self.own_looks[at] - self.written.union(*self.reads)", later("premises")),
+    Guard("missing: links that are made", "looked.py", "self.seen.looks |= {path for path in self.written if os.path.islink(path)}", "pass", later("premises")),
+    Guard("missing: temporaries of others", "looked.py", "                self.gone.add(path)\n", "                return False\n", later("temporary_of_a_caller")),
+    Guard("missing: another rule", "anew.py", "elif target not in ended:", "elif False:", later("files")),
+    Guard("missing: another file", "anew.py", "if one != self.vpath[name] and self.is_new(self.path_of(one)):", "if False:", later("files")),
+    Guard("missing: folders of a pattern", "anew.py", "for found in SEARCH.finditer(self.known.text))]", "for found in ())]", later("files")),
+    Guard("missing: all prerequisites", "anew.py", "if plain and hands_on(texts, set(plain)):", "if False:", later("prerequisites")),
+    Guard("missing: prerequisites that a pattern fits", "anew.py", "                return True\n    return any(ALL", "                return False\n    return any(ALL", later("prerequisites")),
+    Guard("missing: the order of prerequisites", "anew.py", "if hands_all(texts) and in_order(then, now) != in_order(now, then):", "if False:", later("prerequisites")),
+    Guard("missing: the first prerequisite", "anew.py", "if not is_searched and first and first != second and any(FIRST", "if False and any(FIRST", later("prerequisites")),
+    Guard("missing: what is needed no more", "anew.py", "for one in gone[:1]:", "for one in ():", later("prerequisites")),
+    Guard("missing: what is needed too", "anew.py", "for one in new:", "for one in ():", later("prerequisites")),
+    Guard("missing: another recipe", "anew.py", "if node.name in self.later.recipes and self.later.recipes[node.name] != lines:", "if False:", later("recipes")),
+    Guard("missing: other macros", "anew.py", "name in asked or", "False or", later("recipes")),
+    Guard("missing: exported macros", "anew.py", "or self.known.is_named_in_export(name))", "or False)", later("recipes")),
+    Guard("missing: macros of a target and of lines", "anew.py", "if self.first.bodies.get(name) != self.later.bodies.get(name)}", "if False}", later("recipes")),
+    Guard("missing: values that were worked out", "anew.py", "todo += [values.get(name, \"\"), *self.first.bodies.get(name, ())]", "todo += [values.get(name, \"\"), self.known.text_of(name)]", later("quiet")),
+    Guard("missing: functions that look for files", "keeping.py", "any(FILES.search(one) for one in texts) or ", "", tree("a recipe of functions that look for a file")),
+    Guard("missing: functions that call a process", "keeping.py", "acts is not None and any(", "False and any(", tree("a recipe of functions that call a process")),
+    Guard("missing: canned recipes", "keeping.py", "for one in (text, *map(known.text_of, known.reached(text))))\n\n", "for one in (text, *(known.base.values.get(name, '') for name in known.reached(text))))\n\n", tree("a canned recipe that asks what is newer")),
+    Guard("missing: files that are opened to read and to write", "keeping.py", ' + (kind == "R")', "", tree("a state that is opened to read and to write")),
+    Guard("warm: links that are made", "warm.py", " and not is_new_link(build, node, names))", ")", "test_warm.Warm.test_link_that_is_made"),
+    Guard("warm: links that were there", "warm.py", " and own not in names.before", "", "test_warm.Warm.test_link_that_is_made"),
     Guard("missing: warm", "missing_report.py", 'else ["what was up to date did not run (WARM)"] if warm else []', "else []", verdict("warm"), "", ("main.py", "if ended == 0 and record.warm and not (options.warm or record.stands_alone):", "if False:")),
 ]

@@ -77,10 +77,37 @@ PROJECTS: Dict[str, Tuple[str, Pairs]] = {
         "all: a\ng.h: list\n\tcp list g.h\na: a.c | g.h\n\tcat a.c g.h > a\n\techo 'a: $(CURDIR)/g.h' > a.d\n-include a.d\n", {("a", "g.h")}),
     "a file that another recipe changes": ("all: b\na: list\n\tcp list a\nb: | a\n\tsed -i s/x/y/ a\n\tcat a h.h > b\n", {("b", "a"), ("b", "h.h")}),
     "a name that make has to search": ("VPATH = sub\nall: a\na: list\n\tcat list h.h > a\n\techo 'a: x.h' > a.d\n-include a.d\n", set()),
+    "a file that a later recipe makes": (
+        "all: a b\na: list\n\tcat list o.h > a 2>/dev/null || true\nb: a h.h\n\tcp h.h o.h\n\tcp h.h b\n", {("a", "o.h")}),
+    "a pattern that a later recipe adds to": (
+        "all: a b\na: list\n\tcat list *.def > a 2>/dev/null || true\nb: a h.h\n\tcp h.h o.def\n\tcp h.h b\n", {("a", "o.def")}),
+    "a new folder that is searched": (
+        "all: a b\na: list\n\tfind . -name '*.def' > a; cat list >> a\nb: a h.h\n\tmkdir -p d\n\tcp h.h d/o.def\n\tcp h.h b\n", {("a", "d/o.def")}),
+    "a file that a later recipe removes": (
+        "all: s a z\ns: list\n\ttouch flag; cp list s\na: s list\n\tif test -f flag; then cp list a; else echo > a; fi\nz: a h.h\n\trm flag; cp h.h z\n", {("a", "flag")}),
+    "a list that a recipe is expanded by": (
+        "all: a b\na: list\n\tcat list $(wildcard *.def) > a\nb: a h.h\n\tcp h.h o.def\n\tcp h.h b\n", {("a", "o.def")}),
+    "a name that a recipe is expanded by": (
+        "all: a b\na: X = $(wildcard o.h)\na: list\n\tcat list $(X) > a\nb: a h.h\n\tcp h.h o.h\n\tcp h.h b\n", {("a", "o.h")}),
+    "a module that a later recipe makes": (
+        "all: a b\na: list gen2.py\n\tpython3 -B gen2.py > a\nb: a h.h\n\techo X = 1 > later.py\n\tcp h.h b\n", {("a", "later.py")}),
+    "a process that a recipe is expanded by": (
+        "all: a b\na: list\n\techo $(shell cat list o.h 2>/dev/null) > a\nb: a h.h\n\tcp h.h o.h\n\tcp h.h b\n", {("a", "o.h")}),
+    "a recipe of functions that call a process": (
+        "all: a\nv.h: FORCE\n\t$(if $(filter 1,$(shell cat v.h 2>/dev/null)),,echo 1 > v.h)\nFORCE:\na: v.h list\n\tcat v.h list h.h > a\n", {("a", "h.h")}),
+    "a recipe of functions that look for a file": (
+        "all: a\nv.h: FORCE\n\t$(if $(wildcard v.h),,echo 1 > v.h)\nFORCE:\na: v.h list\n\tcat v.h list h.h > a\n", {("a", "h.h")}),
+    "a canned recipe that asks what is newer": (
+        "define cat\n$(if $(filter-out FORCE,$?),cat list h.h > $@)\nendef\nall: a\na: list FORCE\n\t$(cat)\nFORCE:\n", {("a", "h.h")}),
+    "a macro of a made name that asks what is newer": (
+        "K = at\ncat = $(if $(filter-out FORCE,$?),cat list h.h > $@)\nall: a\na: list FORCE\n\t$(c$(K))\nFORCE:\n", {("a", "h.h")}),
+    "a state that is opened to read and to write": (
+        "all: a\nv.h: FORCE\n\tpython3 -c \"f = open('state', 'a+'); f.seek(0); f.read() or (f.write('1'), open('v.h', 'w').write('1'))\"\nFORCE:\n"
+        "a: v.h list\n\tcat v.h list h.h > a\n", {("a", "h.h")}),
 }
 FILES = {"a.c": "a\n", "b.c": "b\n", "h.h": "h\n", "list": "x\n", "gen.sh": "cat $1\n", "sub/x.c": "x\n", "sub/x.h": "h\n", "p.y1": "y\n",
          "in/Makefile": "x: y\n\tcp y x\n", "in/y": "y\n",
-         "gen.py": "import mod\nmore = mod.more\n", "mod.py": "more = 0\n"}
+         "gen2.py": "more = 0\ntry:\n    import later\nexcept ImportError:\n    pass\n", "gen.py": "import mod\nmore = mod.more\n", "mod.py": "more = 0\n"}
 
 
 def violations(text: str) -> Dict[str, Pairs]:

@@ -1,0 +1,122 @@
+"""`--missing`: a later build that is another one with no edit at all, and what is taken for granted of it."""
+
+import unittest
+from typing import Dict, List, NamedTuple, Tuple
+
+import support
+
+INNER = {"in/Makefile": "x: y\n\tcp y x\n", "in/y": "y\n"}
+FILES = {"list": "1\n", "h.h": "h\n", **INNER}
+
+
+class Case(NamedTuple):
+    """A project, what its answer says, and the command that builds it."""
+
+    makefile: str
+    says: str
+    words: Tuple[str, ...] = ("make",)
+    files: Tuple[Tuple[str, str], ...] = ()
+
+
+HOLES: Dict[str, Case] = {
+    "rule": Case("all: f.o b\nf.o: list\n%.o: %.c\n\tcat $< list > $@\n%.o: %.s\n\tcat $< list > $@\nb: list f.o\n\tcp list f.c\n\tcp list b\n",
+                 "make finds another rule for f.o, as f.c is there", files=(("f.s", "s\n"),)),
+    "vpath": Case("VPATH = src\nall: a b\na: list x.h\n\tcat src/x.h > a\nb: list a\n\tcp list b\n\tcp list x.h\n", "make finds x.h for x.h", files=(("src/x.h", "x\n"),)),
+    "vpath of a pattern": Case("vpath %.h one two\nall: a b\na: x.h\n\tcat $< > a\nb: list a\n\tmkdir -p one; cp list one/x.h; cp list b\n",
+                               "make finds one/x.h for x.h", files=(("two/x.h", "x\n"),)),
+    "checked in": Case("all: a\na: list\n\tcat list p.h > a\n\techo 'a: p.h' > a.d\np.h: h.h\n\tcp h.h p.h\n-include a.d\n", "a needs p.h too", files=(("p.h", "p\n"),)),
+    "handed": Case("all: a\na: list\n\tcat $^ > a\n\techo 'a: h.h' > a.d\n-include a.d\n", "the recipe of a is handed h.h too"),
+    "filtered": Case("all: a\na: list\n\tcat $(filter l%,$^) > a\n\techo 'a: l.h' > a.d\n-include a.d\n", "the recipe of a is handed l.h too", files=(("l.h", "h\n"),)),
+    "order": Case("all: a\na: $(wildcard *.c) b.c\n\tcat $^ > a\nb.c: list\n\tcp list b.c\n", "the recipe of a is handed its prerequisites in another order", files=(("c.c", "c\n"),)),
+    "first": Case("all: a\na: $(wildcard b.c) c.c\n\tcat $< > a\nb.c: list a\n\tcp list b.c\nall: b.c\n", "the first prerequisite of a is b.c", files=(("c.c", "c\n"),)),
+    "macro": Case("ifneq ($(wildcard a),)\nV += 2\nendif\na: list\n\techo $(V) > a\n", "the macro V is another one in the recipe of a"),
+    "wildcard": Case("V := $(wildcard *.h)\na: list\n\tcat $(V) > a\n\tcp a b.h\n", "the macro V is another one in the recipe of a"),
+    "target's own": Case("all: a g\na: V := $(wildcard g)\na: list\n\techo $(V) > a\ng: list\n\tcp list g\n", "the macro V is another one in the recipe of a"),
+    "several lines": Case("all: a\nifneq ($(wildcard a),)\ndefine V\necho 1 > a\nendef\nelse\ndefine V\necho 2 > a\nendef\nendif\na: list\n\t$(V)\n",
+                          "the macro V is another one in the recipe of a"),
+    "export": Case("export V := $(wildcard a)\na: list\n\techo $$V > a\n", "the macro V is another one in the recipe of a"),
+    "recipe": Case("all: a\nifeq ($(wildcard a),)\na: list\n\tcp list a\nelse\na: list\n\tcat list h.h > a\nendif\n", "the recipe of a is another one"),
+    "less": Case(".PHONY: all in\nall: $(if $(wildcard in/x),,in)\n\tcat in/x > a\nin:\n\t$(MAKE) -C in\n", "all does not need in any more"),
+    "more": Case(".PHONY: all\nall: a $(patsubst %.x,%.y,$(wildcard *.x))\na: list\n\tcp list a\n\tcp list b.x\n%.y: %.x\n\tcp $< $@\n", "all needs b.y too"),
+    "not called": Case(".PHONY: all\nall:\n\ttest -f in/x || $(MAKE) -C in\n", "a later build finds in/x otherwise"),
+    "script": Case("a: list\n\tcp list a\n", "a later build finds a otherwise", ("sh", "-c", "test -f a || make a")),
+    "folder": Case("all: a b\na: list\n\tif test -d d; then echo 1 > a; else cp list a; fi\nb: list a\n\tmkdir -p d; cp list b\n", "a later build finds d otherwise"),
+    "two makes": Case(".PHONY: all\nall:\n\t$(MAKE) -C one\n\t$(MAKE) -C two\n", "a later build finds list otherwise",
+                      files=(("one/Makefile", "x: ../list\n\tcp ../list x\n"), ("two/Makefile", "x:\n\techo 2 > ../list\n\tcp ../list x\n"))),
+}
+PREMISES: Dict[str, Tuple[str, str, Case]] = {
+    "a file that make reads": ("called", "list", Case("V := $(file <list)\na: h.h\n\techo $(V) > a\n", "")),
+    "a makefile of dependencies alone": ("called", "m.mk", Case("all: a\ninclude m.mk\nm.mk: list\n\techo 'a: h.h' > m.mk\na:\n\tcat $^ > a\n", "")),
+    "a caller": ("called", "list", Case(".PHONY: all\nall:\n\t$(MAKE) -C in V=`cat list`\n", "")),
+    "a script": ("called", "list", Case("a: h.h\n\techo $(V) > a\n", "", ("sh", "-c", "make a V=`cat list`"))),
+    "a macro of a phony make": ("called", "list", Case("V := $(shell cat list)\n.PHONY: all\nall:\n\t$(MAKE) -C in V=$(V)\n", "")),
+    "a stamp": ("again", "stamp", Case(".PHONY: all\nall:\n\tif test ! -f stamp; then $(MAKE) -C in && touch stamp; fi\n", "")),
+    "in place": ("own", "list", Case("a: h.h\n\tsort -o list list\n\tcat h.h list > a\n", "")),
+    "a time": ("times", "a", Case("a: list\n\tcp list a\n\ttouch -d 2099-01-01 a\n", "")),
+    "a link": ("looks", "cur", Case("all: a\no.h: h.h\n\tcp h.h o.h\ncur: list o.h\n\tln -sfn o.h cur\na: cur o.h\n\tcat cur > a\n", "")),
+    "a size": ("looks", "h.h", Case("all: a b\na: list\n\tstat -c %s h.h > a\nb: h.h\n\tcp h.h b\n", "")),
+}
+QUIET: List[str] = [
+    "VPATH = in\na: y list\n\tcat $^ > a\n",
+    "all: a\na: list\n\tcat $(filter l%,$^) > a\n\techo 'a: h.h' > a.d\n-include a.d\n",
+    "D := $(wildcard *.d)\nall: a\na: list h.h\n\tcat list h.h > a\n\techo 'a: h.h' > a.d\n-include $(D)\n",
+    "S := $(wildcard *.c) g.c\nO := $(sort $(S:.c=.o))\nall: $(O)\n\tcat $(O) > out\ng.c: list\n\tcp list g.c\n%.o: %.c\n\tcp $< $@\n",
+    "all: a b\na: list\n\ttest -d o || mkdir o\n\tcp list o/a\n\tcp list a\nb: list a\n\ttest -d o || mkdir o\n\tcp list b\n",
+    "a: list\n\trm -f a b\n\tcp list a\n\tcp list b\n",
+]
+
+
+class Later(unittest.TestCase):
+    """A later build that is another one has no verdict, or a premise."""
+
+    def hole(self, *names: str) -> None:
+        for name in names:
+            one = HOLES[name]
+            with self.subTest(name), support.Project({"Makefile": one.makefile, **FILES, **dict(one.files)}) as project:
+                outcome = project.record(list(one.words), ["--missing"])
+                self.assertEqual(2, outcome.status, outcome.text() + outcome.stderr.decode())
+                self.assertIn(one.says, outcome.text())
+
+    def test_files(self) -> None:
+        self.hole("rule", "vpath", "vpath of a pattern")
+
+    def test_prerequisites(self) -> None:
+        self.hole("handed", "filtered", "order", "first", "less", "more", "checked in")
+
+    def test_recipes(self) -> None:
+        self.hole("macro", "wildcard", "target's own", "several lines", "export", "recipe")
+
+    def test_calls(self) -> None:
+        self.hole("not called", "script", "folder", "two makes")
+
+    def test_premises(self) -> None:
+        for name, (kind, example, one) in PREMISES.items():
+            with self.subTest(name), support.Project({"Makefile": one.makefile, **FILES, **dict(one.files)}) as project:
+                outcome = project.record(list(one.words), ["--missing"])
+                found = {one["kind"]: one["example"] for one in (outcome.record or {})["missing"]["premises"]}
+                self.assertEqual((0, example), (outcome.status, found.get(kind)), outcome.text() + outcome.stderr.decode())
+
+    def test_quiet(self) -> None:
+        for makefile in QUIET:
+            with self.subTest(makefile), support.Project({"Makefile": makefile, **FILES}) as project:
+                outcome = project.record(options=["--missing"])
+                self.assertEqual(0, outcome.status, outcome.text() + outcome.stderr.decode())
+                self.assertIn("NOTHING MISSING", outcome.text())
+
+    def test_temporary_of_a_caller(self) -> None:
+        files = {"Makefile": "a: h.h\n\tcat h.h conf > a\n", "build.sh": "cp list conf\nmake a\nrm conf\n", **FILES}
+        with support.Project(files) as project:
+            outcome = project.record(["sh", "build.sh"], ["--missing"])
+        self.assertEqual(1, outcome.status, outcome.text() + outcome.stderr.decode())
+        self.assertIn("MISSING  conf\n", outcome.text())
+
+    def test_phony_recipes_too(self) -> None:
+        files = {"Makefile": ".PHONY: all a b\nall: a b\nb: a\na:\n\tcat list o > out.a 2>/dev/null || true\nb:\n\tcp list o\n", **FILES}
+        with support.Project(files) as project:
+            outcome = project.record(options=["--missing"])
+        self.assertEqual(1, outcome.status, outcome.text() + outcome.stderr.decode())
+        self.assertIn("LATE  o\n", outcome.text())
+
+
+if __name__ == "__main__":
+    unittest.main()
