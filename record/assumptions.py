@@ -36,7 +36,7 @@ TEXTS = {
     "later": "you edit sources, add and remove none, and what you edit gets a new time; recipes then read and write the files that they do now; makefiles, commands and the environment stay; each build ends well",
     "traces": "a recipe leaves the same after the same inputs, whatever it left before, and writes its target whenever it runs",
     "always": "recipes that run in every build have no missing inputs: their targets are phony, or are not there after the build",
-    "not-run": "targets that were there before the build, and did not run in it, have no missing inputs",
+    "not-run": "targets that were there when their make looked, and whose recipes did not run, have no missing inputs, and are made alike by what makes them",
     "unjudged": "recipes that are not looked at have no missing inputs: double colons, archive members, targets that are not written, prerequisites that are not known",
     "beyond": "what lies outside of the project stays: compilers, system headers, /tmp",
     "looks": "links, and what recipes look for and do not read, stay as they are, and so do the lists of folders",

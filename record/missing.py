@@ -52,7 +52,7 @@ def write_missing(out: Path, record: Record, builds: List[Build], names: Names, 
                 judged += write_old_tree(out / "builds" / number, OldTree(build, names, later, premises, str(out), turned.reads.get(id(build), {})))
             else:
                 count_always(build, premises)
-    for kind, paths in (("called", called(builds, turned)), ("again", turned.again)):
+    for kind, paths in (("not-run", made_elsewhere(builds, turned)), ("called", called(builds, turned)), ("again", turned.again)):
         for path in sorted(paths):
             premises.add(kind, relative(record.folder, path))
     holes += ["a later build finds %s otherwise, where nothing is edited: %s looks for it, and it changes behind that" % (relative(record.folder, path), who)
@@ -60,6 +60,15 @@ def write_missing(out: Path, record: Record, builds: List[Build], names: Names, 
     holes += ["what make knows in a later build is not known: " + why for why in laters.faults.values()]
     found = [{"kind": a.kind, "count": a.count, "example": shown(a.example), "text": a.text()} for a in premises.all()]
     return {"judged": judged, "holes": [shown(hole) for hole in holes], "premises": found}
+
+
+def made_elsewhere(builds: List[Build], turned: Turned) -> Set[str]:
+    """Targets that a make found up to date, since something else had made them in this build, and not by the same recipe."""
+    makes = [build for build in builds if build.tool == "make"]
+    ran = {(build.folder, task.node.name, *build.graph.base.recipes.get(task.node.name, ())) for build in makes for task in build.tasks if task.kind == "recipe"}
+    return {node.path for build in makes for node in build.graph.nodes.values() if node.has_recipe and not node.jobs and not node.phony
+            and node.path in turned.changes and node.path not in turned.names.before
+            and (build.folder, node.name, *build.graph.base.recipes.get(node.name, ())) not in ran}
 
 
 def asks(build: Build) -> bool:

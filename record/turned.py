@@ -5,6 +5,7 @@ What make itself looks for is no part of it: anew.py compares what it knows.
 """
 
 import os
+import re
 from fnmatch import fnmatchcase
 from typing import Dict, Iterator, List, Optional, Sequence, Set, Tuple
 
@@ -20,6 +21,7 @@ from record.owners import Make, Work
 from record.shelltext import base_name, shell_text
 
 IDLE = ("rm", "rmdir")  # what they look for they remove
+REMOVES = re.compile(r"\s*rm\s[^;&|<>`$()\n]*$")
 MODULES = (".py", ".pyc", ".so")
 BUILDER = "cmake"  # it keeps its own account of what compilers read, which counts as it is at the end
 
@@ -29,6 +31,12 @@ def found_by(argv: List[str]) -> str:
     names = [word for before, word in zip(argv, argv[1:]) if before == "-name"]
     is_plain = base_name(argv) == "find" and not any(word in ("-o", "-or", "!", "-not", ",", "-fprint", "-path", "-prune") for word in argv)
     return names[0] if is_plain and len(names) == 1 and not set("[\\") & set(names[0]) else ""
+
+
+def is_idle(argv: List[str]) -> bool:
+    """Whether a process does no more with what it finds than to remove it, or is CMake's own."""
+    name = base_name(argv)
+    return name in (*IDLE, BUILDER) or bool(REMOVES.match(shell_text(argv))) or name == "find" and "-delete" in argv
 
 
 def words_said(texts: List[str]) -> Set[str]:
@@ -67,7 +75,7 @@ class Turned:
             self.calls[key] = max(make.life.born, self.calls.get(key, 0))
         own = [life for life in lives if not (life.is_make or life.is_wrapper or life.is_ninja)]
         of_makes = {id(life) for make in self.makes for life in called_by(make) if same(self.chain(life), self.chain(make.life))}
-        self.lives = [life for life in own if life.argv and base_name(life.argv) not in (*IDLE, BUILDER) and id(life) not in of_makes]
+        self.lives = [life for life in own if life.argv and not is_idle(life.argv) and id(life) not in of_makes]
         for life in own:
             self.note_changes(life)
         for life in self.lives:

@@ -51,12 +51,15 @@ PREMISES: Dict[str, Tuple[str, str, Case]] = {
     "a script": ("called", "list", Case("a: h.h\n\techo $(V) > a\n", "", ("sh", "-c", "make a V=`cat list`"))),
     "a macro of a phony make": ("called", "list", Case("V := $(shell cat list)\n.PHONY: all\nall:\n\t$(MAKE) -C in V=$(V)\n", "")),
     "a stamp": ("again", "stamp", Case(".PHONY: all\nall:\n\tif test ! -f stamp; then $(MAKE) -C in && touch stamp; fi\n", "")),
+    "another recipe": ("not-run", "g", Case(".PHONY: all\nall:\n\t$(MAKE) -f one.mk\n\t$(MAKE) -f two.mk\n", "",
+                                            files=(("one.mk", "g: list\n\tcat list > g\n"), ("two.mk", "a: g\n\tcp g a\ng: list h.h\n\tcat list h.h > g\n")))),
     "in place": ("own", "list", Case("a: h.h\n\tsort -o list list\n\tcat h.h list > a\n", "")),
     "a time": ("times", "a", Case("a: list\n\tcp list a\n\ttouch -d 2099-01-01 a\n", "")),
     "a link": ("looks", "cur", Case("all: a\no.h: h.h\n\tcp h.h o.h\ncur: list o.h\n\tln -sfn o.h cur\na: cur o.h\n\tcat cur > a\n", "")),
     "a size": ("looks", "h.h", Case("all: a b\na: list\n\tstat -c %s h.h > a\nb: h.h\n\tcp h.h b\n", "")),
 }
 QUIET: List[str] = [
+    ".PHONY: all clean\nall: clean a\nclean:\n\trm -f a* b*\na: list h.h | clean\n\tcat list h.h > a\n",
     "VPATH = in\na: y list\n\tcat $^ > a\n",
     "all: a\na: list\n\tcat $(filter l%,$^) > a\n\techo 'a: h.h' > a.d\n-include a.d\n",
     "D := $(wildcard *.d)\nall: a\na: list h.h\n\tcat list h.h > a\n\techo 'a: h.h' > a.d\n-include $(D)\n",
