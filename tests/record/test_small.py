@@ -28,7 +28,7 @@ class Small:
 
 SMALL: Dict[str, Small] = {
     # devices, and folders that look like theirs
-    "devices_are_no_files": Small("safe", "all: a b\na b: ; echo $@ > /dev/null; cat /dev/null > $@\n"),
+    "devices_are_no_files": Small("safe", "all: a b\na b: ; touch /dev/null; echo $@ > /dev/null; cat /dev/null > $@\n"),
     "project_below_dev": Small("race", "all: a b\na: ; echo a > a\nb: ; cp a b\n", below="/dev/shm"),
     # what make itself looks at in its first pass
     "look_of_a_leaf": Small("safe", "all: t gen\nt: p ; touch t\ngen: ; echo x > p; touch gen\n", {"p": "p", "t": "t"}, OLD + "t"),
@@ -195,7 +195,7 @@ SMALL: Dict[str, Small] = {
     "wildcard_of_a_class": Small("race", "all: a b\na: ; echo a > d/1\nb: ; echo $(wildcard d/[[:digit:]]*) > b\n", {"d/2": "k"}),
     "wildcard_of_all_but_one": Small("race", "all: a b\na: ; echo a > d/n\nb: ; echo $(wildcard d/[^x]*) > b\n", {"d/k": "k"}),
     "wildcard_with_a_macro_in_its_name": Small("race", "Q = d/\nP = $(Q)n\nall: a b\na: ; echo a > d/n1\nb: ; echo $(wildcard $P*) > b\n", {"d/k": "k"}),
-    "pattern_of_eval": Small("race", "all: a b\na: ; echo a > d/new\nb: ; eval \"echo d/\"\\* > b\n", {"d/k": "k"}),
+    "pattern_of_eval": Small("race", "all: a b\na: ; echo a > d/new\nb: ; eval echo d/n\\* > b\n", {"d/k": "k"}),
     "script_that_compares_ages": Small("race", "all: c\na: ; touch x\nb: ; touch y\nc: a b ; ./newer > c\n", {
         "newer": "#!" + sys.executable + "\nimport os\nprint(os.stat('x').st_mtime > os.stat('y').st_mtime)\n"}, "chmod +x newer"),
     "folder_as_prerequisite_cold": Small("safe", "all: d/a d/b\nd/a d/b: d ; echo $@ > $@\nd: ; mkdir d\n"),
