@@ -3,11 +3,13 @@
 import os
 import re
 from dataclasses import dataclass
+from fnmatch import fnmatchcase
 from typing import Dict, Iterable, List, Mapping, Set, Tuple
 
 from record.called import called_by
 from record.graph import Build, Task
 from record.names import Names
+from record.shelltext import is_removal
 
 CHANGES = "WCD"
 BYTE_CODE = re.compile(r"(.*/)__pycache__/([^/.]+)\.[^/]*$", re.S)
@@ -48,6 +50,8 @@ class Footprints:
         for at, paths in turned.items():
             self.reads[at] |= paths  # looks that a later build answers otherwise
         self.written = set().union(*self.writes)
+        for at, task in enumerate(build.tasks):
+            self.writes[at] |= self.removed_later(at, task)
         self.drop_temporaries()
         self.changes = [{path for path in self.reads[at] & self.writes[at] if self.is_read_first(task, path)} for at, task in enumerate(build.tasks)]
         self.both = [{path for path in reads & writes if names.before.get(path) == "f"} for reads, writes in zip(self.reads, self.writes)]  # sources that it changes
@@ -101,6 +105,14 @@ class Footprints:
             self.reads[at].add(name)
         else:
             (self.seen.absent if kind == "N" else self.own_looks[at]).add(name)
+
+    def removed_later(self, at: int, task: Task) -> Set[str]:
+        """What a recipe finds nothing to remove of in this build, and what another recipe makes: a later build has it when the first one runs."""
+        asked = {path.rstrip("/") for work in task.works for life in work.lives if is_removal(life.argv) for kind, path in life.events if kind in "NL"}
+        plain, listed = {path for path in asked if "\0" not in path}, [path.split("\0") for path in asked if "\0" in path]
+        others = set().union(*(writes for other, writes in enumerate(self.writes) if other != at)) - self.writes[at] if asked else set()
+        return {path for path in others if any(is_below(path, name) for name in plain)
+                or any(os.path.dirname(path) == folder and fnmatchcase(os.path.basename(path), pattern) for folder, pattern in listed)}
 
     @staticmethod
     def is_read_first(task: Task, path: str) -> bool:

@@ -52,12 +52,19 @@ COMPUTED = re.compile(r"\beval[ \t]+[\"']?(?:\$\(|`)")  # the text that a progra
 # What is thrown away, and errors that are not: a folder that is there already is reported there.
 NOWHERE = re.compile(r"(?:\b2\s*|&)?>>?\s*/dev/null(?:\s*2>&1)?")
 KEPT_ERRORS = re.compile(r"\b2\s*>|&>|>\s*&|\|&")
+REMOVES = re.compile(r"\s*rm\s[^;&|<>`$()\n]*$")  # a text that runs nothing else
 DIRECTORY = r"(?:\"[^\"]*\"|'[^']*'|[^\s;|&<>()'\"`]+)"
 
 
 def base_name(argv: List[str]) -> str:
     """The program's name without its folder."""
     return os.path.basename(argv[0]) if argv else ""
+
+
+def is_removal(argv: List[str]) -> bool:
+    """Whether a process does no more with what it finds than to remove it."""
+    name = base_name(argv)
+    return name in ("rm", "rmdir") or bool(REMOVES.match(shell_text(argv))) or name == "find" and "-delete" in argv
 
 
 def shell_text(argv: List[str]) -> str:

@@ -5,7 +5,6 @@ What make itself looks for is no part of it: anew.py compares what it knows.
 """
 
 import os
-import re
 from fnmatch import fnmatchcase
 from typing import Dict, Iterator, List, Optional, Sequence, Set, Tuple
 
@@ -18,10 +17,8 @@ from record.macros import Macros
 from record.memory import folders_asked
 from record.names import Names
 from record.owners import Make, Work
-from record.shelltext import base_name, shell_text
+from record.shelltext import base_name, is_removal, shell_text
 
-IDLE = ("rm", "rmdir")  # what they look for they remove
-REMOVES = re.compile(r"\s*rm\s[^;&|<>`$()\n]*$")
 MODULES = (".py", ".pyc", ".so")
 BUILDER = "cmake"  # it keeps its own account of what compilers read, which counts as it is at the end
 
@@ -35,8 +32,7 @@ def found_by(argv: List[str]) -> str:
 
 def is_idle(argv: List[str]) -> bool:
     """Whether a process does no more with what it finds than to remove it, or is CMake's own."""
-    name = base_name(argv)
-    return name in (*IDLE, BUILDER) or bool(REMOVES.match(shell_text(argv))) or name == "find" and "-delete" in argv
+    return is_removal(argv) or base_name(argv) == BUILDER
 
 
 def words_said(texts: List[str]) -> Set[str]:

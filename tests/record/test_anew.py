@@ -58,6 +58,11 @@ PREMISES: Dict[str, Tuple[str, str, Case]] = {
     "a link": ("looks", "cur", Case("all: a\no.h: h.h\n\tcp h.h o.h\ncur: list o.h\n\tln -sfn o.h cur\na: cur o.h\n\tcat cur > a\n", "")),
     "a size": ("looks", "h.h", Case("all: a b\na: list\n\tstat -c %s h.h > a\nb: h.h\n\tcp h.h b\n", "")),
 }
+REMOVED = {
+    "a file": ("t.h", "all: a b\na: list\n\trm -f t.h\n\tcp list a\nb: h.h | a\n\tcp h.h t.h\n\tcp h.h b\n"),
+    "a tree": ("out/t.h", "all: a b\na: list\n\trm -rf out\n\tcp list a\nb: h.h | a\n\tmkdir -p out; cp h.h out/t.h\n\tcp h.h b\n"),
+    "a pattern": ("t.h", "all: a b\na: list\n\trm -f t*\n\tcp list a\nb: h.h | a\n\tcp h.h t.h\n\tcp h.h b\n"),
+}
 QUIET: List[str] = [
     ".PHONY: all clean\nall: clean a\nclean:\n\trm -f a* b*\na: list h.h | clean\n\tcat list h.h > a\n",
     "VPATH = in\na: y list\n\tcat $^ > a\n",
@@ -105,6 +110,13 @@ class Later(unittest.TestCase):
                 outcome = project.record(options=["--missing"])
                 self.assertEqual(0, outcome.status, outcome.text() + outcome.stderr.decode())
                 self.assertIn("NOTHING MISSING", outcome.text())
+
+    def test_removed_later(self) -> None:
+        for name, (path, makefile) in REMOVED.items():
+            with self.subTest(name), support.Project({"Makefile": makefile, **FILES}) as project:
+                outcome = project.record(options=["--missing"])
+                self.assertEqual(1, outcome.status, outcome.text() + outcome.stderr.decode())
+                self.assertIn("SHARED  %s\n" % path, outcome.text())
 
     def test_temporary_of_a_caller(self) -> None:
         files = {"Makefile": "a: h.h\n\tcat h.h conf > a\n", "build.sh": "cp list conf\nmake a\nrm conf\n", **FILES}

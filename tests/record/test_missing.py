@@ -96,9 +96,9 @@ PROJECTS: Dict[str, Tuple[str, Pairs]] = {
     "a recipe of functions that call a process": (
         "all: a\nv.h: FORCE\n\t$(if $(filter 1,$(shell cat v.h 2>/dev/null)),,echo 1 > v.h)\nFORCE:\na: v.h list\n\tcat v.h list h.h > a\n", {("a", "h.h")}),
     "a recipe of functions that look for a file": (
-        "all: a\nv.h: FORCE\n\t$(if $(wildcard v.h),,echo 1 > v.h)\nFORCE:\na: v.h list\n\tcat v.h list h.h > a\n", {("a", "h.h")}),
+        "all: a\nv.h: FORCE\n\t$(if $(wildcard v.*),,echo 1 > v.h)\nFORCE:\na: v.h list\n\tcat v.h list h.h > a\n", {("a", "h.h")}),
     "a canned recipe that asks what is newer": (
-        "define cat\n$(if $(filter-out FORCE,$?),cat list h.h > $@)\nendef\nall: a\na: list FORCE\n\t$(cat)\nFORCE:\n", {("a", "h.h")}),
+        "define cat\n@:\n$(if $(filter-out FORCE,$?),cat list h.h > $@)\nendef\nall: a\na: list FORCE\n\t$(cat)\nFORCE:\n", {("a", "h.h")}),
     "a macro of a made name that asks what is newer": (
         "K = at\ncat = $(if $(filter-out FORCE,$?),cat list h.h > $@)\nall: a\na: list FORCE\n\t$(c$(K))\nFORCE:\n", {("a", "h.h")}),
     "a state that is opened to read and to write": (
