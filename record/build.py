@@ -12,7 +12,7 @@ from record.fixed import asked_ages, fixed_looks, remade_anyway
 from record.folders import add_folders
 from record.graph import Build, Graph, Node, Task, befores, order_tasks
 from record.macros import Macros, Use, uses
-from record.memory import add_search, libraries, share_listings
+from record.memory import add_search, libraries, place_listings, share_listings
 from record.names import Names, join
 from record.owners import Make, Work
 from record.unfiled import add_macros, add_outputs, count_listings
@@ -53,6 +53,7 @@ class Builder:
         """All steps."""
         for node in self.graph.nodes.values():
             node.path = self.path_of(node.name)
+        place_listings(self)
         share_listings(self)
         self.make_recipes()
         self.note_writers()

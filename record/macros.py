@@ -21,6 +21,8 @@ ASSIGNED = re.compile(r"([\w.-]+)[ \t]*(?:[+?!]|:{1,3})?=((?:[^\n]*\\\n)*[^\n]*)
 DEFINED = re.compile(r"(?ms)^[ \t]*define[ \t]+([\w.-]+)[^\n]*\n(.*?)^[ \t]*endef")
 # A line of a makefile that is a rule: what stands behind its colon, up to a recipe on the same line.
 RULE = re.compile(r"(?m)^(?!\t)[^\n=#]*?:(?![:=])((?:[^\n;#=]*\\\n)*[^\n;#]*)")
+# An export of a macro or of all, for one target too.
+EXPORT = r"(?m)^(?:[^\t\n#][^\n]*?:)?[ \t]*(?:(?:override|private)[ \t]+)*export\b(?:[ \t]*$|[^\n]*\b%s\b)|\.EXPORT_ALL_VARIABLES"
 BRACKETS = {"(": ")", "{": "}"}
 ANY = "*"  # macros that nobody can name
 # What each recipe asks for without a word: macros that make itself reads.
@@ -100,7 +102,7 @@ class Macros:
 
     def __init__(self, make: Make, base: Base) -> None:
         self.make, self.base = make, base
-        paths = [os.path.join(make.folder, name) for name in sorted(makefiles(make.words))]
+        paths = [os.path.join(make.folder, name) for name in sorted(makefiles(make.words)) if not make.never_read(name)]
         self.text = "\n".join(text_of(path) for path in paths)
         self.is_lost = not all(os.path.exists(path) for path in paths)  # then macros of several lines may hold anything
         recipes = (line for lines in base.recipes.values() for line in lines)
@@ -155,8 +157,8 @@ class Macros:
         return self.is_lost or self.is_named_in_export(name) or name in IMPLIED or self.is_inherited(name)
 
     def is_named_in_export(self, name: str) -> bool:
-        """Whether a makefile exports a macro, by its name or with all others."""
-        return bool(re.search(r"(?m)^[ \t]*export\b(?:[ \t]*$|[^\n]*\b%s\b)|\.EXPORT_ALL_VARIABLES" % re.escape(name), self.text))
+        """Whether a makefile exports a macro, by its name or with all others, or for a target."""
+        return bool(re.search(EXPORT % re.escape(name), self.text))
 
     def is_inherited(self, name: str) -> bool:
         """Whether make may have found a macro in its own environment: then it hands that on to each recipe."""

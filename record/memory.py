@@ -18,6 +18,34 @@ PLAIN = re.compile(r"\$(?:[({]([\w.-]+)[)}]|(\w))")
 DEPTH = 8  # how often macros are put in the places of their names
 
 
+def place_listings(builder: "Builder") -> None:
+    """A folder that make lists while it makes a target is listed by the recipe, if that may ask for names there. Else make searches for a file."""
+    acts = {name: work for (number, name), work in builder.make.acts.items() if number == builder.number}
+    nodes = {node.name: node for node in builder.graph.nodes.values()}
+    open_names = exported_lists(builder.known)
+    for name, work in acts.items():
+        listed = [(path, place) for (kind, path), place in work.events.items() if kind == "Q"]
+        asked = own_folders(builder, nodes[name]) if listed and name in nodes and not open_names else None
+        for path, place in listed:
+            for pattern in builder.make.globs if asked is None or path in asked else ():
+                work.add("L", path + "\0" + pattern, place)
+
+
+def exported_lists(known: Macros) -> bool:
+    """Whether make may look for names by `wildcard` for each recipe, to make the values of exported macros."""
+    found = {name for name in known.texts if "wildcard" in known.text_of(name)}
+    return bool(found) and any(known.is_exported(name) for name in known.texts if name in found or found & known.reached_from(name))
+
+
+def own_folders(builder: "Builder", node: Node) -> Optional[Set[str]]:
+    """The folders in which a target's recipe looks for names; None where nobody can say which."""
+    base, known = builder.graph.base, builder.known
+    text = "\n".join(base.recipes.get(node.name, ()))
+    if ".SECONDEXPANSION" in base.prerequisites or any("eval" in one for one in (text, *map(known.text_of, known.reached(text)))):
+        return None
+    return folders_asked(known, builder.names, node)
+
+
 def share_listings(builder: "Builder") -> None:
     """Make lists a folder once. A recipe that looks for names there later sees the same, and in another order it may be the first."""
     make, began = builder.make, builder.first_birth()

@@ -45,6 +45,12 @@ class Make:
     listed: Dict[str, int] = field(default_factory=dict)  # folder: when it was first listed by make itself
     looked: Dict[str, Dict[str, int]] = field(default_factory=dict)  # name as make spells it: the paths that it led to, and when first
 
+    def never_read(self, name: str) -> bool:
+        """Whether it looked for a makefile, as for `-include`, and found none: that one says nothing."""
+        path = os.path.normpath(os.path.join(self.folder, name))
+        kinds = {act.kind for act in self.life.acts if act.path == path}
+        return len(self.life.starts) < 2 and "N" in kinds and "R" not in kinds and not os.path.lexists(path)
+
     def has_one_slot(self) -> bool:
         """Whether it runs one job at a time whatever the user says: by its words, or as no make above hands it jobs. The words of
         a make that none is above are the user's own."""
@@ -108,7 +114,8 @@ class Owners:
             try:
                 texts.append(Path(make.folder, name).read_text(errors="replace"))
             except OSError:
-                return ["*"]
+                if not make.never_read(name):
+                    return ["*"]
         return sorted(patterns(texts, make.words.values()))
 
     def match_jobs(self, make: Make) -> None:
@@ -214,11 +221,7 @@ class Owners:
                 work.lives += ran.lives
                 work.makes += ran.makes
                 for kind, path, when in events:
-                    if kind == "Q":
-                        for pattern in make.globs:
-                            work.add("L", path + "\0" + pattern, when)
-                    else:
-                        work.add(kind, path, when)
+                    work.add(kind, path, when)
 
     def removed_last(self, make: Make) -> Set[int]:
         """Where make removes intermediate files, once no recipe runs any more: that is beside nothing. The acts, by their ids."""

@@ -100,6 +100,11 @@ NAMES: List[Guard] = [
     Guard("patterns of computed text are *", "shelltext.py", 'cut or "$" in text or', "cut or", small("pattern_in_a_variable"), YES),
     Guard("patterns of eval are *", "shelltext.py", r' or re.search(r"\beval\b", text)', "", small("pattern_of_eval"), YES,
           ("shelltext.py", 'OPTIONS.search(" ".join(argv)) or TAKES_IN.search(text)', "False")),
+    Guard("lists of make: a search", "memory.py", "for pattern in builder.make.globs if asked is None or path in asked else ():", "for pattern in builder.make.globs:", small("search_that_lists_a_folder"), FALSE_RACE),
+    Guard("lists of make: makefiles that are not there", "owners.py", 'return len(self.life.starts) < 2 and "N" in kinds', 'return False and "N" in kinds', small("search_that_lists_a_folder"), FALSE_RACE),
+    Guard("lists of make: exported macros", "memory.py", "open_names = exported_lists(builder.known)", "open_names = False", small("wildcard_that_a_target_exports"), YES),
+    Guard("lists of make: second expansions", "memory.py", '".SECONDEXPANSION" in base.prerequisites or ', "", small("wildcard_of_a_second_expansion"), YES),
+    Guard("macros: exports of a target", "macros.py", r"(?:[^\t\n#][^\n]*?:)?[ \t]*(?:(?:override|private)[ \t]+)*export", r"[ \t]*export", small("macro_that_a_target_exports"), YES),
     Guard("patterns keep other names out", "build.py", " and fnmatchcase(name, pattern):", ":", case("glob-other-names"), FALSE_RACE),
     Guard("scripts are of their interpreter", "calls.py", "argv = argv if life.is_wrapper else shelltext.with_interpreter(argv, found.path)", "pass", small("script_that_compares_ages"), YES),
 ]
