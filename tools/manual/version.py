@@ -6,7 +6,7 @@ from pathlib import Path
 
 from manual.helps import NoHelp
 
-SOURCE = Path("crates") / "mk_program" / "src" / "words" / "help.rt"
+SOURCE = Path("crates") / "mk_request" / "src" / "words" / "help.rt"
 VERSION = re.compile(r'VERSION: &str = "([^"]+)"')
 
 

@@ -6,16 +6,16 @@ use Rattle.clap.specs.declared.error.Error.{Error}
 use Rattle.clap.specs.declared.error.kind.ErrorKind.{ErrorKind}
 use Rattle.clap.specs.declared.error.kind.ErrorKind.TheVariants.{OutOfMemory}
 use Rattle.mk_program.specs.Answers.{IsAnswer, IsFailureOf, IsRequestFailure, IsSaid, MayAllBeRead}
-use Rattle.mk_program.specs.CommandLine.{Asks, IsCall, asked, wrong}
+use Rattle.mk_request.specs.CommandLine.{Asks, IsCall, asked, wrong}
 use Rattle.mk_program.specs.Files.{Files}
 use Rattle.mk_program.specs.Includes.{IncludesMayBeRead, IncludesMayFail, IsFailure}
 use Rattle.mk_program.specs.Inputs.{IsShortOr, IsUnread}
-use Rattle.mk_program.specs.Requests.{includes_path, inputs_of}
+use Rattle.mk_request.specs.Requests.{includes_path, inputs_of}
 use Rattle.mk_program.specs.declared.failures.Failure.{Failure}
 use Rattle.mk_program.specs.declared.failures.Failure.TheVariants.{Memory, NotText, Read, Usage, Write}
-use Rattle.mk_program.specs.declared.failures.InputFile.TheVariants.{Include}
-use Rattle.mk_program.specs.declared.inputs.InputPath.{InputPath}
-use Rattle.mk_program.specs.declared.requests.Request.{Request}
+use Rattle.mk_request.specs.declared.inputs.InputFile.TheVariants.{Include}
+use Rattle.mk_request.specs.declared.inputs.InputPath.{InputPath}
+use Rattle.mk_request.specs.declared.requests.Request.{Request}
 use Rattle.mk_program.specs.declared.statuses.Status.{Status}
 use Rattle.mk_program.specs.declared.statuses.Status.TheVariants.{Done, No, Refused}
 

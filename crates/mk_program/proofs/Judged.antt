@@ -11,18 +11,18 @@ use Rattle.mk_race.specs.Judged.{HoldsOfRace, IsSafe, NoScheduleShows}
 use Rattle.mk_race.specs.Stages.{Texts}
 use Rattle.mk_race.specs.Tasked as tasked
 use Rattle.mk_program.specs.Answers.{AskToCheck, IsAnswerTo, IsNotedCheck, IsTasksAnswer, SaysJudged, SaysSafe, judged_status}
-use Rattle.mk_program.specs.CommandLine.{Asks, IsQuestion, asked}
+use Rattle.mk_request.specs.CommandLine.{Asks, IsQuestion, asked}
 use Rattle.mk_program.specs.Includes.{Pair}
 use Rattle.mk_program.specs.Inputs.{Hold, IsLeftOut}
-use Rattle.mk_program.specs.Requests.{input_at, listing_input, proof_input}
-use Rattle.mk_program.specs.declared.failures.InputFile.{InputFile}
-use Rattle.mk_program.specs.declared.failures.InputFile.TheVariants as inputs
-use Rattle.mk_program.specs.declared.inputs.InputPath.{InputPath}
-use Rattle.mk_program.specs.declared.requests.Request.{Request}
-use Rattle.mk_program.specs.declared.requests.Request.TheVariants as requests
-use Rattle.mk_program.specs.declared.requests.TaskArgs.{TaskArgs}
-use Rattle.mk_program.specs.declared.requests.TaskQuestion.{TaskQuestion}
-use Rattle.mk_program.specs.declared.requests.TaskQuestion.TheVariants as questions
+use Rattle.mk_request.specs.Requests.{input_at, listing_input, proof_input}
+use Rattle.mk_request.specs.declared.inputs.InputFile.{InputFile}
+use Rattle.mk_request.specs.declared.inputs.InputFile.TheVariants as inputs
+use Rattle.mk_request.specs.declared.inputs.InputPath.{InputPath}
+use Rattle.mk_request.specs.declared.requests.Request.{Request}
+use Rattle.mk_request.specs.declared.requests.Request.TheVariants as requests
+use Rattle.mk_request.specs.declared.requests.TaskArgs.{TaskArgs}
+use Rattle.mk_request.specs.declared.requests.TaskQuestion.{TaskQuestion}
+use Rattle.mk_request.specs.declared.requests.TaskQuestion.TheVariants as questions
 use Rattle.mk_program.specs.declared.statuses.Status.{Status}
 use Rattle.mk_program.specs.declared.statuses.Status.TheVariants.{Done, Failed, No, Refused}
 

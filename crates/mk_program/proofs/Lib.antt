@@ -1,8 +1,6 @@
 mod Answering
-mod Asked
 mod Failing
 mod Fixings
-mod Locals
 mod MissingAnswers
 mod NoNode
 mod Noted
@@ -13,6 +11,5 @@ mod Reading
 mod SerialAnswers
 mod TaskAnswers
 mod Reported
-mod Values
 pub mod Included
 pub mod Judged

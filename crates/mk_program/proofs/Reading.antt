@@ -8,8 +8,8 @@ use Rattle.std.proofs.lemmas.List.Elements.{All-cons, All-head, All-nil, All-pus
 use Rattle.mk_program.specs.Files.{Files}
 use Rattle.mk_program.specs.Inputs.{AreTexts, Hold, HoldEach, InputsMayBeRead, IsFirstToFail, IsShortOr, IsUnread, Mark, MayWork, marks}
 use Rattle.mk_program.specs.declared.failures.Failure.{Failure}
-use Rattle.mk_program.specs.declared.failures.InputFile.{InputFile}
-use Rattle.mk_program.specs.declared.inputs.InputPath.{InputPath}
+use Rattle.mk_request.specs.declared.inputs.InputFile.{InputFile}
+use Rattle.mk_request.specs.declared.inputs.InputPath.{InputPath}
 use Rattle.mk_program.specs.declared.inputs.InputText.{InputText}
 use Rattle.mk_program.specs.declared.inputs.OpenInput.{OpenInput}
 

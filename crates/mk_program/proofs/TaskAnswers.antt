@@ -2,10 +2,10 @@
 use Rattle.std.proofs.Common.{◌≡◌, ℕ, Bool, List, subst, sym}
 use Rattle.std.specs.Borrow.{Bor}
 use Rattle.mk_program.specs.Answers.{IsTaskCheckAnswer, IsTaskFixAnswer, IsTaskListAnswer, IsTaskMissingAnswer, IsTaskVerifyAnswer, IsTasksAnswer}
-use Rattle.mk_program.specs.declared.failures.InputFile.{InputFile}
-use Rattle.mk_program.specs.declared.failures.InputFile.TheVariants as inputs
-use Rattle.mk_program.specs.declared.requests.TaskQuestion.{TaskQuestion}
-use Rattle.mk_program.specs.declared.requests.TaskQuestion.TheVariants as questions
+use Rattle.mk_request.specs.declared.inputs.InputFile.{InputFile}
+use Rattle.mk_request.specs.declared.inputs.InputFile.TheVariants as inputs
+use Rattle.mk_request.specs.declared.requests.TaskQuestion.{TaskQuestion}
+use Rattle.mk_request.specs.declared.requests.TaskQuestion.TheVariants as questions
 use Rattle.mk_program.specs.declared.statuses.Status.{Status}
 
 module _ (question : TaskQuestion) (root root' tasks : List ℕ) (texts : InputFile → List ℕ) (status : Status) (answer : List ℕ)

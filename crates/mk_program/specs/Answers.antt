@@ -40,7 +40,7 @@ use Rattle.mk_report.specs.declared.answer.Answer.TheVariants as judged
 use Rattle.mk_sched.specs.declared.refusal.Refusal.{Refusal}
 use Rattle.mk_sched.specs.declared.replay.Replayed.{Replayed}
 use Rattle.mk_program.specs.ChangeText.{change_text}
-use Rattle.mk_program.specs.CommandLine.{Asks, HasMistake, IsAnswerable, asked, wrong}
+use Rattle.mk_request.specs.CommandLine.{Asks, HasMistake, IsAnswerable, asked, wrong}
 use Rattle.mk_program.specs.Files.{Files}
 use Rattle.mk_program.specs.Includes.{IncludesMayBeRead, IncludesMayFail, Pair, includes_in}
 use Rattle.mk_program.specs.Inputs.{Hold, InputsMayBeRead, IsShortOr, IsUnread}
@@ -49,18 +49,18 @@ use Rattle.mk_program.specs.OrderText.{IsNoText, IsOrderText, order_status}
 use Rattle.mk_program.specs.OutcomeText.{IsOutcomeText}
 use Rattle.mk_program.specs.PlanText.{plan_text}
 use Rattle.mk_program.specs.PosixBase.{posix_base}
-use Rattle.mk_program.specs.Requests.{includes_path, inputs_of}
+use Rattle.mk_request.specs.Requests.{includes_path, inputs_of}
 use Rattle.mk_program.specs.declared.failures.Failure.{Failure}
 use Rattle.mk_program.specs.declared.failures.Failure.TheVariants as failures
-use Rattle.mk_program.specs.declared.failures.InputFile.{InputFile}
-use Rattle.mk_program.specs.declared.failures.InputFile.TheVariants as inputs
-use Rattle.mk_program.specs.declared.requests.BuildArgs.{BuildArgs}
-use Rattle.mk_program.specs.declared.requests.CheckArgs.{CheckArgs}
-use Rattle.mk_program.specs.declared.requests.Request.{Request}
-use Rattle.mk_program.specs.declared.requests.Request.TheVariants as requests
-use Rattle.mk_program.specs.declared.requests.TaskArgs.{TaskArgs}
-use Rattle.mk_program.specs.declared.requests.TaskQuestion.{TaskQuestion}
-use Rattle.mk_program.specs.declared.requests.TaskQuestion.TheVariants as questions
+use Rattle.mk_request.specs.declared.inputs.InputFile.{InputFile}
+use Rattle.mk_request.specs.declared.inputs.InputFile.TheVariants as inputs
+use Rattle.mk_request.specs.declared.requests.BuildArgs.{BuildArgs}
+use Rattle.mk_request.specs.declared.requests.CheckArgs.{CheckArgs}
+use Rattle.mk_request.specs.declared.requests.Request.{Request}
+use Rattle.mk_request.specs.declared.requests.Request.TheVariants as requests
+use Rattle.mk_request.specs.declared.requests.TaskArgs.{TaskArgs}
+use Rattle.mk_request.specs.declared.requests.TaskQuestion.{TaskQuestion}
+use Rattle.mk_request.specs.declared.requests.TaskQuestion.TheVariants as questions
 use Rattle.mk_program.specs.declared.statuses.Status.{Status}
 use Rattle.mk_program.specs.declared.statuses.Status.TheVariants as statuses
 

@@ -4,8 +4,8 @@ use Rattle.std.specs.Io.KnownBytes.{Appends}
 use Rattle.mk_name.specs.Shown.{line}
 use Rattle.mk_program.specs.declared.failures.Failure.{Failure}
 use Rattle.mk_program.specs.declared.failures.Failure.TheVariants as failures
-use Rattle.mk_program.specs.declared.failures.InputFile.{InputFile}
-use Rattle.mk_program.specs.declared.failures.InputFile.TheVariants as inputs
+use Rattle.mk_request.specs.declared.inputs.InputFile.{InputFile}
+use Rattle.mk_request.specs.declared.inputs.InputFile.TheVariants as inputs
 
 -- how an input is reported
 abbrev pub word_of : InputFile → List ℕ

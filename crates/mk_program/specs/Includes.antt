@@ -7,7 +7,7 @@ use Rattle.mk_text.specs.Blocks.{physical_lines}
 use Rattle.mk_program.specs.Files.{Files}
 use Rattle.mk_program.specs.declared.failures.Failure.{Failure}
 use Rattle.mk_program.specs.declared.failures.Failure.TheVariants as failures
-use Rattle.mk_program.specs.declared.failures.InputFile.TheVariants as inputs
+use Rattle.mk_request.specs.declared.inputs.InputFile.TheVariants as inputs
 use Rattle.mk_program.specs.declared.includes.IncludeText.{IncludeText}
 
 -- a path, and the text of its file

@@ -4,8 +4,8 @@ use Rattle.std.specs.List.{All, HoldsAt}
 use Rattle.mk_program.specs.Files.{Files}
 use Rattle.mk_program.specs.declared.failures.Failure.{Failure}
 use Rattle.mk_program.specs.declared.failures.Failure.TheVariants as failures
-use Rattle.mk_program.specs.declared.failures.InputFile.{InputFile}
-use Rattle.mk_program.specs.declared.inputs.InputPath.{InputPath}
+use Rattle.mk_request.specs.declared.inputs.InputFile.{InputFile}
+use Rattle.mk_request.specs.declared.inputs.InputPath.{InputPath}
 use Rattle.mk_program.specs.declared.inputs.InputText.{InputText}
 
 -- the file of each of these inputs holds the input's text

@@ -1,6 +1,5 @@
 pub mod Answers
 pub mod ChangeText
-pub mod CommandLine
 pub mod Failures
 pub mod Files
 pub mod Includes
@@ -10,5 +9,4 @@ pub mod OrderText
 pub mod OutcomeText
 pub mod PlanText
 pub mod PosixBase
-pub mod Requests
 pub mod Statuses

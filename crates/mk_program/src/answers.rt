@@ -12,7 +12,7 @@ ghost use Rattle.mk_program.specs.OutcomeText.{IsOutcomeText};
 ghost use Rattle.mk_program.specs.PlanText.{plan_text as text_of_plan};
 
 use crate::checking::check_answer;
-use crate::failures::{Failure, InputFile};
+use crate::failures::Failure;
 use crate::fixing::fix_answer;
 use crate::includes::{IncludeText, pairs_of, read_includes};
 use crate::inputs::{InputText, read_inputs, text_of};
@@ -23,7 +23,6 @@ use crate::openers::Opener;
 use crate::outcome_lines::outcome_text;
 use crate::plan_lines::plan_text;
 use crate::posix_base::posix_base;
-use crate::requests::{BuildArgs, ReplayArgs, Request, VerifyArgs, includes_path, inputs_of};
 use crate::serialising::serialise_answer;
 use crate::statuses::Status;
 use crate::tasks::tasks_answer;
@@ -34,6 +33,8 @@ use mk_race::planning::{Planned, plan_of};
 use mk_race::preparing::Prepared;
 use mk_race::replaying::{Played, replay_prepared};
 use mk_race::verifying::verify_prepared;
+use mk_request::inputs::InputFile;
+use mk_request::requests::{BuildArgs, ReplayArgs, Request, VerifyArgs, includes_path, inputs_of};
 use std::alloc::{AllocError, Global};
 use std::mem::forget;
 

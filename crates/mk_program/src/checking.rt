@@ -5,14 +5,14 @@ ghost use Rattle.mk_program.specs.Answers as spec;
 ghost use Rattle.mk_program.specs.Inputs.{AreTexts};
 
 use crate::answers::{Answer, bytes_of, input_of};
-use crate::failures::InputFile;
 use crate::inputs::InputText;
 use crate::noting::{Question, Reply, noted_reply};
-use crate::requests::CheckArgs;
 use crate::statuses::Status;
 use mk_race::judging::judge_prepared;
 use mk_race::preparing::Prepared;
 use mk_report::answer::{Answer as Judged, report};
+use mk_request::inputs::InputFile;
+use mk_request::requests::CheckArgs;
 use std::alloc::{AllocError, Global};
 
 /// Whether a build is safe: by the report, or by its proof.

@@ -2,23 +2,10 @@
 ghost use Rattle.std.specs.Prelude.{◌≡◌, Some};
 ghost use Rattle.mk_program.specs.Failures.{failure_text, unread_text};
 
+use mk_request::inputs::InputFile;
 use std::alloc::{AllocError, AllocFailed};
 use std::fmt;
 use thiserror::Error;
-
-/// An input of a build, which is read from a file.
-#[derive(Clone, Copy, Debug, PartialEq, Eq)]
-pub enum InputFile {
-    /// The file of includes, or one that it names.
-    Include,
-    Base,
-    Makefile,
-    Listing,
-    Footprints,
-    Proof,
-    Log,
-    Tasks,
-}
 
 /// Why the program ends with the status of a device, of memory or of usage. Its text is what stands on the standard
 /// error, without the newline.

@@ -7,15 +7,15 @@ ghost use Rattle.mk_program.specs.Answers as spec;
 ghost use Rattle.mk_program.specs.Inputs.{AreTexts};
 
 use crate::answers::{Answer, bytes_of, input_of, refused};
-use crate::failures::InputFile;
 use crate::inputs::InputText;
-use crate::requests::CheckArgs;
 use crate::statuses::Status;
 use mk_proof::certificate::Certificate;
 use mk_proof::writing::write_certificate;
 use mk_race::fixing::{Fixing, fix_build};
 use mk_race::input::Input;
 use mk_report::not_fixed::not_fixed_report;
+use mk_request::inputs::InputFile;
+use mk_request::requests::CheckArgs;
 use std::alloc::{AllocError, Global};
 
 /// The lines that fix a build, or the edges that no lines give it, or why its inputs are refused. The only error is out of

@@ -4,9 +4,10 @@ ghost use Rattle.std.specs.List.{All, Contains};
 ghost use Rattle.mk_text.specs.Blocks.{physical_lines};
 ghost use Rattle.mk_program.specs.Includes as spec;
 
-use crate::failures::{Failure, InputFile};
-use crate::inputs::{InputPath, opened, text_in};
+use crate::failures::Failure;
+use crate::inputs::{opened, text_in};
 use crate::openers::Opener;
+use mk_request::inputs::{InputFile, InputPath};
 use mk_text::lexical::split_line;
 use std::alloc::{AllocError, Global};
 use std::str;

@@ -3,17 +3,11 @@ ghost use Rattle.std.specs.Prelude.{◌≡◌, ◌≢◌, ◌⊎◌, IfErr, IfOk
 ghost use Rattle.std.specs.List.{All};
 ghost use Rattle.mk_program.specs.Inputs as spec;
 
-use crate::failures::{Failure, InputFile};
+use crate::failures::Failure;
 use crate::openers::Opener;
 use mk_device::device::ReadStop;
+use mk_request::inputs::{InputFile, InputPath};
 use std::alloc::Global;
-
-/// An input, and the path of its file.
-#[derive(Clone, Copy)]
-pub struct InputPath<'a> {
-    pub input: InputFile,
-    pub path: &'a str,
-}
 
 /// An input, and its text.
 #[derive(Drop)]

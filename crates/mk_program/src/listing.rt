@@ -6,13 +6,13 @@ ghost use Rattle.mk_program.specs.Answers as spec;
 ghost use Rattle.mk_program.specs.Inputs.{AreTexts};
 
 use crate::answers::{Answer, bytes_of, input_of, refused};
-use crate::failures::InputFile;
 use crate::inputs::InputText;
-use crate::requests::ListArgs;
 use crate::statuses::Status;
 use mk_race::input::Input;
 use mk_race::listing::{RaceList, list_races};
 use mk_report::races::races_report;
+use mk_request::inputs::InputFile;
+use mk_request::requests::ListArgs;
 use std::alloc::{AllocError, Global};
 
 /// All races of a build, or why its inputs are refused. The only error is out of memory.

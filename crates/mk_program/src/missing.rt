@@ -7,15 +7,15 @@ ghost use Rattle.mk_program.specs.Inputs.{AreTexts};
 
 use crate::answers::{Answer, bytes_of, input_of, refused};
 use crate::change_lines::push_change;
-use crate::failures::InputFile;
 use crate::inputs::InputText;
-use crate::requests::ListArgs;
 use crate::statuses::Status;
 use mk_missing::violations::Violations;
 use mk_race::again::Change;
 use mk_race::input::Input;
 use mk_race::missing::{MissingList, list_missing};
 use mk_report::missing::missing_report;
+use mk_request::inputs::InputFile;
+use mk_request::requests::ListArgs;
 use std::alloc::{AllocError, Global};
 
 /// All races and violations of a build, or why its inputs are refused. The only error is out of memory.

@@ -5,7 +5,7 @@ ghost use Rattle.std.specs.Io.KnownBytes.{Appends};
 ghost use Rattle.clap.specs.Words.{kind_of};
 ghost use Rattle.mk_name.specs.Shown.{line};
 ghost use Rattle.mk_program.specs.Answers as spec;
-ghost use Rattle.mk_program.specs.CommandLine.{IsAnswerable, IsCall, asked, wrong};
+ghost use Rattle.mk_request.specs.CommandLine.{IsAnswerable, IsCall, asked, wrong};
 ghost use Rattle.mk_program.specs.Failures.{IsFailureReported};
 
 use crate::answers::{Answer, answer_of};
@@ -13,9 +13,9 @@ use crate::failures::Failure;
 use crate::noting::{Reply, without_note};
 use crate::openers::Opener;
 use crate::statuses::Status;
-use crate::words::read_words;
 use clap::error::ErrorKind;
 use mk_device::device::{Broken, Outlet, write_all};
+use mk_request::words::read_words;
 use std::alloc::Global;
 
 /// Runs the program on the words of the command line, of which the first is its own name. The answer, the help or the

@@ -6,13 +6,14 @@ ghost use Rattle.mk_program.specs.Inputs.{AreTexts};
 ghost use Rattle.mk_program.specs.OrderText.{HasNodes, IsNoText, IsOrderText, IsUnreported, order_status};
 
 use crate::answers::{Answer, bytes_of, input_of, refused};
-use crate::failures::{Failure, InputFile};
+use crate::failures::Failure;
 use crate::inputs::{InputText, text_of};
 use crate::order_lines::order_text;
-use crate::requests::ReplayArgs;
 use crate::statuses::Status;
 use mk_race::input::Input;
 use mk_race::serialising::{Ordered, Serialised, serialise_log};
+use mk_request::inputs::InputFile;
+use mk_request::requests::ReplayArgs;
 use std::alloc::Global;
 
 /// A log in serial order, or why it has none, or why the inputs are refused. The errors are `Failure::NotText` and out

@@ -6,16 +6,16 @@ ghost use Rattle.mk_program.specs.Inputs.{AreTexts};
 
 use crate::answers::{Answer, refused, verdict_answer};
 use crate::checking::judged_answer;
-use crate::failures::InputFile;
 use crate::fixing::fixed_text;
 use crate::inputs::{InputText, text_of};
 use crate::listing::races_answer;
 use crate::missing::listed_answer;
-use crate::requests::{TaskArgs, TaskQuestion};
 use crate::statuses::Status;
 use mk_race::tasked::{judge_tasks, list_tasks, verify_tasks};
 use mk_race::tasks_fixing::{TaskFixing, fix_tasks};
 use mk_race::tasks_missing::list_missing_tasks;
+use mk_request::inputs::InputFile;
+use mk_request::requests::{TaskArgs, TaskQuestion};
 use std::alloc::{AllocError, Global};
 
 /// The answer to a question about tasks, or why their text is refused. The only error is out of memory.

@@ -1,6 +1,6 @@
 //! What runs of the program come to.
 ghost use Rattle.std.specs.Prelude.{◌≡◌, ◌≢◌, []};
-ghost use Rattle.mk_program.specs.CommandLine.{wrong};
+ghost use Rattle.mk_request.specs.CommandLine.{wrong};
 ghost use Rattle.program_tests.specs.Shelf.{HasAnswer, text_at};
 
 use crate::shelf::Shelf;

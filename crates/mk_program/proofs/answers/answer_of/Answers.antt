@@ -4,8 +4,8 @@ use Rattle.mk_program.specs.Answers.{IsAnswerOver, IsNoTextOver, MayAllBeRead}
 use Rattle.mk_program.specs.Files.{Files}
 use Rattle.mk_program.specs.Includes.{IncludesMayBeRead, Pair, includes_in, shown}
 use Rattle.mk_program.specs.Inputs.{AreTexts, Hold, InputsMayBeRead}
-use Rattle.mk_program.specs.declared.failures.InputFile.{InputFile}
-use Rattle.mk_program.specs.declared.inputs.InputPath.{InputPath}
+use Rattle.mk_request.specs.declared.inputs.InputFile.{InputFile}
+use Rattle.mk_request.specs.declared.inputs.InputPath.{InputPath}
 use Rattle.mk_program.specs.declared.inputs.InputText.{InputText}
 use Rattle.mk_program.proofs.Failing.{of_includes, of_inputs}
 use Rattle.mk_program.proofs.Reported.{always_ok, err_more}

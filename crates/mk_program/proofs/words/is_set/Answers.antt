@@ -1,8 +1,0 @@
-use Rattle.std.proofs.Common.{ap, ◌∙◌}
-use Rattle.clap.specs.Words.{found_of}
-use Rattle.clap.proofs.WalkLemmas.{first_value-rows}
-use Rattle.mk_program.specs.CommandLine as spec
-use Rattle.mk_program.proofs.words.is_set.Goals as goal
-
-pub returns : goal.returns
-returns c = c.is_true.ensures ∙ ap spec.is_true (c.get_str.ensures ∙ first_value-rows (found_of c.args.found.now) c.args.name.now)

@@ -1,4 +1,0 @@
-use Rattle.mk_program.proofs.words.task_words.task_args.Goals as goal
-
-pub returns : goal.returns
-returns c = record { tasks = c.requires.tasks; root = c.value_in.ensures; question = c.task_question.ensures }

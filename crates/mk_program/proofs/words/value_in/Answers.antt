@@ -1,7 +1,0 @@
-use Rattle.std.proofs.Common.{refl}
-use Rattle.clap.specs.Words.{found_of}
-use Rattle.mk_program.proofs.Values.{text_is}
-use Rattle.mk_program.proofs.words.value_in.Goals as goal
-
-pub returns : goal.returns
-returns c = text_is _ _ _ (found_of c.args.found.now) c.args.name.now c.unwrap_or.ensures refl c.get_str.ensures

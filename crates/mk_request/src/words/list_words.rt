@@ -1,0 +1,35 @@
+//! The words of `race list`.
+ghost use Rattle.std.specs.Prelude.{◌≡◌, IfOk, false};
+ghost use Rattle.clap.specs.Words.{app_of, found_of, rows_of};
+ghost use Rattle.clap.specs.declared.builder.command.Command.TheViews.{out-Command as fields_of};
+ghost use Rattle.mk_request.specs.CommandLine as spec;
+
+use super::task_words::with_tasks;
+use super::{build_args, help};
+use crate::requests::ListArgs;
+use clap::{ArgMatches, Command};
+use std::alloc::{AllocError, Global};
+
+/// The subcommand, with its options and operands.
+pub(super) fn list_command<'a>(alloc: Global) -> Result<Command<'a>, AllocError>
+    ensures app { IfOk result (λ command. app_of command ≡ spec.list_app) }
+    ensures local { IfOk result (λ command. (fields_of command).has_globals ≡ false) }
+{
+    let command = Command::new(alloc, "list")
+        .about(help::LIST_ABOUT)
+        .after_help(help::LIST_DETAILS);
+    with_tasks(alloc, command, false)
+}
+
+/// What these matches of the subcommand ask to list. The only error is out of memory.
+pub(super) fn list_args<'a>(
+    alloc: Global,
+    found: &ArgMatches<'a>,
+) -> Result<ListArgs<'a>, AllocError>
+    ensures { IfOk result (λ list. spec.HasList list (rows_of (found_of found.now))) }
+{
+    Ok(ListArgs {
+        build: build_args(alloc, found)?,
+        footprints: found.get_str("footprints").unwrap_or(""),
+    })
+}
