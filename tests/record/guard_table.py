@@ -177,7 +177,7 @@ OWNERS: List[Guard] = [
     Guard("acts: not to what make looks at later", "owners.py", "{o for o in owners if looks.get(o[1], -1) < place} or owners", "owners", small("act_before_the_next_target"), FALSE_RACE),
     Guard("acts: not the removal of intermediate files", "owners.py", "self.removed_last(make) | ", "", small("intermediate_file_that_make_removes"), FALSE_RACE),
     Guard("acts: not the looks into archives", "owners.py", "self.removed_last(make) | self.read_archives(make, names)", "self.removed_last(make)", small("archive_beside_another_target"), FALSE_RACE),
-    Guard("acts: what make lists", "owners.py", '                        for pattern in make.globs:\n                            work.add("L"', '                        for pattern in ():\n                            work.add("L"', case("make-wildcard"), YES, MEMORY),
+    Guard("acts: what make lists", "build.py", "        place_listings(self)\n", "", case("make-wildcard"), YES, MEMORY),
     Guard("wildcards: computed patterns are *", "globs.py", '"(", "{")):\n            found.add("*")', '"(", "{")):\n            found.add(word)', small("wildcard_that_is_computed"), YES),
     Guard("folder of make -C", "owners.py", '            if act.kind == "U":\n                folder = act.path\n', "", small("decision_below_another_folder"), YES, LOOKS),
     Guard("outer recipe has what its makes do", "owners.py", "        todo = [life]\n        while todo:\n            one = todo.pop()\n            yield one\n            todo.extend(one.children)", "        yield life", case("subdirs-parallel"), YES),
