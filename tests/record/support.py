@@ -11,6 +11,8 @@ from dataclasses import dataclass
 from pathlib import Path
 from typing import Any, Dict, List, Mapping, Optional, Sequence
 
+import forked
+
 HERE = Path(__file__).resolve().parent
 TOP = HERE.parent.parent
 RECORDER = TOP / "record" / "race-record"
@@ -18,6 +20,8 @@ STAND_IN = HERE / "race_tasks.py"
 SECONDS = 150
 
 sys.path.insert(0, str(TOP))
+
+import record.main  # noqa: E402,F401  (once, for all recordings of this process)
 
 
 def race_program() -> str:
@@ -71,10 +75,16 @@ class Project:
         """Runs a command that is not recorded."""
         return subprocess.run(list(words), cwd=self.folder, capture_output=True, stdin=subprocess.DEVNULL, timeout=SECONDS, check=False)
 
-    def record(self, words: Sequence[str] = ("make",), options: Sequence[str] = (), env: Optional[Dict[str, str]] = None) -> Outcome:
+    def record(self, words: Sequence[str] = ("make",), options: Sequence[str] = ()) -> Outcome:
         """Runs `race-record` over a command, and reads what it left."""
-        command = [str(RECORDER), "--race", race_program(), *options, "--", *words]
-        ran = subprocess.run(command, cwd=self.folder, capture_output=True, stdin=subprocess.DEVNULL, timeout=SECONDS, check=False, env=env)
+        return self.run(["--race", race_program(), *options, "--", *words])
+
+    def run(self, args: Sequence[str], env: Optional[Dict[str, str]] = None) -> Outcome:
+        """Runs `race-record` with these words: in a child of the tests or, with an environment, as the command that it is."""
+        if env is None:
+            ran = forked.run(forked.script(RECORDER, args), self.folder, SECONDS)
+        else:
+            ran = subprocess.run([str(RECORDER), *args], cwd=self.folder, capture_output=True, stdin=subprocess.DEVNULL, timeout=SECONDS, check=False, env=env)
         record, builds = self.left()
         return Outcome(ran.returncode, ran.stdout, ran.stderr, record, builds)
 
