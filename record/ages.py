@@ -106,11 +106,14 @@ def inner_path(builder: "Builder", make: Make, name: str) -> str:
 def settled_by(builder: "Builder", at: int, work: Work, kind: str) -> Iterator[Tuple[int, int, str, str]]:
     """Pairs of tasks that nothing orders and that settle the ages of two names which a recipe has looked at, with these names."""
     writers, build = builder.build.writers, builder.build
-    wrote: Dict[int, str] = {}
+    wrote: Dict[int, List[str]] = {}
     for path in sorted({p for k, p in work.events if k == kind and (p in writers or p in builder.timers or p in builder.sources)}):
         for writer in writers_of(builder, path):
-            wrote.setdefault(writer, path)
-    return ((low, high, wrote[low], wrote[high]) for low, high in combinations(sorted(wrote), 2) if at not in (low, high) and build.unordered(low, high))
+            wrote.setdefault(writer, []).append(path)
+    for low, high in combinations(sorted(wrote), 2):
+        first, second = wrote[low][0], next((p for p in wrote[high] if p != wrote[low][0]), wrote[low][-1])
+        if first != second and at not in (low, high) and build.unordered(low, high):
+            yield low, high, first, second
 
 
 def ages_by_words(builder: "Builder", at: int, work: Work) -> None:

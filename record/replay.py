@@ -63,11 +63,12 @@ class Replay:
         if traits.is_shell and (self.is_open_shell or any(shelltext.script_compares(path, life.folder) for path in life.taken)):
             return True
         if traits.ages is None:
-            key = "\0".join(life.argv[:8])
+            key = "\0".join([life.folder, *life.argv])
             if key not in self.aged:
                 self.aged[key] = shelltext.compares_ages(life.argv, life.folder)
-            if not self.aged[key] and shelltext.is_script(life.argv):
-                self.scripts.setdefault(self.names.find(life.folder, life.argv[1], True).path, self.place)
+            script = shelltext.script_of(life.argv)
+            if not self.aged[key] and script:
+                self.scripts.setdefault(self.names.find(life.folder, script, True).path, self.place)
             traits.ages = self.aged[key]
         return traits.ages
 

@@ -5,9 +5,10 @@ import fnmatch
 import os
 import re
 from functools import lru_cache
-from typing import Iterable, List, Optional
+from typing import Iterable, List, Optional, Tuple
 
 SHELLS = ("sh", "dash", "bash", "ksh", "zsh", "ash")
+NAMES_NEXT = re.compile(r"[-+]\w*[oO]\w*|--rcfile|--init-file")  # options of a shell whose value is the next word
 NINJA = re.compile(r"(?:ninja|ninja-build|samu|samurai)(?:[-.\d]*)$")
 # Programs that look at files by name, and not to compare their ages, where AGES finds no word for that.
 AGELESS = frozenset((
@@ -67,18 +68,28 @@ def is_removal(argv: List[str]) -> bool:
     return name in ("rm", "rmdir") or bool(REMOVES.match(shell_text(argv))) or name == "find" and "-delete" in argv
 
 
+def shell_words(argv: List[str]) -> Tuple[str, str]:
+    """The text of `sh -c TEXT`, and the script of `sh SCRIPT`: the first word that is no option of the shell. Where it has neither
+    it reads its standard input."""
+    options, at = "", 1
+    while base_name(argv) in SHELLS and at < len(argv) and argv[at][:1] in ("-", "+"):
+        word, at = argv[at], at + 1
+        if word in ("-", "--"):
+            break
+        options += word if re.match(r"-\w", word) else ""
+        at += bool(NAMES_NEXT.fullmatch(word))
+    first = argv[at] if base_name(argv) in SHELLS and at < len(argv) else ""
+    return (first, "") if "c" in options else ("", "" if "s" in options else first)
+
+
 def shell_text(argv: List[str]) -> str:
     """The text of `sh -c TEXT`, else nothing."""
-    if base_name(argv) in SHELLS and len(argv) > 2:
-        for at, word in enumerate(argv[1:-1], 1):
-            if re.match(r"-\w*c$", word):
-                return argv[at + 1]
-    return ""
+    return shell_words(argv)[0]
 
 
-def is_script(argv: List[str]) -> bool:
-    """Whether a shell runs a file."""
-    return base_name(argv) in SHELLS and len(argv) > 1 and not shell_text(argv)
+def script_of(argv: List[str]) -> str:
+    """The file that a shell runs, else nothing."""
+    return shell_words(argv)[1]
 
 
 def first_words(path: str) -> List[str]:
@@ -266,8 +277,8 @@ def asks_reads(argv: List[str], folder: str) -> bool:
     if base_name(argv) not in SHELLS and base_name(argv) not in ("test", "[", "find", "stat", "ls"):
         return False
     text = " ".join(argv) + " "
-    if is_script(argv):
-        text += contents(os.path.join(folder, argv[1]))
+    if script_of(argv):
+        text += contents(os.path.join(folder, script_of(argv)))
     return bool(READ_TIMES.search(text))
 
 
@@ -285,12 +296,12 @@ def compares_ages(argv: List[str], folder: str) -> bool:
     """Whether a process may depend on which of two files is newer."""
     if shows_ages(argv):
         return True
-    if base_name(argv) in SHELLS and len(argv) == 1:
+    text, script = shell_words(argv)
+    if base_name(argv) in SHELLS and not text and not script:
         return True  # its script comes from standard input, and nobody can read it
-    if is_script(argv) and "libtool" not in argv[1]:
-        return "-c" not in argv and script_compares(os.path.join(folder, argv[1]), folder)
-    text = " ".join(argv) + " "
-    return bool(AGES.search(text)) or bool(TAKES_IN.search(shell_text(argv)))
+    if script and "libtool" not in script:
+        return script_compares(os.path.join(folder, script), folder)
+    return bool(AGES.search(" ".join(argv) + " ")) or bool(TAKES_IN.search(text))
 
 
 def looks_at_links(argv: List[str]) -> bool:
@@ -307,7 +318,7 @@ def looks_at_links(argv: List[str]) -> bool:
 
 def sets_options(argv: List[str], folder: str) -> bool:
     """Whether the words of a process give shells that it starts options or functions by way of the environment."""
-    return bool(SETS_OPTIONS.search(" ".join(argv))) or is_script(argv) and sets_options_in(os.path.join(folder, argv[1]))
+    return bool(SETS_OPTIONS.search(" ".join(argv))) or bool(script_of(argv)) and sets_options_in(os.path.join(folder, script_of(argv)))
 
 
 @lru_cache(KEPT)

@@ -22,7 +22,10 @@ class Words(unittest.TestCase):
         self.assertEqual(["", "", ""], [shelltext.shell_text(w) for w in (["sh", "script"], ["cc", "-c", "a.c"], [])])
 
     def test_scripts(self) -> None:
-        self.assertEqual([True, False, False], [shelltext.is_script(w) for w in (["sh", "script"], sh("x"), ["cc", "script"])])
+        for words, text, script in (("sh script", "", "script"), ("sh -c x", "x", ""), ("cc script", "", ""), ("bash -e script -c x", "", "script"),
+                                    ("sh -c -e x name", "x", ""), ("sh -ce x", "x", ""), ("bash -euo pipefail -c x", "x", ""), ("bash +O extglob script", "", "script"),
+                                    ("bash --norc --rcfile y -- script", "", "script"), ("sh -s x", "", ""), ("sh -", "", ""), ("sh -c", "", "")):
+            self.assertEqual((text, script), (shelltext.shell_text(words.split()), shelltext.script_of(words.split())), words)
 
     def test_interpreters(self) -> None:
         names = ("python3", "/usr/bin/perl5.36", "node", "pythonic", "cc")
