@@ -239,8 +239,6 @@ UNFILED: List[Guard] = [
     Guard("locks: for a while", "calls.py", ' and not TIMED.search(" ".join(life.argv))', "", small("lock_that_somebody_waits_for_a_while"), UNSAID),
     Guard("ports: said", "calls.py", ' or "AF_INET" in call.args and not ANY_PORT.search(call.args)', "", small("port"), UNSAID),
     Guard("outlives: with an open file", "granted.py", "for up in until(one, life) for k, _ in up.events", "for k, _ in one.events", small("outlives_with_a_file_of_its_recipe"), UNSAID),
-    Guard("ages: words behind a script", "shelltext.py", 'return (first, "") if "c" in options', 'return (argv[-1], "") if "-c" in argv', small("ages_by_a_script_with_a_word_of_a_shell"), YES),
-    Guard("patterns: words behind a script", "shelltext.py", 'return (first, "") if "c" in options', 'return (argv[-1], "") if "-c" in argv', small("pattern_of_a_script"), YES),
     Guard("ages: scripts of one name", "replay.py", "[life.folder, *life.argv]", "life.argv", small("ages_by_a_script_of_that_name_elsewhere"), YES),
     Guard("ages: all words", "replay.py", "[life.folder, *life.argv]", "[life.folder, *life.argv[:8]]", small("ages_by_a_late_word"), YES),
     Guard("ages: two names", "ages.py", "if first != second and at not in", "if at not in", small("age_of_a_folder_and_a_source"), FALSE_RACE),
