@@ -34,9 +34,26 @@ class Folder:
     modes: Dict[str, Set[int]] = field(default_factory=dict)  # by mode: tasks that make it so
 
 
-def excused(works: List[Work], folder: str) -> bool:
-    """Whether the text of a recipe makes a folder in a quiet form, which does not show who was first."""
-    return any(shelltext.is_excused(argv, folder) and not keeps_errors(life, argv) for work in works for life in work.lives for argv in life.ran)
+def excused(builder: "Builder", at: int, folder: str) -> bool:
+    """Whether a recipe makes a folder in a quiet form, which does not show who was first."""
+    works = builder.build.tasks[at].works
+    return is_ignored(builder, at, folder) or any(shelltext.is_excused(argv, folder) and not keeps_errors(life, argv) for work in works for life in work.lives for argv in life.ran)
+
+
+def is_ignored(builder: "Builder", at: int, folder: str) -> bool:
+    """Whether it is `-mkdir d` that makes a folder in a recipe: make itself runs it, and goes on where the folder is there."""
+    task = builder.build.tasks[at]
+    if builder.build.tool != "make" or task.kind != "recipe":
+        return False
+    makers = [life for work in task.works for life in work.lives if life.events.keys() & {("M", folder), ("E", folder)}]
+    heeded = [line for line in builder.graph.base.recipes.get(task.node.name, []) if not re.match(r"\s*[@+]*-", line)]
+    return bool(makers) and all(is_plain_mkdir(life) for life in makers) and not any(re.match(r"\s*[@+]*\s*(\S*mkdir|\$)", line) for line in heeded)
+
+
+def is_plain_mkdir(life: Life) -> bool:
+    """Whether make itself runs `mkdir` with no option."""
+    above = next((up for up in life.up() if up is not life), None)
+    return above is not None and above.is_make and [shelltext.base_name(argv) for argv in life.ran] == ["mkdir"] and not any(w.startswith("-") for w in life.argv[1:])
 
 
 def keeps_errors(life: Life, own: List[str]) -> bool:
@@ -148,14 +165,14 @@ def add_folder(builder: "Builder", path: str, folder: Folder) -> None:
     tasks = builder.build.tasks
     if folder.created:
         for at in folder.users | folder.absent | folder.scripts:
-            if at not in folder.strict | folder.quiet and (at in folder.scripts or excused(tasks[at].works, path)):
+            if at not in folder.strict | folder.quiet and (at in folder.scripts or excused(builder, at, path)):
                 folder.quiet.add(at)
                 folder.first_made[at] = -1
     for at in [at for at in folder.users | folder.absent if makes_itself(builder, at, path)]:
         folder.quiet.add(at)
         folder.first_made[at] = -1
     for at in list(folder.strict):
-        if excused(tasks[at].works, path):
+        if excused(builder, at, path):
             folder.strict.discard(at)
             folder.quiet.add(at)
             folder.looks.pop(at, None)
@@ -173,7 +190,7 @@ def add_folder(builder: "Builder", path: str, folder: Folder) -> None:
             seen(builder, path, at, makers)
     for at in makers:
         look = folder.looks.get(at)
-        if look is not None and look < folder.first_made[at] and not excused(tasks[at].works, path):
+        if look is not None and look < folder.first_made[at] and not excused(builder, at, path):
             seen(builder, path, at, makers - {at})
     everyone = makers | folder.users | folder.absent | folder.scripts | set(folder.looks) | folder.tried
     for at in folder.gone:

@@ -191,23 +191,24 @@ def is_excused(argv: List[str], folder: str) -> bool:
     name = os.path.basename(folder)
     quiet = r"(?:\s*(?:2\s*)?>\s*/dev/null|\s*2>&1)*"
     spelled = r"(?P<d>\"?'?[^\s;|&<>()'\"`]*" + re.escape(name) + r"/?'?\"?)"
-    ends = r"\s*(?:;|&&|\n|$|\))"
+    ends, asked = r"\s*(?:;|&&|\n|$|\))", r"\s+-[de]\s+" + spelled + r"(?:\s+\])?" + quiet
+    made = r"\s+(?:mkdir\s+-p|install\s+-d)\s+(?P<made>" + DIRECTORY + ")" + quiet
     forms = (
         r"mkdir\s+" + spelled + quiet + r"\s*\|\|\s*(?:true|:|test\s+-d\s+(?P=d)|\[\s+-d\s+(?P=d)\s+\])" + quiet + ends,
-        r"(?:test\s+-[de]\s+" + spelled + r"|\[\s+-[de]\s+" + spelled.replace("?P<d>", "?P<d2>") + r"\s+\])" + quiet
-        + r"\s*\|\|\s*(?:mkdir\s+-p|install\s+-d)\s+(?P<made>" + DIRECTORY + ")" + quiet + ends,
+        r"(?:test|\[)" + asked + r"\s*\|\|" + made.replace(r"\s+", r"\s*", 1) + ends,
+        r"if\s+(?:(?:test|\[)\s+!|!\s+(?:test|\[))" + asked + r"\s*;\s*then" + made + r"\s*;\s*fi" + ends,
     )
     begin = r"(?:^|[;\n({&]|\bthen|\bdo)\s*"
     found = [m for form in forms for m in re.finditer(begin + form, text) if "/dev/null" in m.group() or not KEPT_ERRORS.search(NOWHERE.sub(" ", text))]
     spellings = {spelled_by(m) for m in found if makes_it(m)}
     if not any(folder.endswith("/" + os.path.normpath(s).lstrip("./")) for s in spellings if s):
         return False
-    return len(re.findall(r"(?:-[defrwxs]\s+|\bls\s+|\bstat\s+)\S*" + re.escape(name) + r"(?![\w./-])", text)) <= 1
+    return len(re.findall(r"(?:-[defrwxs]\s+|\bls\s+|\bstat\s+)\S*" + re.escape(name) + r"(?![\w./-])", re.sub(r"\binstall\s+-d\b", "install", text))) <= 1
 
 
 def spelled_by(form: "re.Match[str]") -> str:
     """The folder that a quiet form asks for."""
-    return (form.groupdict().get("d") or form.groupdict().get("d2") or "").strip("'\"")
+    return form.group("d").strip("'\"")
 
 
 def makes_it(form: "re.Match[str]") -> bool:

@@ -67,7 +67,12 @@ class Folders(unittest.TestCase):
     def test_forms_that_are_excused(self) -> None:
         for text, wanted in (("mkdir d || true", True), ("mkdir d 2>/dev/null || :", True), ("mkdir d || test -d d", True), ("test -d d || mkdir -p d", True),
                              ("[ -d d ] || mkdir -p d; echo x", True), ("mkdir d", False), ("mkdir d || echo second", False), ("mkdir e || true", False),
-                             ("test -d d && echo there; mkdir d || true; ls d", False), ("test -d d || mkdir d", False)):
+                             ("test -d d && echo there; mkdir d || true; ls d", False), ("test -d d || mkdir d", False),
+                             ("test -d d || install -d d", True), ("[ -e d ] || install -d d/e", True), ("test -d d || install -d d; stat d", False),
+                             ("if test ! -d d; then mkdir -p d; fi", True), ("if [ ! -d d ] ; then mkdir -p d ; fi; x", True), ("if ! [ -d d ]; then install -d d; fi", True),
+                             ("if test ! -d d; then mkdir d; fi", False), ("if test ! -d d; then mkdir -p d; echo first; fi", False),
+                             ("if test -d d; then mkdir -p d; fi", False), ("if test ! -d d; then mkdir -p d; else echo second; fi", False),
+                             ("[ ! -d d ] && mkdir -p d", False)):
             self.assertEqual(wanted, shelltext.is_excused(sh(text), "/w/d"), text)
 
     def test_scripts_that_make_folders(self) -> None:
