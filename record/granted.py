@@ -104,13 +104,13 @@ def at_once(owners: Owners, assumed: Assumptions) -> None:
 
 def at_once_in(work: Work, target: str, assumed: Assumptions) -> None:
     """Files that two processes of one work touch at the same time."""
-    table: Dict[str, List[Tuple[Life, bool]]] = {}
-    for life in work.lives if len(work.lives) <= 2000 else ():
-        for kind, path in life.events:
-            if kind in "RWD":
-                table.setdefault(path, []).append((life, kind in "WD"))
+    written = {path for life in work.lives for kind, path in life.events if kind in "WD"}
+    table: Dict[str, List[Life]] = {}
+    for life in sorted(work.lives, key=lambda life: life.born):
+        for path in {path for kind, path in life.events if kind in "RWD" and path in written}:
+            table.setdefault(path, []).append(life)
     for path, who in table.items():
-        if any(w for _, w in who) and len({id(l) for l, _ in who}) > 1 and len(who) < 40 and overlap(who):
+        if overlap(path, who):
             assumed.add("at-once", "%s in %s" % (path, target))
 
 
@@ -157,11 +157,25 @@ def until(life: Life, last: Life) -> Iterator[Life]:
             return
 
 
-def overlap(who: List[Tuple[Life, bool]]) -> bool:
-    """Whether a writer lives while another, that is no parent or child of it, lives."""
-    for first, writes in who:
-        for second, _ in who:
-            if writes and first is not second and first.born < second.died and second.born < first.died:
-                if first not in second.up() and second not in first.up():
-                    return True
+def overlap(path: str, who: List[Life]) -> bool:
+    """Whether two processes touch a file at the same time, one of which writes it; `who` is in the order of their births."""
+    living: List[Life] = []
+    for life in who:
+        living = [other for other in living if other.died > life.born]
+        if any((writes(life, path) or writes(other, path)) and touches_beside(other, life, path) for other in living):
+            return True
+        living.append(life)
     return False
+
+
+def writes(life: Life, path: str) -> bool:
+    """Whether a process writes or removes a file."""
+    return ("W", path) in life.events or ("D", path) in life.events
+
+
+def touches_beside(older: Life, life: Life, path: str) -> bool:
+    """Whether one of two processes may touch a file while the other one does: of one that started the other, whether it does so while that lives."""
+    if older not in life.up():
+        return True
+    places = [older.events.get((kind, path), -1) for kind in "RWD"] + [older.changed.get(path, -1)]
+    return any(life.born < place < life.died for place in places)

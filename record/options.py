@@ -110,5 +110,7 @@ def jobs_of_call(args):
 
 
 def asks_jobs(args, flags):
-    """Whether a number of jobs is among make's words."""
-    return bool(own_jobs(args)) or bool(re.search(r"(^| )-j|--jobserver", flags))
+    """Whether a number of jobs is among make's words. The first word of MAKEFLAGS may be letters without a dash."""
+    first = flags.split(" ")[0]
+    letters = "" if first.startswith("-") or "=" in first else "-" + first
+    return bool(own_jobs(args)) or bool(own_jobs([letters])) or bool(re.search(r"(^| )-j|--jobserver", flags))

@@ -10,7 +10,8 @@ from typing import TYPE_CHECKING, Dict, Iterable, List, Optional, Set, Tuple
 
 from record.globs import patterns
 from record.lives import Act, Key, Life
-from record.words import Job, Round, Words, makefiles
+from record.options import asks_jobs
+from record.words import SEVERAL, Job, Round, Words, makefiles
 
 if TYPE_CHECKING:
     from record.ninja_runs import Ninja
@@ -56,7 +57,7 @@ class Make:
         a make that none is above are the user's own."""
         if not any(life.is_make or life.is_ninja for life in self.life.up() if life is not self.life):
             return False
-        return self.words.slots == "1" if self.words.slots else not self.words.below and "-j" not in self.words.flags
+        return self.words.slots == "1" if self.words.slots else not self.words.below and not asks_jobs([], self.words.flags)
 
 
 class Owners:
@@ -140,6 +141,14 @@ class Owners:
                 self.holes.append("a recipe that ran has no process: " + one.jobs[births.index(-1)].target)
             elif births != sorted(births):
                 self.holes.append("the jobs of make are not in the order of the trace: make " + make.words.args)
+        if SEVERAL + make.words.args not in make.words.holes and self.are_several(make):
+            self.holes.append(SEVERAL + make.words.args)
+
+    @staticmethod
+    def are_several(make: Make) -> bool:
+        """Whether two processes that make started ran at once: it waits for each, unless it was asked for several jobs."""
+        children = sorted(make.life.children, key=lambda life: life.born)
+        return any(second.born < first.died for first, second in zip(children, children[1:]))
 
     # ---------------------------------------------------------------- what jobs did
     def below(self, life: Life) -> Iterable[Life]:

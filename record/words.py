@@ -12,6 +12,8 @@ CONSIDERED = re.compile(r"^( *)(Considering target file|Pruning file) '(.*)'\.$|
 VPATH = re.compile(r"^ *No need to remake target '(.*)'; using VPATH name '(.*)'\.$")
 FINISHED = re.compile(r"^ *Finished prerequisites of target file '(.*)'\.$")
 MUST = re.compile(r"^ *Must remake target '(.*)'\.$")
+RUNNING = re.compile(r" *Recipe of '")  # make says so where it does not wait for a recipe
+SEVERAL = "a makefile or GNUMAKEFLAGS asks for several jobs, and so they ran; say -j1: make "
 READING = re.compile(r"^Reading makefile '(.*)'((?: \([^)]*\))*)\.\.\.$")
 
 
@@ -147,8 +149,8 @@ class _Reader:
             words.errors = text[7:]
         elif text.startswith("SAID ") and text[5:] in self.children:
             self.children[text[5:]].is_said = True
-        elif text.startswith("Need a job token; "):
-            words.holes.append("a makefile or GNUMAKEFLAGS asks for several jobs, and so they ran; say -j1: make " + words.args)
+        elif text.startswith("Need a job token; ") or RUNNING.match(text):
+            words.holes += [SEVERAL + words.args] if SEVERAL + words.args not in words.holes else []
         elif text.startswith("EXIT "):
             words.status = int(text[5:])
         elif READING.match(text) and words.read:

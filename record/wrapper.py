@@ -31,6 +31,7 @@ WORD_LINE = re.compile(
     rb"|Removing intermediate files\.\.\.$|Got a SIGCHLD; \d+ unreaped|(Putting|Live|Reaping winning|Reaping losing|Removing) child 0x[0-9a-f]+ "
     rb"|(Released|Obtained) token for child 0x|Need a job token; we |Jobserver (setup|client) \()")
 TOKEN = re.compile(rb"Need a job token; we |Obtained token for child 0x|Jobserver setup \(")
+RUNNING = re.compile(rb" *Recipe of '(.*)' is being run\.\n")  # make does not wait for it: with no bound on jobs it asks for no token
 MUST = re.compile(rb" *Must remake target '(.*)'\.\n")
 STARTED = re.compile(rb"Putting child (0x[0-9a-f]+) \((.*)\) PID ")
 REMADE = re.compile(rb" *(?:Successfully remade|Failed to remake) target file '(.*)'\.\n")
@@ -78,6 +79,7 @@ class Splitter:
         self.tail = False  # the empty line behind the data base is due
         self.next = None  # the target that make is about to remake
         self.job = b""  # the recipe that runs, by make's number for it
+        self.target = b""  # its target
         self.unclear = []  # what looks like the data base, and may be the first words of a recipe
         self.several = False  # make runs several recipes at once, against the recorder's words: there is no verdict
         self.says = says  # the log says which recipes print something
@@ -100,11 +102,12 @@ class Splitter:
 
     def begin(self, job):
         """Make has started a recipe."""
-        self.job, self.next, self.has_said = job, None, False
+        self.job, self.target, self.next, self.has_said = job, self.next, None, False
 
     def is_of_recipe(self, packet):
         """Whether a write comes while a recipe runs, and is not one of make's lines about it."""
-        if TOKEN.match(packet):
+        running = RUNNING.match(packet) if self.job else None
+        if TOKEN.match(packet) or running and running.group(1) == self.target:
             self.several, self.job, self.next = True, b"", None
         if self.several:
             return False
