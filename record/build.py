@@ -8,11 +8,12 @@ from typing import Dict, Iterable, List, Optional, Set, Tuple
 
 from record.ages import add_ages
 from record.assumptions import Assumptions
+from record.considered import Considered, is_row
 from record.fixed import asked_ages, fixed_looks, remade_anyway
 from record.folders import add_folders
 from record.graph import Build, Graph, Node, Task, befores, order_tasks
 from record.macros import Macros, Use, uses
-from record.memory import add_search, libraries, place_listings, share_listings
+from record.memory import libraries, place_listings, share_listings
 from record.names import Names, join
 from record.owners import Make, Work
 from record.unfiled import add_macros, add_outputs, count_listings
@@ -32,6 +33,7 @@ class Builder:
         self.of_node: Dict[str, int] = {}
         self.look_of: Dict[str, int] = {}
         self.first_of: Dict[str, int] = {}
+        self.asked: Dict[str, Set[str]] = {}  # by label of a first look: the names that it is about
         self.made: Set[str] = set()
         self.tried: Set[str] = set()  # folders that a recipe could not remove, as they held something
         self.began = -1
@@ -141,19 +143,23 @@ class Builder:
         for node in self.graph.nodes.values():
             for one in node.prerequisites:
                 users.setdefault(one, []).append(node)
-        late = self.graph.late()
+        considered = Considered(self)
         for node in self.graph.nodes.values():
-            if libraries(self, node):
+            short, asked = libraries(self, node), considered.asked(node)
+            own = self.first_seen(node) if short or self.is_seen_early(node, users, considered.late) else []
+            if own or asked:
                 self.first_of[node.label] = self.add(node, "first", node.label + "@first")
-                continue
-            if node.phony or node.rule or node.label in late or self.is_leaf(node):
-                continue
-            own = self.of_node.get(node.label, -1)
-            mine = {own, self.look_of.get(node.label, -1)}
-            others = [self.build.tasks[at].node for path in self.first_seen(node) for at in self.build.writers.get(path, set()) - mine]
-            others = [o for o in others if o.name != node.name and node.name not in self.graph.base.also.get(o.name, [])]
-            if others and not remade_anyway(self, node, others) and (self.has_effect(node) or any(len(self.looked_at(u, self.of_node.get(u.label, -1))) > 1 for u in users.get(node.label, []))):
-                self.first_of[node.label] = self.add(node, "first", node.label + "@first")
+                self.asked[node.label] = {*own, *short, *asked}
+
+    def is_seen_early(self, node: Node, users: Dict[str, List[Node]], late: Set[str]) -> bool:
+        """Whether it makes a difference when make first looks at a target itself."""
+        if node.phony or node.rule or node.label in late or self.is_leaf(node):
+            return False
+        mine = {self.of_node.get(node.label, -1), self.look_of.get(node.label, -1)}
+        others = [self.build.tasks[at].node for path in self.first_seen(node) for at in self.build.writers.get(path, set()) - mine]
+        others = [o for o in others if o.name != node.name and node.name not in self.graph.base.also.get(o.name, [])]
+        is_compared = (len(self.looked_at(u, self.of_node.get(u.label, -1))) > 1 for u in users.get(node.label, []))
+        return bool(others) and not remade_anyway(self, node, others) and (self.has_effect(node) or any(is_compared))
 
     def has_effect(self, node: Node) -> bool:
         """Whether a target has a recipe that is more than `:`."""
@@ -232,9 +238,8 @@ class Builder:
         for label, look in self.look_of.items():
             after[look].update(after[self.of_node[label]])
             after[self.of_node[label]].add(look)
-        for label, look in self.first_of.items():
-            if label in self.of_node:
-                after[self.of_node[label]].add(look)
+        for label, at in self.of_node.items():
+            after[at].update(self.first_of[one] for one in (label, *self.graph.nodes[label].prerequisites) if one in self.first_of)
         self.chain_looks(after)
         if self.is_serial():
             row = [self.of_node[label] for label in self.labels_of_jobs()]
@@ -255,7 +260,7 @@ class Builder:
 
     def is_serial(self) -> bool:
         """Whether this make runs one recipe at a time whatever the user says."""
-        return self.graph.base.serial or self.make.has_one_slot()
+        return is_row(self.graph.base, self.make.words) or self.make.has_one_slot()
 
     def kept(self) -> Set[str]:
         """Targets without a task of their own that stand above one."""
@@ -277,7 +282,7 @@ class Builder:
         nodes = self.graph.nodes
         looks = [(nodes[label].done, at) for label, at in self.look_of.items()]
         looks += [(nodes[label].done, at) for label, at in self.of_node.items() if self.build.tasks[at].kind == "decision" and self.is_leaf(nodes[label])]
-        looks += [(nodes[label].first, at) for label, at in self.first_of.items()]
+        looks += [(nodes[label].first, at) for label, at in self.first_of.items() if label not in self.graph.late()]
         looks.sort()
         for (_, first), (_, second) in zip(looks, looks[1:]):
             after[second].add(first)
@@ -315,8 +320,7 @@ class Builder:
             if task.kind != "group":
                 self.add_decision(looker, at, node, node.label in asked)
         for label, at in self.first_of.items():
-            node = self.graph.nodes[label]
-            build.tasks[at].reads.update(self.first_seen(node) + libraries(self, node))
+            build.tasks[at].reads.update(self.asked[label])
         add_macros(self, created)
         add_outputs(self)
         count_listings(self, created)
@@ -363,8 +367,6 @@ class Builder:
             if len(names) > 1 or is_asked:
                 self.timed.setdefault(path, set()).add(looker)
         task.reads.update(path for path in self.followed(node, at) if writers.get(path, set()) - {at, looker})
-        if node.name in self.graph.base.implicit:
-            add_search(self, looker, node)
 
     def is_known(self, path: str) -> bool:
         """Whether the tree before the build says if a name was there."""

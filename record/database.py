@@ -10,7 +10,8 @@ ORIGIN = re.compile(r"# (makefile|environment|command line|default|automatic|'ov
 VALUE = re.compile(r"^([^\s:#=]+) (?:=|:=|::=|:::=) ?(.*)$")
 LINES_TEXT = "$(lines)*"  # what stands for a macro of several lines
 LINES = re.compile(r"^define ([^\s:#=]+)")
-PATTERN = re.compile(r"^([^#\t:=]*%[^:=]*)::?(?!=) *(.*)$")
+PATTERN = re.compile(r"^([^#\t:=]*%[^:=]*)(::?)(?!=) *(.*)$")
+SEARCH = re.compile(r"^vpath (\S+) (.*)$")
 
 
 @dataclass
@@ -35,6 +36,8 @@ class Base:
     places: Dict[str, List[Tuple[str, int]]] = field(default_factory=dict)
     implicit: Set[str] = field(default_factory=set)
     patterns: List[Tuple[List[str], List[str]]] = field(default_factory=list)
+    terminal: Set[int] = field(default_factory=set)  # places of patterns with two colons
+    search: List[Tuple[str, List[str]]] = field(default_factory=list)  # patterns of names, and the folders in which make looks for them
     values: Dict[str, str] = field(default_factory=dict)  # the text of macros; `$(lines)*` for one of several lines
     bodies: Dict[str, List[str]] = field(default_factory=dict)  # by macro: its lines, and its values for single targets and patterns
     scoped: Set[str] = field(default_factory=set)  # targets with macros of their own
@@ -111,7 +114,8 @@ def before_files(base: Base, text: str, previous: str) -> None:
     pattern, is_macro = PATTERN.match(text), ORIGIN.match(previous)
     value, lines = (VALUE.match(text), LINES.match(text)) if is_macro else (None, None)
     if pattern:
-        base.patterns.append((pattern.group(1).split(), pattern.group(2).replace("|", " ").split()))
+        base.terminal.update([len(base.patterns)] if pattern.group(2) == "::" else [])
+        base.patterns.append((pattern.group(1).split(), pattern.group(3).replace("|", " ").split()))
     if value:
         base.values[value.group(1)] = value.group(2)
     if lines:
@@ -120,19 +124,30 @@ def before_files(base: Base, text: str, previous: str) -> None:
         own_value(base, text[2:], text)
 
 
+def behind_files(base: Base, text: str, previous: str) -> None:
+    """A line of the part that lists search paths: those of `vpath`, and that of `VPATH`."""
+    found = SEARCH.match(text)
+    if found:
+        base.search.append((found.group(1), found.group(2).split(":")))
+    elif previous.startswith("# General ('VPATH' variable) search path"):
+        base.search.append(("%", text[2:].split(":")))
+
+
 def read_base(lines: List[str]) -> Base:
     """What one data base says."""
     base = Base()
     files = _Files(base)
-    inside, previous, several = False, "", ""
+    inside, behind, previous, several = False, False, "", ""
     for text in lines:
-        if several:
+        if behind:
+            behind_files(base, text, previous)
+        elif several:
             several = several if text != "endef" else ""
             base.bodies.setdefault(several, []).append(text) if several else None
         elif text.startswith("# Files"):
             inside = True
         elif text.startswith("# files hash-table stats"):
-            break
+            behind = True
         elif inside:
             files.line(text)
         else:

@@ -114,29 +114,3 @@ def stems_of(builder: "Builder", name: str) -> Iterator[str]:
         last = os.path.basename(name)
         if last.startswith(head) and last.endswith(tail) and len(last) > len(head) + len(tail):
             yield last[len(head): len(last) - len(tail)]
-
-
-def add_search(builder: "Builder", at: int, node: Node) -> None:
-    """The search for implicit rules sees a name that a recipe writes, where make had not listed the folder before."""
-    for path in searched(builder, node.name):
-        if path in builder.build.writers:
-            listed = builder.make.listed.get(os.path.dirname(path), 1 << 60)
-            if listed < builder.first_birth():
-                builder.assumed.add("search", path)
-            else:
-                builder.build.tasks[at].reads.add(path)
-
-
-def searched(builder: "Builder", name: str) -> Set[str]:
-    """The names that one step of the search looks for."""
-    found: Set[str] = set()
-    for targets, prerequisites in builder.graph.base.patterns:
-        for target in targets:
-            head, _, tail = target.partition("%")
-            folder, last = ("", name) if "/" in target else os.path.split(name)
-            if last.startswith(head) and last.endswith(tail) and len(last) > len(head) + len(tail):
-                stem = last[len(head): len(last) - len(tail)]
-                for one in prerequisites:
-                    if "%" in one:
-                        found.add(os.path.normpath(os.path.join(builder.make.folder, folder, one.replace("%", stem, 1))))
-    return found

@@ -56,9 +56,11 @@ class Moves(Replay):
     on_renameat = on_renameat2 = on_rename
 
     def move_folder(self, life: Life, old: str, new: str) -> None:
-        """A folder that is moved goes in one place and comes in another."""
+        """A folder that is moved goes in one place and comes in another, and the processes that are in it go with it."""
         self.put(life, "X", old)
         self.put(life, "M", new)
+        for one in self.lives.values():
+            one.folder = new if one.folder == old else one.folder
 
     def on_link(self, life: Life, call: Call, ok: bool) -> None:
         if len(texts(call.args)) < 2:

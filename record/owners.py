@@ -45,6 +45,8 @@ class Make:
     globs: List[str] = field(default_factory=list)
     listed: Dict[str, int] = field(default_factory=dict)  # folder: when it was first listed by make itself
     looked: Dict[str, Dict[str, int]] = field(default_factory=dict)  # name as make spells it: the paths that it led to, and when first
+    first_looks: Dict[str, int] = field(default_factory=dict)  # target: when make first looked at it
+    pieces: List[Tuple[int, List[Tuple[str, str, int]]]] = field(default_factory=list)  # what it did by itself, where it expands prerequisites late
 
     def never_read(self, name: str) -> bool:
         """Whether it looked for a makefile, as for `-include`, and found none: that one says nothing."""
@@ -223,6 +225,9 @@ class Owners:
                 self.take(work, life)
                 pieces.append((life.born, [(k, p, s) for (k, p), s in work.events.items()], work))
         looks = self.first_looks(make, names, end)
+        make.first_looks = {**looks, **make.first_looks}
+        if any(r.base is not None and ".SECONDEXPANSION" in r.base.prerequisites for _, r in rounds):
+            make.pieces += [(place, events) for place, events, _ in pieces]
         for place, events, ran in pieces:
             owners = self.owners_at(make, rounds, table, births, place)
             for number, target in {o for o in owners if looks.get(o[1], -1) < place} or owners:

@@ -77,7 +77,7 @@ def race_text(about: Dict[str, Any], race: Race, fixes: List[str], is_fixed: boo
     lookers = [target(about, one) for one in (race.first, race.second) if about["labels"].get(one, {}).get("kind") == "first"]
     if lookers:
         if race.path not in lookers:
-            return lines + ["  advice: name %s itself as the prerequisite, not as -lNAME: make looks for a library when it first considers the target" % name]
+            return lines + ["  advice: name %s in a rule, and a library not as -lNAME: make looks for it when it first considers the target" % name]
         return lines + ["  advice: let one recipe alone write it; make asks whether it is there before that recipe has run"]
     fix = "%s: %s" % (target(about, race.second), target(about, race.first))
     if about.get("tool") == "ninja":

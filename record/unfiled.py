@@ -92,11 +92,22 @@ def unordered(builder: "Builder", tasks: List[int]) -> Iterator[Tuple[int, int]]
 def count_listings(builder: "Builder", created: Created) -> None:
     """Programs that may show the names of a folder in the order in which they were made, where the schedule settles that order."""
     table: Dict[str, Tuple[List[int], List[Tuple[int, int]]]] = {}
+    moves = [path.split("\0") for _, events in each(builder) for kind, path, _ in events if kind == "c" and path.partition("\0")[0] in builder.made]
     for at, events in each(builder):
         for path in (path for kind, path, _ in events if kind == "l"):
             if path not in table:
-                makers = sorted({who for names in created.get(path, {}).values() for who in names})
+                makers = sorted({who for one in places_of(path, moves) for names in created.get(one, {}).values() for who in names})
                 table[path] = makers, list(islice(unordered(builder, makers), 3))
             makers, loose = table[path]
             if any(at not in pair for pair in loose) or loose and next(unordered(builder, [who for who in makers if who != at]), None):
                 builder.assumed.add("listings", "%s lists %s" % (builder.build.tasks[at].node.name, path))
+
+
+def places_of(path: str, moves: List[List[str]]) -> List[str]:
+    """A folder, and where it was before it was moved, or one above it."""
+    found = [path]
+    for place in found:
+        for new, old in moves:
+            before = old + place[len(new):] if old and (place + "/").startswith(new + "/") else place
+            found += [before] if before not in found else []
+    return found

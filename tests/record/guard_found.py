@@ -2,7 +2,7 @@
 
 from typing import List
 
-from guard_table import UNSAID, YES, Guard
+from guard_table import FALSE_RACE, UNSAID, YES, Guard
 
 
 def found(name: str) -> str:
@@ -25,4 +25,21 @@ FOUND_GUARDS: List[Guard] = [
     Guard("at once: many processes", "granted.py", "    for path, who in table.items():\n        if overlap", "    for path, who in table.items():\n        if len(who) < 40 and overlap", found("many_processes_at_once"), UNSAID),
     Guard("at once: who started the other", "granted.py", "    places = [older", "    return False\n    places = [older", found("process_beside_its_shell"), UNSAID),
     Guard("at once: who waited for the other", "granted.py", "    if older not in life.up():\n        return True\n", "    return True\n", found("process_before_its_shell")),
+    Guard("first looks: names that are searched", "considered.py", "found = {path for path in self.searched(names) if self.is_open(path)}", "found = set()", found("search_before_what_a_target_needs"), YES),
+    Guard("first looks: by way of other files", "considered.py", "DEPTH if deep else 1", "1", found("search_by_way_of_another_file"), YES),
+    Guard("first looks: names without a stem", "considered.py", ' if "%" in one else one for one in prerequisites)', ' for one in prerequisites if "%" in one)', found("search_by_a_name_without_a_stem"), YES),
+    Guard("first looks: patterns of names", "considered.py", "            if MAGIC.search(name):\n", "            if False:\n", found("search_by_a_pattern_of_names"), YES),
+    Guard("first looks: not for what was considered", "considered.py", "return has_rule or self.first.get(name, node.first) < node.first", "return has_rule", found("search_that_finds_what_was_considered"), FALSE_RACE),
+    Guard("first looks: not for what has a rule", "considered.py", "return has_rule or ", "return ", found("search_that_finds_a_rule"), FALSE_RACE),
+    Guard("search paths", "considered.py", "return [path for path in (self.path(os.path.join(folder, name))", "return [] and [path for path in (self.path(os.path.join(folder, name))", found("search_path_with_a_file_that_goes"), YES),
+    Guard("search paths: what was there", "considered.py", "if self.builder.before.get(path) or self.is_open(path)}", "if self.is_open(path)}", found("search_path_with_a_file_that_goes"), YES),
+    Guard("search paths: of patterns", "database.py", "    found = SEARCH.match(text)\n", "    found = None\n", found("search_path_of_a_pattern"), YES),
+    Guard("search paths: of other names", "considered.py", " if pattern == name or any(stems_of(pattern, name))", "", found("search_path_of_other_names"), FALSE_RACE),
+    Guard("second expansions: what they read", "considered.py", "        found |= self.expanded(node)\n", "", found("second_expansion_that_reads"), YES),
+    Guard("second expansions: what they list", "considered.py", '            elif kind in "LQ":\n', "            elif False:\n", found("second_expansion_to_a_pattern"), YES),
+    Guard("second expansions: not what recipes read", "considered.py", "return min([*after, ", "return min([", found("second_expansion_beside_what_recipes_read"), FALSE_RACE),
+    Guard("orders of names: copies", "shelltext.py", 'SORTERS = (', 'SORTERS = ("cp", ', found("order_of_a_folder_that_is_copied"), UNSAID),
+    Guard("orders of names: moves", "unfiled.py", "for one in places_of(path, moves) for names", "for one in [path] for names", found("order_of_a_folder_that_is_moved"), UNSAID),
+    Guard("rows of some targets", "considered.py", ' or not base.prerequisites.get(".NOTPARALLEL"))', " or True)", "test_found.Rows.test_a_row_of_some_targets"),
+    Guard("folders that are moved: who is in them", "moves.py", "one.folder = new if one.folder == old else one.folder", "pass", "test_found.Moved.test_a_process_goes_with_its_folder"),
 ]

@@ -6,12 +6,21 @@ from typing import Dict
 
 import support  # noqa: F401
 from record import wrapper
+from record.considered import is_row
+from record.database import read_base
 from record.owners import Owners
+from record.words import Words
 from test_owners import make_of, words_of
+from test_replay import events_of, lives_of, played
 from test_small import COMMANDS, Small, test_of
 from test_wrapper import BEGIN, END, MUST, split
 
 PAIR = "all: a b\na: ; sleep 0.2; echo a > x; touch a\nb: ; cat x > b\n"
+SECOND = ".SECONDEXPANSION:\n"
+LISTS = {"b.c": "c\n", "list": "old\n", "old": "old\n", "new": "new\n"}
+TWO_RULES = "%.t: %.a ; cp $< $@\n%.t: %.b ; cp $< $@\n"
+CHAINS = "%.t: %.m ; cp $< $@\n%.m: %.a ; cp $< $@\n%.t: %.n ; cp $< $@\n%.n: %.b ; cp $< $@\n"
+ORDER = ".PHONY: a b\nall: c\na b: ; touch d/s/$@\nr: a b ; %s; touch r\nc: r ; find e/s > c\n"
 MANY = "all: ; for i in 1 2 3 4 5 6 7; do for j in 1 2 3 4 5 6; do (sleep 0.1; echo $$i >> log) & done; done; wait; touch all\n"
 
 FOUND: Dict[str, Small] = {
@@ -21,6 +30,23 @@ FOUND: Dict[str, Small] = {
     "jobs_by_letters_of_the_environment": Small("race", PAIR, {"x": "x"}),
     "jobs_by_letters_that_a_recipe_sets": Small("race", "all: ; MAKEFLAGS=kj4 $(MAKE) -f in.mk\n", {"in.mk": PAIR, "x": "x"}),
     "letters_that_a_recipe_sets": Small("safe", "all: ; MAKEFLAGS=k $(MAKE) -f in.mk\n", {"in.mk": PAIR, "x": "x"}),
+    # what make looks for when it first considers a target, though what that needs is made later
+    "search_before_what_a_target_needs": Small("race", "all: gen sub/z.t\n" + TWO_RULES + "gen: ; rm sub/z.a; touch gen\nsub/z.b: gen ; echo b > $@\n", {"sub/z.a": "a"}),
+    "search_by_way_of_another_file": Small("race", "all: gen sub/z.t\n" + CHAINS + "gen: ; rm sub/z.a; touch gen\n", {"sub/z.a": "a", "sub/z.b": "b"}),
+    "search_by_a_name_without_a_stem": Small("race", "all: gen sub/z.t\n%.t: %.b sub/flag ; cp $^ $@\n%.t: %.b ; cp $< $@\ngen: ; rm sub/flag; touch gen\n", {"sub/z.b": "b", "sub/flag": "f"}),
+    "search_by_a_pattern_of_names": Small("race", "all: gen src.zip\ngen: ; rm src/n; touch gen\n%.zip: %/* ; echo $^ > $@\n", {"src/n": "n", "src/k": "k"}),
+    "search_that_finds_what_was_considered": Small("safe", "all: g sub/z.p sub/z.t\ng: ; touch g\n%.t: %.m ; cp $< $@\n%.m: %.a ; cp $< $@\n%.p: %.m ; cp $< $@\n.SECONDARY:\n", {"sub/z.a": "a"}),
+    "search_that_finds_a_rule": Small("safe", "all: gen sub/z.t\n" + TWO_RULES + "gen: ; echo b > sub/z.b; touch gen\nsub/z.b: gen ;\n", {"sub/k": "k"}),
+    "search_path_with_a_file_that_goes": Small("race", "VPATH = v w\nall: g t\ng: ; rm v/x.c; touch g\nt: x.c ; touch t log\n", {"v/x.c": "1", "w/x.c": "2", "t": "t"}, "touch -d 2001-01-01 w/x.c; touch -d 2002-01-01 t"),
+    "search_path_of_a_pattern": Small("race", "vpath %.c v w\nall: g t\ng: ; rm v/x.c; touch g\nt: x.c ; touch t log\n", {"v/x.c": "1", "w/x.c": "2", "t": "t"}, "touch -d 2001-01-01 w/x.c; touch -d 2002-01-01 t"),
+    "search_path_of_other_names": Small("safe", "vpath %.h v\nall: g t\ng: ; echo 1 > v/x.c; touch g\nt: x.c ; cp $< t\nx.c: ; echo c > x.c\n", {"v/k": "k"}),
+    "second_expansion_that_reads": Small("race", SECOND + "all: a b.o\na: ; echo new > list; touch a\n%.o: %.c $$(shell cat list) k ; cat $^ > $@\nk: a ; touch k\n", LISTS),
+    "second_expansion_of_a_target_that_is_kept": Small("race", SECOND + "all: a b.o\na: ; echo new > list; touch a\n%.o: %.c $$(shell cat list) ; cat $^ > $@\n", {**LISTS, "b.o": "o"}, "touch -d 2001-01-01 b.c new; touch -d 2002-01-01 b.o"),
+    "second_expansion_to_a_pattern": Small("race", SECOND + "X = d/*.h\nall: a b.o\na: ; rm d/n.h; touch a\n%.o: %.c $$(X) ; echo $^ > $@\n", {"b.c": "c", "d/n.h": "n", "d/k.h": "k"}),
+    "second_expansion_beside_what_recipes_read": Small("safe", SECOND + "all: a b.o\na: ; echo new > list; touch a\n%.o: %.c $$(Y) a ; echo '$(shell cat list)' > $@\n", LISTS),
+    # orders of names that are handed on
+    "order_of_a_folder_that_is_copied": Small("safe", ORDER % "cp -r d e", setup="mkdir -p d/s", says="programs that list a folder"),
+    "order_of_a_folder_that_is_moved": Small("safe", ORDER % "mv d e", setup="mkdir -p d/s", says="programs that list a folder"),
     # processes of one recipe
     "many_processes_at_once": Small("safe", MANY, says="two processes of one recipe touch a file"),
     "process_beside_its_shell": Small("safe", "all: ; (sleep 0.2; cat k > x) & sleep 0.1; echo b > x; wait; touch all\n", {"k": "k"}, says="two processes of one recipe touch a file"),
@@ -58,6 +84,37 @@ class Several(unittest.TestCase):
     def test_letters_of_the_environment(self) -> None:
         for flags, wanted in (("j", True), ("kj", True), ("kj4", True), ("k", False), ("w -- J=j", False), ("J=kj", False), ("Ij", False)):
             self.assertEqual(wanted, wrapper.asks_jobs([], flags), flags)
+
+
+class Rows(unittest.TestCase):
+    """Makes that run one recipe at a time."""
+
+    BASE = ["# Files", "", ".NOTPARALLEL:%s", "", "# files hash-table stats:"]
+
+    def test_a_row_of_some_targets(self) -> None:
+        for names, version, wanted in (("", "4.3", True), (" a", "4.3", True), ("", "4.4", True), (" a", "4.4", False), (" a", "4.4.1", False)):
+            base = read_base([text % names if "%" in text else text for text in self.BASE])
+            self.assertEqual(wanted, is_row(base, Words(7, 0, version=version)), (names, version))
+
+
+class Moved(unittest.TestCase):
+    """Folders that are moved while somebody is in them."""
+
+    def test_a_process_goes_with_its_folder(self) -> None:
+        replay = played('1 mkdir("d", 0777) = 0', '1 mkdir("d/s", 0777) = 0', '1 chdir("d/s") = 0', '1 rename("../../d", "../../e") = 0', '1 mkdir("n", 0777) = 0')
+        self.assertIn(("M", "e/s/n"), events_of(lives_of(replay, 1)[0]))
+
+
+class Searches(unittest.TestCase):
+    """What the data base says of searches."""
+
+    def test_search_paths(self) -> None:
+        lines = ["# files hash-table stats:", "# VPATH Search Paths", "", "vpath %.c v:w", "", "# General ('VPATH' variable) search path:", "# x:y"]
+        self.assertEqual([("%.c", ["v", "w"]), ("%", ["x", "y"])], read_base(lines).search)
+
+    def test_rules_that_end_a_chain(self) -> None:
+        base = read_base(["# Implicit Rules", "", "%:: RCS/%", "", "%.o: %.c", "", "# Files"])
+        self.assertEqual(([(["%"], ["RCS/%"]), (["%.o"], ["%.c"])], {0}), (base.patterns, base.terminal))
 
 
 if __name__ == "__main__":
