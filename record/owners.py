@@ -191,13 +191,13 @@ class Owners:
             self.place_acts(make, start, self.read_by(make, start, begin, end), end)
 
     def read_by(self, make: Make, start: int, begin: int, end: int) -> int:
-        """When make had read its makefiles: it looks at the first of them again."""
+        """When make had read its makefiles, or found that they are not there: it looks at the first of them again."""
         names = make.words.read[start] if start < len(make.words.read) else []
         left = [os.path.basename(n) for n in names]
         last = begin
         for act in make.life.acts:
             if begin <= act.place < end:
-                if left and act.kind == "R" and os.path.basename(act.path) in left:
+                if left and act.kind in "RN" and os.path.basename(act.path) in left:
                     left.remove(os.path.basename(act.path))
                     last = act.place
                 elif not left and act.word in names:

@@ -42,4 +42,5 @@ FOUND_GUARDS: List[Guard] = [
     Guard("orders of names: moves", "unfiled.py", "for one in places_of(path, moves) for names", "for one in [path] for names", found("order_of_a_folder_that_is_moved"), UNSAID),
     Guard("rows of some targets", "considered.py", ' or not base.prerequisites.get(".NOTPARALLEL"))', " or True)", "test_found.Rows.test_a_row_of_some_targets"),
     Guard("folders that are moved: who is in them", "moves.py", "one.folder = new if one.folder == old else one.folder", "pass", "test_found.Moved.test_a_process_goes_with_its_folder"),
+    Guard("makefiles that are not there", "owners.py", 'act.kind in "RN" and os.path.basename', 'act.kind == "R" and os.path.basename', found("makefile_that_is_not_there_and_comes"), YES),
 ]
