@@ -3,12 +3,12 @@
 from typing import List
 
 from guard_table import Guard
-from test_missing import PARTS, PROJECTS
+from support import named
 
 
 def tree(name: str) -> str:
     """The test that has a project of test_missing.py."""
-    return "test_missing.Table.test_part_%d" % (list(PROJECTS).index(name) % PARTS)
+    return "test_missing.Table." + named("alone", name)
 
 
 def verdict(name: str) -> str:
@@ -19,6 +19,11 @@ def verdict(name: str) -> str:
 def later(name: str) -> str:
     """A test of a later build that is another one."""
     return "test_anew.Later.test_" + name
+
+
+def one_later(way: str, name: str) -> str:
+    """The test that has a project of a table of test_anew.py."""
+    return "test_anew.Later." + named(way, name)
 
 
 # What turns off that a recipe which always runs, and looks at a file before it writes it, is seen.
@@ -55,37 +60,37 @@ MISSING_GUARDS: List[Guard] = [
     Guard("missing: lists in recipes", "turned.py", "events.update(self.expanded_lists(build, known, task))", "pass", tree("a list that a recipe is expanded by")),
     Guard("missing: names in recipes", "turned.py", 'yield ("S" if self.was_there(path, born) else "N", path), born', "pass", tree("a name that a recipe is expanded by")),
     Guard("missing: processes in recipes", "turned.py", "if event in seen} if acts is not None", "if False} if acts is not None", tree("a process that a recipe is expanded by")),
-    Guard("missing: what is removed", "shelltext.py", "bool(REMOVES.match(shell_text(argv)))", "False", later("quiet")),
+    Guard("missing: what is removed", "shelltext.py", "bool(REMOVES.match(shell_text(argv)))", "False", one_later("quiet", "folders that are cleaned")),
     Guard("missing: modules", "turned.py", 'MODULES = (".py", ".pyc", ".so")', 'MODULES = (".so",)', tree("a module that a later recipe makes")),
     Guard("missing: phony recipes", "missing.py", "if asks(build) or id(build) in turned.reads:", "if asks(build):", later("phony_recipes_too")),
-    Guard("missing: what nobody orders", "missing.py", "              for path, who in turned.holes.items()]", "              for path, who in ()]", later("calls")),
-    Guard("missing: looks of who calls a make", "turned.py", "                self.again[path] = None\n", "                pass\n", later("premises")),
-    Guard("missing: what another recipe made", "missing.py", '("not-run", made_elsewhere(builds, turned)), ', "", later("premises")),
-    Guard("missing: files of who calls a make", "called.py", "found = turned.settling()", "found = set()", later("premises")),
-    Guard("missing: files that make reads", "called.py", "found.update(act.path for act in make.life.acts if act.kind", "found.update(act.path for act in () if act.kind", later("premises")),
-    Guard("missing: makefiles of dependencies", "called.py", "return bool(MACRO.search(text)) or any(", "return bool(MACRO.search(text)) or False and any(", later("premises")),
-    Guard("missing: sources that are changed", "due.py", 'self.premises.add("own", relative(self.build.folder, path))', "pass", later("premises")),
-    Guard("missing: times of goals", "due.py", "{*self.makes.values(), *(one for", "{*(one for", later("premises")),
-    Guard("missing: looks at what others read", "looked.py", "self.seen.looks |= self.own_looks[at] - self.reads[at] - self.written", "self.seen.looks |= self.own_looks[at] - self.written.union(*self.reads)", later("premises")),
-    Guard("missing: links that are made", "looked.py", "self.seen.looks |= {path for path in self.written if os.path.islink(path)}", "pass", later("premises")),
-    Guard("missing: what a recipe removes later", "looked.py", "self.writes[at] |= self.removed_later(at, task)", "pass", later("removed_later")),
-    Guard("missing: trees that it removes later", "looked.py", "any(is_below(path, name) for name in plain)", "any(path == name for name in plain)", later("removed_later")),
-    Guard("missing: patterns that it removes later", "looked.py", "                or any(os.path.dirname(path) == folder", "                or any(False and os.path.dirname(path) == folder", later("removed_later")),
+    Guard("missing: what nobody orders", "missing.py", "              for path, who in turned.holes.items()]", "              for path, who in ()]", one_later("hole", "not called")),
+    Guard("missing: looks of who calls a make", "turned.py", "                self.again[path] = None\n", "                pass\n", one_later("premise", "a stamp")),
+    Guard("missing: what another recipe made", "missing.py", '("not-run", made_elsewhere(builds, turned)), ', "", one_later("premise", "another recipe")),
+    Guard("missing: files of who calls a make", "called.py", "found = turned.settling()", "found = set()", one_later("premise", "a caller")),
+    Guard("missing: files that make reads", "called.py", "found.update(act.path for act in make.life.acts if act.kind", "found.update(act.path for act in () if act.kind", one_later("premise", "a file that make reads")),
+    Guard("missing: makefiles of dependencies", "called.py", "return bool(MACRO.search(text)) or any(", "return bool(MACRO.search(text)) or False and any(", one_later("premise", "a makefile of dependencies alone")),
+    Guard("missing: sources that are changed", "due.py", 'self.premises.add("own", relative(self.build.folder, path))', "pass", one_later("premise", "in place")),
+    Guard("missing: times of goals", "due.py", "{*self.makes.values(), *(one for", "{*(one for", one_later("premise", "a time")),
+    Guard("missing: looks at what others read", "looked.py", "self.seen.looks |= self.own_looks[at] - self.reads[at] - self.written", "self.seen.looks |= self.own_looks[at] - self.written.union(*self.reads)", one_later("premise", "a size")),
+    Guard("missing: links that are made", "looked.py", "self.seen.looks |= {path for path in self.written if os.path.islink(path)}", "pass", one_later("premise", "a link")),
+    Guard("missing: what a recipe removes later", "looked.py", "self.writes[at] |= self.removed_later(at, task)", "pass", one_later("removed", "a file")),
+    Guard("missing: trees that it removes later", "looked.py", "any(is_below(path, name) for name in plain)", "any(path == name for name in plain)", one_later("removed", "a tree")),
+    Guard("missing: patterns that it removes later", "looked.py", "                or any(os.path.dirname(path) == folder", "                or any(False and os.path.dirname(path) == folder", one_later("removed", "a pattern")),
     Guard("missing: temporaries of others", "looked.py", "                self.gone.add(path)\n", "                return False\n", later("temporary_of_a_caller")),
-    Guard("missing: another rule", "anew.py", "elif target not in ended:", "elif False:", later("files")),
-    Guard("missing: another file", "anew.py", "if one != self.vpath[name] and self.is_new(self.path_of(one)):", "if False:", later("files")),
-    Guard("missing: folders of a pattern", "anew.py", "for found in SEARCH.finditer(self.known.text))]", "for found in ())]", later("files")),
-    Guard("missing: all prerequisites", "anew.py", "if plain and hands_on(texts, set(plain)):", "if False:", later("prerequisites")),
-    Guard("missing: prerequisites that a pattern fits", "anew.py", "                return True\n    return any(ALL", "                return False\n    return any(ALL", later("prerequisites")),
-    Guard("missing: the order of prerequisites", "anew.py", "if hands_all(texts) and in_order(then, now) != in_order(now, then):", "if False:", later("prerequisites")),
-    Guard("missing: the first prerequisite", "anew.py", "if not is_searched and first and first != second and any(FIRST", "if False and any(FIRST", later("prerequisites")),
-    Guard("missing: what is needed no more", "anew.py", "for one in gone[:1]:", "for one in ():", later("prerequisites")),
-    Guard("missing: what is needed too", "anew.py", "for one in new:", "for one in ():", later("prerequisites")),
-    Guard("missing: another recipe", "anew.py", "if node.name in self.later.recipes and self.later.recipes[node.name] != lines:", "if False:", later("recipes")),
-    Guard("missing: other macros", "anew.py", "name in asked or", "False or", later("recipes")),
-    Guard("missing: exported macros", "anew.py", "or self.known.is_named_in_export(name))", "or False)", later("recipes")),
-    Guard("missing: macros of a target and of lines", "anew.py", "if self.first.bodies.get(name) != self.later.bodies.get(name)}", "if False}", later("recipes")),
-    Guard("missing: values that were worked out", "anew.py", "todo += [values.get(name, \"\"), *self.first.bodies.get(name, ())]", "todo += [values.get(name, \"\"), self.known.text_of(name)]", later("quiet")),
+    Guard("missing: another rule", "anew.py", "elif target not in ended:", "elif False:", one_later("hole", "rule")),
+    Guard("missing: another file", "anew.py", "if one != self.vpath[name] and self.is_new(self.path_of(one)):", "if False:", one_later("hole", "vpath")),
+    Guard("missing: folders of a pattern", "anew.py", "for found in SEARCH.finditer(self.known.text))]", "for found in ())]", one_later("hole", "vpath of a pattern")),
+    Guard("missing: all prerequisites", "anew.py", "if plain and hands_on(texts, set(plain)):", "if False:", one_later("hole", "handed")),
+    Guard("missing: prerequisites that a pattern fits", "anew.py", "                return True\n    return any(ALL", "                return False\n    return any(ALL", one_later("hole", "filtered")),
+    Guard("missing: the order of prerequisites", "anew.py", "if hands_all(texts) and in_order(then, now) != in_order(now, then):", "if False:", one_later("hole", "order")),
+    Guard("missing: the first prerequisite", "anew.py", "if not is_searched and first and first != second and any(FIRST", "if False and any(FIRST", one_later("hole", "first")),
+    Guard("missing: what is needed no more", "anew.py", "for one in gone[:1]:", "for one in ():", one_later("hole", "less")),
+    Guard("missing: what is needed too", "anew.py", "for one in new:", "for one in ():", one_later("hole", "more")),
+    Guard("missing: another recipe", "anew.py", "if node.name in self.later.recipes and self.later.recipes[node.name] != lines:", "if False:", one_later("hole", "recipe")),
+    Guard("missing: other macros", "anew.py", "name in asked or", "False or", one_later("hole", "macro")),
+    Guard("missing: exported macros", "anew.py", "or self.known.is_named_in_export(name))", "or False)", one_later("hole", "export")),
+    Guard("missing: macros of a target and of lines", "anew.py", "if self.first.bodies.get(name) != self.later.bodies.get(name)}", "if False}", one_later("hole", "target's own")),
+    Guard("missing: values that were worked out", "anew.py", "todo += [values.get(name, \"\"), *self.first.bodies.get(name, ())]", "todo += [values.get(name, \"\"), self.known.text_of(name)]", one_later("quiet", "generated sources")),
     Guard("missing: functions that look for files", "keeping.py", "any(FILES.search(one) for one in texts) or ", "", tree("a recipe of functions that look for a file")),
     Guard("missing: functions that call a process", "keeping.py", "acts is not None and any(", "False and any(", tree("a recipe of functions that call a process")),
     Guard("missing: canned recipes", "keeping.py", "for one in (text, *map(known.text_of, known.reached(text))))\n\n", "for one in (text, *(known.base.values.get(name, '') for name in known.reached(text))))\n\n", tree("a canned recipe that asks what is newer")),

@@ -7,9 +7,10 @@ import shutil
 import subprocess
 import sys
 import tempfile
+import unittest
 from dataclasses import dataclass
 from pathlib import Path
-from typing import Any, Dict, List, Mapping, Optional, Sequence
+from typing import Any, Callable, Dict, Iterable, List, Mapping, Optional, Sequence, Type
 
 import forked
 
@@ -95,6 +96,27 @@ class Project:
             return None, []
         record = json.loads((path / "record.json").read_text())
         return record, [json.loads((path / "builds" / n / "build.json").read_text()) for n in record["builds"]]
+
+
+def add_tests(case: Type[unittest.TestCase], tables: Mapping[str, Iterable[str]]) -> None:
+    """Gives a class a test for each name of a table: `test_WAY_NAME`, which calls the method WAY with the name."""
+    for way, names in tables.items():
+        for name in names:
+            setattr(case, named(way, name), test_of(way, name))
+
+
+def named(way: str, name: str) -> str:
+    """The name of a test that `add_tests` adds."""
+    return "test_%s_%s" % (way, re.sub(r"\W+", "_", name))
+
+
+def test_of(way: str, name: str) -> Callable[[unittest.TestCase], None]:
+    """The test that calls the method WAY of its class with a name."""
+
+    def test(self: unittest.TestCase) -> None:
+        getattr(self, way)(name)
+
+    return test
 
 
 def tasks_of(folder: Path, number: str = "001") -> Dict[str, Dict[str, Any]]:

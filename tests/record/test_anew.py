@@ -1,7 +1,7 @@
 """`--missing`: a later build that is another one with no edit at all, and what is taken for granted of it."""
 
 import unittest
-from typing import Dict, List, NamedTuple, Tuple
+from typing import Dict, NamedTuple, Tuple
 
 import support
 
@@ -63,60 +63,46 @@ REMOVED = {
     "a tree": ("out/t.h", "all: a b\na: list\n\trm -rf out\n\tcp list a\nb: h.h | a\n\tmkdir -p out; cp h.h out/t.h\n\tcp h.h b\n"),
     "a pattern": ("t.h", "all: a b\na: list\n\trm -f t*\n\tcp list a\nb: h.h | a\n\tcp h.h t.h\n\tcp h.h b\n"),
 }
-QUIET: List[str] = [
-    ".PHONY: all clean\nall: clean a\nclean:\n\trm -f a* b*\na: list h.h | clean\n\tcat list h.h > a\n",
-    "VPATH = in\na: y list\n\tcat $^ > a\n",
-    "all: a\na: list\n\tcat $(filter l%,$^) > a\n\techo 'a: h.h' > a.d\n-include a.d\n",
-    "D := $(wildcard *.d)\nall: a\na: list h.h\n\tcat list h.h > a\n\techo 'a: h.h' > a.d\n-include $(D)\n",
-    "S := $(wildcard *.c) g.c\nO := $(sort $(S:.c=.o))\nall: $(O)\n\tcat $(O) > out\ng.c: list\n\tcp list g.c\n%.o: %.c\n\tcp $< $@\n",
-    "all: a b\na: list\n\ttest -d o || mkdir o\n\tcp list o/a\n\tcp list a\nb: list a\n\ttest -d o || mkdir o\n\tcp list b\n",
-    "a: list\n\trm -f a b\n\tcp list a\n\tcp list b\n",
-]
+QUIET: Dict[str, str] = {
+    "folders that are cleaned": ".PHONY: all clean\nall: clean a\nclean:\n\trm -f a* b*\na: list h.h | clean\n\tcat list h.h > a\n",
+    "a folder of sources": "VPATH = in\na: y list\n\tcat $^ > a\n",
+    "a filter that leaves nothing new": "all: a\na: list\n\tcat $(filter l%,$^) > a\n\techo 'a: h.h' > a.d\n-include a.d\n",
+    "files of dependencies": "D := $(wildcard *.d)\nall: a\na: list h.h\n\tcat list h.h > a\n\techo 'a: h.h' > a.d\n-include $(D)\n",
+    "generated sources": "S := $(wildcard *.c) g.c\nO := $(sort $(S:.c=.o))\nall: $(O)\n\tcat $(O) > out\ng.c: list\n\tcp list g.c\n%.o: %.c\n\tcp $< $@\n",
+    "folders that are looked for": "all: a b\na: list\n\ttest -d o || mkdir o\n\tcp list o/a\n\tcp list a\nb: list a\n\ttest -d o || mkdir o\n\tcp list b\n",
+    "files that are removed first": "a: list\n\trm -f a b\n\tcp list a\n\tcp list b\n",
+}
 
 
 class Later(unittest.TestCase):
-    """A later build that is another one has no verdict, or a premise."""
+    """A later build that is another one has no verdict, or a premise; one that is the same has a yes."""
 
-    def hole(self, *names: str) -> None:
-        for name in names:
-            one = HOLES[name]
-            with self.subTest(name), support.Project({"Makefile": one.makefile, **FILES, **dict(one.files)}) as project:
-                outcome = project.record(list(one.words), ["--missing"])
-                self.assertEqual(2, outcome.status, outcome.text() + outcome.stderr.decode())
-                self.assertIn(one.says, outcome.text())
+    def hole(self, name: str) -> None:
+        one = HOLES[name]
+        with support.Project({"Makefile": one.makefile, **FILES, **dict(one.files)}) as project:
+            outcome = project.record(list(one.words), ["--missing"])
+            self.assertEqual(2, outcome.status, outcome.text() + outcome.stderr.decode())
+            self.assertIn(one.says, outcome.text())
 
-    def test_files(self) -> None:
-        self.hole("rule", "vpath", "vpath of a pattern")
+    def premise(self, name: str) -> None:
+        kind, example, one = PREMISES[name]
+        with support.Project({"Makefile": one.makefile, **FILES, **dict(one.files)}) as project:
+            outcome = project.record(list(one.words), ["--missing"])
+            found = {one["kind"]: one["example"] for one in (outcome.record or {})["missing"]["premises"]}
+            self.assertEqual((0, example), (outcome.status, found.get(kind)), outcome.text() + outcome.stderr.decode())
 
-    def test_prerequisites(self) -> None:
-        self.hole("handed", "filtered", "order", "first", "less", "more", "checked in")
+    def quiet(self, name: str) -> None:
+        with support.Project({"Makefile": QUIET[name], **FILES}) as project:
+            outcome = project.record(options=["--missing"])
+            self.assertEqual(0, outcome.status, outcome.text() + outcome.stderr.decode())
+            self.assertIn("NOTHING MISSING", outcome.text())
 
-    def test_recipes(self) -> None:
-        self.hole("macro", "wildcard", "target's own", "several lines", "export", "recipe")
-
-    def test_calls(self) -> None:
-        self.hole("not called", "script", "folder", "two makes")
-
-    def test_premises(self) -> None:
-        for name, (kind, example, one) in PREMISES.items():
-            with self.subTest(name), support.Project({"Makefile": one.makefile, **FILES, **dict(one.files)}) as project:
-                outcome = project.record(list(one.words), ["--missing"])
-                found = {one["kind"]: one["example"] for one in (outcome.record or {})["missing"]["premises"]}
-                self.assertEqual((0, example), (outcome.status, found.get(kind)), outcome.text() + outcome.stderr.decode())
-
-    def test_quiet(self) -> None:
-        for makefile in QUIET:
-            with self.subTest(makefile), support.Project({"Makefile": makefile, **FILES}) as project:
-                outcome = project.record(options=["--missing"])
-                self.assertEqual(0, outcome.status, outcome.text() + outcome.stderr.decode())
-                self.assertIn("NOTHING MISSING", outcome.text())
-
-    def test_removed_later(self) -> None:
-        for name, (path, makefile) in REMOVED.items():
-            with self.subTest(name), support.Project({"Makefile": makefile, **FILES}) as project:
-                outcome = project.record(options=["--missing"])
-                self.assertEqual(1, outcome.status, outcome.text() + outcome.stderr.decode())
-                self.assertIn("SHARED  %s\n" % path, outcome.text())
+    def removed(self, name: str) -> None:
+        path, makefile = REMOVED[name]
+        with support.Project({"Makefile": makefile, **FILES}) as project:
+            outcome = project.record(options=["--missing"])
+            self.assertEqual(1, outcome.status, outcome.text() + outcome.stderr.decode())
+            self.assertIn("SHARED  %s\n" % path, outcome.text())
 
     def test_temporary_of_a_caller(self) -> None:
         files = {"Makefile": "a: h.h\n\tcat h.h conf > a\n", "build.sh": "cp list conf\nmake a\nrm conf\n", **FILES}
@@ -132,6 +118,8 @@ class Later(unittest.TestCase):
         self.assertEqual(1, outcome.status, outcome.text() + outcome.stderr.decode())
         self.assertIn("LATE  o\n", outcome.text())
 
+
+support.add_tests(Later, {"hole": HOLES, "premise": PREMISES, "quiet": QUIET, "removed": REMOVED})
 
 if __name__ == "__main__":
     unittest.main()

@@ -179,11 +179,23 @@ class Table(unittest.TestCase):
     def test_part_3(self) -> None:
         self.part(3)
 
+    def alone(self, name: str) -> None:
+        """A project by itself, as it is judged; `part` builds it again."""
+        makefile, missing = PROJECTS[name]
+        with support.Project({"Makefile": makefile, **FILES}) as project:
+            outcome = project.record(options=["--missing"])
+        found = violations(outcome.text())
+        self.assertIn(outcome.status, (0, 1), outcome.text() + outcome.stderr.decode())
+        self.assertEqual(missing, found.get("", set()) | found.get("project", set()), outcome.text())
+
     def test_status(self) -> None:
         for name, wanted in (("files of dependencies", 0), ("forgotten header", 1)):
             with self.subTest(name), support.Project({"Makefile": PROJECTS[name][0], **FILES}) as project:
                 outcome = project.record(options=["--missing"])
                 self.assertEqual(wanted, outcome.status, outcome.text() + outcome.stderr.decode())
+
+
+support.add_tests(Table, {"alone": PROJECTS})
 
 
 class Products(unittest.TestCase):
