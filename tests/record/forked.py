@@ -3,6 +3,7 @@
 Such a child has the folder, the streams and the status of a command, and none of the descriptors of its parent.
 """
 
+import contextlib
 import io
 import os
 import runpy
@@ -13,7 +14,7 @@ import sys
 import time
 import traceback
 from pathlib import Path
-from typing import Callable, Dict, NoReturn, Sequence
+from typing import Callable, Dict, Mapping, NoReturn, Optional, Sequence
 
 Ran = subprocess.CompletedProcess  # what a command left: its status and its streams
 
@@ -26,13 +27,17 @@ def run(work: Callable[[], int], folder: Path, seconds: float) -> "Ran[bytes]":
     child = os.fork()
     if child == 0:
         be_command(work, folder, out[1], err[1])
+    with contextlib.suppress(OSError):  # it may have ended
+        os.setpgid(child, child)
     os.close(out[1])
     os.close(err[1])
     try:
         kept = read_all((out[0], err[0]), time.monotonic() + seconds)
-    except TimeoutError:
-        os.kill(child, signal.SIGKILL)
-        raise subprocess.TimeoutExpired(str(work), seconds) from None
+    except BaseException as fault:
+        os.killpg(child, signal.SIGKILL)
+        if isinstance(fault, TimeoutError):
+            raise subprocess.TimeoutExpired(str(work), seconds) from None
+        raise
     finally:
         os.close(out[0])
         os.close(err[0])
@@ -62,6 +67,7 @@ def be_command(work: Callable[[], int], folder: Path, out: int, err: int) -> NoR
     """The child: its streams are those of a new command, and it ends with the status of one."""
     status = 1
     try:
+        os.setpgid(0, 0)  # so that all that it starts can be stopped with it
         os.dup2(os.open(os.devnull, os.O_RDONLY), 0)
         os.dup2(out, 1)
         os.dup2(err, 2)
@@ -84,11 +90,14 @@ def stream_of(number: int) -> io.TextIOWrapper:
     return io.TextIOWrapper(file, usual.encoding, usual.errors, line_buffering=number == 2, write_through="PYTHONUNBUFFERED" in os.environ)
 
 
-def script(program: Path, args: Sequence[str]) -> Callable[[], int]:
-    """What runs a script in Python with these words; its modules may be there already."""
+def script(program: Path, args: Sequence[str], env: Optional[Mapping[str, str]] = None) -> Callable[[], int]:
+    """What runs a script in Python with these words, and in this environment if there is one; its modules may be there already."""
 
     def work() -> int:
         sys.argv = [str(program), *args]
+        if env is not None:
+            os.environ.clear()
+            os.environ.update(env)
         try:
             runpy.run_path(str(program), run_name="__main__")
         except SystemExit as ended:

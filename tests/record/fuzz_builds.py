@@ -14,11 +14,13 @@ from dataclasses import dataclass, field, replace
 from pathlib import Path
 from typing import Collection, Dict, List, Optional
 
+import forked
 from fuzz_projects import Project
 
 HERE = Path(__file__).resolve().parent
 sys.path.insert(0, str(HERE.parent.parent))
 
+import record.main  # noqa: E402,F401  (once, for all recordings of this process)
 from record.assumptions import TEXTS  # noqa: E402
 
 RECORDER = HERE.parent.parent / "record" / "race-record"
@@ -85,6 +87,11 @@ def content(path: str) -> str:
     return repr(data)[2:-1] if len(data) < 200 else hashlib.sha256(data).hexdigest()
 
 
+def environment() -> Dict[str, str]:
+    """The environment of a build: nothing of a make that runs this."""
+    return {k: v for k, v in os.environ.items() if not k.startswith("MAKE") and k != "MFLAGS"}
+
+
 class Builder:
     """Builds one project over and over, in a folder of its own."""
 
@@ -110,7 +117,7 @@ class Builder:
     def run(self, words: List[str], nap: str = "") -> Outcome:
         """One build of a fresh tree."""
         self.fresh()
-        env = {k: v for k, v in os.environ.items() if not k.startswith("MAKE") and k != "MFLAGS"}
+        env = environment()
         if nap:
             env.update(N=nap, J="-j%d" % self.random.choice((2, 4)))  # J: for a ninja inside of a command
         began = time.monotonic()
@@ -144,8 +151,17 @@ class Builder:
         return self.run(words, self.nap())
 
     def recorded(self) -> Outcome:
-        """The recorded build, judged."""
-        return self.run([str(self.recorder), "--warm", "--", *self.project.words()])
+        """The recorded build, judged: by the recorder of this process, in a child of it, or by another one."""
+        args = ["--warm", "--", *self.project.words()]
+        if self.recorder != RECORDER:
+            return self.run([str(self.recorder), *args])
+        self.fresh()
+        began = time.monotonic()
+        try:
+            ran = forked.run(forked.script(RECORDER, args, environment()), self.folder, SECONDS)
+        except subprocess.TimeoutExpired:
+            return Outcome(-signal.SIGKILL, tree_of(self.folder), "", time.monotonic() - began)
+        return Outcome(ran.returncode, tree_of(self.folder), (ran.stderr + ran.stdout).decode("utf-8", "replace"), time.monotonic() - began)
 
 
 def differences(first: Outcome, second: Outcome, others: Collection[str] = ()) -> str:
