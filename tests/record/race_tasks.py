@@ -3,18 +3,17 @@
 
     race_tasks.py list|check|fix --tasks FILE [--root DIR]
     race_tasks.py missing --tasks FILE --listing FILE [--root DIR]      (missing_tasks.py)
+
+It is started some thousand times, so it takes in no module that is slow to take in.
 """
 
-import argparse
 import json
 import os
 import sys
-from dataclasses import dataclass
-from typing import Dict, List, Optional, Set, Tuple
+from typing import Dict, List, NamedTuple, Set, Tuple
 
 
-@dataclass
-class Task:
+class Task(NamedTuple):
     """One line of the text."""
 
     label: str
@@ -186,22 +185,22 @@ def main() -> int:
     if sys.argv[1:2] == ["missing"]:
         import missing_tasks
         return missing_tasks.main(sys.argv[2:])
-    parser = argparse.ArgumentParser(description=__doc__, formatter_class=argparse.RawDescriptionHelpFormatter)
-    parser.add_argument("command", choices=("list", "check", "fix"))
-    parser.add_argument("--tasks", required=True)
-    parser.add_argument("--root", default=os.getcwd())
-    options = parser.parse_args()
+    command, options = "".join(sys.argv[1:2]), dict(zip(sys.argv[2::2], sys.argv[3::2]))
+    if command not in ("list", "check", "fix") or "--tasks" not in options or len(sys.argv) % 2 or options.keys() - {"--tasks", "--root"}:
+        print(__doc__, file=sys.stderr)
+        return 3
+    root = options.get("--root", os.getcwd())
     try:
-        with open(options.tasks, encoding="utf-8") as file:
-            tasks = read(options.root, file.read())
+        with open(options["--tasks"], encoding="utf-8") as file:
+            tasks = read(root, file.read())
     except Refused as fault:
         print(fault.report())
         return 2
-    if options.command == "fix":
-        status, lines = fixed(tasks, options.root)
+    if command == "fix":
+        status, lines = fixed(tasks, root)
     else:
-        status, lines = listed(tasks, options.root)
-        if options.command == "check":
+        status, lines = listed(tasks, root)
+        if command == "check":
             lines = ["race" if status else "safe"] + lines[1:]
     print("".join(line + "\n" for line in lines), end="")
     return status
