@@ -18,7 +18,7 @@ HERE = Path(__file__).resolve().parent
 TOP = HERE.parent.parent
 RECORDER = TOP / "record" / "race-record"
 STAND_IN = HERE / "race_tasks.py"
-SECONDS = 150
+SECONDS = 600  # (a machine may be busy with proofs)
 
 sys.path.insert(0, str(TOP))
 
