@@ -102,6 +102,8 @@ def add_tests(case: Type[unittest.TestCase], tables: Mapping[str, Iterable[str]]
     """Gives a class a test for each name of a table: `test_WAY_NAME`, which calls the method WAY with the name."""
     for way, names in tables.items():
         for name in names:
+            if hasattr(case, named(way, name)):
+                raise ValueError("two tests %s" % named(way, name))
             setattr(case, named(way, name), test_of(way, name))
 
 
