@@ -116,7 +116,7 @@ class Calls(Moves):
         traits = life.traits()
         if traits.looks_at_links:
             self.put(life, "h", found.path)
-        if life.is_query or traits.is_interpreter or self.ages(life):
+        if life.is_query or traits.is_interpreter and not (traits.makes_folders and shelltext.makes(life.argv, found.path)) or self.ages(life):
             is_folder = found.inode is not None and found.inode.kind == "d"
             if not is_folder or not self.is_own(life, path, found) or shelltext.names_here(life.argv):
                 self.put(life, "A", found.path)
@@ -361,7 +361,8 @@ class Calls(Moves):
         if call.name in TIMES and GIVEN_TIME.search(TEXT_END.sub("", call.args)):
             self.put(life, "c", found.path + "\0")
         if found.inode is not None and found.inode.kind == "d":
-            self.put(life, "t" if call.name in TIMES else "m", found.path)
+            mode = MODE.search(call.args)
+            self.put(life, *(("t", found.path) if call.name in TIMES else ("m", "%s\0%o" % (found.path, int(mode.group(1), 8) if mode else -1))))
         else:
             self.write(life, found, False)
 

@@ -271,16 +271,17 @@ def add_times(builder: "Builder") -> None:
 def add_modes(builder: "Builder") -> None:
     """The mode of a folder, and how many folders are in it."""
     table = each(builder)
-    modes = {p for _, events in table for k, p, _ in events if k == "m"}
+    modes = changed_modes(builder, table)
     links = {p for _, events in table for k, p, _ in events if k == "h"}
     for at, events in table:
         for kind, path, _ in events:
-            if kind == "m":
+            path = path.partition("\0")[0]
+            if kind == "m" and path in modes:
                 mark(builder, path + "/@mode", "the mode of the folder " + path, set(), {at})
             elif path in modes and kind in "SUL":
                 mark(builder, path + "/@mode", "", {at}, set())
-            elif kind in "WCD" and os.path.dirname(path) in modes:
-                mark(builder, os.path.dirname(path) + "/@mode", "", {at}, set())
+            elif kind in "WCD" and os.path.dirname(path.rstrip("/")) in modes:
+                mark(builder, os.path.dirname(path.rstrip("/")) + "/@mode", "", {at}, set())
     counted: Dict[str, Set[int]] = {}
     for at, events in table:
         for kind, path, _ in events:
@@ -293,3 +294,13 @@ def add_modes(builder: "Builder") -> None:
         for kind, path, _ in events:
             if kind == "h" and path in counted:
                 apart(builder, path + "/@links", "how many names %s has" % path, at, counted[path] - {at})
+
+
+def changed_modes(builder: "Builder", table: List[Tuple[int, List[Tuple[str, str, int]]]]) -> Set[str]:
+    """The folders whose mode a recipe changes: to give one the mode that it was made with is no change."""
+    given: Dict[str, Set[str]] = {}
+    for kind, text in ((k, p) for _, events in table for k, p, _ in events if k == "m"):
+        path, _, mode = text.partition("\0")
+        given.setdefault(path, set()).add(mode)
+    made = gather(builder) if given else {}
+    return {path for path, modes in given.items() if path not in made or builder.before.get(path) == "d" or len(modes) > 1 or set(made[path].modes) != modes}

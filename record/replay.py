@@ -171,7 +171,8 @@ class Replay:
         if ok and found.inode is None and found.folder is not None and self.names.is_walked(found.folder):
             self.names.put(found.folder, found.name, Inode("f"))
         if kind == "S" and not life.is_make and life.traits().makes_folders and shelltext.makes(life.argv, found.path):
-            self.put(life, "K", found.path)
+            for path in (found.path, *shelltext.above(life.argv, found.path)):
+                self.put(life, "K", path)
         else:
             self.put(life, kind if ok else "N", found.path, word)
         if not ok and found.missing and found.missing != found.path:

@@ -19,6 +19,7 @@ VERSIONED = re.compile(r"(?:[\w.]+-linux-gnu-)?([a-z+\[.][a-z0-9+.]*?)(?:-[\d.]+
 PROGRESS = ("cmake_progress_start", "cmake_progress_report", "cmake_echo_color")
 SORTERS = ("make", "gmake", "rm", "chmod", "chown", "rmdir", "git")  # a folder that `cp` or `mv` copies gets its names in that order
 MAKERS = ("install-sh", "mkinstalldirs", "libtool")
+EXTUTILS = re.compile(r"-MExtUtils::Command -e mkpath$|-MExtUtils::Install -e pm_to_blib\(")  # what Perl's makefiles make folders by
 INTERPRETERS = re.compile(r"(python|perl|ruby|node|lua|tclsh|php)[\d.]*$")
 TAKES_IN = re.compile(r"(^|[;&|({\n`!]\s*|\b(then|do|else|elif|if|while|until|time|command|builtin)\s+|\b\w+=\S*\s+)(\.|source|eval)\s")  # text of another file
 OPTIONS = re.compile(r"\b(shopt|compgen|GLOBIGNORE)\b|\s[-+]O\s")  # of bash, by which patterns say something else, or nothing
@@ -158,6 +159,8 @@ def is_quiet_mkdir(argv: List[str]) -> bool:
 def maker_at(argv: List[str]) -> int:
     """Where the words behind the first name a script that builds carry, which makes folders for itself; -1 where none does."""
     name, words = base_name(argv), argv[1:]
+    if name == "perl":
+        return 2 if EXTUTILS.match(" ".join(words[:3])) else -1
     if name not in SHELLS and name != "cmake":
         return -1
     if name == "cmake" and words[:2] == ["-E", "make_directory"]:
@@ -174,7 +177,19 @@ def makes(argv: List[str], folder: str) -> bool:
         return os.path.basename(folder) in (".libs", "_libs")
     if os.path.basename(words[at]) == "install-sh" and "-d" not in words:
         return False
-    return any(is_on_the_way(folder, word) for word in words[at + 1:] if not word.startswith("-"))
+    names, filled = [word for word in words[at + 1:] if not word.startswith("-")], re.findall(r"'([^']*)'", words[at])
+    if words[at].startswith("pm_to_blib"):
+        names = [os.path.dirname(name) for name in names] + filled
+    return any(is_on_the_way(folder, name) for name in names) or any("/" + os.path.normpath(name) + "/" in folder for name in filled)
+
+
+def above(argv: List[str], folder: str) -> List[str]:
+    """The folders above one that Perl's makers ask for: they make these too, and ask for them only where it is not there."""
+    found = []
+    while base_name(argv) == "perl" and makes(argv, os.path.dirname(folder)):
+        folder = os.path.dirname(folder)
+        found.append(folder)
+    return found
 
 
 def is_on_the_way(folder: str, word: str) -> bool:
@@ -188,33 +203,34 @@ def is_excused(argv: List[str], folder: str) -> bool:
     text = shell_text(argv)
     if not text:
         return False
-    name = os.path.basename(folder)
     quiet = r"(?:\s*(?:2\s*)?>\s*/dev/null|\s*2>&1)*"
-    spelled = r"(?P<d>\"?'?[^\s;|&<>()'\"`]*" + re.escape(name) + r"/?'?\"?)"
-    ends, asked = r"\s*(?:;|&&|\n|$|\))", r"\s+-[de]\s+" + spelled + r"(?:\s+\])?" + quiet
-    made = r"\s+(?:mkdir\s+-p|install\s+-d)\s+(?P<made>" + DIRECTORY + ")" + quiet
+    ends, asked = r"\s*(?:;|&&|\n|$|\))", r"\s+-[de]\s+(?P<d>" + DIRECTORY + r")(?:\s+\])?" + quiet
+    made = r"(?:mkdir\s+-p|install\s+-d)\s+(?P<made>" + DIRECTORY + ")" + quiet
     forms = (
-        r"mkdir\s+" + spelled + quiet + r"\s*\|\|\s*(?:true|:|test\s+-d\s+(?P=d)|\[\s+-d\s+(?P=d)\s+\])" + quiet + ends,
-        r"(?:test|\[)" + asked + r"\s*\|\|" + made.replace(r"\s+", r"\s*", 1) + ends,
-        r"if\s+(?:(?:test|\[)\s+!|!\s+(?:test|\[))" + asked + r"\s*;\s*then" + made + r"\s*;\s*fi" + ends,
+        r"mkdir\s+(?P<d>" + DIRECTORY + ")" + quiet + r"\s*\|\|\s*(?:true|:|test\s+-d\s+(?P=d)|\[\s+-d\s+(?P=d)\s+\])" + quiet + ends,
+        r"(?:test|\[)" + asked + r"\s*\|\|\s*" + made + ends,
+        r"if\s+(?:(?:test|\[)\s+!|!\s+(?:test|\[))" + asked + r"\s*;\s*then\s+" + made + r"\s*;\s*fi" + ends,
     )
     begin = r"(?:^|[;\n({&]|\bthen|\bdo)\s*"
     found = [m for form in forms for m in re.finditer(begin + form, text) if "/dev/null" in m.group() or not KEPT_ERRORS.search(NOWHERE.sub(" ", text))]
-    spellings = {spelled_by(m) for m in found if makes_it(m)}
-    if not any(folder.endswith("/" + os.path.normpath(s).lstrip("./")) for s in spellings if s):
+    spellings = {s for m in found if makes_it(m) for s in spelled_by(m)}
+    if not any(folder.endswith("/" + s.lstrip("./")) for s in spellings):
         return False
-    return len(re.findall(r"(?:-[defrwxs]\s+|\bls\s+|\bstat\s+)\S*" + re.escape(name) + r"(?![\w./-])", re.sub(r"\binstall\s+-d\b", "install", text))) <= 1
+    looks = re.sub(r"\binstall\s+-d\b", "install", text)
+    return len(re.findall(r"(?:-[defrwxs]\s+|\bls\s+|\bstat\s+)\S*" + re.escape(os.path.basename(folder)) + r"(?![\w./-])", looks)) <= 1
 
 
-def spelled_by(form: "re.Match[str]") -> str:
-    """The folder that a quiet form asks for."""
-    return form.group("d").strip("'\"")
+def spelled_by(form: "re.Match[str]") -> List[str]:
+    """The folders that are there behind a quiet form: the one that it asks for, and those above where it makes them too."""
+    name = os.path.normpath(form.group("d").strip("'\""))
+    parts = name.split("/")
+    return [name] if "made" not in form.groupdict() else ["/".join(parts[:count]) for count in range(1, len(parts) + 1) if parts[count - 1] not in ("", ".", "..")]
 
 
 def makes_it(form: "re.Match[str]") -> bool:
     """Whether a quiet form makes the folder that it asks for, or one below it."""
     made = form.groupdict().get("made")
-    return made is None or (os.path.normpath(made.strip("'\"")) + "/").startswith(os.path.normpath(spelled_by(form)) + "/")
+    return made is None or (os.path.normpath(made.strip("'\"")) + "/").startswith(os.path.normpath(form.group("d").strip("'\"")) + "/")
 
 
 def is_ageless(argv: List[str]) -> bool:

@@ -101,6 +101,14 @@ SMALL: Dict[str, Small] = {
     "script_of_make": Small("race", "", {"rules": "#!%s -f\nall: a b\na: ; echo a > a\nb: ; cp a b\n" % shutil.which("make")}, "chmod +x rules"),
     # modes of folders that several make
     "folder_of_two_masks": Small("race", "all: a b\na: ; umask 077; mkdir -p d; touch a\nb: ; mkdir -p d; touch b\n"),
+    "folder_of_the_mode_that_it_is_given": Small("safe", "all: a b\na: ; umask 022; mkdir -p d; chmod 755 d; touch a\nb: ; umask 022; mkdir -p d/e; touch b\n"),
+    "folder_of_another_mode_in_which_one_is_made": Small("race", "all: a b\na: ; chmod 755 d; touch a\nb: ; mkdir d/e; touch b\n", setup="mkdir -m 700 d"),
+    "folder_of_the_mode_that_only_one_gives_it": Small("race", "all: a b\na: ; umask 077; mkdir -p d; chmod 755 d; touch a\nb: ; umask 077; mkdir -p d/e; touch b\n"),
+    "folder_tested_or_made_below": Small("safe", "all: a b c\na: ; mkdir -p d/e; touch d/e/a a\nb c: ; test -d d/e || mkdir -p d/e; touch d/e/$@ $@\n"),
+    "folders_made_by_mkpath": Small("safe", "all: d/a d/e/b d/e/c\nd/a d/e/b d/e/c: ; umask 022; perl -MExtUtils::Command -e mkpath -- $(@D); chmod 755 $(@D); touch $@\n"),
+    "folders_made_by_pm_to_blib": Small("safe", "all: d/auto/A/a d/a\nd/a: ; perl -MExtUtils::Install -e \"pm_to_blib({@ARGV}, 'd/auto', q[], '755')\" -- A.pm d/A.pm; touch $@\n"
+                                        "d/auto/A/a: ; perl -MExtUtils::Command -e mkpath -- $(@D); touch $@\n", {"A.pm": "package A;\nuse AutoLoader;\n1;\n__END__\n"}, setup="umask 022"),
+    "folders_of_a_perl_that_nobody_knows": Small("race", "all: d/a d/b\nd/a d/b: ; perl -e '-d \"d\" or mkdir \"d\"'; touch $@\n"),
     "folder_of_two_modes": Small("race", "all: a b\na: ; mkdir -p -m 700 d; touch a\nb: ; mkdir -p d; touch b\n"),
     "folder_of_one_mode": Small("safe", "all: a b\na: ; umask 022; mkdir -p -m 755 d; touch a\nb: ; umask 022; mkdir -p d; touch b\n"),
     # ages that are taken over
