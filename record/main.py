@@ -32,6 +32,7 @@ from record.ninja_import import versions as ninja_versions
 from record.ninja_runs import Kept, Ninja
 from record.owners import Make, Owners
 from record.progress import watched
+from record.python import settle
 from record.report import Judged, colours, read_json, report
 from record.strace import read_trace, skipping
 from record.unasked import unasked
@@ -134,6 +135,8 @@ def import_record(spool: Path, names: Names, kept: Kept, real: str, folder: str,
     """Of a trace and make's words: the builds, the holes, and what was taken for granted."""
     assumed = Assumptions()
     replay = replay_trace(spool, names, real, folder, names.tops)
+    for example in settle(replay.all):
+        assumed.add("bytecode", example)
     owners = Owners(replay.all, read_logs(spool))
     if owners.makes:
         assumed.add("serial", "")

@@ -388,5 +388,5 @@ class Traits:
 
 
 def matches(name: str, pattern: str) -> bool:
-    """Whether a pattern can match a name."""
-    return fnmatch.fnmatchcase(name, pattern)
+    """Whether a pattern can match the name of a folder. `*/` is what Python asks for where it imports."""
+    return name != "__pycache__" if pattern == "*/" else fnmatch.fnmatchcase(name, pattern)

@@ -2,7 +2,7 @@
 
 from typing import List
 
-from guard_table import LOST_HOLE, UNSAID, YES, Guard
+from guard_table import FALSE_RACE, LOST_HOLE, UNSAID, YES, Guard
 
 
 def seen(name: str) -> str:
@@ -20,7 +20,17 @@ def words(name: str) -> str:
     return "test_seen.Words.test_" + name
 
 
+def python(name: str) -> str:
+    """A test of recipes that run Python."""
+    return "test_python.Python.test_" + name
+
+
 SEEN_GUARDS: List[Guard] = [
+    Guard("Python: byte code and modules", "main.py", "for example in settle(replay.all):", "for example in ():", python("modules_and_byte_code"), FALSE_RACE),
+    Guard("Python: byte code that others read", "python.py", "if cache_of(path) in others:", "if False:", python("byte_code_that_another_program_reads"), YES),
+    Guard("Python: scripts that list", "python.py", " or any(lists_folders(path) for path in sources)", "", python("script_that_lists_the_folder"), YES),
+    Guard("Python: modules that list", "python.py", r'BYTE_CODE.sub(r"\1\2.py", path)', "path", python("module_that_lists_the_folder"), YES),
+    Guard("Python: modules that a recipe makes", "python.py", 'MODULES = ("*.py", ', "MODULES = (", python("module_that_a_recipe_makes"), YES),
     Guard("moved folders: come and go", "moves.py", "            self.move_folder(life, old.path, new.path)\n", "", seen("folder_that_is_moved"), YES),
     Guard("moved folders: those below", "moves.py", "                    self.move_folder(life, old.path + name, new.path + name)\n", "                    pass\n", trace("folders_below_one_that_is_moved")),
     Guard("moved names: two of one file", "moves.py", "if old.inode is not None and old.inode is new.inode:", "if False:", trace("a_file_that_is_moved_to_its_other_name")),

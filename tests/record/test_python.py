@@ -1,0 +1,48 @@
+"""Recipes that run Python: byte code, and the folders in which it finds modules."""
+
+import os
+import unittest
+from typing import Dict
+
+import support
+
+HELPER = {"t/lib.py": "def text():\n    return 'x'\n"}
+SCRIPT = "import sys, lib\nopen(sys.argv[1], 'w').write(lib.text())\n"
+TWO = "all: t/x.c t/y.c\nt/x.c: ; python3 t/gen.py t/x.c\nt/y.c: ; python3 t/gen.py t/y.c\n"
+
+
+class Python(unittest.TestCase):
+    """What an import does by itself."""
+
+    def of(self, makefile: str, script: str, status: int, says: str = "", files: Dict[str, str] = HELPER) -> None:
+        """The verdict on a project whose scripts keep byte code."""
+        env = {name: value for name, value in os.environ.items() if name != "PYTHONDONTWRITEBYTECODE"}
+        with support.Project({"Makefile": makefile, "t/gen.py": script, **files}) as project:
+            outcome = project.record(env=env)
+            self.assertEqual(status, outcome.status, outcome.text())
+            self.assertIn(says, outcome.text())
+
+    def test_modules_and_byte_code(self) -> None:
+        self.of(TWO, SCRIPT, 0, "what Python keeps in __pycache__")
+
+    def test_script_that_lists_the_folder(self) -> None:
+        self.of(TWO, "import os\n" + SCRIPT + "os.listdir(os.path.dirname(os.path.abspath(__file__)))\n", 1)
+
+    def test_module_that_lists_the_folder(self) -> None:
+        files = {"t/lib.py": "import os\ndef text():\n    return '%d' % len(os.listdir(os.path.dirname(os.path.abspath(__file__))))\n"}
+        self.of(TWO, SCRIPT, 1, files=files)
+        self.of(TWO + "all: t/z.c\nt/y.c t/z.c: t/x.c\nt/z.c: ; touch t/z.c\n", SCRIPT, 1, files=files)
+
+    def test_module_that_a_recipe_makes(self) -> None:
+        self.of("all: t/x.c t/more.py\nt/x.c: ; python3 t/gen.py t/x.c\nt/more.py: ; echo > $@\n", "try:\n    import more\nexcept ImportError:\n    pass\n" + SCRIPT, 1)
+
+    def test_byte_code_that_another_program_reads(self) -> None:
+        self.of(TWO + "all: z\nz: t/x.c ; cat t/__pycache__/*.pyc > z\n", SCRIPT, 1)
+
+    def test_module_that_is_read_as_byte_code(self) -> None:
+        makefile = "all: t/x.c t/y.c\nt/x.c: ; python3 t/gen.py t/x.c\nt/y.c: ; python3 t/gen.py t/y.c\nall: z\nz: ; touch t/lib.py; touch z\n"
+        self.of(makefile, SCRIPT, 1)
+
+
+if __name__ == "__main__":
+    unittest.main()
