@@ -22,8 +22,10 @@ MODULES = ("*.py", "*.pyc", "*.so", "*/")  # what an import looks for in a list;
 
 def is_python(life: Life) -> bool:
     """Whether a life ends as Python, and began as no other program than a shell that finds no names by patterns."""
+    if not life.ran or not life.ran[-1] or not PYTHON.match(life.ran[-1][0]):
+        return False
     texts = [shelltext.shell_text(argv) or "*" for argv in life.ran[:-1] if not argv or not PYTHON.match(argv[0])]
-    return bool(life.ran and life.ran[-1] and PYTHON.match(life.ran[-1][0])) and not any(re.search(r"[*?\[$`]", text) for text in texts)
+    return not any(re.search(r"[*?\[$`]", text) for text in texts)
 
 
 def settle(lives: List[Life]) -> Iterator[str]:

@@ -5,7 +5,7 @@ import fnmatch
 import os
 import re
 from functools import lru_cache
-from typing import Iterable, List, Optional, Tuple
+from typing import Iterable, List, Optional, Set, Tuple
 
 SHELLS = ("sh", "dash", "bash", "ksh", "zsh", "ash")
 NAMES_NEXT = re.compile(r"[-+]\w*[oO]\w*|--rcfile|--init-file")  # options of a shell whose value is the next word
@@ -198,11 +198,9 @@ def is_on_the_way(folder: str, word: str) -> bool:
     return any(folder.endswith("/" + "/".join(parts[:count])) for count in range(1, len(parts) + 1))
 
 
-def is_excused(argv: List[str], folder: str) -> bool:
-    """Whether a shell's text makes a folder in one of the quiet forms, which do not show who was first."""
-    text = shell_text(argv)
-    if not text:
-        return False
+@lru_cache(KEPT)
+def quiet_folders(text: str) -> Set[str]:
+    """The folders that a shell's text makes in one of the quiet forms, as it spells them."""
     quiet = r"(?:\s*(?:2\s*)?>\s*/dev/null|\s*2>&1)*"
     ends, asked = r"\s*(?:;|&&|\n|$|\))", r"\s+-[de]\s+(?P<d>" + DIRECTORY + r")(?:\s+\])?" + quiet
     made = r"(?:mkdir\s+-p|install\s+-d)\s+(?P<made>" + DIRECTORY + ")" + quiet
@@ -213,8 +211,13 @@ def is_excused(argv: List[str], folder: str) -> bool:
     )
     begin = r"(?:^|[;\n({&]|\bthen|\bdo)\s*"
     found = [m for form in forms for m in re.finditer(begin + form, text) if "/dev/null" in m.group() or not KEPT_ERRORS.search(NOWHERE.sub(" ", text))]
-    spellings = {s for m in found if makes_it(m) for s in spelled_by(m)}
-    if not any(folder.endswith("/" + s.lstrip("./")) for s in spellings):
+    return {s for m in found if makes_it(m) for s in spelled_by(m)}
+
+
+def is_excused(argv: List[str], folder: str) -> bool:
+    """Whether a shell's text makes a folder in one of the quiet forms, which do not show who was first."""
+    text = shell_text(argv)
+    if not any(folder.endswith("/" + s.lstrip("./")) for s in quiet_folders(text)):
         return False
     looks = re.sub(r"\binstall\s+-d\b", "install", text)
     return len(re.findall(r"(?:-[defrwxs]\s+|\bls\s+|\bstat\s+)\S*" + re.escape(os.path.basename(folder)) + r"(?![\w./-])", looks)) <= 1
