@@ -26,7 +26,7 @@ LATER = (4, 4)  # from this version on, make expands all prerequisites a second 
 def stems(target: str, name: str) -> Iterator[Tuple[str, str]]:
     """The stem by which a pattern fits a name, and the folder that is put in front of prerequisites."""
     head, _, tail = target.partition("%")
-    folder, last = ("", name) if "/" in target else os.path.split(name)
+    folder, last = ("", name) if "/" in target or name.endswith(")") else os.path.split(name)
     if last.startswith(head) and last.endswith(tail) and len(last) > len(head) + len(tail):
         yield last[len(head): len(last) - len(tail)], folder
 
@@ -87,9 +87,10 @@ class Considered:
                 yield self.path(name)
 
     def names(self, name: str, depth: int) -> Set[str]:
-        """The names that a search looks for, by way of at most so many rules."""
+        """The names that a search looks for, by way of at most so many rules; that for a member of an archive is about the member too."""
         found: Set[str] = set()
-        todo, level = [name], 0
+        archive, opening, member = name.partition("(")
+        todo, level = [name, *([opening + member] if archive and member.endswith(")") else [])], 0
         while todo and level < depth:
             new = {one for each in todo for one in self.step(each, level == 0)} - found
             found |= new

@@ -43,4 +43,7 @@ FOUND_GUARDS: List[Guard] = [
     Guard("rows of some targets", "considered.py", ' or not base.prerequisites.get(".NOTPARALLEL"))', " or True)", "test_found.Rows.test_a_row_of_some_targets"),
     Guard("folders that are moved: who is in them", "moves.py", "one.folder = new if one.folder == old else one.folder", "pass", "test_found.Moved.test_a_process_goes_with_its_folder"),
     Guard("makefiles that are not there", "owners.py", 'act.kind in "RN" and os.path.basename', 'act.kind == "R" and os.path.basename', found("makefile_that_is_not_there_and_comes"), YES),
+    Guard("first looks: members of archives", "considered.py", '([opening + member] if archive and member.endswith(")") else [])', "[]", found("search_for_a_member"), YES),
+    Guard("first looks: declared intermediate files", "considered.py", "in self.base.intermediate and node.name not in self.named:", "in self.base.intermediate:", found("search_for_a_declared_intermediate_file"), YES),
+    Guard("first looks: that may come late", "build.py", " if label not in self.graph.late()]", "]", found("search_below_a_second_rule"), YES),
 ]
