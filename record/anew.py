@@ -4,12 +4,16 @@ A list of names (`$(wildcard ..)`), a dependency file or a search may say more t
 of a recipe that does not ask for all of them.
 """
 
+import glob
 import os
 import re
 from fnmatch import fnmatchcase
 from typing import Iterator, List, Set, Tuple
 
+from record.considered import DEPTH, is_deep, names_asked
+from record.considered import filled as placed
 from record.database import Base
+from record.globs import MAGIC
 from record.graph import Build, Node
 from record.later import phony_of
 from record.macros import Macros, evals, matching, named
@@ -19,6 +23,7 @@ from record.names import Names
 ALL = re.compile(r"\$(?:[\^+|]|[({][\^+|][DF]?[)}])")
 FILTERED = re.compile(r"\$[({]filter ([^(){}$,]+),\s*\$(?:[\^+]|[({][\^+][)}])\s*[)}]")
 FIRST = re.compile(r"\$(?:<|[({]<[DF]?[)}])")
+LOOKS = re.compile(r"\$[({](?:wildcard|shell|file)\b|[*?\[]")
 SEARCH = re.compile(r"^[ \t]*vpath[ \t]+\S+[ \t]+([^\n#]*)", re.M)
 # What make sets by itself, and what the recorder's words change.
 OWN = {"MAKEFLAGS", "MFLAGS", "MAKEFILE_LIST", "MAKE_RESTARTS", "MAKEOVERRIDES", "GNUMAKEFLAGS", "MAKE_TERMOUT", "MAKE_TERMERR", "PATH", "PWD", "OLDPWD", "_",
@@ -161,10 +166,32 @@ class Anew:
                     yield "make finds %s for %s" % (one, name)
                     return
         if name in self.first.implicit and name not in self.phony:
-            for one in self.searched_first(name):
-                if self.is_new(self.path_of(one)):
+            for one in (place for asked in (*self.searched_first(name), *self.by_other_files(node)) for place in self.places(asked)):
+                if one not in self.first.prerequisites.get(name, ()) and self.is_new(self.path_of(one)):
                     yield "make finds another rule for %s, as %s is there" % (name, one)
                     return
+        if ".SECONDEXPANSION" in self.first.prerequisites and self.looks_again(name):
+            yield "make looks at files where it expands the prerequisites of %s a second time" % name
+
+    def places(self, name: str) -> List[str]:
+        """A name, the same in the folders of search paths, and all that fit where it is a pattern."""
+        if MAGIC.search(name):
+            return [os.path.relpath(path, self.build.folder) for path in glob.glob(os.path.join(self.build.folder, name))]
+        return [name, *(os.path.join(folder, name) for folder in self.searched_folders() if not name.startswith("/"))]
+
+    def by_other_files(self, node: Node) -> Set[str]:
+        """What the search for an implicit rule looks for by way of other files, and has not found."""
+        if not is_deep(self.first, node):
+            return set()
+        found = names_asked(self.first, node.name, DEPTH) - names_asked(self.first, node.name, 1)
+        return found - {*self.build.graph.round.nodes}
+
+    def looks_again(self, name: str) -> bool:
+        """Whether a second expansion of the prerequisites of a target may look at files."""
+        own = [*self.later.prerequisites.get(name, ()), *self.later.order_only.get(name, ())]
+        words = [own, *(asked for targets, asked in self.first.patterns if name in self.first.implicit and any(stems(targets, name)))]
+        texts = [text for text in map(" ".join, words) if "$" in text]
+        return any(LOOKS.search(one) for text in texts for one in (text, *map(self.known.text_of, self.known.reached(text))))
 
     def searched_folders(self) -> Set[str]:
         """The folders that `VPATH` and `vpath` name."""
@@ -177,7 +204,7 @@ class Anew:
         ended: Set[str] = set()  # patterns of targets whose rule was found
         for targets, prerequisites in self.first.patterns:
             for target, stem, folder in stems(targets, name):
-                words = [os.path.join(folder, one.replace("%", stem, 1)) for one in prerequisites if "%" in one]
+                words = [placed(one, stem, folder) for one in prerequisites]
                 if words and needs.issuperset(words):
                     ended.add(target)
                 elif target not in ended:

@@ -31,6 +31,36 @@ def stems(target: str, name: str) -> Iterator[Tuple[str, str]]:
         yield last[len(head): len(last) - len(tail)], folder
 
 
+def names_asked(base: Base, name: str, depth: int) -> Set[str]:
+    """The names that a search looks for, by way of at most so many rules; that for a member of an archive is about the member too."""
+    found: Set[str] = set()
+    archive, opening, member = name.partition("(")
+    todo, level = [name, *([opening + member] if archive and member.endswith(")") else [])], 0
+    while todo and level < depth:
+        new = {one for each in todo for one in step(base, each, level == 0)} - found
+        found |= new
+        todo, level = list(new), level + 1
+    return found
+
+
+def step(base: Base, name: str, is_first: bool) -> Iterable[str]:
+    """The names that one step of the search looks for. A rule for all names leads to no other rule, unless it ends there."""
+    for at, (targets, prerequisites) in enumerate(base.patterns):
+        for target in targets:
+            for stem, folder in stems(target, name) if is_first or target != "%" or at in base.terminal else ():
+                yield from (filled(one, stem, folder) for one in prerequisites)
+
+
+def filled(word: str, stem: str, folder: str) -> str:
+    """A prerequisite of an implicit rule, for a target."""
+    return os.path.join(folder, word.replace("%", stem, 1)) if "%" in word else word
+
+
+def is_deep(base: Base, node: Node) -> bool:
+    """Whether a search went by way of other files: it found no rule, or one of those."""
+    return not node.has_recipe or not base.intermediate.isdisjoint(node.prerequisites)
+
+
 class Considered:
     """What make asks for, target by target; only names that recipes write count."""
 
@@ -74,8 +104,8 @@ class Considered:
         search for such a file was a part of that for its user."""
         if node.name not in self.base.implicit or node.name in self.base.intermediate and node.name not in self.named:
             return set()
-        deep = not node.has_recipe or not self.base.intermediate.isdisjoint(node.prerequisites)
-        return {name for name in self.names(node.name, DEPTH if deep else 1) if not self.is_mentioned(name, node)}
+        found = names_asked(self.base, node.name, DEPTH if is_deep(self.base, node) else 1)
+        return {name for name in found if not self.is_mentioned(name, node)}
 
     def searched(self, names: Set[str]) -> Iterator[str]:
         """The paths of names, and all that fit a pattern."""
@@ -85,24 +115,6 @@ class Considered:
                 yield from (path for path in self.changed if fnmatchcase(path, pattern))
             else:
                 yield self.path(name)
-
-    def names(self, name: str, depth: int) -> Set[str]:
-        """The names that a search looks for, by way of at most so many rules; that for a member of an archive is about the member too."""
-        found: Set[str] = set()
-        archive, opening, member = name.partition("(")
-        todo, level = [name, *([opening + member] if archive and member.endswith(")") else [])], 0
-        while todo and level < depth:
-            new = {one for each in todo for one in self.step(each, level == 0)} - found
-            found |= new
-            todo, level = list(new), level + 1
-        return found
-
-    def step(self, name: str, is_first: bool) -> Iterable[str]:
-        """The names that one step of the search looks for. A rule for all names leads to no other rule, unless it ends there."""
-        for at, (targets, prerequisites) in enumerate(self.base.patterns):
-            for target in targets:
-                for stem, folder in stems(target, name) if is_first or target != "%" or at in self.base.terminal else ():
-                    yield from (os.path.join(folder, one.replace("%", stem, 1)) if "%" in one else one for one in prerequisites)
 
     def is_mentioned(self, name: str, node: Node) -> bool:
         """Whether make takes a name for a file without a look: makefiles have a rule for it, or it has considered it before."""

@@ -15,6 +15,11 @@ def several(name: str) -> str:
     return "test_found.Several.test_" + name
 
 
+def later(name: str) -> str:
+    """The test of what a later build finds."""
+    return "test_found.Later.test_" + name
+
+
 FOUND_GUARDS: List[Guard] = [
     Guard("several jobs: processes that ran at once", "owners.py", "return any(second.born < first.died for", "return any(False for", several("processes_that_ran_at_once")),
     Guard("several jobs: with no number", "words.py", ' or RUNNING.match(text):', ":", found("jobs_with_no_number"), "", ("owners.py", "return any(second.born < first.died for", "return any(False for")),
@@ -26,8 +31,8 @@ FOUND_GUARDS: List[Guard] = [
     Guard("at once: who started the other", "granted.py", "    places = [older", "    return False\n    places = [older", found("process_beside_its_shell"), UNSAID),
     Guard("at once: who waited for the other", "granted.py", "    if older not in life.up():\n        return True\n", "    return True\n", found("process_before_its_shell")),
     Guard("first looks: names that are searched", "considered.py", "found = {path for path in self.searched(names) if self.is_open(path)}", "found = set()", found("search_before_what_a_target_needs"), YES),
-    Guard("first looks: by way of other files", "considered.py", "DEPTH if deep else 1", "1", found("search_by_way_of_another_file"), YES),
-    Guard("first looks: names without a stem", "considered.py", ' if "%" in one else one for one in prerequisites)', ' for one in prerequisites if "%" in one)', found("search_by_a_name_without_a_stem"), YES),
+    Guard("first looks: by way of other files", "considered.py", "DEPTH if is_deep(self.base, node) else 1", "1", found("search_by_way_of_another_file"), YES),
+    Guard("first looks: names without a stem", "considered.py", 'for one in prerequisites)\n\n\ndef filled', 'for one in prerequisites if "%" in one)\n\n\ndef filled', found("search_by_a_name_without_a_stem"), YES),
     Guard("first looks: patterns of names", "considered.py", "            if MAGIC.search(name):\n", "            if False:\n", found("search_by_a_pattern_of_names"), YES),
     Guard("first looks: not for what was considered", "considered.py", "return has_rule or self.first.get(name, node.first) < node.first", "return has_rule", found("search_that_finds_what_was_considered"), FALSE_RACE),
     Guard("first looks: not for what has a rule", "considered.py", "return has_rule or ", "return ", found("search_that_finds_a_rule"), FALSE_RACE),
@@ -46,4 +51,11 @@ FOUND_GUARDS: List[Guard] = [
     Guard("first looks: members of archives", "considered.py", '([opening + member] if archive and member.endswith(")") else [])', "[]", found("search_for_a_member"), YES),
     Guard("first looks: declared intermediate files", "considered.py", "in self.base.intermediate and node.name not in self.named:", "in self.base.intermediate:", found("search_for_a_declared_intermediate_file"), YES),
     Guard("first looks: that may come late", "build.py", " if label not in self.graph.late()]", "]", found("search_below_a_second_rule"), YES),
+    Guard("missing: searches by way of other files", "anew.py", ", *self.by_other_files(node)) for place", ") for place", later("by_way_of_another_file")),
+    Guard("missing: searches in search paths", "anew.py", "return [name, *(os.path.join(folder, name) for folder in self.searched_folders()", "return [name, *(os.path.join(folder, name) for folder in ()", later("in_a_search_path")),
+    Guard("missing: names without a stem", "anew.py", "for one in prerequisites]\n", 'for one in prerequisites if "%" in one]\n', later("without_a_stem")),
+    Guard("missing: patterns of names", "anew.py", "        if MAGIC.search(name):\n", "        if False:\n", later("by_a_pattern_of_names")),
+    Guard("missing: second expansions", "anew.py", "self.first.prerequisites and self.looks_again(name):", "self.first.prerequisites and False:", later("by_a_second_expansion")),
+    Guard("missing: second expansions of rules", "anew.py", "words = [own, *(asked", "words = [*(asked", later("by_a_second_expansion_of_a_rule")),
+    Guard("missing: second expansions that look at nothing", "anew.py", "return any(LOOKS.search(one) for text in texts", "return any(True for text in texts", later("second_expansion_that_looks_at_nothing")),
 ]
