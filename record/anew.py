@@ -10,8 +10,7 @@ import re
 from fnmatch import fnmatchcase
 from typing import Iterator, List, Set, Tuple
 
-from record.considered import DEPTH, is_deep, names_asked
-from record.considered import filled as placed
+from record.considered import is_deep
 from record.database import Base
 from record.globs import MAGIC
 from record.graph import Build, Node
@@ -19,6 +18,8 @@ from record.later import phony_of
 from record.macros import Macros, evals, matching, named
 from record.memory import filled
 from record.names import Names
+from record.searches import DEPTH, Searches
+from record.searches import filled as placed
 
 ALL = re.compile(r"\$(?:[\^+|]|[({][\^+|][DF]?[)}])")
 FILTERED = re.compile(r"\$[({]filter ([^(){}$,]+),\s*\$(?:[\^+]|[({][\^+][)}])\s*[)}]")
@@ -64,6 +65,7 @@ class Anew:
         self.known = Macros(build.make, self.first)
         self.phony = phony_of(self.first, later)
         self.vpath = build.graph.round.vpath
+        self.searches = Searches(self.first)
 
     def holes(self) -> Iterator[str]:
         """Why a later build is another one."""
@@ -183,7 +185,7 @@ class Anew:
         """What the search for an implicit rule looks for by way of other files, and has not found."""
         if not is_deep(self.first, node):
             return set()
-        found = names_asked(self.first, node.name, DEPTH) - names_asked(self.first, node.name, 1)
+        found = self.searches.names(node.name, DEPTH) - self.searches.names(node.name, 1)
         return found - {*self.build.graph.round.nodes}
 
     def looks_again(self, name: str) -> bool:

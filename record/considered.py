@@ -7,53 +7,20 @@ With several jobs it asks while recipes run that it considered before, though th
 import os
 from fnmatch import fnmatchcase
 from functools import cached_property
-from typing import TYPE_CHECKING, Dict, Iterable, Iterator, List, Set, Tuple
+from typing import TYPE_CHECKING, Dict, Iterator, List, Set, Tuple
 
 from record.database import Base
 from record.globs import MAGIC
 from record.graph import Node
 from record.names import join
+from record.searches import DEPTH, Searches, stems
 from record.shelltext import loose
 from record.words import Words
 
 if TYPE_CHECKING:
     from record.build import Builder
 
-DEPTH = 8  # how many implicit rules one file may go through
 LATER = (4, 4)  # from this version on, make expands all prerequisites a second time when it considers their target, and knows rows of some targets
-
-
-def stems(target: str, name: str) -> Iterator[Tuple[str, str]]:
-    """The stem by which a pattern fits a name, and the folder that is put in front of prerequisites."""
-    head, _, tail = target.partition("%")
-    folder, last = ("", name) if "/" in target or name.endswith(")") else os.path.split(name)
-    if last.startswith(head) and last.endswith(tail) and len(last) > len(head) + len(tail):
-        yield last[len(head): len(last) - len(tail)], folder
-
-
-def names_asked(base: Base, name: str, depth: int) -> Set[str]:
-    """The names that a search looks for, by way of at most so many rules; that for a member of an archive is about the member too."""
-    found: Set[str] = set()
-    archive, opening, member = name.partition("(")
-    todo, level = [name, *([opening + member] if archive and member.endswith(")") else [])], 0
-    while todo and level < depth:
-        new = {one for each in todo for one in step(base, each, level == 0)} - found
-        found |= new
-        todo, level = list(new), level + 1
-    return found
-
-
-def step(base: Base, name: str, is_first: bool) -> Iterable[str]:
-    """The names that one step of the search looks for. A rule for all names leads to no other rule, unless it ends there."""
-    for at, (targets, prerequisites) in enumerate(base.patterns):
-        for target in targets:
-            for stem, folder in stems(target, name) if is_first or target != "%" or at in base.terminal else ():
-                yield from (filled(one, stem, folder) for one in prerequisites)
-
-
-def filled(word: str, stem: str, folder: str) -> str:
-    """A prerequisite of an implicit rule, for a target."""
-    return os.path.join(folder, word.replace("%", stem, 1)) if "%" in word else word
 
 
 def is_deep(base: Base, node: Node) -> bool:
@@ -70,6 +37,7 @@ class Considered:
         nodes = builder.graph.nodes.values()
         self.first = {node.name: node.first for node in nodes if node.rule == 0}
         self.expanding = [node for node in nodes if node.rule == 0 and self.is_expanded(node)]
+        self.searches, self.last_parts = Searches(self.base), {os.path.basename(path) for path in self.writers}
         self.named = {name for one in (".INTERMEDIATE", ".SECONDARY") for name in self.base.prerequisites.get(one, ())}
 
     def asked(self, node: Node) -> Set[str]:
@@ -104,8 +72,9 @@ class Considered:
         search for such a file was a part of that for its user."""
         if node.name not in self.base.implicit or node.name in self.base.intermediate and node.name not in self.named:
             return set()
-        found = names_asked(self.base, node.name, DEPTH if is_deep(self.base, node) else 1)
-        return {name for name in found if not self.is_mentioned(name, node)}
+        found = self.searches.names(node.name, DEPTH if is_deep(self.base, node) else 1)
+        written = (name for name in found if os.path.basename(name) in self.last_parts or MAGIC.search(name))
+        return {name for name in written if not self.is_mentioned(name, node)}
 
     def searched(self, names: Set[str]) -> Iterator[str]:
         """The paths of names, and all that fit a pattern."""
@@ -134,7 +103,7 @@ class Considered:
 
     def elsewhere(self, node: Node, name: str) -> List[str]:
         """The paths of a name in the folders of search paths, where it is not there by itself."""
-        if name.startswith("/") or not self.base.search or node.phony:
+        if name.startswith("/") or not self.base.search or node.phony or os.path.basename(name) not in self.last_parts:
             return []
         own = self.path(name)
         if self.builder.before.get(own) and own not in self.writers:

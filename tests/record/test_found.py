@@ -5,7 +5,7 @@ import unittest
 from typing import Callable, Dict, Tuple
 
 import support
-from record import wrapper
+from record import searches, wrapper
 from record.considered import is_row
 from record.database import read_base
 from record.owners import Owners
@@ -150,6 +150,14 @@ class Searches(unittest.TestCase):
     def test_search_paths(self) -> None:
         lines = ["# files hash-table stats:", "# VPATH Search Paths", "", "vpath %.c v:w", "", "# General ('VPATH' variable) search path:", "# x:y"]
         self.assertEqual([("%.c", ["v", "w"]), ("%", ["x", "y"])], read_base(lines).search)
+
+    def test_names_that_are_kept(self) -> None:
+        rules = ("%.o: %.c flag", "%.c: %.y", "lib%.a: %.o", "%_test: %_test.o", "%_test.c: %.t", "obj/%.o: src/%.c", "%: %.o", "%:: RCS/%", "(%): %")
+        base = read_base(["# Implicit Rules", "", *rules, "", "# Files"])
+        kept = searches.Searches(base)
+        for name in ("x.o", "d/x.o", "y.o", "obj/x.o", "libx.a", "x_test", "y_test.o", "x", "d/x.tab.c", ".x", "l.a(x.o)", "a.b.c.o"):
+            for depth in (1, searches.DEPTH):
+                self.assertEqual(searches.names_asked(base, name, depth), kept.names(name, depth), name)
 
     def test_rules_that_end_a_chain(self) -> None:
         base = read_base(["# Implicit Rules", "", "%:: RCS/%", "", "%.o: %.c", "", "# Files"])
