@@ -60,4 +60,5 @@ FOUND_GUARDS: List[Guard] = [
     Guard("missing: second expansions that look at nothing", "anew.py", "return any(LOOKS.search(one) for text in texts", "return any(True for text in texts", later("second_expansion_that_looks_at_nothing")),
     Guard("searches: names that begin as a rule says", "searches.py", " or stem.startswith(self.heads)", "", "test_found.Searches.test_names_that_are_kept"),
     Guard("searches: names that end as a rule says", "searches.py", " or stem.endswith(self.tails)", "", "test_found.Searches.test_names_that_are_kept"),
+    Guard("names with blanks behind a bar", "build.py", ".difference(self.graph.base.prerequisites.get(node.name, ()))", "", found("name_with_a_blank_behind_a_bar"), YES),
 ]
