@@ -279,10 +279,10 @@ class Builder:
 
     def chain_looks(self, after: List[Set[int]]) -> None:
         """In its first pass make looks at leaves one after the other, before a recipe starts that it considers later."""
-        nodes = self.graph.nodes
+        nodes, late = self.graph.nodes, self.graph.late()
         looks = [(nodes[label].done, at) for label, at in self.look_of.items()]
         looks += [(nodes[label].done, at) for label, at in self.of_node.items() if self.build.tasks[at].kind == "decision" and self.is_leaf(nodes[label])]
-        looks += [(nodes[label].first, at) for label, at in self.first_of.items() if label not in self.graph.late()]
+        looks += [(nodes[label].first, at) for label, at in self.first_of.items() if label not in late]
         looks.sort()
         for (_, first), (_, second) in zip(looks, looks[1:]):
             after[second].add(first)

@@ -146,12 +146,13 @@ class Graph:
         return label
 
     def join_grouped(self) -> None:
-        """Targets of one recipe: the one that make names has it, the others wait for it."""
+        """Targets of one recipe: the one that make names has it, the others wait for it; not those that may be a part of a name with a blank."""
+        parts = {part for name in self.base.prerequisites if " " in name for part in name.split()}
         for name, others in self.base.also.items():
             node = self.nodes.get(name)
             if node is None or not node.jobs:
                 continue
-            for other in others:
+            for other in (one for one in others if one not in parts):
                 member = self.nodes.get(other)
                 if member is not None and member is not node and not member.jobs:
                     member.prerequisites[name] = None

@@ -50,7 +50,7 @@ FOUND_GUARDS: List[Guard] = [
     Guard("makefiles that are not there", "owners.py", 'act.kind in "RN" and os.path.basename', 'act.kind == "R" and os.path.basename', found("makefile_that_is_not_there_and_comes"), YES),
     Guard("first looks: members of archives", "searches.py", '([opening + member] if archive and member.endswith(")") else [])', "[]", found("search_for_a_member"), YES),
     Guard("first looks: declared intermediate files", "considered.py", "in self.base.intermediate and node.name not in self.named:", "in self.base.intermediate:", found("search_for_a_declared_intermediate_file"), YES),
-    Guard("first looks: that may come late", "build.py", " if label not in self.graph.late()]", "]", found("search_below_a_second_rule"), YES),
+    Guard("first looks: that may come late", "build.py", " if label not in late]", "]", found("search_below_a_second_rule"), YES),
     Guard("missing: searches by way of other files", "anew.py", ", *self.by_other_files(node)) for place", ") for place", later("by_way_of_another_file")),
     Guard("missing: searches in search paths", "anew.py", "return [name, *(os.path.join(folder, name) for folder in self.searched_folders()", "return [name, *(os.path.join(folder, name) for folder in ()", later("in_a_search_path")),
     Guard("missing: names without a stem", "anew.py", "for one in prerequisites]\n", 'for one in prerequisites if "%" in one]\n', later("without_a_stem")),
@@ -61,4 +61,5 @@ FOUND_GUARDS: List[Guard] = [
     Guard("searches: names that begin as a rule says", "searches.py", " or stem.startswith(self.heads)", "", "test_found.Searches.test_names_that_are_kept"),
     Guard("searches: names that end as a rule says", "searches.py", " or stem.endswith(self.tails)", "", "test_found.Searches.test_names_that_are_kept"),
     Guard("names with blanks behind a bar", "build.py", ".difference(self.graph.base.prerequisites.get(node.name, ()))", "", found("name_with_a_blank_behind_a_bar"), YES),
+    Guard("names with blanks of one recipe", "graph.py", "for other in (one for one in others if one not in parts):", "for other in others:", found("name_with_a_blank_beside_another"), YES),
 ]

@@ -49,6 +49,7 @@ FOUND: Dict[str, Small] = {
     "second_expansion_beside_what_recipes_read": Small("safe", SECOND + "all: a b.o\na: ; echo new > list; touch a\n%.o: %.c $$(Y) a ; echo '$(shell cat list)' > $@\n", LISTS),
     # names with blanks
     "name_with_a_blank_behind_a_bar": Small("race", "all: g x\ng: ; touch a g\nx: a | a\\ b ; touch log x\na\\ b: ; touch 'a b'\n", {"a": "a", "x": "x"}, "touch -d 2001-01-01 a; touch -d 2002-01-01 x"),
+    "name_with_a_blank_beside_another": Small("race", "all: x u\nx a\\ b &: ; echo new > a; touch x 'a b'\nu: a ; cp a u\n", {"a": "a"}),
     # when make has read its makefiles
     "makefile_that_is_not_there_and_comes": Small("race", "-include cfg.mk\nall: w b c\ns: ; touch s\nw: s ; echo 1 > x; touch w cfg.mk\nb: ; echo '$(file <x)' > b\nc: w ; echo '$(file <cfg.mk)' > c\n", {"x": "0"}),
     # orders of names that are handed on
