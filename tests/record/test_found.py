@@ -37,7 +37,7 @@ FOUND: Dict[str, Small] = {
     "search_by_a_pattern_of_names": Small("race", "all: gen src.zip\ngen: ; rm src/n; touch gen\n%.zip: %/* ; echo $^ > $@\n", {"src/n": "n", "src/k": "k"}),
     "search_for_a_member": Small("race", "all: g l.a(sub/x.o)\n(%): % ; ar rcD $@ $<\n%.o: %.a ; cp $< $@\n%.o: %.b ; cp $< $@\ng: ; rm sub/x.a; touch g\n", {"sub/x.a": "a", "sub/x.b": "b"}),
     "search_for_a_declared_intermediate_file": Small("race", ".INTERMEDIATE: sub/x.t\nall: g u\nu: sub/x.t ; cp $< $@\n" + TWO_RULES + "g: ; rm sub/x.a; touch g\n", {"sub/x.a": "a", "sub/x.b": "b"}),
-    "search_below_a_second_rule": Small("race", "all: dc g\ndc:: ; touch dc\ndc:: sub/z.t ; touch dc\n" + TWO_RULES + "g: ; rm sub/z.a; touch g\n", {"sub/z.a": "a", "sub/z.b": "b"}),
+    "search_below_a_second_rule": Small("race", "all: dc g\ndc:: ; sleep 0.2; touch dc\ndc:: sub/z.t ; touch dc\n" + TWO_RULES + "g: ; echo a > sub/z.a; touch g\n", {"sub/z.b": "b"}),
     "search_that_finds_what_was_considered": Small("safe", "all: g sub/z.p sub/z.t\ng: ; touch g\n%.t: %.m ; cp $< $@\n%.m: %.a ; cp $< $@\n%.p: %.m ; cp $< $@\n.SECONDARY:\n", {"sub/z.a": "a"}),
     "search_that_finds_a_rule": Small("safe", "all: gen sub/z.t\n" + TWO_RULES + "gen: ; echo b > sub/z.b; touch gen\nsub/z.b: gen ;\n", {"sub/k": "k"}),
     "search_path_with_a_file_that_goes": Small("race", "VPATH = v w\nall: g t\ng: ; rm v/x.c; touch g\nt: x.c ; touch t log\n", {"v/x.c": "1", "w/x.c": "2", "t": "t"}, "touch -d 2001-01-01 w/x.c; touch -d 2002-01-01 t"),
