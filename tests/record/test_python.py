@@ -18,7 +18,7 @@ class Python(unittest.TestCase):
         """The verdict on a project whose scripts keep byte code."""
         env = {name: value for name, value in os.environ.items() if name != "PYTHONDONTWRITEBYTECODE"}
         with support.Project({"Makefile": makefile, "t/gen.py": script, **files}) as project:
-            outcome = project.record(env=env)
+            outcome = project.run(["--race", support.race_program(), "--", "make"], env)
             self.assertEqual(status, outcome.status, outcome.text())
             self.assertIn(says, outcome.text())
 
