@@ -16,7 +16,7 @@ PYTHON = re.compile(r"(?:.*/)?python[\d.]*$")
 CACHE = "__pycache__"
 LISTS = re.compile(r"listdir|scandir|glob|walk|iterdir|\bPath\b|pathlib|\bexec\b|\beval\b|__import__|importlib|pkgutil|runpy|copytree|rmtree|archive|zip|tarfile"
                    r"|compileall|unittest|pytest|setuptools|distutils|pkg_resources|metadata|\bstat\b|getmtime")
-SYSTEM = ("/usr/", "/lib", "/etc/")
+OWN = re.compile(r"/usr/|/lib|/etc/|.*/lib/python\d[\d.]*/")  # where Python and its packages are
 MODULES = ("*.py", "*.pyc", "*.so", "*/")  # what an import looks for in a list; the last is any folder
 
 
@@ -65,7 +65,7 @@ def settle_code(life: Life, others: Set[str]) -> None:
 def settle_lists(life: Life) -> None:
     """Lists of folders in which it finds modules."""
     lists = [path for kind, path in life.events if kind == "L" and path.endswith("\0*")]
-    read = [BYTE_CODE.sub(r"\1\2.py", path) for kind, path in life.events if kind == "R" and not path.startswith(SYSTEM)]
+    read = [BYTE_CODE.sub(r"\1\2.py", path) for kind, path in life.events if kind == "R" and not OWN.match(path)]
     sources = [path for path in read if path.endswith((".py", ".so"))]
     if not lists or script_of(life) not in (os.path.basename(path) for path in sources) or any(lists_folders(path) for path in sources):
         return

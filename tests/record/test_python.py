@@ -1,6 +1,7 @@
 """Recipes that run Python: byte code, and the folders in which it finds modules."""
 
 import os
+import sys
 import unittest
 from typing import Dict
 
@@ -15,8 +16,9 @@ class Python(unittest.TestCase):
     """What an import does by itself."""
 
     def of(self, makefile: str, script: str, status: int, says: str = "", files: Dict[str, str] = HELPER) -> None:
-        """The verdict on a project whose scripts keep byte code."""
+        """The verdict on a project whose scripts keep byte code, by this Python itself and by no script that begins it."""
         env = {name: value for name, value in os.environ.items() if name != "PYTHONDONTWRITEBYTECODE"}
+        env["PATH"] = os.path.dirname(os.path.realpath(sys.executable)) + os.pathsep + env["PATH"]
         with support.Project({"Makefile": makefile, "t/gen.py": script, **files}) as project:
             outcome = project.run(["--race", support.race_program(), "--", "make"], env)
             self.assertEqual(status, outcome.status, outcome.text())
