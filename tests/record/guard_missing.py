@@ -39,8 +39,6 @@ MISSING_GUARDS: List[Guard] = [
     Guard("missing: temporaries", "looked.py", "            gone -= (reads | writes) - self.removes[at]\n", "            gone.clear()\n", tree("a temporary")),
     Guard("missing: other outputs", "due.py", "            if len(writers) > len(also):", "            if False:", tree("two outputs")),
     Guard("missing: what make does for a recipe", "looked.py", "if place > seen or event in again)", "if False)", tree("a macro of the shell")),
-    Guard("missing: what makefiles call", "looked.py", "if place > seen or event in again)", "if True)", tree("what a makefile calls while it is read")),
-    Guard("missing: what makefiles and a recipe call", "looked.py", "if place > seen or event in again)", "if place > seen)", tree("a macro of the shell in two places")),
     Guard("missing: a make inside", "keeping.py", "any(work.makes or work.ninjas for work in task.works)", "False", tree("a make inside that always runs"), beside=FIRST),
     Guard("missing: a recipe that looks first", "keeping.py", "is_forced and looks_first(task))", "False)", tree("a file that is written where it differs")),
     Guard("missing: what is newer", "due.py", "        if asks and is_forced:", "        if False:", tree("a recipe that asks what is newer")),

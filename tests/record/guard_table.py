@@ -74,7 +74,6 @@ TRACE: List[Guard] = [
     Guard("wrapper: the recipe that runs", "wrapper.py", "        if not self.job:\n            return self.is_early(packet)\n", "        if True:\n            return self.is_early(packet)\n", "test_wrapper.Splits.test_recipe_that_prints_words_of_make"),
     Guard("wrapper: words before the line about a recipe", "wrapper.py", "            return bool(WORD_LINE.match(packet)) and", "            return False and", "test_wrapper.Splits.test_recipe_that_speaks_before_the_line_about_it"),
     Guard("wrapper: makefiles that a recipe includes", "wrapper.py", " and not INCLUDED.match(packet)", "", "test_output.Output.test_makefiles_that_a_recipe_includes"),
-    Guard("words: makefiles that a recipe includes are read by it", "words.py", "is_making = self.round is not None and self.round.start == len(words.read) - 1", "is_making = False", "test_output.Output.test_makefiles_that_a_recipe_includes", YES),
     Guard("wrapper: what looks like the data base before that line", "wrapper.py", "elif self.next is not None and self.blank and packet.startswith(BASE):", "elif False:", "test_wrapper.Splits.test_recipe_whose_first_words_look_like_the_data_base"),
     Guard("wrapper: job lines of that recipe alone", "wrapper.py", "about.group(2) not in (None, self.job):", "False:", "test_wrapper.Splits.test_recipe_that_prints_words_of_make"),
     Guard("wrapper: words of a wrapper above", "options.py", '    if "--debug=v,j,m" not in flags:\n', "    if True:\n", "test_wrapper.Asked.test_words_of_a_wrapper_above_are_taken_out"),
@@ -103,7 +102,6 @@ NAMES: List[Guard] = [
     Guard("lists of make: a search", "memory.py", "for pattern in builder.make.globs if asked is None or path in asked else ():", "for pattern in builder.make.globs:", small("search_that_lists_a_folder"), FALSE_RACE),
     Guard("lists of make: makefiles that are not there", "owners.py", 'return len(self.life.starts) < 2 and "N" in kinds', 'return False and "N" in kinds', small("search_that_lists_a_folder"), FALSE_RACE),
     Guard("lists of make: exported macros", "memory.py", "open_names = exported_lists(builder.known)", "open_names = False", small("wildcard_that_a_target_exports"), YES),
-    Guard("lists of make: second expansions", "memory.py", '".SECONDEXPANSION" in base.prerequisites or ', "", small("wildcard_of_a_second_expansion"), YES),
     Guard("macros: exports of a target", "macros.py", r"(?:[^\t\n#][^\n]*?:)?[ \t]*(?:(?:override|private)[ \t]+)*export", r"[ \t]*export", small("macro_that_a_target_exports"), YES),
     Guard("patterns keep other names out", "build.py", " and fnmatchcase(name, pattern):", ":", case("glob-other-names"), FALSE_RACE),
     Guard("scripts are of their interpreter", "calls.py", "argv = argv if life.is_wrapper else shelltext.with_interpreter(argv, found.path)", "pass", small("script_that_compares_ages"), YES),
@@ -164,7 +162,6 @@ GRAPH: List[Guard] = [
     Guard("searches: a folder not listed before", "considered.py", ">= self.builder.first_birth():\n            return True", ">= self.builder.first_birth():\n            return False", small("search_sees_a_name_that_goes"), YES),
     Guard("searches: a folder listed before", "considered.py", "if self.builder.make.listed.get(os.path.dirname(path), 1 << 60) >= self.builder.first_birth():", "if True:", small("search_in_an_early_listing"), FALSE_RACE),
     Guard("searches: said", "considered.py", 'self.builder.assumed.add("search", path)', "pass", small("search_in_an_early_listing"), UNSAID),
-    Guard("vpath: where a target is", "build.py", "spelled = self.graph.round.vpath.get(name, name)", "spelled = name", small("vpath_prerequisite"), YES, LOOKS),
     Guard("second rounds: one build each", "words.py", '        elif text.startswith("Updating makefiles"):\n            self.begin("makefiles")\n', "", small("race_among_makefiles"), YES),
 ]
 AGES: List[Guard] = [
