@@ -10,28 +10,20 @@ use Rattle.mk_race.specs.Stages.{IsPlanned, Texts}
 use Rattle.mk_race.specs.declared.planning.Planned.{Planned}
 use Rattle.mk_race.specs.declared.replaying.Played.{Played}
 use Rattle.mk_race.specs.declared.replaying.Played.TheVariants.{Allowed, NotAllowed}
-use Rattle.mk_program.specs.Answers.{IsNotedReplay, IsNotedVerify, IsOrderAnswer, IsReplayAnswer, SaysVerdict, status_of, verdict_status, verdict_text}
-use Rattle.mk_program.specs.Includes.{Pair}
+use Rattle.mk_program.specs.Answers.{IsOrderAnswer, IsReplayAnswer, SaysVerdict, status_of, verdict_status, verdict_text}
+use Rattle.mk_files.specs.Includes.{Pair}
 use Rattle.mk_program.specs.PlanText.{plan_text}
 use Rattle.mk_program.specs.OutcomeText.{IsOutcomeText}
 use Rattle.mk_program.specs.declared.statuses.Status.{Status}
 use Rattle.mk_program.specs.declared.statuses.Status.TheVariants.{Done, Failed, Refused}
 
 -- texts that agree in each part
-pub texts_are : (root root' : List ℕ) (operands operands' : List (List ℕ)) (base base' makefile makefile' listing listing' : List ℕ) (includes : List Pair)
-    → root ≡ root' → operands ≡ operands' → base ≡ base' → makefile ≡ makefile' → listing ≡ listing' → (x : Texts) → (y : Texts)
+pub texts_are : (root root' : List ℕ) (operands operands' : List (List ℕ)) (base base' makefile makefile' listing listing' : List ℕ)
+    (includes includes' : List Pair) → root ≡ root' → operands ≡ operands' → base ≡ base' → makefile ≡ makefile' → listing ≡ listing'
+    → includes ≡ includes' → (x : Texts) → (y : Texts)
     → x ≡ record { root = root; operands = operands; base = base; makefile = makefile; includes = includes; listing = listing }
-    → y ≡ record { root = root'; operands = operands'; base = base'; makefile = makefile'; includes = includes; listing = listing' } → x ≡ y
-texts_are root root' operands operands' base base' makefile makefile' listing listing' includes r o b m l x y is_x is_y = cc
-
--- the answer to a replay over what was read is the one over the texts
-pub replay_reported : (old new : Texts) (footprints footprints' log log' : List ℕ) (strict : Bool) (limit : ℕ) (tie : Bool) (status : Status) (text note : List ℕ)
-    → old ≡ new → footprints ≡ footprints' → log ≡ log' → IsNotedReplay strict old footprints log limit tie status text note
-    → IsNotedReplay strict new footprints' log' limit tie status text note
-replay_reported old new footprints footprints' log log' strict limit tie status text note t f l h =
-    subst (λ (x : List ℕ). IsNotedReplay strict new footprints' x limit tie status text note) l
-    (subst (λ (x : List ℕ). IsNotedReplay strict new x log limit tie status text note) f
-    (subst (λ (x : Texts). IsNotedReplay strict x footprints log limit tie status text note) t h))
+    → y ≡ record { root = root'; operands = operands'; base = base'; makefile = makefile'; includes = includes'; listing = listing' } → x ≡ y
+texts_are root root' operands operands' base base' makefile makefile' listing listing' includes includes' r o b m l i x y is_x is_y = cc
 
 -- the report of the fault of a replay is its answer
 pub refused_is : (texts : Texts) (footprints log : List ℕ) (limit limit' : ℕ) (tie : Bool) (halt : Halt) (fault : Reported) (status : Status) (text : List ℕ)
@@ -68,15 +60,6 @@ not_failed status done failed = let e : ◌≡◌ {A = Status} Done Failed = sym
 pub plan_is : (texts : Texts) (planned : Planned) (status : Status) (text : List ℕ)
     → IsPlanned texts (Ok planned) → status ≡ Done → text ≡ plan_text planned.plan → IsOrderAnswer texts status text
 plan_is texts planned status text is ends reported = rw ends (planned, is, reported)
-
--- the answer to a proof over what was read is the one over the texts
-pub verify_reported : (old new : Texts) (footprints footprints' proof proof' : List ℕ) (strict : Bool) (status : Status) (text note : List ℕ)
-    → old ≡ new → footprints ≡ footprints' → proof ≡ proof' → IsNotedVerify strict old footprints proof status text note
-    → IsNotedVerify strict new footprints' proof' status text note
-verify_reported old new footprints footprints' proof proof' strict status text note t f p h =
-    subst (λ (x : List ℕ). IsNotedVerify strict new footprints' x status text note) p
-    (subst (λ (x : List ℕ). IsNotedVerify strict new x proof status text note) f
-    (subst (λ (x : Texts). IsNotedVerify strict x footprints proof status text note) t h))
 
 -- the report of the fault of a proof is its answer
 pub unverified_is : (Is : Result Bool Reported → Type 0) (Shown : Type 0) (halt : Halt) (fault : Reported) (status : Status) (text : List ℕ)

@@ -7,12 +7,12 @@ use Rattle.clap.specs.declared.error.kind.ErrorKind.{ErrorKind}
 use Rattle.clap.specs.declared.error.kind.ErrorKind.TheVariants.{OutOfMemory}
 use Rattle.mk_program.specs.Answers.{IsAnswer, IsFailureOf, IsRequestFailure, IsSaid, MayAllBeRead}
 use Rattle.mk_request.specs.CommandLine.{Asks, IsCall, asked, wrong}
-use Rattle.mk_program.specs.Files.{Files}
-use Rattle.mk_program.specs.Includes.{IncludesMayBeRead, IncludesMayFail, IsFailure}
-use Rattle.mk_program.specs.Inputs.{IsShortOr, IsUnread}
+use Rattle.mk_files.specs.Files.{Files}
+use Rattle.mk_files.specs.Includes.{IncludesMayBeRead, IncludesMayFail, IsFailure}
+use Rattle.mk_files.specs.Inputs.{IsShortOr, IsUnread}
 use Rattle.mk_request.specs.Requests.{includes_path, inputs_of}
-use Rattle.mk_program.specs.declared.failures.Failure.{Failure}
-use Rattle.mk_program.specs.declared.failures.Failure.TheVariants.{Memory, NotText, Read, Usage, Write}
+use Rattle.mk_files.specs.declared.failures.Failure.{Failure}
+use Rattle.mk_files.specs.declared.failures.Failure.TheVariants.{Memory, NotText, Read, Usage, Write}
 use Rattle.mk_request.specs.declared.inputs.InputFile.TheVariants.{Include}
 use Rattle.mk_request.specs.declared.inputs.InputPath.{InputPath}
 use Rattle.mk_request.specs.declared.requests.Request.{Request}

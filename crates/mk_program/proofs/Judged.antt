@@ -1,5 +1,5 @@
 -- Lemmas on the answers to a check.
-use Rattle.std.proofs.Common.{◌≡◌, ◌≢◌, ◌∙◌, ◌==◌, inl, inr, ℕ, Bool, false, List, [], ◌++◌, Option, Some, None, Ok, Err, ap, subst, sym, refl, codes, slice_index_or}
+use Rattle.std.proofs.Common.{◌≡◌, ◌≢◌, ◌∙◌, ◌==◌, inl, inr, ℕ, Bool, false, List, [], ◌++◌, Option, Some, None, Ok, Err, ap, sym, refl, codes, slice_index_or}
 use Rattle.std.proofs.lemmas.Bool.{false≢true}
 use Rattle.std.proofs.lemmas.List.Elements.{All-cons, All-head, All-nil}
 use Rattle.std.specs.Borrow.{Bor}
@@ -12,8 +12,8 @@ use Rattle.mk_race.specs.Stages.{Texts}
 use Rattle.mk_race.specs.Tasked as tasked
 use Rattle.mk_program.specs.Answers.{AskToCheck, IsAnswerTo, IsNotedCheck, IsTasksAnswer, SaysJudged, SaysSafe, judged_status}
 use Rattle.mk_request.specs.CommandLine.{Asks, IsQuestion, asked}
-use Rattle.mk_program.specs.Includes.{Pair}
-use Rattle.mk_program.specs.Inputs.{Hold, IsLeftOut}
+use Rattle.mk_files.specs.Includes.{Pair}
+use Rattle.mk_files.specs.Inputs.{Hold, IsLeftOut}
 use Rattle.mk_request.specs.Requests.{input_at, listing_input, proof_input}
 use Rattle.mk_request.specs.declared.inputs.InputFile.{InputFile}
 use Rattle.mk_request.specs.declared.inputs.InputFile.TheVariants as inputs
@@ -25,12 +25,6 @@ use Rattle.mk_request.specs.declared.requests.TaskQuestion.{TaskQuestion}
 use Rattle.mk_request.specs.declared.requests.TaskQuestion.TheVariants as questions
 use Rattle.mk_program.specs.declared.statuses.Status.{Status}
 use Rattle.mk_program.specs.declared.statuses.Status.TheVariants.{Done, Failed, No, Refused}
-
--- the answer to a check over what was read is the one over the texts
-pub check_reported : (old new : Texts) (footprints footprints' : List ℕ) (strict proof : Bool) (status : Status) (text note : List ℕ)
-    → old ≡ new → footprints ≡ footprints' → IsNotedCheck strict old footprints proof status text note → IsNotedCheck strict new footprints' proof status text note
-check_reported old new footprints footprints' strict proof status text note t f h =
-    subst (λ (x : List ℕ). IsNotedCheck strict new x proof status text note) f (subst (λ (x : Texts). IsNotedCheck strict x footprints proof status text note) t h)
 
 -- a build that is said to be safe is
 noted_safe : (strict : Bool) (texts : Texts) (footprints : List ℕ) (proof : Bool) (text note : List ℕ) → IsNotedCheck strict texts footprints proof Done text note

@@ -7,9 +7,7 @@ mod Noted
 mod OutcomeLines
 mod PlanLines
 mod RaceLists
-mod Reading
+mod Replies
 mod SerialAnswers
 mod TaskAnswers
-mod Reported
-pub mod Included
 pub mod Judged

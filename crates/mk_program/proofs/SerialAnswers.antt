@@ -16,7 +16,7 @@ use Rattle.mk_sched.specs.Stored.{store_of}
 use Rattle.mk_sched.proofs.SerialList.{all_inside}
 use Rattle.mk_program.specs.Answers.{HasNoText, IsSerialiseAnswer}
 use Rattle.mk_program.specs.OrderText.{HasNodes, IsNoText, IsOrderText, IsUnreported, order_status}
-use Rattle.mk_program.specs.declared.failures.Failure.{Failure}
+use Rattle.mk_files.specs.declared.failures.Failure.{Failure}
 use Rattle.mk_program.specs.declared.statuses.Status.{Status}
 use Rattle.mk_program.specs.declared.statuses.Status.TheVariants.{Done, No, Failed, Refused}
 

@@ -1,5 +1,5 @@
 -- What the program answers to a request, over what the files hold, and what it writes of that.
-use Rattle.std.specs.Prelude.{◌≡◌, ◌≢◌, ◌⊎◌, ℕ, Bool, true, false, List, [], ◌∷◌, ◌++◌, Result, Ok, Err, Option, None, Some, IsSome, map, codes, length, if◌then◌else◌}
+use Rattle.std.specs.Prelude.{◌≡◌, ◌≢◌, ◌⊎◌, ℕ, Bool, true, false, List, [], ◌∷◌, ◌++◌, Result, Ok, Err, Option, None, Some, map, codes, length, if◌then◌else◌}
 use Rattle.std.specs.Borrow.{Bor}
 use Rattle.std.specs.Io.KnownBytes.{Appends}
 use Rattle.clap.specs.Words.{Row, Text}
@@ -41,19 +41,20 @@ use Rattle.mk_sched.specs.declared.refusal.Refusal.{Refusal}
 use Rattle.mk_sched.specs.declared.replay.Replayed.{Replayed}
 use Rattle.mk_program.specs.ChangeText.{change_text}
 use Rattle.mk_request.specs.CommandLine.{Asks, HasMistake, IsAnswerable, asked, wrong}
-use Rattle.mk_program.specs.Files.{Files}
-use Rattle.mk_program.specs.Includes.{IncludesMayBeRead, IncludesMayFail, Pair, includes_in}
-use Rattle.mk_program.specs.Inputs.{Hold, InputsMayBeRead, IsShortOr, IsUnread}
+use Rattle.mk_files.specs.Files.{Files}
+use Rattle.mk_files.specs.Includes.{IncludesMayBeRead, IncludesMayFail, Pair, includes_in}
+use Rattle.mk_files.specs.Inputs.{Hold, InputsMayBeRead, IsShortOr, IsUnread}
 use Rattle.mk_program.specs.Noting.{SaysNoting}
 use Rattle.mk_program.specs.OrderText.{IsNoText, IsOrderText, order_status}
 use Rattle.mk_program.specs.OutcomeText.{IsOutcomeText}
 use Rattle.mk_program.specs.PlanText.{plan_text}
 use Rattle.mk_program.specs.PosixBase.{posix_base}
 use Rattle.mk_request.specs.Requests.{includes_path, inputs_of}
-use Rattle.mk_program.specs.declared.failures.Failure.{Failure}
-use Rattle.mk_program.specs.declared.failures.Failure.TheVariants as failures
+use Rattle.mk_files.specs.declared.failures.Failure.{Failure}
+use Rattle.mk_files.specs.declared.failures.Failure.TheVariants as failures
 use Rattle.mk_request.specs.declared.inputs.InputFile.{InputFile}
 use Rattle.mk_request.specs.declared.inputs.InputFile.TheVariants as inputs
+use Rattle.mk_request.specs.declared.inputs.InputPath.{InputPath}
 use Rattle.mk_request.specs.declared.requests.BuildArgs.{BuildArgs}
 use Rattle.mk_request.specs.declared.requests.CheckArgs.{CheckArgs}
 use Rattle.mk_request.specs.declared.requests.Request.{Request}
@@ -396,6 +397,12 @@ abbrev pub IsReadFailure : Files → Request → InputFile → Type 0
 IsReadFailure files request input =
     ((input ≡ inputs.Include) × IncludesMayFail files (includes_path request))
     ⊎ (IncludesMayBeRead files (includes_path request) × IsUnread files (inputs_of request) input)
+
+-- a failure of other inputs and of an answer over their texts: memory is short, one of their files fails, or the answer is no text
+abbrev pub IsInputFailure : Files → List InputPath → ((InputFile → List ℕ) → Type 0) → Failure → Type 0
+IsInputFailure files inputs IsNoText failure =
+    IsShortOr (IsUnread files inputs) failure
+    ⊎ ((failure ≡ failures.NotText) × ((text : InputFile → List ℕ) → Hold files.text inputs text → IsNoText text))
 
 -- a failure of a request: memory is short, its files fail, or its answer is no text
 abbrev pub IsRequestFailure : Files → Request → Failure → Type 0

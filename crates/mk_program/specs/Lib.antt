@@ -1,9 +1,5 @@
 pub mod Answers
 pub mod ChangeText
-pub mod Failures
-pub mod Files
-pub mod Includes
-pub mod Inputs
 pub mod Noting
 pub mod OrderText
 pub mod OutcomeText

@@ -9,8 +9,8 @@ use Rattle.mk_race.specs.declared.serialising.Ordered.{Ordered}
 use Rattle.mk_race.specs.declared.serialising.Ordered.TheVariants.{Serial, NotAllowed, NotComplete, Race, NoRoom}
 use Rattle.mk_report.specs.ReportText.{race_text}
 use Rattle.mk_program.specs.OutcomeText.{not_allowed_text}
-use Rattle.mk_program.specs.declared.failures.Failure.{Failure}
-use Rattle.mk_program.specs.declared.failures.Failure.TheVariants as failures
+use Rattle.mk_files.specs.declared.failures.Failure.{Failure}
+use Rattle.mk_files.specs.declared.failures.Failure.TheVariants as failures
 use Rattle.mk_program.specs.declared.statuses.Status.{Status}
 use Rattle.mk_program.specs.declared.statuses.Status.TheVariants as statuses
 

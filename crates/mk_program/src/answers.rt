@@ -1,31 +1,32 @@
 //! The answers to requests.
-ghost use Rattle.std.specs.Prelude.{◌≡◌, ◌≢◌, IfErr, IfOk, List, Ok, OnOk, map, ℕ};
+ghost use Rattle.std.specs.Prelude.{◌≡◌, ◌≢◌, IfErr, IfOk, List, None, Ok, OnOk, Some, map, ℕ};
 ghost use Rattle.mk_name.specs.Shown.{refused_text};
 ghost use Rattle.mk_name.specs.Reported.{Reported};
 ghost use Rattle.mk_name.specs.declared.fault.Halt.TheVariants as halts;
 ghost use Rattle.mk_race.specs.Stages.{IsPrepared, Texts, texts_of};
+ghost use Rattle.mk_request.specs.Requests.{inputs_of};
+ghost use Rattle.mk_request.specs.declared.inputs.InputFile.TheVariants as inputs;
 ghost use Rattle.mk_program.specs.Answers as spec;
-ghost use Rattle.mk_program.specs.Includes.{shown};
-ghost use Rattle.mk_program.specs.Inputs.{AreTexts};
-ghost use Rattle.mk_program.specs.OrderText.{IsUnreported};
+ghost use Rattle.mk_files.specs.Inputs.{AreTexts, Hold, InputsMayBeRead, IsShortOr, IsUnread};
 ghost use Rattle.mk_program.specs.OutcomeText.{IsOutcomeText};
 ghost use Rattle.mk_program.specs.PlanText.{plan_text as text_of_plan};
 
-use crate::checking::check_answer;
-use crate::failures::Failure;
-use crate::fixing::fix_answer;
-use crate::includes::{IncludeText, pairs_of, read_includes};
-use crate::inputs::{InputText, read_inputs, text_of};
-use crate::listing::list_answer;
-use crate::missing::missing_answer;
-use crate::noting::{Question, Reply, noted_reply, without_note};
-use crate::openers::Opener;
+use crate::checking::check_reply;
+use crate::fixing::FixQuestion;
+use crate::listing::ListQuestion;
+use crate::missing::MissingQuestion;
+use crate::noting::{Question, Reply, noted_reply};
 use crate::outcome_lines::outcome_text;
 use crate::plan_lines::plan_text;
 use crate::posix_base::posix_base;
-use crate::serialising::serialise_answer;
+use crate::serialising::SerialOrder;
 use crate::statuses::Status;
-use crate::tasks::tasks_answer;
+use crate::tasks::TasksQuestion;
+use crate::text_questions::{TextQuestion, text_reply};
+use mk_files::failures::Failure;
+use mk_files::includes::{pairs_of, read_includes};
+use mk_files::inputs::{InputText, text_of};
+use mk_files::openers::Opener;
 use mk_name::fault::{Fault, Halt};
 use mk_name::report::refused_report;
 use mk_race::input::Input;
@@ -33,8 +34,8 @@ use mk_race::planning::{Planned, plan_of};
 use mk_race::preparing::Prepared;
 use mk_race::replaying::{Played, replay_prepared};
 use mk_race::verifying::verify_prepared;
-use mk_request::inputs::InputFile;
-use mk_request::requests::{BuildArgs, ReplayArgs, Request, VerifyArgs, includes_path, inputs_of};
+use mk_request::inputs::{InputFile, InputPath};
+use mk_request::requests::{BuildArgs, ReplayArgs, Request, VerifyArgs, includes_path};
 use std::alloc::{AllocError, Global};
 use std::mem::forget;
 
@@ -45,16 +46,23 @@ pub struct Answer {
     pub text: Vec<u8>,
 }
 
-/// Whether a proof is accepted.
+/// The serial order of a build.
 #[derive(Clone, Copy)]
-struct Verifying<'a> {
-    proof: &'a [u8],
+struct OrderQuestion<'q, 'a> {
+    build: &'q BuildArgs<'a>,
 }
 
-/// What a log is, where this many nodes may run at once, and with `tie` files of equal times count as newer.
+/// Whether the proof that the file of this path holds is accepted.
+#[derive(Clone, Copy)]
+struct Verifying<'a> {
+    proof: &'a str,
+}
+
+/// What the log that the file of this path holds is, where this many nodes may run at once, and with `tie` files of equal times
+/// count as newer.
 #[derive(Clone, Copy)]
 struct Replaying<'a> {
-    log: &'a [u8],
+    log: &'a str,
     limit: u16,
     tie: bool,
 }
@@ -73,138 +81,108 @@ pub fn answer_of<P: Opener>(
         reply.answer.status reply.answer.text.items reply.note.items) }
 {
     let included = read_includes(alloc, opener, includes_path(request))?;
-    let inputs = inputs_of(alloc, request)?;
-    let texts = read_inputs(alloc, opener, inputs.as_slice())?;
-    answer_with(alloc, request, included.as_slice(), texts.as_slice())
+    let pairs = pairs_of(alloc, included.as_slice())?;
+    answer_with(alloc, request, opener, pairs.as_slice())
 }
 
-/// The answer to a request over the texts of its includes and of its inputs, and its note.
-fn answer_with(
+/// The answer to a request over the pairs of its includes, and its note. A check, a proof and a log are judged by a listing and
+/// footprints that are read in pieces, the others by whole texts.
+fn answer_with<P: Opener>(
     alloc: Global,
     request: &Request<'_>,
-    included: &[IncludeText],
-    texts: &[InputText],
-) -> Result<Reply, Failure>
-    ensures status { IfOk result (λ reply. reply.answer.status ≢ Status.Failed) }
-    ensures failure { IfErr result (IsUnreported ((text : InputFile → List ℕ) → AreTexts texts.now text
-        → spec.IsNoTextOver request.now (shown included.now) text)) }
-    ensures answer { IfOk result (λ reply. (text : InputFile → List ℕ) → AreTexts texts.now text
-        → spec.IsAnswerOver request.now (shown included.now) text
-        reply.answer.status reply.answer.text.items reply.note.items) }
-{
-    let pairs = pairs_of(alloc, included)?;
-    answer_over(alloc, request, pairs.as_slice(), texts)
-}
-
-/// The answer to a request over the pairs of its includes and the texts of its inputs, and its note.
-fn answer_over(
-    alloc: Global,
-    request: &Request<'_>,
+    opener: &mut P,
     includes: &[(&[u8], &[u8])],
-    texts: &[InputText],
 ) -> Result<Reply, Failure>
     ensures status { IfOk result (λ reply. reply.answer.status ≢ Status.Failed) }
-    ensures failure { IfErr result (IsUnreported ((text : InputFile → List ℕ) → AreTexts texts.now text
-        → spec.IsNoTextOver request.now (map (λ pair. (pair.0.now, pair.1.now)) includes.now) text)) }
-    ensures answer { IfOk result (λ reply. (text : InputFile → List ℕ) → AreTexts texts.now text
+    ensures read { OnOk result (InputsMayBeRead (P.files opener.old) (inputs_of request.now)) }
+    ensures failure { IfErr result (spec.IsInputFailure (P.files opener.old) (inputs_of request.now)
+        (spec.IsNoTextOver request.now (map (λ pair. (pair.0.now, pair.1.now)) includes.now))) }
+    ensures answer { IfOk result (λ reply. (text : InputFile → List ℕ)
+        → Hold (P.files opener.old).text (inputs_of request.now) text
         → spec.IsAnswerOver request.now (map (λ pair. (pair.0.now, pair.1.now)) includes.now) text
         reply.answer.status reply.answer.text.items reply.note.items) }
 {
     match request {
-        Request::Check(check) => Ok(check_answer(alloc, check, includes, texts)?),
-        Request::Verify(verify) => Ok(verify_answer(alloc, verify, includes, texts)?),
-        Request::Replay(replay) => Ok(replay_answer(alloc, replay, includes, texts)?),
+        Request::Check(check) => check_reply(alloc, opener, check, includes),
+        Request::Verify(verify) => verify_reply(alloc, opener, verify, includes),
+        Request::Replay(replay) => replay_reply(alloc, opener, replay, includes),
         Request::Order(build) => {
-            let answer = order_answer(alloc, build, includes, texts)?;
-            Ok(without_note(alloc, answer))
+            text_reply(alloc, opener, request, includes, &OrderQuestion { build })
         }
         Request::Serialise(replay) => {
-            let answer = serialise_answer(alloc, replay, includes, texts)?;
-            Ok(without_note(alloc, answer))
+            text_reply(alloc, opener, request, includes, &SerialOrder { replay })
         }
         Request::List(list) => {
-            let answer = list_answer(alloc, list, includes, texts)?;
-            Ok(without_note(alloc, answer))
+            text_reply(alloc, opener, request, includes, &ListQuestion { list })
         }
         Request::Missing(list) => {
-            let answer = missing_answer(alloc, list, includes, texts)?;
-            Ok(without_note(alloc, answer))
+            text_reply(alloc, opener, request, includes, &MissingQuestion { list })
         }
-        Request::Fix(fix) => {
-            let answer = fix_answer(alloc, fix, includes, texts)?;
-            Ok(without_note(alloc, answer))
-        }
+        Request::Fix(fix) => text_reply(alloc, opener, request, includes, &FixQuestion { fix }),
         Request::Tasks(args) => {
-            let answer = tasks_answer(alloc, args, texts)?;
-            Ok(without_note(alloc, answer))
+            text_reply(alloc, opener, request, includes, &TasksQuestion { args })
         }
     }
 }
 
-/// The serial order of a build, or why it is refused.
-fn order_answer(
+/// Whether a proof is accepted for a build, or why the inputs are refused; and the note.
+fn verify_reply<P: Opener>(
     alloc: Global,
-    build: &BuildArgs<'_>,
+    opener: &mut P,
+    verify: &VerifyArgs<'_>,
     includes: &[(&[u8], &[u8])],
-    texts: &[InputText],
-) -> Result<Answer, AllocError>
-    ensures status { IfOk result (λ answer. answer.status ≢ Status.Failed) }
-    ensures answer { IfOk result (λ answer. (text : InputFile → List ℕ) → AreTexts texts.now text
-        → spec.IsOrderAnswer (spec.texts_for build.now
-        (map (λ pair. (pair.0.now, pair.1.now)) includes.now) text) answer.status answer.text.items) }
+) -> Result<Reply, Failure>
+    ensures status { IfOk result (λ reply. reply.answer.status ≢ Status.Failed) }
+    ensures read { OnOk result (InputsMayBeRead (P.files opener.old) (inputs_of (Request.Verify verify.now))) }
+    ensures failure { IfErr result (IsShortOr (IsUnread (P.files opener.old) (inputs_of (Request.Verify verify.now)))) }
+    ensures answer { IfOk result (λ reply. (text : InputFile → List ℕ)
+        → Hold (P.files opener.old).text (inputs_of (Request.Verify verify.now)) text
+        → spec.IsAnswerOver (Request.Verify verify.now) (map (λ pair. (pair.0.now, pair.1.now)) includes.now) text
+        reply.answer.status reply.answer.text.items reply.note.items) }
 {
-    let operands = bytes_of(alloc, build.operands.as_slice())?;
-    order_over(
+    let verifying = Verifying {
+        proof: verify.proof,
+    };
+    let footprints = verify.footprints;
+    noted_reply(
         alloc,
-        &input_of(build, operands.as_slice(), includes, texts),
+        opener,
+        &verify.build,
+        footprints,
+        includes,
+        &verifying,
     )
 }
 
-/// Whether a proof is accepted for a build, or why the inputs are refused; and the note.
-fn verify_answer(
-    alloc: Global,
-    verify: &VerifyArgs<'_>,
-    includes: &[(&[u8], &[u8])],
-    texts: &[InputText],
-) -> Result<Reply, AllocError>
-    ensures status { IfOk result (λ reply. reply.answer.status ≢ Status.Failed) }
-    ensures answer { IfOk result (λ reply. (text : InputFile → List ℕ) → AreTexts texts.now text
-        → spec.IsNotedVerify verify.now.build.strict (spec.texts_for verify.now.build
-        (map (λ pair. (pair.0.now, pair.1.now)) includes.now) text) (text InputFile.Footprints)
-        (text InputFile.Proof) reply.answer.status reply.answer.text.items reply.note.items) }
-{
-    let build = &verify.build;
-    let operands = bytes_of(alloc, build.operands.as_slice())?;
-    let input = input_of(build, operands.as_slice(), includes, texts);
-    let verifying = Verifying {
-        proof: text_of(texts, InputFile::Proof),
-    };
-    noted_reply(alloc, &input, build.strict, &verifying)
-}
-
 /// Whether a log is a run of a build, or why the inputs are refused; and the note.
-fn replay_answer(
+fn replay_reply<P: Opener>(
     alloc: Global,
+    opener: &mut P,
     replay: &ReplayArgs<'_>,
     includes: &[(&[u8], &[u8])],
-    texts: &[InputText],
-) -> Result<Reply, AllocError>
+) -> Result<Reply, Failure>
     ensures status { IfOk result (λ reply. reply.answer.status ≢ Status.Failed) }
-    ensures answer { IfOk result (λ reply. (text : InputFile → List ℕ) → AreTexts texts.now text
-        → spec.IsNotedReplay replay.now.build.strict (spec.texts_for replay.now.build
-        (map (λ pair. (pair.0.now, pair.1.now)) includes.now) text) (text InputFile.Footprints)
-        (text InputFile.Log) replay.now.limit replay.now.tie
+    ensures read { OnOk result (InputsMayBeRead (P.files opener.old) (inputs_of (Request.Replay replay.now))) }
+    ensures failure { IfErr result (IsShortOr (IsUnread (P.files opener.old) (inputs_of (Request.Replay replay.now)))) }
+    ensures answer { IfOk result (λ reply. (text : InputFile → List ℕ)
+        → Hold (P.files opener.old).text (inputs_of (Request.Replay replay.now)) text
+        → spec.IsAnswerOver (Request.Replay replay.now) (map (λ pair. (pair.0.now, pair.1.now)) includes.now) text
         reply.answer.status reply.answer.text.items reply.note.items) }
 {
-    let build = &replay.build;
-    let operands = bytes_of(alloc, build.operands.as_slice())?;
-    let input = input_of(build, operands.as_slice(), includes, texts);
     let replaying = Replaying {
-        log: text_of(texts, InputFile::Log),
+        log: replay.log,
         limit: replay.limit,
         tie: replay.tie,
     };
-    noted_reply(alloc, &input, build.strict, &replaying)
+    let footprints = replay.footprints;
+    noted_reply(
+        alloc,
+        opener,
+        &replay.build,
+        footprints,
+        includes,
+        &replaying,
+    )
 }
 
 /// What a build is judged by: its root and operands as they were given, and the texts that were read.
@@ -222,7 +200,7 @@ pub(crate) fn input_of<'a>(
         → result.footprints.now ≡ text InputFile.Footprints }
 {
     Input {
-        base: base_of(build, texts),
+        base: base_of(build, text_of(texts, InputFile::Base)),
         makefile: text_of(texts, InputFile::Makefile),
         includes,
         listing: text_of(texts, InputFile::Listing),
@@ -232,15 +210,30 @@ pub(crate) fn input_of<'a>(
     }
 }
 
-/// The base makefile of a build.
-fn base_of<'a>(build: &BuildArgs<'_>, texts: &'a [InputText]) -> &'a [u8]
-    ensures { (text : InputFile → List ℕ) → AreTexts texts.now text
-        → result.now ≡ spec.base_of build.now (text InputFile.Base) }
+/// The base makefile of a build, where this text was read for one.
+pub(crate) fn base_of<'a>(build: &BuildArgs<'_>, read: &'a [u8]) -> &'a [u8]
+    ensures { result.now ≡ spec.base_of build.now read.entry.now }
 {
     if build.posix_base {
-        posix_base()
-    } else {
-        text_of(texts, InputFile::Base)
+        return posix_base();
+    }
+    read
+}
+
+impl TextQuestion for OrderQuestion<'_, '_> {
+    ghost says = { λ asked includes text. spec.IsOrderAnswer (spec.texts_for asked.build.now includes text) };
+
+    ghost has_no_text = { λ _ _ _. ⊥ };
+
+    fn answer(
+        &self,
+        alloc: Global,
+        includes: &[(&[u8], &[u8])],
+        texts: &[InputText],
+    ) -> Result<Answer, Failure> {
+        let operands = bytes_of(alloc, self.build.operands.as_slice())?;
+        let input = input_of(self.build, operands.as_slice(), includes, texts);
+        Ok(order_over(alloc, &input)?)
     }
 }
 
@@ -257,10 +250,24 @@ fn order_over(alloc: Global, input: &Input<'_>) -> Result<Answer, AllocError>
 }
 
 impl Question for Verifying<'_> {
-    ghost says = { λ asked texts footprints. spec.IsVerifyAnswer texts footprints asked.proof.now };
+    ghost other = { λ asked. Some (record { input = inputs.Proof; path = asked.proof }) };
 
-    fn answer(&self, alloc: Global, prepared: Prepared) -> Result<Answer, AllocError> {
-        verdict_of(alloc, &prepared, self.proof)
+    ghost says = { λ asked. spec.IsVerifyAnswer };
+
+    fn other_input(&self) -> Option<InputPath<'_>> {
+        Some(InputPath {
+            input: InputFile::Proof,
+            path: self.proof,
+        })
+    }
+
+    fn answer(
+        &self,
+        alloc: Global,
+        prepared: Prepared,
+        proof: &[u8],
+    ) -> Result<Answer, AllocError> {
+        verdict_of(alloc, &prepared, proof)
     }
 }
 
@@ -278,10 +285,19 @@ fn verdict_of(alloc: Global, prepared: &Prepared, proof: &[u8]) -> Result<Answer
 }
 
 impl Question for Replaying<'_> {
-    ghost says = { λ asked texts footprints. spec.IsReplayAnswer texts footprints asked.log.now asked.limit asked.tie };
+    ghost other = { λ asked. Some (record { input = inputs.Log; path = asked.log }) };
 
-    fn answer(&self, alloc: Global, prepared: Prepared) -> Result<Answer, AllocError> {
-        played_of(alloc, &prepared, self.log, self.limit, self.tie)
+    ghost says = { λ asked texts footprints log. spec.IsReplayAnswer texts footprints log asked.limit asked.tie };
+
+    fn other_input(&self) -> Option<InputPath<'_>> {
+        Some(InputPath {
+            input: InputFile::Log,
+            path: self.log,
+        })
+    }
+
+    fn answer(&self, alloc: Global, prepared: Prepared, log: &[u8]) -> Result<Answer, AllocError> {
+        played_of(alloc, &prepared, log, self.limit, self.tie)
     }
 }
 

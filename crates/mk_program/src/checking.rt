@@ -1,18 +1,20 @@
 //! The answers to `race check`.
-ghost use Rattle.std.specs.Prelude.{◌≡◌, ◌≢◌, IfOk, List, map, ℕ};
+ghost use Rattle.std.specs.Prelude.{◌≡◌, ◌≢◌, IfErr, IfOk, List, None, OnOk, map, ℕ};
 ghost use Rattle.mk_report.specs.Reports.{IsReport};
+ghost use Rattle.mk_request.specs.Requests.{inputs_of};
 ghost use Rattle.mk_program.specs.Answers as spec;
-ghost use Rattle.mk_program.specs.Inputs.{AreTexts};
+ghost use Rattle.mk_files.specs.Inputs.{Hold, InputsMayBeRead, IsShortOr, IsUnread};
 
-use crate::answers::{Answer, bytes_of, input_of};
-use crate::inputs::InputText;
+use crate::answers::Answer;
 use crate::noting::{Question, Reply, noted_reply};
 use crate::statuses::Status;
+use mk_files::failures::Failure;
+use mk_files::openers::Opener;
 use mk_race::judging::judge_prepared;
 use mk_race::preparing::Prepared;
 use mk_report::answer::{Answer as Judged, report};
-use mk_request::inputs::InputFile;
-use mk_request::requests::CheckArgs;
+use mk_request::inputs::{InputFile, InputPath};
+use mk_request::requests::{CheckArgs, Request};
 use std::alloc::{AllocError, Global};
 
 /// Whether a build is safe: by the report, or by its proof.
@@ -22,31 +24,42 @@ struct Checking {
 }
 
 /// Whether a build is safe, or its race, or why its inputs are refused; and the note.
-pub(crate) fn check_answer(
+pub(crate) fn check_reply<P: Opener>(
     alloc: Global,
+    opener: &mut P,
     check: &CheckArgs<'_>,
     includes: &[(&[u8], &[u8])],
-    texts: &[InputText],
-) -> Result<Reply, AllocError>
+) -> Result<Reply, Failure>
     ensures status { IfOk result (λ reply. reply.answer.status ≢ Status.Failed) }
-    ensures answer { IfOk result (λ reply. (text : InputFile → List ℕ) → AreTexts texts.now text
-        → spec.IsNotedCheck check.now.build.strict (spec.texts_for check.now.build
-        (map (λ pair. (pair.0.now, pair.1.now)) includes.now) text) (text InputFile.Footprints)
-        check.now.print_proof reply.answer.status reply.answer.text.items reply.note.items) }
+    ensures read { OnOk result (InputsMayBeRead (P.files opener.old) (inputs_of (Request.Check check.now))) }
+    ensures failure { IfErr result (IsShortOr (IsUnread (P.files opener.old) (inputs_of (Request.Check check.now)))) }
+    ensures answer { IfOk result (λ reply. (text : InputFile → List ℕ)
+        → Hold (P.files opener.old).text (inputs_of (Request.Check check.now)) text
+        → spec.IsAnswerOver (Request.Check check.now) (map (λ pair. (pair.0.now, pair.1.now)) includes.now) text
+        reply.answer.status reply.answer.text.items reply.note.items) }
 {
-    let build = &check.build;
-    let operands = bytes_of(alloc, build.operands.as_slice())?;
-    let input = input_of(build, operands.as_slice(), includes, texts);
     let checking = Checking {
         proof: check.print_proof,
     };
-    noted_reply(alloc, &input, build.strict, &checking)
+    let footprints = check.footprints;
+    noted_reply(alloc, opener, &check.build, footprints, includes, &checking)
 }
 
 impl Question for Checking {
-    ghost says = { λ asked texts footprints. spec.IsCheckAnswer texts footprints asked.proof };
+    ghost other = { λ _. None };
 
-    fn answer(&self, alloc: Global, prepared: Prepared) -> Result<Answer, AllocError> {
+    ghost says = { λ asked texts footprints _. spec.IsCheckAnswer texts footprints asked.proof };
+
+    fn other_input(&self) -> Option<InputPath<'_>> {
+        None
+    }
+
+    fn answer(
+        &self,
+        alloc: Global,
+        prepared: Prepared,
+        _text: &[u8],
+    ) -> Result<Answer, AllocError> {
         let judged = judge_prepared(alloc, prepared)?;
         judged_answer(alloc, &judged, self.proof)
     }

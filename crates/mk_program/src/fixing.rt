@@ -1,14 +1,16 @@
 //! The answers to `race fix`.
-ghost use Rattle.std.specs.Prelude.{◌≡◌, ◌≢◌, IfOk, List, if◌then◌else◌, map, ℕ};
+ghost use Rattle.std.specs.Prelude.{◌≡◌, ◌≢◌, IfOk, List, if◌then◌else◌, ℕ};
 ghost use Rattle.mk_proof.specs.ProofText.{certificate_text};
 ghost use Rattle.mk_race.specs.Fixed.{HoldsOfFixed};
 ghost use Rattle.mk_race.specs.Stages.{Texts, texts_of};
+ghost use Rattle.mk_request.specs.declared.inputs.InputFile.TheVariants as inputs;
 ghost use Rattle.mk_program.specs.Answers as spec;
-ghost use Rattle.mk_program.specs.Inputs.{AreTexts};
 
 use crate::answers::{Answer, bytes_of, input_of, refused};
-use crate::inputs::InputText;
 use crate::statuses::Status;
+use crate::text_questions::TextQuestion;
+use mk_files::failures::Failure;
+use mk_files::inputs::InputText;
 use mk_proof::certificate::Certificate;
 use mk_proof::writing::write_certificate;
 use mk_race::fixing::{Fixing, fix_build};
@@ -18,24 +20,28 @@ use mk_request::inputs::InputFile;
 use mk_request::requests::CheckArgs;
 use std::alloc::{AllocError, Global};
 
-/// The lines that fix a build, or the edges that no lines give it, or why its inputs are refused. The only error is out of
-/// memory.
-pub(crate) fn fix_answer(
-    alloc: Global,
-    fix: &CheckArgs<'_>,
-    includes: &[(&[u8], &[u8])],
-    texts: &[InputText],
-) -> Result<Answer, AllocError>
-    ensures status { IfOk result (λ answer. answer.status ≢ Status.Failed) }
-    ensures answer { IfOk result (λ answer. (text : InputFile → List ℕ) → AreTexts texts.now text
-        → spec.IsFixAnswer (spec.texts_for fix.now.build
-        (map (λ pair. (pair.0.now, pair.1.now)) includes.now) text) (text InputFile.Footprints)
-        fix.now.print_proof answer.status answer.text.items) }
-{
-    let build = &fix.build;
-    let operands = bytes_of(alloc, build.operands.as_slice())?;
-    let input = input_of(build, operands.as_slice(), includes, texts);
-    fix_over(alloc, &input, fix.print_proof)
+/// The lines that fix a build, or the edges that no lines give it, or why its inputs are refused.
+#[derive(Clone, Copy)]
+pub(crate) struct FixQuestion<'q, 'a> {
+    pub(crate) fix: &'q CheckArgs<'a>,
+}
+
+impl TextQuestion for FixQuestion<'_, '_> {
+    ghost says = { λ asked includes text. spec.IsFixAnswer (spec.texts_for asked.fix.now.build includes text) (text inputs.Footprints) asked.fix.now.print_proof };
+
+    ghost has_no_text = { λ _ _ _. ⊥ };
+
+    fn answer(
+        &self,
+        alloc: Global,
+        includes: &[(&[u8], &[u8])],
+        texts: &[InputText],
+    ) -> Result<Answer, Failure> {
+        let build = &self.fix.build;
+        let operands = bytes_of(alloc, build.operands.as_slice())?;
+        let input = input_of(build, operands.as_slice(), includes, texts);
+        Ok(fix_over(alloc, &input, self.fix.print_proof)?)
+    }
 }
 
 /// The lines that fix a build or the proof with them, or the edges that no lines give it, or the report of its first fault. The

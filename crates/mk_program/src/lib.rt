@@ -1,21 +1,17 @@
 //! The program `race` without its `main`: from the words of the command line to what is written, and how it ends.
 //!
-//! [`race_words`] is the program: it reads its words, opens and reads files through an [`Opener`], and writes one text. Read
+//! [`race_words`] is the program: it reads its words, opens and reads files through an opener of `mk_files`, and writes one text. Read
 //! its contract first, then `specs/Answers.antt`. What the words ask for is in `mk_request`. A subcommand more is a variant of its
-//! `Request`, and an answer in `answers::answer_over`.
+//! `Request`, and a question in `answers::answer_with`.
 #![tactic(auto)]
 
 mod answers;
 mod change_lines;
 mod checking;
-mod failures;
 mod fixing;
-mod includes;
-mod inputs;
 mod listing;
 mod missing;
 mod noting;
-mod openers;
 mod order_lines;
 mod outcome_lines;
 mod plan_lines;
@@ -24,8 +20,7 @@ mod running;
 mod serialising;
 mod statuses;
 mod tasks;
+mod text_questions;
 
-pub use failures::Failure;
-pub use openers::Opener;
 pub use running::{fail, race_words};
 pub use statuses::Status;

@@ -1,13 +1,15 @@
 //! The answers to `race list`.
-ghost use Rattle.std.specs.Prelude.{◌≡◌, ◌≢◌, IfOk, List, map, ℕ};
+ghost use Rattle.std.specs.Prelude.{◌≡◌, ◌≢◌, IfOk};
 ghost use Rattle.mk_race.specs.Stages.{texts_of};
 ghost use Rattle.mk_report.specs.RacesText.{IsRacesText};
+ghost use Rattle.mk_request.specs.declared.inputs.InputFile.TheVariants as inputs;
 ghost use Rattle.mk_program.specs.Answers as spec;
-ghost use Rattle.mk_program.specs.Inputs.{AreTexts};
 
 use crate::answers::{Answer, bytes_of, input_of, refused};
-use crate::inputs::InputText;
 use crate::statuses::Status;
+use crate::text_questions::TextQuestion;
+use mk_files::failures::Failure;
+use mk_files::inputs::InputText;
 use mk_race::input::Input;
 use mk_race::listing::{RaceList, list_races};
 use mk_report::races::races_report;
@@ -15,23 +17,28 @@ use mk_request::inputs::InputFile;
 use mk_request::requests::ListArgs;
 use std::alloc::{AllocError, Global};
 
-/// All races of a build, or why its inputs are refused. The only error is out of memory.
-pub(crate) fn list_answer(
-    alloc: Global,
-    list: &ListArgs<'_>,
-    includes: &[(&[u8], &[u8])],
-    texts: &[InputText],
-) -> Result<Answer, AllocError>
-    ensures status { IfOk result (λ answer. answer.status ≢ Status.Failed) }
-    ensures answer { IfOk result (λ answer. (text : InputFile → List ℕ) → AreTexts texts.now text
-        → spec.IsListAnswer (spec.texts_for list.now.build
-        (map (λ pair. (pair.0.now, pair.1.now)) includes.now) text) (text InputFile.Footprints)
-        answer.status answer.text.items) }
-{
-    let build = &list.build;
-    let operands = bytes_of(alloc, build.operands.as_slice())?;
-    let input = input_of(build, operands.as_slice(), includes, texts);
-    list_over(alloc, &input)
+/// All races of a build, or why its inputs are refused.
+#[derive(Clone, Copy)]
+pub(crate) struct ListQuestion<'q, 'a> {
+    pub(crate) list: &'q ListArgs<'a>,
+}
+
+impl TextQuestion for ListQuestion<'_, '_> {
+    ghost says = { λ asked includes text. spec.IsListAnswer (spec.texts_for asked.list.now.build includes text) (text inputs.Footprints) };
+
+    ghost has_no_text = { λ _ _ _. ⊥ };
+
+    fn answer(
+        &self,
+        alloc: Global,
+        includes: &[(&[u8], &[u8])],
+        texts: &[InputText],
+    ) -> Result<Answer, Failure> {
+        let build = &self.list.build;
+        let operands = bytes_of(alloc, build.operands.as_slice())?;
+        let input = input_of(build, operands.as_slice(), includes, texts);
+        Ok(list_over(alloc, &input)?)
+    }
 }
 
 /// The report of all races of a build, or of its first fault. The only error is out of memory.

@@ -1,19 +1,32 @@
 //! Questions about a build whose footprints may lie unused, and the note of that.
-ghost use Rattle.std.specs.Prelude.{◌≡◌, ◌≢◌, ◌++◌, [], IfOk, List, Ok, OnOk, ℕ};
+ghost use Rattle.std.specs.Prelude.{◌≡◌, ◌≢◌, ◌++◌, [], IfErr, IfOk, IfSome, List, Ok, OnOk, Option, map, ℕ};
+ghost use Rattle.mk_name.specs.Gives.{Answers};
 ghost use Rattle.mk_name.specs.Shown.{refused_text};
 ghost use Rattle.mk_name.specs.Reported.{Reported};
 ghost use Rattle.mk_name.specs.declared.fault.Halt.TheVariants as halts;
-ghost use Rattle.mk_race.specs.Stages.{IsPrepared, Texts, texts_of};
+ghost use Rattle.mk_race.specs.Stages.{IsPrepared, Texts};
+ghost use Rattle.mk_race.specs.Unused.{IsNotedBy};
+ghost use Rattle.mk_request.specs.declared.inputs.InputPath.{InputPath as Path};
+ghost use Rattle.mk_program.specs.Answers.{base_of as base_text, texts_for};
+ghost use Rattle.mk_files.specs.Builds.{AreBelow, IsReadAs, inputs_with, other_text};
+ghost use Rattle.mk_files.specs.Inputs.{Hold, InputsMayBeRead, IsShortOr, IsUnread};
 ghost use Rattle.mk_program.specs.Noting as spec;
 ghost use Rattle.mk_program.specs.declared.statuses.Status.{Status as Ending};
 
-use crate::answers::{Answer, refused};
+use crate::answers::{Answer, base_of, bytes_of, refused};
 use crate::statuses::Status;
-use mk_name::fault::Halt;
+use mk_files::builds::{ReadBuild, read_build};
+use mk_files::failures::Failure;
+use mk_files::openers::Opener;
+use mk_foot::footprints::Footprints;
+use mk_name::fault::{Fault, Halt};
 use mk_name::report::push_shown;
-use mk_race::input::Input;
+use mk_race::input::Settings;
 use mk_race::preparing::Prepared;
-use mk_race::unused::{Noted, Unused, prepare_noting};
+use mk_race::unused::{Noted, Unused, note_parts};
+use mk_request::inputs::{InputFile, InputPath};
+use mk_request::requests::BuildArgs;
+use mk_text::listing::Listing;
 use std::alloc::{AllocError, Global};
 
 /// What the program says: an answer, and the note that is written on the standard error then, or nothing.
@@ -25,45 +38,158 @@ pub struct Reply {
 
 /// A question about the jobs of a build.
 pub(crate) trait Question {
-    /// What is said of a build with these texts and footprints, and how the program ends then.
-    ghost says: { Self → Texts → List ℕ → Ending → List ℕ → Type 0 };
+    /// The input that it has beside those of a build, where it has one.
+    ghost other: { Self → Option Path };
 
-    /// The answer about these jobs. The only error is out of memory.
-    fn answer(&self, alloc: Global, prepared: Prepared) -> Result<Answer, AllocError>
+    /// What is said of a build with these texts and footprints where that input has this text, and how the program ends then.
+    ghost says: { Self → Texts → List ℕ → List ℕ → Ending → List ℕ → Type 0 };
+
+    /// That input, which is no base makefile.
+    fn other_input(&self) -> Option<InputPath<'_>>
+        ensures input { result ≡ other self.now }
+        ensures no_base { IfSome (other self.now) (λ known. known.input ≢ InputFile.Base) };
+
+    /// The answer about these jobs, where that input has this text. The only error is out of memory.
+    fn answer(&self, alloc: Global, prepared: Prepared, text: &[u8]) -> Result<Answer, AllocError>
         ensures status { IfOk result (λ answer. answer.status ≢ Status.Failed) }
         ensures answer { IfOk result (λ answer. (texts : Texts) (footprints : List ℕ)
             → IsPrepared texts footprints (Ok prepared)
-            → says self.now texts footprints answer.status answer.text.items) };
+            → says self.now texts footprints text.now answer.status answer.text.items) };
 }
 
-/// The answer to a question about a build, or the report of its first fault; and the note. The only error is out of memory.
-pub(crate) fn noted_reply<Q: Question>(
+/// Reads a build and the input of a question about it, and gives the answer, or the report of the build's first fault; and the note.
+/// `Failure::Read` names the first input whose file cannot be opened, or cannot be read; the only other failure is out of memory.
+pub(crate) fn noted_reply<P: Opener, Q: Question>(
     alloc: Global,
-    input: &Input<'_>,
-    strict: bool,
+    opener: &mut P,
+    build: &BuildArgs<'_>,
+    footprints: &str,
+    includes: &[(&[u8], &[u8])],
+    question: &Q,
+) -> Result<Reply, Failure>
+    ensures status { IfOk result (λ reply. reply.answer.status ≢ Status.Failed) }
+    ensures read { OnOk result (InputsMayBeRead (P.files opener.old)
+        (inputs_with build.now footprints.entry (Q.other question.now))) }
+    ensures failure { IfErr result (IsShortOr (IsUnread (P.files opener.old)
+        (inputs_with build.now footprints.entry (Q.other question.now)))) }
+    ensures answer { IfOk result (λ reply. (text : InputFile → List ℕ)
+        → Hold (P.files opener.old).text (inputs_with build.now footprints.entry (Q.other question.now)) text
+        → spec.SaysNoting build.now.strict (texts_for build.now
+        (map (λ pair. (pair.0.now, pair.1.now)) includes.now) text) (text InputFile.Footprints)
+        (Q.says question.now (texts_for build.now (map (λ pair. (pair.0.now, pair.1.now)) includes.now) text)
+        (text InputFile.Footprints) (other_text (Q.other question.now) text))
+        reply.answer.status reply.answer.text.items reply.note.items) }
+{
+    let read = read_build(alloc, opener, build, footprints, question.other_input())?;
+    Ok(reply_over(alloc, build, includes, read, question)?)
+}
+
+/// The answer to a question about the build that was read, or the report of its first fault; and the note. The only error is out
+/// of memory.
+fn reply_over<Q: Question>(
+    alloc: Global,
+    build: &BuildArgs<'_>,
+    includes: &[(&[u8], &[u8])],
+    read: ReadBuild,
     question: &Q,
 ) -> Result<Reply, AllocError>
     ensures status { IfOk result (λ reply. reply.answer.status ≢ Status.Failed) }
-    ensures answer { IfOk result (λ reply. spec.SaysNoting strict (texts_of input.now) input.now.footprints.now
-        (Q.says question.now (texts_of input.now) input.now.footprints.now)
+    ensures answer { IfOk result (λ reply. (text : InputFile → List ℕ)
+        → IsReadAs build.now.root.now (Q.other question.now) text read
+        → spec.SaysNoting build.now.strict (texts_for build.now
+        (map (λ pair. (pair.0.now, pair.1.now)) includes.now) text) (text InputFile.Footprints)
+        (Q.says question.now (texts_for build.now (map (λ pair. (pair.0.now, pair.1.now)) includes.now) text)
+        (text InputFile.Footprints) (other_text (Q.other question.now) text))
         reply.answer.status reply.answer.text.items reply.note.items) }
 {
-    match prepare_noting(alloc, input, strict) {
-        Ok(noted) => reply_on(alloc, noted, question),
+    let ReadBuild {
+        base,
+        makefile,
+        listing,
+        footprints,
+        other,
+    } = read;
+    let base = base_of(build, base.as_slice());
+    match noted_of(
+        alloc,
+        build,
+        includes,
+        base,
+        makefile.as_slice(),
+        listing,
+        footprints,
+    ) {
+        Ok(noted) => reply_on(alloc, noted, other.as_slice(), question),
         Err(halt) => refused_reply(alloc, halt),
     }
 }
 
+/// The jobs of the build that was read, with its footprints that lie unused; or its first fault.
+fn noted_of(
+    alloc: Global,
+    build: &BuildArgs<'_>,
+    includes: &[(&[u8], &[u8])],
+    base: &[u8],
+    makefile: &[u8],
+    listing: Result<Listing, Fault>,
+    footprints: Result<Footprints, Fault>,
+) -> Result<Noted, Halt>
+    ensures answer { (text : InputFile → List ℕ) → base.now ≡ base_text build.now (text InputFile.Base)
+        → makefile.now ≡ text InputFile.Makefile → AreBelow build.now.root.now text listing footprints
+        → Answers result (IsNotedBy build.now.strict (texts_for build.now
+        (map (λ pair. (pair.0.now, pair.1.now)) includes.now) text) (text InputFile.Footprints)) }
+    ensures prepared { IfOk result (λ noted. (text : InputFile → List ℕ)
+        → base.now ≡ base_text build.now (text InputFile.Base)
+        → makefile.now ≡ text InputFile.Makefile → AreBelow build.now.root.now text listing footprints
+        → IsPrepared (texts_for build.now (map (λ pair. (pair.0.now, pair.1.now)) includes.now) text)
+        (text InputFile.Footprints) (Ok noted.prepared)) }
+{
+    let operands = bytes_of(alloc, build.operands.as_slice())?;
+    let settings = settings_of(build, operands.as_slice(), includes);
+    note_parts(
+        alloc,
+        &settings,
+        base,
+        makefile,
+        listing,
+        footprints,
+        build.strict,
+    )
+}
+
+/// What the command line says of a build: its root and operands as they were given, and the texts for its include lines.
+fn settings_of<'a>(
+    build: &BuildArgs<'a>,
+    operands: &'a [&'a [u8]],
+    includes: &'a [(&'a [u8], &'a [u8])],
+) -> Settings<'a>
+    ensures root { result.root.now ≡ build.now.root.now }
+    ensures operands { result.operands.now ≡ operands.entry.now }
+    ensures includes { result.includes.now ≡ includes.entry.now }
+{
+    Settings {
+        root: build.root.as_bytes(),
+        operands,
+        includes,
+        proof: false,
+    }
+}
+
 /// The answer to a question about a build of these jobs, and the note of the build. The only error is out of memory.
-fn reply_on<Q: Question>(alloc: Global, noted: Noted, question: &Q) -> Result<Reply, AllocError>
+fn reply_on<Q: Question>(
+    alloc: Global,
+    noted: Noted,
+    other: &[u8],
+    question: &Q,
+) -> Result<Reply, AllocError>
     ensures status { IfOk result (λ reply. reply.answer.status ≢ Status.Failed) }
     ensures answer { IfOk result (λ reply. (texts : Texts) (footprints : List ℕ)
         → IsPrepared texts footprints (Ok noted.prepared)
-        → Q.says question.now texts footprints reply.answer.status reply.answer.text.items) }
+        → Q.says question.now texts footprints other.now reply.answer.status reply.answer.text.items) }
     ensures note { IfOk result (λ reply. reply.note.items ≡ spec.note_of noted.unused) }
 {
     let Noted { prepared, unused } = noted;
-    let answer = question.answer(alloc, prepared)?;
+    let answer = question.answer(alloc, prepared, other)?;
     with_note(alloc, answer, &unused)
 }
 

@@ -3,8 +3,8 @@ ghost use Rattle.std.specs.Prelude.{◌≡◌, IfErr, IfOk, false};
 ghost use Rattle.mk_log.specs.Writing.{AreOfNodes, is_text};
 ghost use Rattle.mk_program.specs.OrderText.{HasNodes, IsNoText, IsOrderText, IsSerialText, IsUnreported};
 
-use crate::failures::Failure;
 use crate::outcome_lines::not_allowed_text;
+use mk_files::failures::Failure;
 use mk_jobs::jobs::Jobs;
 use mk_log::log::Log;
 use mk_log::writing::{LogHalt, write_log};

@@ -6,15 +6,15 @@ ghost use Rattle.clap.specs.Words.{kind_of};
 ghost use Rattle.mk_name.specs.Shown.{line};
 ghost use Rattle.mk_program.specs.Answers as spec;
 ghost use Rattle.mk_request.specs.CommandLine.{IsAnswerable, IsCall, asked, wrong};
-ghost use Rattle.mk_program.specs.Failures.{IsFailureReported};
+ghost use Rattle.mk_files.specs.Failures.{IsFailureReported};
 
 use crate::answers::{Answer, answer_of};
-use crate::failures::Failure;
 use crate::noting::{Reply, without_note};
-use crate::openers::Opener;
 use crate::statuses::Status;
 use clap::error::ErrorKind;
 use mk_device::device::{Broken, Outlet, write_all};
+use mk_files::failures::Failure;
+use mk_files::openers::Opener;
 use mk_request::words::read_words;
 use std::alloc::Global;
 

@@ -1,44 +1,47 @@
 //! The answers to `race serialise`.
-ghost use Rattle.std.specs.Prelude.{◌≡◌, ◌≢◌, IfErr, IfOk, List, map, ℕ};
+ghost use Rattle.std.specs.Prelude.{◌≡◌, ◌≢◌, IfErr, IfOk};
 ghost use Rattle.mk_race.specs.Stages.{texts_of};
+ghost use Rattle.mk_request.specs.declared.inputs.InputFile.TheVariants as inputs;
 ghost use Rattle.mk_program.specs.Answers as spec;
-ghost use Rattle.mk_program.specs.Inputs.{AreTexts};
 ghost use Rattle.mk_program.specs.OrderText.{HasNodes, IsNoText, IsOrderText, IsUnreported, order_status};
 
 use crate::answers::{Answer, bytes_of, input_of, refused};
-use crate::failures::Failure;
-use crate::inputs::{InputText, text_of};
 use crate::order_lines::order_text;
 use crate::statuses::Status;
+use crate::text_questions::TextQuestion;
+use mk_files::failures::Failure;
+use mk_files::inputs::{InputText, text_of};
 use mk_race::input::Input;
 use mk_race::serialising::{Ordered, Serialised, serialise_log};
 use mk_request::inputs::InputFile;
 use mk_request::requests::ReplayArgs;
 use std::alloc::Global;
 
-/// A log in serial order, or why it has none, or why the inputs are refused. The errors are `Failure::NotText` and out
-/// of memory.
-pub(crate) fn serialise_answer(
-    alloc: Global,
-    replay: &ReplayArgs<'_>,
-    includes: &[(&[u8], &[u8])],
-    texts: &[InputText],
-) -> Result<Answer, Failure>
-    ensures status { IfOk result (λ answer. answer.status ≢ Status.Failed) }
-    ensures answer { IfOk result (λ answer. (text : InputFile → List ℕ) → AreTexts texts.now text
-        → spec.IsSerialiseAnswer (spec.texts_for replay.now.build
-        (map (λ pair. (pair.0.now, pair.1.now)) includes.now) text) (text InputFile.Footprints)
-        (text InputFile.Log) replay.now.limit replay.now.tie answer.status answer.text.items) }
-    ensures failure { IfErr result (IsUnreported ((text : InputFile → List ℕ) → AreTexts texts.now text
-        → spec.HasNoText (spec.texts_for replay.now.build
-        (map (λ pair. (pair.0.now, pair.1.now)) includes.now) text) (text InputFile.Footprints)
-        (text InputFile.Log) replay.now.limit replay.now.tie)) }
-{
-    let build = &replay.build;
-    let operands = bytes_of(alloc, build.operands.as_slice())?;
-    let input = input_of(build, operands.as_slice(), includes, texts);
-    let log = text_of(texts, InputFile::Log);
-    serialise_over(alloc, &input, log, replay.limit, replay.tie)
+/// A log in serial order, or why it has none, or why the inputs are refused.
+#[derive(Clone, Copy)]
+pub(crate) struct SerialOrder<'q, 'a> {
+    pub(crate) replay: &'q ReplayArgs<'a>,
+}
+
+impl TextQuestion for SerialOrder<'_, '_> {
+    ghost says = { λ asked includes text. spec.IsSerialiseAnswer (spec.texts_for asked.replay.now.build includes text)
+        (text inputs.Footprints) (text inputs.Log) asked.replay.now.limit asked.replay.now.tie };
+
+    ghost has_no_text = { λ asked includes text. spec.HasNoText (spec.texts_for asked.replay.now.build includes text)
+        (text inputs.Footprints) (text inputs.Log) asked.replay.now.limit asked.replay.now.tie };
+
+    fn answer(
+        &self,
+        alloc: Global,
+        includes: &[(&[u8], &[u8])],
+        texts: &[InputText],
+    ) -> Result<Answer, Failure> {
+        let build = &self.replay.build;
+        let operands = bytes_of(alloc, build.operands.as_slice())?;
+        let input = input_of(build, operands.as_slice(), includes, texts);
+        let log = text_of(texts, InputFile::Log);
+        serialise_over(alloc, &input, log, self.replay.limit, self.replay.tie)
+    }
 }
 
 /// What comes of a log that is to be put in serial order, or the report of the first fault of the build and the log.

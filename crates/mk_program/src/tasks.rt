@@ -2,15 +2,17 @@
 ghost use Rattle.std.specs.Prelude.{◌≢◌, IfOk, List, ℕ};
 ghost use Rattle.mk_race.specs.TasksFixed.{HoldsOfFixed};
 ghost use Rattle.mk_program.specs.Answers as spec;
-ghost use Rattle.mk_program.specs.Inputs.{AreTexts};
+ghost use Rattle.mk_files.specs.Inputs.{AreTexts};
 
 use crate::answers::{Answer, refused, verdict_answer};
 use crate::checking::judged_answer;
 use crate::fixing::fixed_text;
-use crate::inputs::{InputText, text_of};
 use crate::listing::races_answer;
 use crate::missing::listed_answer;
 use crate::statuses::Status;
+use crate::text_questions::TextQuestion;
+use mk_files::failures::Failure;
+use mk_files::inputs::{InputText, text_of};
 use mk_race::tasked::{judge_tasks, list_tasks, verify_tasks};
 use mk_race::tasks_fixing::{TaskFixing, fix_tasks};
 use mk_race::tasks_missing::list_missing_tasks;
@@ -18,8 +20,29 @@ use mk_request::inputs::InputFile;
 use mk_request::requests::{TaskArgs, TaskQuestion};
 use std::alloc::{AllocError, Global};
 
+/// The answer to a question about tasks, or why their text is refused.
+#[derive(Clone, Copy)]
+pub(crate) struct TasksQuestion<'q, 'a> {
+    pub(crate) args: &'q TaskArgs<'a>,
+}
+
+impl TextQuestion for TasksQuestion<'_, '_> {
+    ghost says = { λ asked _ text. spec.IsTasksAnswer asked.args.now.question asked.args.now.root.now text };
+
+    ghost has_no_text = { λ _ _ _. ⊥ };
+
+    fn answer(
+        &self,
+        alloc: Global,
+        _includes: &[(&[u8], &[u8])],
+        texts: &[InputText],
+    ) -> Result<Answer, Failure> {
+        Ok(tasks_answer(alloc, self.args, texts)?)
+    }
+}
+
 /// The answer to a question about tasks, or why their text is refused. The only error is out of memory.
-pub(crate) fn tasks_answer(
+fn tasks_answer(
     alloc: Global,
     args: &TaskArgs<'_>,
     texts: &[InputText],

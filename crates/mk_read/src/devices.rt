@@ -2,7 +2,7 @@
 ghost use Rattle.std.specs.Prelude.{◌≡◌, ◌++◌, ◌↔◌, IfOk, IsErrOf, List, OnOk, false, is_err, true, ℕ};
 ghost use Rattle.mk_read.specs.Read.{GaveAll, IsReadBelow};
 
-use crate::line_reader::LineReader;
+use crate::line_reader::{LineReader, finished};
 use mk_device::device::{Broken, Intake, ReadStop};
 use mk_name::fault::{Fault, Halt};
 use mk_text::root::Root;
@@ -43,11 +43,8 @@ fn read_under<R: LineReader, I: Intake>(
 {
     let mut reader = R::begin(alloc, root);
     feed_all(&mut reader, device)?;
-    match reader.finish() {
-        Ok(value) => Ok(Ok(value)),
-        Err(Halt::Fault(fault)) => Ok(Err(fault)),
-        Err(Halt::Memory) => Err(ReadStop::Memory),
-    }
+    let read = finished(reader)?;
+    Ok(read)
 }
 
 /// Reads a device to its end, and feeds the reader all the bytes, in pieces of at most 65,536. `Broken` comes exactly where the

@@ -1,11 +1,11 @@
 //! What reads a text of lines that comes in pieces.
-ghost use Rattle.std.specs.Prelude.{◌++◌, [], List, Result, ℕ};
+ghost use Rattle.std.specs.Prelude.{◌++◌, [], IfOk, List, Result, ℕ};
 ghost use Rattle.mk_name.specs.Gives.{Answers};
 ghost use Rattle.mk_name.specs.Reported.{Reported};
 
-use mk_name::fault::Halt;
+use mk_name::fault::{Fault, Halt};
 use mk_text::root::Root;
-use std::alloc::Global;
+use std::alloc::{AllocError, Global};
 
 /// Reads a text of lines below a root, in pieces, whatever the cuts between them.
 pub trait LineReader: Drop {
@@ -30,4 +30,15 @@ pub trait LineReader: Drop {
     /// What all pieces say, whose last line needs no newline; or the first line's fault. The only other error is out of memory.
     fn finish(self) -> Result<Self::Value, Halt>
         ensures { (root text : List ℕ) → has_read self root text → Answers result (says root text) };
+}
+
+/// What the text that a reader has read says, or its first fault. The only error is out of memory.
+pub fn finished<R: LineReader>(reader: R) -> Result<Result<R::Value, Fault>, AllocError>
+    ensures { IfOk result (λ read. (root text : List ℕ) → R.has_read reader root text → R.says root text read) }
+{
+    match reader.finish() {
+        Ok(value) => Ok(Ok(value)),
+        Err(Halt::Fault(fault)) => Ok(Err(fault)),
+        Err(Halt::Memory) => Err(AllocError),
+    }
 }

@@ -3,7 +3,7 @@ use Rattle.std.specs.Prelude.{ℕ, Bool, true, false, List, [], ◌∷◌, Optio
 use Rattle.std.specs.Borrow.{Bor}
 use Rattle.std.specs.Str.{bytes_eq}
 use Rattle.mk_program.specs.Answers.{IsAnswerTo}
-use Rattle.mk_program.specs.Files.{Files}
+use Rattle.mk_files.specs.Files.{Files}
 use Rattle.mk_program.specs.declared.statuses.Status.{Status}
 use Rattle.program_tests.specs.declared.shelf.Book.{Book}
 use Rattle.program_tests.specs.declared.shelf.Page.{Page}

@@ -3,7 +3,8 @@ ghost use Rattle.std.specs.Prelude.{◌≡◌, Some};
 ghost use Rattle.program_tests.specs.Shelf as spec;
 
 use mk_device::device::{Broken, ReadStop};
-use mk_program::Opener;
+use mk_files::openers::Opener;
+use mk_read::line_reader::LineReader;
 use std::alloc::Global;
 
 /// What reading a file gives: a text, or nothing but a failure.
@@ -46,6 +47,16 @@ impl<'a> Opener for Shelf<'a> {
         match page {
             Page::Text(text) => Ok(Vec::from_slice(alloc, text)?),
             Page::Unreadable => Err(ReadStop::Broken),
+        }
+    }
+
+    fn pour<R: LineReader>(page: Page<'a>, reader: &mut R) -> Result<(), Broken> {
+        match page {
+            Page::Text(text) => {
+                reader.take(text);
+                Ok(())
+            }
+            Page::Unreadable => Err(Broken),
         }
     }
 }

@@ -1,7 +1,7 @@
 -- Why the words of the process cannot be read.
 use Rattle.std.specs.Prelude.{ℕ, ◌≡◌, List, string_bytes}
-use Rattle.mk_program.specs.declared.failures.Failure.{Failure}
-use Rattle.mk_program.specs.declared.failures.Failure.TheVariants as failures
+use Rattle.mk_files.specs.declared.failures.Failure.{Failure}
+use Rattle.mk_files.specs.declared.failures.Failure.TheVariants as failures
 
 -- the command line is invalid, and this text says how
 abbrev pub IsNotText : Failure → List ℕ → Type 0

@@ -1,6 +1,6 @@
 -- What is stated of the files of the system: nothing.
 use Rattle.std.specs.Prelude.{ℕ, Bool, List, None, Option}
-use Rattle.mk_program.specs.Files.{Files}
+use Rattle.mk_files.specs.Files.{Files}
 
 -- no bytes are stated
 abbrev pub no_text : Option (List ℕ)

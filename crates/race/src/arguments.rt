@@ -2,7 +2,7 @@
 ghost use Rattle.std.specs.Prelude.{◌≡◌, ◌⊎◌, IfErr, IfOk, map, string_bytes};
 ghost use Rattle.race.specs.Arguments.{IsNotText};
 
-use mk_program::Failure;
+use mk_files::failures::Failure;
 use std::alloc::{AllocError, Global};
 use std::env;
 use std::io::ErrorKind;

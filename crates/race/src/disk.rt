@@ -1,10 +1,12 @@
 //! The files of the system that the program runs on.
 ghost use Rattle.race.specs.Disk.{no_answer, no_files, no_text};
-ghost use Rattle.std.specs.Prelude.{◌≡◌, ◌≢◌, IfOk, IfSome, IsErrOf, OnOk, Some, false, true};
+ghost use Rattle.std.specs.Prelude.{◌≡◌, ◌≢◌, ◌++◌, IfOk, IfSome, IsErrOf, List, OnErr, OnOk, Some, false, true, ℕ};
 
 use mk_device::device::{Broken, ReadStop, read_all};
 use mk_device::feed::Feed;
-use mk_program::Opener;
+use mk_files::openers::Opener;
+use mk_read::devices::feed_all;
+use mk_read::line_reader::LineReader;
 use std::alloc::Global;
 use std::fs;
 use std::fs::File;
@@ -35,5 +37,14 @@ impl Opener for Disk<'_> {
         ensures cannot { IsErrOf result ReadStop.Broken → no_answer ≢ Some true }
     {
         read_all(alloc, &mut Feed::new(file))
+    }
+
+    fn pour<R: LineReader>(file: File, reader: &mut R) -> Result<(), Broken>
+        ensures whole { OnOk result ((bytes : List ℕ) × IfSome no_text (λ known. bytes ≡ known)
+            × ((root before : List ℕ) → R.has_read reader.old root before → R.has_read reader.new root (before ++ bytes))) }
+        ensures can { OnOk result (no_answer ≢ Some false) }
+        ensures cannot { OnErr result (no_answer ≢ Some true) }
+    {
+        feed_all(reader, &mut Feed::new(file))
     }
 }

@@ -8,7 +8,8 @@ mod disk;
 use arguments::{arguments, texts};
 use disk::Disk;
 use mk_device::sink::Sink;
-use mk_program::{Failure, Status, fail, race_words};
+use mk_files::failures::Failure;
+use mk_program::{Status, fail, race_words};
 use std::process::ExitCode;
 
 fn main(rt: HostRuntime) -> ExitCode {

@@ -11,5 +11,5 @@ returns-clause-status g c =
 pub returns-clause-answer : goal.returns-clause-answer
 returns-clause-answer g c =
     IfOk-weaker c.with_note.result _ _ (λ reply same texts footprints is.
-    subst (λ (a : Answer). g.Q.Question.says c.args.question.now texts footprints a.status a.text.items) (sym same)
+    subst (λ (a : Answer). g.Q.Question.says c.args.question.now texts footprints c.args.other.now a.status a.text.items) (sym same)
     (c.in_ok-answer.ensures.answer texts footprints is)) c.with_note.ensures.answer

@@ -1,5 +1,5 @@
 use Rattle.mk_program.proofs.Failing.{answered, helped, input_failure, not_written, not_written_either, usage_failure}
-use Rattle.mk_program.proofs.Reported.{err_more, with_fact}
+use Rattle.mk_files.proofs.Reported.{err_more, with_fact}
 use Rattle.mk_program.proofs.running.answer_to.Goals as goal
 
 pub returns-in-Ok-clause-said : goal.returns-in-Ok-clause-said

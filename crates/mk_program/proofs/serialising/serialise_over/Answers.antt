@@ -1,6 +1,6 @@
 use Rattle.std.proofs.lemmas.Result.{IfOk-weaker}
 use Rattle.mk_race.specs.Stages.{texts_of}
-use Rattle.mk_program.proofs.Reported.{err_more}
+use Rattle.mk_files.proofs.Reported.{err_more}
 use Rattle.mk_program.proofs.SerialAnswers.{has_nodes, no_text_is, order_is, order_not_failed, unordered_is, unreported_more}
 use Rattle.mk_program.proofs.Answering.{refusal_not_failed}
 use Rattle.mk_program.proofs.serialising.serialise_over.Goals as goal

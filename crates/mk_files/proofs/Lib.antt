@@ -1,0 +1,4 @@
+mod Building
+pub mod Included
+mod Reading
+pub mod Reported

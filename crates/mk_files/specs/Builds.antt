@@ -1,0 +1,106 @@
+-- What is opened and read of a build that is asked about, whose listing and footprints are read in pieces.
+use Rattle.std.specs.Prelude.{◌≡◌, ℕ, Bool, List, [], ◌∷◌, ◌++◌, Option, None, Some, IfSome, Result, option_map}
+use Rattle.std.specs.Borrow.{Bor}
+use Rattle.std.specs.Option.{option_to_list}
+use Rattle.mk_foot.specs.Footprints.{Footprints, IsRead}
+use Rattle.mk_name.specs.Names.{Name}
+use Rattle.mk_name.specs.Reported.{Reported}
+use Rattle.mk_read.specs.Read.{IsReadBelow}
+use Rattle.mk_text.specs.Listing.{listing_of}
+use Rattle.mk_request.specs.Requests.{build_inputs, input_at}
+use Rattle.mk_request.specs.declared.inputs.InputFile.{InputFile}
+use Rattle.mk_request.specs.declared.inputs.InputFile.TheVariants as inputs
+use Rattle.mk_request.specs.declared.inputs.InputPath.{InputPath}
+use Rattle.mk_request.specs.declared.requests.BuildArgs.{BuildArgs}
+use Rattle.mk_files.specs.Inputs.{Mark}
+use Rattle.mk_files.specs.declared.builds.OpenBuild.{OpenBuild}
+use Rattle.mk_files.specs.declared.builds.ReadBuild.{ReadBuild}
+use Rattle.mk_files.specs.declared.inputs.OpenInput.{OpenInput}
+
+-- its inputs, in the order in which they are opened and read: one more may come behind the footprints
+abbrev pub inputs_with : BuildArgs → Bor (List ℕ) → Option InputPath → List InputPath
+inputs_with build footprints other = build_inputs build ++ input_at inputs.Footprints footprints ++ option_to_list other
+
+-- the marks of a build: of the base, if it has one, of the makefile, the listing and the footprints, and of one more input, if there is one
+abbrev pub all_marks : Option Mark → Mark → Mark → Mark → Option Mark → List Mark
+all_marks base makefile listing footprints other = option_to_list base ++ makefile ∷ listing ∷ footprints ∷ option_to_list other
+
+-- an open input, with what is stated of reading it
+abbrev pub mark_of : {F : Type 0} → (F → Option Bool) → OpenInput F → Mark
+mark_of reads file = (file.input, reads file.file)
+
+-- an input, with what is stated of its file
+abbrev pub path_mark : (List ℕ → Option Bool) → InputPath → Mark
+path_mark works known = (known.input, works known.path.now)
+
+-- the marks of open files
+abbrev pub open_marks : {F : Type 0} → (F → Option Bool) → OpenBuild F → List Mark
+open_marks reads files =
+    all_marks (option_map (mark_of reads) files.base) (mark_of reads files.makefile) (mark_of reads files.listing)
+    (mark_of reads files.footprints) (option_map (mark_of reads) files.other)
+
+-- the marks of the files that are to be opened
+abbrev pub path_marks : (List ℕ → Option Bool) → BuildArgs → Bor (List ℕ) → Option InputPath → List Mark
+path_marks works build footprints other =
+    all_marks (option_map (λ path. (inputs.Base, works path.now)) build.base) (inputs.Makefile, works build.makefile.now)
+    (inputs.Listing, works build.listing.now) (inputs.Footprints, works footprints.now) (option_map (path_mark works) other)
+
+-- the bytes of a build's files, where they are stated: of the base and of one more, where they are given
+pub record Stated : Type 0 where
+  pub base : Option (Option (List ℕ))
+  pub makefile : Option (List ℕ)
+  pub listing : Option (List ℕ)
+  pub footprints : Option (List ℕ)
+  pub other : Option (Option (List ℕ))
+
+-- those of the files of these paths
+abbrev pub stated_at : (List ℕ → Option (List ℕ)) → BuildArgs → Bor (List ℕ) → Option InputPath → Stated
+stated_at files build footprints other = record {
+  base = option_map (λ path. files path.now) build.base;
+  makefile = files build.makefile.now;
+  listing = files build.listing.now;
+  footprints = files footprints.now;
+  other = option_map (λ known. files known.path.now) other;
+}
+
+-- those of open files
+abbrev pub stated_in : {F : Type 0} → (F → Option (List ℕ)) → OpenBuild F → Stated
+stated_in text files = record {
+  base = option_map (λ file. text file.file) files.base;
+  makefile = text files.makefile.file;
+  listing = text files.listing.file;
+  footprints = text files.footprints.file;
+  other = option_map (λ file. text file.file) files.other;
+}
+
+-- a text was read of a file, where its bytes are stated; without a file it is empty
+abbrev pub IsGiven : Option (Option (List ℕ)) → List ℕ → Type 0
+IsGiven None text = text ≡ []
+IsGiven (Some file) text = IfSome file (λ bytes. text ≡ bytes)
+
+-- what was read of a build's files: texts, and what a listing and footprints say below the root
+pub record AreRead (stated : Stated) (root : List ℕ) (read : ReadBuild) : Type 0 where
+  pub base : IsGiven stated.base read.base.items
+  pub makefile : IsGiven (Some stated.makefile) read.makefile.items
+  pub listing : (text : List ℕ) → stated.listing ≡ Some text
+      → IsReadBelow (λ below lines listed. listing_of below lines ≡ listed) root text read.listing
+  pub footprints : (text : List ℕ) → stated.footprints ≡ Some text → IsReadBelow IsRead root text read.footprints
+  pub other : IsGiven stated.other read.other.items
+
+-- the text of one more input, which is empty where there is none
+abbrev pub other_text : Option InputPath → (InputFile → List ℕ) → List ℕ
+other_text None text = []
+other_text (Some known) text = text known.input
+
+-- a listing and footprints are what these texts say below the root, if it is good
+pub record AreBelow (root : List ℕ) (text : InputFile → List ℕ) (listed : Result (List Name) Reported) (found : Result Footprints Reported)
+    : Type 0 where
+  pub listing : IsReadBelow (λ below lines listed. listing_of below lines ≡ listed) root (text inputs.Listing) listed
+  pub footprints : IsReadBelow IsRead root (text inputs.Footprints) found
+
+-- what was read of a build is what these texts say
+pub record IsReadAs (root : List ℕ) (known : Option InputPath) (text : InputFile → List ℕ) (read : ReadBuild) : Type 0 where
+  pub base : read.base.items ≡ text inputs.Base
+  pub makefile : read.makefile.items ≡ text inputs.Makefile
+  pub below : AreBelow root text read.listing read.footprints
+  pub other : read.other.items ≡ other_text known text

@@ -1,0 +1,5 @@
+pub mod Builds
+pub mod Failures
+pub mod Files
+pub mod Includes
+pub mod Inputs

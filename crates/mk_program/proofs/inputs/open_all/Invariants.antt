@@ -1,6 +1,0 @@
-use Rattle.mk_program.proofs.Reading.{FirstAreOpen}
-use Rattle.mk_program.proofs.inputs.open_all.Given as goal
-
-abbrev pub invariant-loop-known : goal.invariant-loop-known
-invariant-loop-known g l =
-    FirstAreOpen g.P.Opener.text g.P.Opener.reads l.inputs (g.P.Opener.files l.initial.opener) (g.P.Opener.files l.opener) l.files.items l.known-index

@@ -1,0 +1,13 @@
+use Rattle.std.proofs.Common.{◌∙◌, ap, map, List, ℕ}
+use Rattle.std.specs.Borrow.{Bor}
+use Rattle.mk_program.proofs.MissingAnswers.{missing_read}
+use Rattle.mk_program.proofs.missing.MissingQuestionTextQuestion.answer.Goals as goal
+
+abbrev texts : List (Bor (List ℕ)) → List (List ℕ)
+texts = map (λ (text : Bor (List ℕ)). text.now)
+
+pub returns-clause-answer : goal.returns-clause-answer
+returns-clause-answer c =
+    let operands = ap texts c.as_slice-2.ensures.value ∙ c.in_ok-operands.ensures ∙ ap texts c.as_slice.ensures.value in
+    let reported = c.input_of-input.ensures in
+    λ text are. missing_read _ _ _ _ _ _ (reported.texts text are operands) (reported.footprints text are) c.in_ok-missing_over.ensures.answer
