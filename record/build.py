@@ -17,6 +17,7 @@ from record.memory import libraries, place_listings, share_listings
 from record.names import Names, join
 from record.owners import Make, Work
 from record.unfiled import add_macros, add_outputs, count_listings
+from record.words import makefiles
 
 CHANGES = "WCD"
 LOOKS = "RSN"
@@ -379,7 +380,8 @@ class Builder:
         return self.began
 
     def drop_lonely(self) -> None:
-        """Paths that one task alone touches say nothing; nor do reads of what nobody writes."""
+        """Paths that one task alone touches say nothing, except makefiles, which the next build reads; nor do reads of what nobody writes."""
+        read = {self.names.find(self.make.folder, name, True).path for name in makefiles(self.make.words)}
         count: Dict[str, int] = {}
         written: Set[str] = set()
         for task in self.build.tasks:
@@ -388,4 +390,4 @@ class Builder:
                 count[path] = count.get(path, 0) + 1
         for task in self.build.tasks:
             task.reads = {p for p in task.reads if p in written and count[p] > 1 and p not in task.writes}
-            task.writes = {p for p in task.writes if count[p] > 1}
+            task.writes = {p for p in task.writes if count[p] > 1 or p in read}
