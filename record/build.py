@@ -4,7 +4,7 @@ import bisect
 import os
 import re
 from fnmatch import fnmatchcase
-from typing import Dict, Iterable, List, Optional, Set, Tuple
+from typing import AbstractSet, Dict, Iterable, List, Optional, Set, Tuple
 
 from record.ages import add_ages
 from record.assumptions import Assumptions
@@ -327,7 +327,8 @@ class Builder:
         count_listings(self, created)
         add_folders(self)
         add_ages(self)
-        self.drop_lonely()
+        # the next build reads the makefiles that this one looked for
+        self.drop_lonely({self.names.find(self.make.folder, name, True).path for name in makefiles(self.make.words)})
 
     def created(self) -> Dict[str, Dict[str, Set[int]]]:
         """By folder: the names that recipes create or remove directly in it."""
@@ -379,9 +380,8 @@ class Builder:
             self.began = min((l.born for w in self.make.work.values() for l in w.lives), default=1 << 60)
         return self.began
 
-    def drop_lonely(self) -> None:
-        """Paths that one task alone touches say nothing, except makefiles, which the next build reads; nor do reads of what nobody writes."""
-        read = {self.names.find(self.make.folder, name, True).path for name in makefiles(self.make.words)}
+    def drop_lonely(self, kept: AbstractSet[str] = frozenset()) -> None:
+        """Paths that one task alone touches say nothing, except those to keep; nor do reads of what nobody writes."""
         count: Dict[str, int] = {}
         written: Set[str] = set()
         for task in self.build.tasks:
@@ -390,4 +390,4 @@ class Builder:
                 count[path] = count.get(path, 0) + 1
         for task in self.build.tasks:
             task.reads = {p for p in task.reads if p in written and count[p] > 1 and p not in task.writes}
-            task.writes = {p for p in task.writes if count[p] > 1 or p in read}
+            task.writes = {p for p in task.writes if count[p] > 1 or p in kept}
