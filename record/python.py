@@ -16,7 +16,8 @@ PYTHON = re.compile(r"(?:.*/)?python[\d.]*$")
 CACHE = "__pycache__"
 LISTS = re.compile(r"listdir|scandir|glob|walk|iterdir|\bPath\b|pathlib|\bexec\b|\beval\b|__import__|importlib|pkgutil|runpy|copytree|rmtree|archive|zip|tarfile"
                    r"|compileall|unittest|pytest|setuptools|distutils|pkg_resources|metadata|\bstat\b|getmtime")
-OWN = re.compile(r"/usr/|/lib|/etc/|.*/lib/python\d[\d.]*/")  # where Python and its packages are
+SYSTEM = re.compile(r"/etc/|(?:/usr)?/lib(?:32|64)?/(?!python)")
+PACKAGES = re.compile(r"/(?:site|dist)-packages/(?!_distutils_hack/)")  # the exception is what setuptools runs at each start
 MODULES = ("*.py", "*.pyc", "*.so", "*/")  # what an import looks for in a list; the last is any folder
 
 
@@ -65,7 +66,8 @@ def settle_code(life: Life, others: Set[str]) -> None:
 def settle_lists(life: Life) -> None:
     """Lists of folders in which it finds modules."""
     lists = [path for kind, path in life.events if kind == "L" and path.endswith("\0*")]
-    read = [BYTE_CODE.sub(r"\1\2.py", path) for kind, path in life.events if kind == "R" and not OWN.match(path)]
+    library = library_of(life)
+    read = [BYTE_CODE.sub(r"\1\2.py", path) for kind, path in life.events if kind == "R" and not is_of_python(path, library)]
     sources = [path for path in read if path.endswith((".py", ".so"))]
     if not lists or script_of(life) not in (os.path.basename(path) for path in sources) or any(lists_folders(path) for path in sources):
         return
@@ -75,6 +77,16 @@ def settle_lists(life: Life) -> None:
             place = life.events.pop(("L", path))
             for pattern in MODULES:
                 life.events.setdefault(("L", folder + "\0" + pattern), place)
+
+
+def library_of(life: Life) -> str:
+    """How the folders of modules begin that come with this Python."""
+    return os.path.join(os.path.dirname(os.path.dirname(os.path.realpath(life.program or "/"))), "lib", "python")
+
+
+def is_of_python(path: str, library: str) -> bool:
+    """Whether a file comes with the system or with Python itself, and is of no package that was added: the text of one may list folders."""
+    return bool(SYSTEM.match(path)) or path.startswith(library) and not PACKAGES.search(path)
 
 
 def script_of(life: Life) -> str:

@@ -29,6 +29,7 @@ SEEN_GUARDS: List[Guard] = [
     Guard("Python: byte code and modules", "main.py", "for example in settle(replay.all):", "for example in ():", python("modules_and_byte_code"), FALSE_RACE),
     Guard("Python: byte code that others read", "python.py", "if cache_of(path) in others:", "if False:", python("byte_code_that_another_program_reads"), YES),
     Guard("Python: scripts that list", "python.py", " or any(lists_folders(path) for path in sources)", "", python("script_that_lists_the_folder"), YES),
+    Guard("Python: packages that list", "python.py", " and not PACKAGES.search(path)", "", python("what_comes_with_python")),
     Guard("Python: modules that list", "python.py", r'BYTE_CODE.sub(r"\1\2.py", path)', "path", python("module_that_lists_the_folder"), YES),
     Guard("Python: modules that a recipe makes", "python.py", 'MODULES = ("*.py", ', "MODULES = (", python("module_that_a_recipe_makes"), YES),
     Guard("moved folders: come and go", "moves.py", "            self.move_folder(life, old.path, new.path)\n", "", seen("folder_that_is_moved"), YES),

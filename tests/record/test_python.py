@@ -1,4 +1,4 @@
-"""Recipes that run Python: byte code, and the folders in which it finds modules."""
+"""Recipes that run Python: byte code, and the folders in which it finds modules. It runs without what this machine starts with it (`-S`)."""
 
 import os
 import sys
@@ -6,10 +6,11 @@ import unittest
 from typing import Dict
 
 import support
+from record.python import is_of_python
 
 HELPER = {"t/lib.py": "def text():\n    return 'x'\n"}
 SCRIPT = "import sys, lib\nopen(sys.argv[1], 'w').write(lib.text())\n"
-TWO = "all: t/x.c t/y.c\nt/x.c: ; python3 t/gen.py t/x.c\nt/y.c: ; python3 t/gen.py t/y.c\n"
+TWO = "all: t/x.c t/y.c\nt/x.c: ; python3 -S t/gen.py t/x.c\nt/y.c: ; python3 -S t/gen.py t/y.c\n"
 
 
 class Python(unittest.TestCase):
@@ -35,16 +36,28 @@ class Python(unittest.TestCase):
         self.of(TWO, SCRIPT, 1, files=files)
         self.of(TWO + "all: t/z.c\nt/y.c t/z.c: t/x.c\nt/z.c: ; touch t/z.c\n", SCRIPT, 1, files=files)
 
+    def test_package_that_lists_the_folder(self) -> None:
+        for folder in ("t/lib/python3/site-packages", "t/lib/python3"):
+            with self.subTest(folder):
+                files = {folder + "/more.py": "import os\ndef text():\n    return '%d' % len(os.listdir('t'))\n"}
+                self.of(TWO, "import sys\nsys.path.append('%s')\nimport more\nopen(sys.argv[1], 'w').write(more.text())\n" % folder, 1, files=files)
+
     def test_module_that_a_recipe_makes(self) -> None:
-        self.of("all: t/x.c t/more.py\nt/x.c: ; python3 t/gen.py t/x.c\nt/more.py: ; echo > $@\n", "try:\n    import more\nexcept ImportError:\n    pass\n" + SCRIPT, 1)
+        self.of("all: t/x.c t/more.py\nt/x.c: ; python3 -S t/gen.py t/x.c\nt/more.py: ; echo > $@\n", "try:\n    import more\nexcept ImportError:\n    pass\n" + SCRIPT, 1)
 
     def test_byte_code_that_another_program_reads(self) -> None:
         self.of(TWO + "all: z\nz: t/x.c ; cat t/__pycache__/*.pyc > z\n", SCRIPT, 1)
 
     def test_module_that_is_read_as_byte_code(self) -> None:
-        makefile = "all: t/x.c t/y.c\nt/x.c: ; python3 t/gen.py t/x.c\nt/y.c: ; python3 t/gen.py t/y.c\nall: z\nz: ; touch t/lib.py; touch z\n"
+        makefile = "all: t/x.c t/y.c\nt/x.c: ; python3 -S t/gen.py t/x.c\nt/y.c: ; python3 -S t/gen.py t/y.c\nall: z\nz: ; touch t/lib.py; touch z\n"
         self.of(makefile, SCRIPT, 1)
 
 
 if __name__ == "__main__":
     unittest.main()
+
+    def test_what_comes_with_python(self) -> None:
+        for path in ("/usr/lib/python3.11/os.py", "/usr/lib/python3/dist-packages/_distutils_hack/__init__.py", "/lib/x86_64-linux-gnu/a.so", "/etc/python3.11/sitecustomize.py"):
+            self.assertTrue(is_of_python(path, "/usr/lib/python"), path)
+        for path in ("/usr/lib/python3/dist-packages/jinja2/loaders.py", "/home/me/project/lib/python3.11/own.py", "/usr/share/tool/own.py", "/lib/python3/own.py"):
+            self.assertFalse(is_of_python(path, "/usr/lib/python"), path)
