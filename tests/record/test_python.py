@@ -52,12 +52,12 @@ class Python(unittest.TestCase):
         makefile = "all: t/x.c t/y.c\nt/x.c: ; python3 -S t/gen.py t/x.c\nt/y.c: ; python3 -S t/gen.py t/y.c\nall: z\nz: ; touch t/lib.py; touch z\n"
         self.of(makefile, SCRIPT, 1)
 
-
-if __name__ == "__main__":
-    unittest.main()
-
     def test_what_comes_with_python(self) -> None:
         for path in ("/usr/lib/python3.11/os.py", "/usr/lib/python3/dist-packages/_distutils_hack/__init__.py", "/lib/x86_64-linux-gnu/a.so", "/etc/python3.11/sitecustomize.py"):
             self.assertTrue(is_of_python(path, "/usr/lib/python"), path)
         for path in ("/usr/lib/python3/dist-packages/jinja2/loaders.py", "/home/me/project/lib/python3.11/own.py", "/usr/share/tool/own.py", "/lib/python3/own.py"):
             self.assertFalse(is_of_python(path, "/usr/lib/python"), path)
+
+
+if __name__ == "__main__":
+    unittest.main()
