@@ -1,5 +1,5 @@
 //! Tests of the libraries that stand between a book of rules and a program's answer, by their public calls: what footprints
-//! leave in jobs, and which of them lie unused; a plan that is attached again; listings and footprints that come in pieces, and
+//! leave in jobs; a plan that is attached again; listings and footprints that come in pieces, and
 //! the answer of a build whose listing and footprints were read ahead; events of no node, names that no log can hold, and a run
 //! in serial order; tasks that say when they are due. They stand in a crate of their own, so that no library is proved a second time for its tests. What
 //! `race check` says of whole texts is shown by cases.
@@ -15,8 +15,6 @@ mod due;
 mod events;
 #[cfg(test)]
 mod footprints;
-#[cfg(test)]
-mod noting;
 #[cfg(test)]
 mod parts;
 #[cfg(test)]

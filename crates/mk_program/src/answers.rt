@@ -13,7 +13,7 @@ ghost use Rattle.mk_program.specs.PlanText.{plan_text as text_of_plan};
 
 use crate::checking::check_reply;
 use crate::fixing::FixQuestion;
-use crate::listing::ListQuestion;
+use crate::listing::list_reply;
 use crate::missing::MissingQuestion;
 use crate::noting::{Question, Reply, noted_reply};
 use crate::outcome_lines::outcome_text;
@@ -85,8 +85,8 @@ pub fn answer_of<P: Opener>(
     answer_with(alloc, request, opener, pairs.as_slice())
 }
 
-/// The answer to a request over the pairs of its includes, and its note. A check, a proof and a log are judged by a listing and
-/// footprints that are read in pieces, the others by whole texts.
+/// The answer to a request over the pairs of its includes, and its note. A check, a list of races, a proof and a log are judged by a
+/// listing and footprints that are read in pieces, the others by whole texts.
 fn answer_with<P: Opener>(
     alloc: Global,
     request: &Request<'_>,
@@ -106,14 +106,12 @@ fn answer_with<P: Opener>(
         Request::Check(check) => check_reply(alloc, opener, check, includes),
         Request::Verify(verify) => verify_reply(alloc, opener, verify, includes),
         Request::Replay(replay) => replay_reply(alloc, opener, replay, includes),
+        Request::List(list) => list_reply(alloc, opener, list, includes),
         Request::Order(build) => {
             text_reply(alloc, opener, request, includes, &OrderQuestion { build })
         }
         Request::Serialise(replay) => {
             text_reply(alloc, opener, request, includes, &SerialOrder { replay })
-        }
-        Request::List(list) => {
-            text_reply(alloc, opener, request, includes, &ListQuestion { list })
         }
         Request::Missing(list) => {
             text_reply(alloc, opener, request, includes, &MissingQuestion { list })

@@ -1,53 +1,73 @@
 //! The answers to `race list`.
-ghost use Rattle.std.specs.Prelude.{◌≡◌, ◌≢◌, IfOk};
-ghost use Rattle.mk_race.specs.Stages.{texts_of};
+ghost use Rattle.std.specs.Prelude.{◌≡◌, ◌≢◌, IfErr, IfOk, List, None, Ok, OnOk, map, ℕ};
+ghost use Rattle.mk_race.specs.Stages.{IsPrepared, Texts};
 ghost use Rattle.mk_report.specs.RacesText.{IsRacesText};
-ghost use Rattle.mk_request.specs.declared.inputs.InputFile.TheVariants as inputs;
+ghost use Rattle.mk_request.specs.Requests.{inputs_of};
+ghost use Rattle.mk_files.specs.Inputs.{Hold, InputsMayBeRead, IsShortOr, IsUnread};
 ghost use Rattle.mk_program.specs.Answers as spec;
 
-use crate::answers::{Answer, bytes_of, input_of, refused};
+use crate::answers::{Answer, refused};
+use crate::noting::{Question, Reply, quiet_reply};
 use crate::statuses::Status;
-use crate::text_questions::TextQuestion;
 use mk_files::failures::Failure;
-use mk_files::inputs::InputText;
-use mk_race::input::Input;
-use mk_race::listing::{RaceList, list_races};
+use mk_files::openers::Opener;
+use mk_race::listing::{RaceList, list_jobs};
+use mk_race::preparing::Prepared;
 use mk_report::races::races_report;
-use mk_request::inputs::InputFile;
-use mk_request::requests::ListArgs;
+use mk_request::inputs::{InputFile, InputPath};
+use mk_request::requests::{ListArgs, Request};
 use std::alloc::{AllocError, Global};
 
-/// All races of a build, or why its inputs are refused.
+/// All races of a build.
 #[derive(Clone, Copy)]
-pub(crate) struct ListQuestion<'q, 'a> {
-    pub(crate) list: &'q ListArgs<'a>,
+struct AllRaces;
+
+/// All races of a build, or why its inputs are refused; and no note.
+pub(crate) fn list_reply<P: Opener>(
+    alloc: Global,
+    opener: &mut P,
+    list: &ListArgs<'_>,
+    includes: &[(&[u8], &[u8])],
+) -> Result<Reply, Failure>
+    ensures status { IfOk result (λ reply. reply.answer.status ≢ Status.Failed) }
+    ensures read { OnOk result (InputsMayBeRead (P.files opener.old) (inputs_of (Request.List list.now))) }
+    ensures failure { IfErr result (IsShortOr (IsUnread (P.files opener.old) (inputs_of (Request.List list.now)))) }
+    ensures answer { IfOk result (λ reply. (text : InputFile → List ℕ)
+        → Hold (P.files opener.old).text (inputs_of (Request.List list.now)) text
+        → spec.IsAnswerOver (Request.List list.now) (map (λ pair. (pair.0.now, pair.1.now)) includes.now) text
+        reply.answer.status reply.answer.text.items reply.note.items) }
+{
+    let footprints = list.footprints;
+    quiet_reply(alloc, opener, &list.build, footprints, includes, &AllRaces)
 }
 
-impl TextQuestion for ListQuestion<'_, '_> {
-    ghost says = { λ asked includes text. spec.IsListAnswer (spec.texts_for asked.list.now.build includes text) (text inputs.Footprints) };
+impl Question for AllRaces {
+    ghost other = { λ _. None };
 
-    ghost has_no_text = { λ _ _ _. ⊥ };
+    ghost says = { λ _ texts footprints _. spec.IsListAnswer texts footprints };
+
+    fn other_input(&self) -> Option<InputPath<'_>> {
+        None
+    }
 
     fn answer(
         &self,
         alloc: Global,
-        includes: &[(&[u8], &[u8])],
-        texts: &[InputText],
-    ) -> Result<Answer, Failure> {
-        let build = &self.list.build;
-        let operands = bytes_of(alloc, build.operands.as_slice())?;
-        let input = input_of(build, operands.as_slice(), includes, texts);
-        Ok(list_over(alloc, &input)?)
+        prepared: Prepared,
+        _text: &[u8],
+    ) -> Result<Answer, AllocError> {
+        list_over(alloc, prepared)
     }
 }
 
-/// The report of all races of a build, or of its first fault. The only error is out of memory.
-fn list_over(alloc: Global, input: &Input<'_>) -> Result<Answer, AllocError>
+/// The report of all races of a build of these jobs, or of their fault. The only error is out of memory.
+fn list_over(alloc: Global, prepared: Prepared) -> Result<Answer, AllocError>
     ensures status { IfOk result (λ answer. answer.status ≢ Status.Failed) }
-    ensures answer { IfOk result (λ answer. spec.IsListAnswer (texts_of input.now)
-        input.now.footprints.now answer.status answer.text.items) }
+    ensures answer { IfOk result (λ answer. (texts : Texts) (footprints : List ℕ)
+        → IsPrepared texts footprints (Ok prepared)
+        → spec.IsListAnswer texts footprints answer.status answer.text.items) }
 {
-    match list_races(alloc, input) {
+    match list_jobs(alloc, prepared.jobs) {
         Ok(listed) => races_answer(alloc, &listed),
         Err(halt) => refused(alloc, halt),
     }

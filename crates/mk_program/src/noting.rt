@@ -4,7 +4,7 @@ ghost use Rattle.mk_name.specs.Gives.{Answers};
 ghost use Rattle.mk_name.specs.Shown.{refused_text};
 ghost use Rattle.mk_name.specs.Reported.{Reported};
 ghost use Rattle.mk_name.specs.declared.fault.Halt.TheVariants as halts;
-ghost use Rattle.mk_race.specs.Stages.{IsPrepared, Texts};
+ghost use Rattle.mk_race.specs.Stages.{AreListed, IsPrepared, Texts};
 ghost use Rattle.mk_race.specs.Unused.{IsNotedBy};
 ghost use Rattle.mk_request.specs.declared.inputs.InputPath.{InputPath as Path};
 ghost use Rattle.mk_program.specs.Answers.{base_of as base_text, texts_for};
@@ -51,6 +51,7 @@ pub(crate) trait Question {
 
     /// The answer about these jobs, where that input has this text. The only error is out of memory.
     fn answer(&self, alloc: Global, prepared: Prepared, text: &[u8]) -> Result<Answer, AllocError>
+        requires { AreListed prepared }
         ensures status { IfOk result (λ answer. answer.status ≢ Status.Failed) }
         ensures answer { IfOk result (λ answer. (texts : Texts) (footprints : List ℕ)
             → IsPrepared texts footprints (Ok prepared)
@@ -80,8 +81,69 @@ pub(crate) fn noted_reply<P: Opener, Q: Question>(
         (text InputFile.Footprints) (other_text (Q.other question.now) text))
         reply.answer.status reply.answer.text.items reply.note.items) }
 {
+    reply_to(
+        alloc,
+        opener,
+        build,
+        footprints,
+        includes,
+        question,
+        build.strict,
+    )
+}
+
+/// The same without a note, of a build that is not strict: its footprints may lie unused.
+pub(crate) fn quiet_reply<P: Opener, Q: Question>(
+    alloc: Global,
+    opener: &mut P,
+    build: &BuildArgs<'_>,
+    footprints: &str,
+    includes: &[(&[u8], &[u8])],
+    question: &Q,
+) -> Result<Reply, Failure>
+    ensures status { IfOk result (λ reply. reply.answer.status ≢ Status.Failed) }
+    ensures read { OnOk result (InputsMayBeRead (P.files opener.old)
+        (inputs_with build.now footprints.entry (Q.other question.now))) }
+    ensures failure { IfErr result (IsShortOr (IsUnread (P.files opener.old)
+        (inputs_with build.now footprints.entry (Q.other question.now)))) }
+    ensures answer { IfOk result (λ reply. (text : InputFile → List ℕ)
+        → Hold (P.files opener.old).text (inputs_with build.now footprints.entry (Q.other question.now)) text
+        → spec.SaysQuietly (texts_for build.now
+        (map (λ pair. (pair.0.now, pair.1.now)) includes.now) text) (text InputFile.Footprints)
+        (Q.says question.now (texts_for build.now (map (λ pair. (pair.0.now, pair.1.now)) includes.now) text)
+        (text InputFile.Footprints) (other_text (Q.other question.now) text))
+        reply.answer.status reply.answer.text.items) }
+    ensures note { IfOk result (λ reply. reply.note.items ≡ []) }
+{
+    let reply = reply_to(alloc, opener, build, footprints, includes, question, false)?;
+    Ok(without_note(alloc, reply.answer))
+}
+
+/// Reads a build and the input of a question about it, and gives the answer, or the report of the build's first fault; and the note.
+fn reply_to<P: Opener, Q: Question>(
+    alloc: Global,
+    opener: &mut P,
+    build: &BuildArgs<'_>,
+    footprints: &str,
+    includes: &[(&[u8], &[u8])],
+    question: &Q,
+    strict: bool,
+) -> Result<Reply, Failure>
+    ensures status { IfOk result (λ reply. reply.answer.status ≢ Status.Failed) }
+    ensures read { OnOk result (InputsMayBeRead (P.files opener.old)
+        (inputs_with build.now footprints.entry (Q.other question.now))) }
+    ensures failure { IfErr result (IsShortOr (IsUnread (P.files opener.old)
+        (inputs_with build.now footprints.entry (Q.other question.now)))) }
+    ensures answer { IfOk result (λ reply. (text : InputFile → List ℕ)
+        → Hold (P.files opener.old).text (inputs_with build.now footprints.entry (Q.other question.now)) text
+        → spec.SaysNoting strict (texts_for build.now
+        (map (λ pair. (pair.0.now, pair.1.now)) includes.now) text) (text InputFile.Footprints)
+        (Q.says question.now (texts_for build.now (map (λ pair. (pair.0.now, pair.1.now)) includes.now) text)
+        (text InputFile.Footprints) (other_text (Q.other question.now) text))
+        reply.answer.status reply.answer.text.items reply.note.items) }
+{
     let read = read_build(alloc, opener, build, footprints, question.other_input())?;
-    Ok(reply_over(alloc, build, includes, read, question)?)
+    Ok(reply_over(alloc, build, includes, read, question, strict)?)
 }
 
 /// The answer to a question about the build that was read, or the report of its first fault; and the note. The only error is out
@@ -92,11 +154,12 @@ fn reply_over<Q: Question>(
     includes: &[(&[u8], &[u8])],
     read: ReadBuild,
     question: &Q,
+    strict: bool,
 ) -> Result<Reply, AllocError>
     ensures status { IfOk result (λ reply. reply.answer.status ≢ Status.Failed) }
     ensures answer { IfOk result (λ reply. (text : InputFile → List ℕ)
         → IsReadAs build.now.root.now (Q.other question.now) text read
-        → spec.SaysNoting build.now.strict (texts_for build.now
+        → spec.SaysNoting strict (texts_for build.now
         (map (λ pair. (pair.0.now, pair.1.now)) includes.now) text) (text InputFile.Footprints)
         (Q.says question.now (texts_for build.now (map (λ pair. (pair.0.now, pair.1.now)) includes.now) text)
         (text InputFile.Footprints) (other_text (Q.other question.now) text))
@@ -118,6 +181,7 @@ fn reply_over<Q: Question>(
         makefile.as_slice(),
         listing,
         footprints,
+        strict,
     ) {
         Ok(noted) => reply_on(alloc, noted, other.as_slice(), question),
         Err(halt) => refused_reply(alloc, halt),
@@ -133,27 +197,23 @@ fn noted_of(
     makefile: &[u8],
     listing: Result<Listing, Fault>,
     footprints: Result<Footprints, Fault>,
+    strict: bool,
 ) -> Result<Noted, Halt>
     ensures answer { (text : InputFile → List ℕ) → base.now ≡ base_text build.now (text InputFile.Base)
         → makefile.now ≡ text InputFile.Makefile → AreBelow build.now.root.now text listing footprints
-        → Answers result (IsNotedBy build.now.strict (texts_for build.now
+        → Answers result (IsNotedBy strict (texts_for build.now
         (map (λ pair. (pair.0.now, pair.1.now)) includes.now) text) (text InputFile.Footprints)) }
     ensures prepared { IfOk result (λ noted. (text : InputFile → List ℕ)
         → base.now ≡ base_text build.now (text InputFile.Base)
         → makefile.now ≡ text InputFile.Makefile → AreBelow build.now.root.now text listing footprints
         → IsPrepared (texts_for build.now (map (λ pair. (pair.0.now, pair.1.now)) includes.now) text)
         (text InputFile.Footprints) (Ok noted.prepared)) }
+    ensures listed { IfOk result (λ noted. AreListed noted.prepared) }
 {
     let operands = bytes_of(alloc, build.operands.as_slice())?;
     let settings = settings_of(build, operands.as_slice(), includes);
     note_parts(
-        alloc,
-        &settings,
-        base,
-        makefile,
-        listing,
-        footprints,
-        build.strict,
+        alloc, &settings, base, makefile, listing, footprints, strict,
     )
 }
 
@@ -182,6 +242,7 @@ fn reply_on<Q: Question>(
     other: &[u8],
     question: &Q,
 ) -> Result<Reply, AllocError>
+    requires { AreListed noted.prepared }
     ensures status { IfOk result (λ reply. reply.answer.status ≢ Status.Failed) }
     ensures answer { IfOk result (λ reply. (texts : Texts) (footprints : List ℕ)
         → IsPrepared texts footprints (Ok noted.prepared)

@@ -14,7 +14,7 @@ use Rattle.mk_fix.proofs.Adding.{clash_down, count_same, listed_same, name_same,
 use Rattle.mk_fix.proofs.Fixing.{fix_determinate, to_live}
 use Rattle.mk_sched.specs.Laws.{IsDeterminate}
 use Rattle.mk_task.proofs.Starting.{AreTasks}
-use Rattle.mk_race.specs.Tasked.{EachStarts, RunsAlike, tasked}
+use Rattle.mk_race.specs.Tasked.{tasked}
 use Rattle.mk_race.specs.TasksFixed.{AreFixedBy, FixHolds, HoldsOfFixed, IsFixingOf}
 use Rattle.mk_race.specs.declared.tasks_fixing.TaskFixing.{TaskFixing}
 use Rattle.mk_race.specs.declared.tasks_fixing.TaskFixing.TheVariants.{Fixed, NotFixed}

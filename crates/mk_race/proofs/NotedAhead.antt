@@ -1,4 +1,4 @@
--- A build whose listing and footprints were read ahead, with its footprints that lie unused.
+-- The jobs of a build whose listing and footprints were read ahead, with its footprints that lie unused.
 use Rattle.std.proofs.Common.{◌≡◌, ℕ, Bool, IfOk, List, [], Ok, Err, Option, Result, refl, subst, sym}
 use Rattle.mk_name.specs.Gives.{Answers, HaltsAmong}
 use Rattle.mk_name.specs.Names.{Name}
@@ -6,66 +6,64 @@ use Rattle.mk_name.specs.Reported.{Reported}
 use Rattle.mk_name.specs.declared.fault.Halt.{Halt}
 use Rattle.mk_name.specs.declared.fault.Halt.TheVariants as halts
 use Rattle.mk_jobs.specs.Jobs.{Jobs}
-use Rattle.mk_jobs.specs.Plan.{Plan}
-use Rattle.mk_rules.specs.Book.{Book}
 use Rattle.mk_foot.specs.Footprints.{Footprints, IsRead}
 use Rattle.mk_race.specs.Parts.{AreReadFrom, IsPlannedWith, texts_with}
 use Rattle.mk_race.specs.Stages.{IsPlanned, IsPrepared, Texts, Then, with_jobs}
-use Rattle.mk_race.specs.Unused.{AreNoted, AreNotedOf, IsNoted, IsNotedBy, IsNotedWith}
+use Rattle.mk_race.specs.Unused.{AreNotedOf, AreNotedOn, IsNoted, IsNotedBy, IsNotedWith}
 use Rattle.mk_race.specs.declared.input.Settings.{Settings}
 use Rattle.mk_race.specs.declared.planning.Planned.{Planned}
 use Rattle.mk_race.specs.declared.unused.Noted.{Noted}
 use Rattle.mk_race.specs.declared.unused.Unused.{Unused}
 use Rattle.mk_race.proofs.Ahead.{planned_there, rooted}
-use Rattle.mk_race.proofs.Noting.{noted_is, prepared_by}
+use Rattle.mk_race.proofs.Noting.{prepared_by}
 
--- faults that are the same
-err_same : {X : Type 0} (one other : Reported) → ◌≡◌ {A = Result X Reported} (Err one) (Err other) → one ≡ other
-err_same one other same = cc
+module _ (texts : Texts) (lines : List ℕ) (planned : Planned) (answer : Result Noted Reported) where
+  -- what is said of footprints that were read ahead is said of the text that they were read from
+  found_there : (read : Result Footprints Reported) (found : Result (Jobs × Option Unused) Reported)
+      → IsPlanned texts (Ok planned) → IsRead planned.root lines read → Then read (AreNotedOf planned.book planned.plan) found
+      → Then found (λ f a. a ≡ Ok (record { prepared = with_jobs planned f.0; unused = f.1 })) answer → IsNoted texts lines answer
+  found_there (Ok read) (Ok found) is r on so =
+      subst (λ (a : Result Noted Reported). IsNoted texts lines a) (sym so) ((Ok planned, is, (Ok found.0, (Ok read, r, on.0), refl)), (read, r, on.1))
+  found_there (Ok read) (Err reported) is r on so =
+      subst (λ (a : Result Noted Reported). IsNoted texts lines a) (sym so) (Ok planned, is, (Err reported, (Ok read, r, on), refl))
+  found_there (Err fault) found is r on so =
+      let ends : answer ≡ Err fault =
+      subst (λ (f : Result (Jobs × Option Unused) Reported). Then f (λ f a. a ≡ Ok (record { prepared = with_jobs planned f.0; unused = f.1 })) answer) on so in
+      subst (λ (a : Result Noted Reported). IsNoted texts lines a) (sym ends) (Ok planned, is, (Err fault, (Err fault, r, refl), refl))
 
--- what is said of footprints that were read ahead is said of the text that they were read from
-noted_from : (root : List ℕ) (book : Book) (plan : Plan) (lines : List ℕ) (read : Result Footprints Reported) (found : Result (Jobs × Option Unused) Reported)
-    → IsRead root lines read → Then read (AreNotedOf book plan) found → AreNoted root book plan lines found
-noted_from root book plan lines (Ok read) (Ok found) r on = (read, r, on.0, on.1)
-noted_from root book plan lines (Ok read) (Err reported) r on = (Ok read, r, on)
-noted_from root book plan lines (Err fault) (Ok found) r on =
-    absurd (let e : ◌≡◌ {A = Result (Jobs × Option Unused) Reported} (Ok found) (Err fault) = on in cc)
-noted_from root book plan lines (Err fault) (Err reported) r on =
-    (Err fault, r, subst (λ (x : Reported). ◌≡◌ {A = Result Jobs Reported} (Err reported) (Err x)) (err_same reported fault on) refl)
+module _ (texts : Texts) (lines : List ℕ) (listed : Result (List Name) Reported) (read : Result Footprints Reported)
+    (from : AreReadFrom texts lines listed read) where
+  -- so a build of what was read ahead is a build of the texts
+  noted_there : (answer : Result Noted Reported) → IsNotedWith texts listed read answer → IsNoted texts lines answer
+  noted_there answer (Ok planned, is, more) =
+      found_there texts lines planned answer read more.0 (planned_there texts listed from.listing (Ok planned) is)
+      (from.footprints planned.root (rooted texts listed planned is)) more.1 more.2
+  noted_there answer (Err reported, is, so) =
+      subst (λ (a : Result Noted Reported). IsNoted texts lines a) (sym so) (Err reported, planned_there texts listed from.listing (Err reported) is, refl)
 
--- so a build of them is a build of the texts
-behind_plan : (texts : Texts) (lines : List ℕ) (planned : Planned) (found : Result (Jobs × Option Unused) Reported) (answer : Result Noted Reported)
-    → IsPlanned texts (Ok planned) → AreNoted planned.root planned.book planned.plan lines found
-    → Then found (λ f a. a ≡ Ok (record { prepared = with_jobs planned f.0; unused = f.1 })) answer → IsNoted texts lines answer
-behind_plan texts lines planned (Ok found) (Ok noted) is on so =
-    noted_is texts lines planned found noted is on (let e : ◌≡◌ {A = Result Noted Reported} (Ok noted) (Ok (record { prepared = with_jobs planned found.0; unused = found.1 })) = so in cc)
-behind_plan texts lines planned (Ok found) (Err reported) is on so =
-    absurd (let e : ◌≡◌ {A = Result Noted Reported} (Err reported) (Ok (record { prepared = with_jobs planned found.0; unused = found.1 })) = so in cc)
-behind_plan texts lines planned (Err reported) answer is on so =
-    subst (λ (a : Result Noted Reported). IsNoted texts lines a) (sym so) (Ok planned, is, (Err reported, on, refl))
+  answers_noted : (result : Result Noted Halt) → Answers result (IsNotedWith texts listed read) → Answers result (IsNoted texts lines)
+  answers_noted (Ok noted) is = noted_there (Ok noted) is
+  answers_noted (Err halts.Memory) is = tt
+  answers_noted (Err (halts.Fault reported)) is = noted_there (Err reported) is
 
-module _ (texts : Texts) (lines : List ℕ) (listed : Result (List Name) Reported) (read : Result Footprints Reported) where
-  noted_there : (answer : Result Noted Reported) → AreReadFrom texts lines listed read → IsNotedWith texts listed read answer → IsNoted texts lines answer
-  noted_there answer from (Ok planned, is, more) =
-      behind_plan texts lines planned more.0 answer (planned_there texts listed (Ok planned) from.listing is)
-      (noted_from planned.root planned.book planned.plan lines read more.0 (from.footprints planned.root (rooted texts listed planned is)) more.1) more.2
-  noted_there answer from (Err reported, is, so) =
-      subst (λ (a : Result Noted Reported). IsNoted texts lines a) (sym so) (Err reported, planned_there texts listed (Err reported) from.listing is, refl)
+  -- and its jobs are those of the texts
+  pub jobs_there : (noted : Noted) → IsNotedWith texts listed read (Ok noted) → IsPrepared texts lines (Ok noted.prepared)
+  jobs_there noted is = (noted_there (Ok noted) is).0
 
-  halts_there : (halt : Halt) → AreReadFrom texts lines listed read → HaltsAmong halt (IsNotedWith texts listed read) → HaltsAmong halt (IsNoted texts lines)
-  halts_there halts.Memory from h = tt
-  halts_there (halts.Fault reported) from h = noted_there (Err reported) from h
+  pub halts_there : (halt : Halt) → HaltsAmong halt (IsNotedWith texts listed read) → HaltsAmong halt (IsPrepared texts lines)
+  halts_there halts.Memory is = tt
+  halts_there (halts.Fault reported) is = noted_there (Err reported) is
 
 module _ (settings : Settings) (base makefile : List ℕ) (listed : Result (List Name) Reported) (read : Result Footprints Reported) where
-  pub parts_noted : (noted : Noted) → IsNotedWith (texts_with settings base makefile []) listed read (Ok noted)
+  -- what was read ahead says nothing of the listing of the texts
+  pub parts_noted : (given : Texts) (result : Result Noted Halt) → given ≡ texts_with settings base makefile []
+      → Answers result (IsNotedWith given listed read)
       → (listing lines : List ℕ) → AreReadFrom (texts_with settings base makefile listing) lines listed read
-      → IsNoted (texts_with settings base makefile listing) lines (Ok noted)
-  parts_noted noted is listing lines from = noted_there (texts_with settings base makefile listing) lines listed read (Ok noted) from is
-
-  pub parts_not_noted : (halt : Halt) → HaltsAmong halt (IsNotedWith (texts_with settings base makefile []) listed read)
-      → (listing lines : List ℕ) → AreReadFrom (texts_with settings base makefile listing) lines listed read
-      → HaltsAmong halt (IsNoted (texts_with settings base makefile listing) lines)
-  parts_not_noted halt is listing lines from = halts_there (texts_with settings base makefile listing) lines listed read halt from is
+      → Answers result (IsNoted (texts_with settings base makefile listing) lines)
+  parts_noted given result same is listing lines from =
+      let there : Answers result (IsNotedWith (texts_with settings base makefile []) listed read) =
+      subst (λ (texts : Texts). Answers result (IsNotedWith texts listed read)) same is in
+      answers_noted (texts_with settings base makefile listing) lines listed read from result there
 
   -- the jobs of what was noted are those of the build
   pub parts_prepared_by : (strict : Bool) (result : Result Noted Halt)
@@ -83,8 +81,15 @@ pub not_planned : (texts : Texts) (listed : Result (List Name) Reported) (read :
 not_planned texts listed read halts.Memory h = tt
 not_planned texts listed read (halts.Fault reported) h = (Err reported, h, refl)
 
--- and so is one of the jobs, with what is said of their footprints
-pub not_found : (texts : Texts) (listed : Result (List Name) Reported) (read : Result Footprints Reported) (planned : Planned) (halt : Halt)
-    → IsPlannedWith texts listed (Ok planned) → HaltsAmong halt (Then read (AreNotedOf planned.book planned.plan)) → HaltsAmong halt (IsNotedWith texts listed read)
-not_found texts listed read planned halts.Memory is h = tt
-not_found texts listed read planned (halts.Fault reported) is h = (Ok planned, is, (Err reported, h, refl))
+-- what is noted behind a plan is noted of the whole
+pub noted_behind : (texts : Texts) (listed : Result (List Name) Reported) (read : Result Footprints Reported) (planned : Planned) (result : Result Noted Halt)
+    → IsPlannedWith texts listed (Ok planned) → Answers result (AreNotedOn planned read) → Answers result (IsNotedWith texts listed read)
+noted_behind texts listed read planned (Ok noted) is on = (Ok planned, is, on)
+noted_behind texts listed read planned (Err halts.Memory) is on = tt
+noted_behind texts listed read planned (Err (halts.Fault reported)) is on = (Ok planned, is, on)
+
+-- a halt of the jobs is one of what is noted of them
+pub not_found : (planned : Planned) (read : Result Footprints Reported) (halt : Halt)
+    → HaltsAmong halt (Then read (AreNotedOf planned.book planned.plan)) → HaltsAmong halt (AreNotedOn planned read)
+not_found planned read halts.Memory h = tt
+not_found planned read (halts.Fault reported) h = (Err reported, h, refl)

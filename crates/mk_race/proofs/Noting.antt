@@ -11,14 +11,12 @@ use Rattle.mk_name.specs.Names.{Name}
 use Rattle.mk_name.specs.Reported.{Reported}
 use Rattle.mk_name.specs.declared.fault.Halt.{Halt}
 use Rattle.mk_name.specs.declared.fault.Halt.TheVariants as halts
-use Rattle.mk_jobs.specs.Jobs.{Jobs, has_commands}
-use Rattle.mk_jobs.specs.Plan.{Node, Plan, node_at, nobody}
+use Rattle.mk_jobs.specs.Jobs.{has_commands}
+use Rattle.mk_jobs.specs.Plan.{Node, node_at, nobody}
 use Rattle.mk_jobs.specs.declared.maker.Maker.{Maker}
-use Rattle.mk_rules.specs.Book.{Book}
-use Rattle.mk_foot.specs.Footprints.{Footprints, IsRead, footprint_at}
-use Rattle.mk_race.specs.Stages.{IsJobs, IsPlanned, IsPrepared, Texts, with_jobs}
-use Rattle.mk_race.specs.Unused.{AreNoted, AreNotedOf, IsNoted, IsNotedBy, is_unused, strictly, unused_fault, unused_in, unused_number}
-use Rattle.mk_race.specs.declared.planning.Planned.{Planned}
+use Rattle.mk_foot.specs.Footprints.{Footprints, footprint_at}
+use Rattle.mk_race.specs.Stages.{IsPrepared, Texts}
+use Rattle.mk_race.specs.Unused.{IsNoted, IsNotedBy, is_unused, strictly, unused_fault, unused_in, unused_number}
 use Rattle.mk_race.specs.declared.unused.Noted.{Noted}
 use Rattle.mk_race.specs.declared.unused.Unused.{Unused}
 
@@ -88,39 +86,6 @@ module _ (footprints : Footprints) (nodes : List Node) (n : ℕ) (maker : Maker)
       ∙ sym (ap (λ b. not b && is_some (footprint_at footprints (node_at nodes n).name)) (sym (ap has_commands is) ∙ sym has ∙ so))
 
 -- ---- the jobs with them
-
--- a halt of the jobs is one of the whole
-pub not_noted : (texts : Texts) (footprints : List ℕ) (halt : Halt) → HaltsAmong halt (IsPrepared texts footprints) → HaltsAmong halt (IsNoted texts footprints)
-not_noted texts footprints halts.Memory h = tt
-not_noted texts footprints (halts.Fault reported) h = h
-
--- nor does a halt of the plan get past it
-pub unplanned : (texts : Texts) (footprints : List ℕ) (halt : Halt) → HaltsAmong halt (IsPlanned texts) → HaltsAmong halt (IsNoted texts footprints)
-unplanned texts footprints halts.Memory h = tt
-unplanned texts footprints (halts.Fault reported) h = (Err reported, h, refl)
-
-module _ (root : List ℕ) (book : Book) (plan : Plan) (footprints : List ℕ) where
-  -- a halt of the jobs is one of the jobs with what is said of their footprints, and the other way round
-  pub among_noted : (halt : Halt) → HaltsAmong halt (IsJobs root book plan footprints) → HaltsAmong halt (AreNoted root book plan footprints)
-  among_noted halts.Memory h = tt
-  among_noted (halts.Fault reported) h = h
-
-  pub among_jobs : (halt : Halt) → HaltsAmong halt (AreNoted root book plan footprints) → HaltsAmong halt (IsJobs root book plan footprints)
-  among_jobs halts.Memory h = tt
-  among_jobs (halts.Fault reported) h = h
-
-  -- what is said of footprints is said of the text that they were read from
-  pub read_noted : (read : Footprints) (result : Result (Jobs × Option Unused) Halt) → IsRead root footprints (Ok read)
-      → Answers result (AreNotedOf book plan read) → Answers result (AreNoted root book plan footprints)
-  read_noted read (Ok found) r on = (read, r, on.0, on.1)
-  read_noted read (Err halts.Memory) r on = tt
-  read_noted read (Err (halts.Fault reported)) r on = (Ok read, r, on)
-
-pub noted_is : (texts : Texts) (footprints : List ℕ) (planned : Planned) (found : Jobs × Option Unused) (noted : Noted)
-    → IsPlanned texts (Ok planned) → AreNoted planned.root planned.book planned.plan footprints (Ok found)
-    → noted ≡ record { prepared = with_jobs planned found.0; unused = found.1 } → IsNoted texts footprints (Ok noted)
-noted_is texts footprints planned found noted is (read, r, h, said) same =
-    subst (λ (n : Noted). IsNoted texts footprints (Ok n)) (sym same) ((Ok planned, is, (Ok found.0, (Ok read, r, h), refl)), (read, r, said))
 
 module _ (texts : Texts) (footprints : List ℕ) (strict : Bool) where
   -- a halt before is one of the whole

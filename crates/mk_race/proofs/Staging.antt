@@ -2,7 +2,7 @@
 use Rattle.std.proofs.Common.{◌≡◌, ℕ, Bool, List, Ok, Err, Result, refl, subst}
 use Rattle.mk_name.specs.Names.{Name}
 use Rattle.mk_name.specs.Reported.{Reported}
-use Rattle.mk_name.specs.Gives.{Answers, HaltsAmong}
+use Rattle.mk_name.specs.Gives.{HaltsAmong}
 use Rattle.mk_name.specs.declared.fault.Halt.{Halt}
 use Rattle.mk_name.specs.declared.fault.Halt.TheVariants as halts
 use Rattle.mk_include.specs.Includes.{Texts as Included}
@@ -10,14 +10,10 @@ use Rattle.mk_macro.specs.Macros.{Macros}
 use Rattle.mk_rules.specs.Book.{Book}
 use Rattle.mk_graph.specs.Answer.{IsAnswer}
 use Rattle.mk_graph.specs.Answer.{goals_of as goals_or_default}
-use Rattle.mk_jobs.specs.Plan.{Plan}
-use Rattle.mk_foot.specs.Footprints.{Footprints, IsRead}
-use Rattle.mk_jobs.specs.Jobs.{Jobs}
 use Rattle.mk_log.specs.Logs.{Log}
 use Rattle.mk_log.specs.Reading.{IsRead as IsReadLog}
 use Rattle.mk_race.specs.Played.{IsOutcome, IsPlayedOn}
-use Rattle.mk_race.specs.Stages.{AreJobs, IsBookOf, IsGraphed, IsJobs, IsPlanned, IsPrepared, Texts}
-use Rattle.mk_race.specs.declared.planning.Planned.{Planned}
+use Rattle.mk_race.specs.Stages.{IsBookOf, IsGraphed, Texts}
 use Rattle.mk_race.specs.declared.preparing.Prepared.{Prepared}
 use Rattle.mk_race.specs.declared.replaying.Played.{Played}
 
@@ -33,25 +29,6 @@ pub no_book : (texts : Texts) (root : List ℕ) (goals : List Name) (included : 
     → HaltsAmong halt (IsBookOf texts root included macros) → HaltsAmong halt (IsGraphed texts root goals included macros listed)
 no_book texts root goals included macros listed halts.Memory h = tt
 no_book texts root goals included macros listed (halts.Fault reported) h = (Err reported, h, refl)
-
-module _ (root : List ℕ) (book : Book) (plan : Plan) (footprints : List ℕ) where
-  -- a halt of the footprints is one of the jobs
-  pub unread : (halt : Halt) → HaltsAmong halt (IsRead root footprints) → HaltsAmong halt (IsJobs root book plan footprints)
-  unread halts.Memory h = tt
-  unread (halts.Fault reported) h = (Err reported, h, refl)
-
-  -- what comes of a plan and footprints is what comes of both texts
-  pub joined : (read : Footprints) (result : Result Jobs Halt) → IsRead root footprints (Ok read)
-      → Answers result (AreJobs plan book read) → Answers result (IsJobs root book plan footprints)
-  joined read (Ok jobs) r h = (Ok read, r, h)
-  joined read (Err halts.Memory) r h = tt
-  joined read (Err (halts.Fault reported)) r h = (Ok read, r, h)
-
--- a halt of the jobs is one of the whole
-pub not_prepared : (texts : Texts) (footprints : List ℕ) (planned : Planned) (halt : Halt) → IsPlanned texts (Ok planned)
-    → HaltsAmong halt (IsJobs planned.root planned.book planned.plan footprints) → HaltsAmong halt (IsPrepared texts footprints)
-not_prepared texts footprints planned halts.Memory is h = tt
-not_prepared texts footprints planned (halts.Fault reported) is h = (Ok planned, is, (Err reported, h, refl))
 
 module _ (prepared : Prepared) (log : List ℕ) (limit : ℕ) (tie : Bool) where
   -- a halt of the log is one of the whole

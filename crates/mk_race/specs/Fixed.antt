@@ -13,6 +13,8 @@ use Rattle.mk_race.specs.Judged.{IsAnswered, NoScheduleShows}
 use Rattle.mk_race.specs.Stages.{IsPrepared, Texts, ThenAny}
 use Rattle.mk_race.specs.declared.fixing.Fixing.{Fixing}
 use Rattle.mk_race.specs.declared.fixing.Fixing.TheVariants.{Fixed, NotFixed}
+use Rattle.mk_race.specs.declared.fixing.Tried.{Tried}
+use Rattle.mk_race.specs.declared.fixing.Tried.TheVariants.{Safe, Unsafe}
 
 -- the texts of a build, with these lines behind the makefile
 abbrev pub with_lines : Texts → List ℕ → Texts
@@ -45,6 +47,18 @@ pub data IsUnfixed (texts : Texts) (footprints : List ℕ) (jobs : Jobs) (edges 
   no_room : HasNoRoom texts.makefile jobs edges → IsUnfixed texts footprints jobs edges None
   tried : (lines : List ℕ) (answer : Answer) → IsFixText texts.makefile jobs edges lines
       → IsAnswered (with_lines texts lines) footprints answer → IsNoFix jobs edges answer → IsUnfixed texts footprints jobs edges (refusal_of answer)
+
+-- what comes of lines that say the fix of these jobs: with them the build is safe, by jobs that have all that there was, and the fix;
+-- or they do not fix it
+abbrev pub IsTried : Texts → List ℕ → Jobs → List (ℕ × ℕ) → List ℕ → Tried → Type 0
+IsTried texts footprints jobs edges lines (Safe new chains) =
+    IsAnswered (with_lines texts lines) footprints (answers.Safe new chains) × HaveAll jobs edges new
+IsTried texts footprints jobs edges lines (Unsafe refusal) = IsUnfixed texts footprints jobs edges refusal
+
+-- where the build is safe, no schedule of it shows in its files
+abbrev pub HoldsOfTried : Texts → List ℕ → List ℕ → Tried → Type 0
+HoldsOfTried texts footprints lines (Safe new chains) = NoScheduleShows (with_lines texts lines) footprints
+HoldsOfTried texts footprints lines (Unsafe refusal) = Unit {0}
 
 -- what comes of the jobs of a build: lines that fix it; or the edges that it needs, and that no lines give them; or too many pairs clash
 abbrev pub IsFixingOf : Texts → List ℕ → Jobs → Result Fixing Reported → Type 0

@@ -62,11 +62,14 @@ abbrev pub IsOrderOn : Prepared → List ℕ → ℕ → Bool → Result Ordered
 IsOrderOn prepared log limit tie =
     ThenAny (IsRead prepared.jobs prepared.root log) (λ read. IsOrder prepared.jobs prepared.listing limit tie read)
 
+-- with that go the jobs
+abbrev pub IsSerialisedOn : Prepared → List ℕ → ℕ → Bool → Result Serialised Reported → Type 0
+IsSerialisedOn prepared log limit tie =
+    ThenAny (IsOrderOn prepared log limit tie) (λ order answer. answer ≡ Ok (record { jobs = prepared.jobs; order = order }))
+
 -- the jobs, and then the log on them
 abbrev pub IsSerialised : Texts → List ℕ → List ℕ → ℕ → Bool → Result Serialised Reported → Type 0
-IsSerialised texts footprints log limit tie =
-    ThenAny (IsPrepared texts footprints) (λ prepared. ThenAny (IsOrderOn prepared log limit tie) (λ order answer.
-    answer ≡ Ok (record { jobs = prepared.jobs; order = order })))
+IsSerialised texts footprints log limit tie = ThenAny (IsPrepared texts footprints) (λ prepared. IsSerialisedOn prepared log limit tie)
 
 -- the same files, and a complete serial run of the same outcome: each node starts in both or in none and does the same, and
 -- both leave the same at each name

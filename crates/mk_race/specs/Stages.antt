@@ -1,6 +1,6 @@
 -- What comes of the texts of a build: the first fault of their stages, or what the graph gives.
-use Rattle.std.specs.Prelude.{◌≡◌, ℕ, List, map, Result, Ok, Err}
-use Rattle.mk_name.specs.Names.{Name}
+use Rattle.std.specs.Prelude.{◌≡◌, ◌<◌, ℕ, List, map, Result, Ok, Err}
+use Rattle.mk_name.specs.Names.{Name, has, same_name}
 use Rattle.mk_name.specs.Reported.{Reported}
 use Rattle.mk_name.specs.declared.fault.Source.{Source}
 use Rattle.mk_name.specs.declared.fault.Source.TheVariants as sources
@@ -19,7 +19,7 @@ use Rattle.mk_graph.specs.Answer.{goals_of as goals_or_default}
 use Rattle.mk_jobs.specs.Plan.{Plan}
 use Rattle.mk_foot.specs.Attached.{attached}
 use Rattle.mk_foot.specs.Footprints.{Footprints, IsRead}
-use Rattle.mk_jobs.specs.Jobs.{Jobs}
+use Rattle.mk_jobs.specs.Jobs.{Jobs, is_listed, name_of, node_count}
 use Rattle.mk_race.specs.Settings.{goals_of}
 use Rattle.mk_race.specs.declared.input.Input.{Input}
 use Rattle.mk_race.specs.declared.planning.Graphed.{Graphed}
@@ -79,12 +79,16 @@ IsGraphed texts root goals included macros listed =
 abbrev pub with_graph : List ℕ → List Name → Graphed → Planned
 with_graph root listed graphed = record { root = root; listing = listed; book = graphed.book; plan = graphed.plan }
 
--- the root, the operands, the paths of the texts for include lines, the listing, and then the book and the plan
+-- below a good root: the operands, the paths of the texts for include lines, the listing that was read, and then the book and the plan
+abbrev pub IsPlannedBelow : Texts → List ℕ → Result (List Name) Reported → Result Planned Reported → Type 0
+IsPlannedBelow texts root listing =
+    Then (goals_of root texts.operands) (λ goals. Then (operand_macros texts.operands) (λ macros.
+    Then (includes_of root texts.includes) (λ included. Then listing (λ listed.
+    ThenAny (IsGraphed texts root goals included macros listed) (λ graphed answer. answer ≡ Ok (with_graph root listed graphed))))))
+
+-- the root, and then what is planned below it
 abbrev pub IsPlanned : Texts → Result Planned Reported → Type 0
-IsPlanned texts =
-    Then (root_of texts.root) (λ root. Then (goals_of root texts.operands) (λ goals. Then (operand_macros texts.operands) (λ macros.
-    Then (includes_of root texts.includes) (λ included. Then (listing_of root texts.listing) (λ listed.
-    ThenAny (IsGraphed texts root goals included macros listed) (λ graphed answer. answer ≡ Ok (with_graph root listed graphed)))))))
+IsPlanned texts = Then (root_of texts.root) (λ root. IsPlannedBelow texts root (listing_of root texts.listing))
 
 -- the jobs of a plan, whose book this is, and of footprints
 abbrev pub AreJobs : Plan → Book → Footprints → Result Jobs Reported → Type 0
@@ -103,3 +107,8 @@ abbrev pub IsPrepared : Texts → List ℕ → Result Prepared Reported → Type
 IsPrepared texts footprints =
     ThenAny (IsPlanned texts) (λ planned. ThenAny (IsJobs planned.root planned.book planned.plan footprints) (λ jobs answer.
     answer ≡ Ok (with_jobs planned jobs)))
+
+-- the jobs are listed exactly where the listing has their names
+abbrev pub AreListed : Prepared → Type 0
+AreListed prepared =
+    (n : ℕ) → n < node_count prepared.jobs → is_listed prepared.jobs n ≡ has same_name prepared.listing (name_of prepared.jobs n)

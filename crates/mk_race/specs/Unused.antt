@@ -1,5 +1,5 @@
 -- Footprints that lie unused, since nothing makes their target though the build has it; and the jobs of a build with them.
-use Rattle.std.specs.Prelude.{◌≡◌, ◌&&◌, ℕ, not, Bool, true, false, List, [], ◌∷◌, Result, Ok, Err, Option, None, Some, is_some, length, slice_get, if◌then◌else◌}
+use Rattle.std.specs.Prelude.{◌≡◌, ◌&&◌, ℕ, not, Bool, List, [], ◌∷◌, Result, Ok, Err, Option, None, Some, is_some, length, slice_get, if◌then◌else◌}
 use Rattle.std.specs.List.{enumerate_from, filter_map}
 use Rattle.mk_name.specs.Names.{Name}
 use Rattle.mk_name.specs.Reported.{Reported}
@@ -10,7 +10,8 @@ use Rattle.mk_jobs.specs.Plan.{Node, Plan, node_at}
 use Rattle.mk_rules.specs.Book.{Book}
 use Rattle.mk_foot.specs.Footprints.{Footprints, IsRead, footprint_at}
 use Rattle.mk_race.specs.Parts.{IsPlannedWith}
-use Rattle.mk_race.specs.Stages.{AreJobs, IsJobs, IsPrepared, Texts, Then, ThenAny, with_jobs}
+use Rattle.mk_race.specs.Stages.{AreJobs, IsPrepared, Texts, Then, ThenAny, with_jobs}
+use Rattle.mk_race.specs.declared.planning.Planned.{Planned}
 use Rattle.mk_race.specs.declared.preparing.Prepared.{Prepared}
 use Rattle.mk_race.specs.declared.unused.Noted.{Noted}
 use Rattle.mk_race.specs.declared.unused.Unused.{Unused}
@@ -33,13 +34,7 @@ AreSaidBy nodes numbers None = numbers ≡ []
 AreSaidBy nodes numbers (Some unused) =
     (slice_get numbers 0 ≡ Some unused.node) × (unused.name ≡ (node_at nodes unused.node).name) × (unused.count ≡ length numbers)
 
--- the jobs of a plan, whose book this is, and what is said of the footprints of a text that lie unused; or the first fault of the jobs
-abbrev pub AreNoted : List ℕ → Book → Plan → List ℕ → Result (Jobs × Option Unused) Reported → Type 0
-AreNoted root book plan text (Ok noted) =
-    (read : Footprints) × IsRead root text (Ok read) × AreJobs plan book read (Ok noted.0) × AreSaidBy noted.0.plan.nodes (unused_in read noted.0.plan.nodes) noted.1
-AreNoted root book plan text (Err reported) = IsJobs root book plan text (Err reported)
-
--- the same of footprints that were read ahead
+-- the jobs of a plan, whose book this is, and what is said of these footprints that lie unused; or the first fault of the jobs
 abbrev pub AreNotedOf : Book → Plan → Footprints → Result (Jobs × Option Unused) Reported → Type 0
 AreNotedOf book plan read (Ok noted) =
     AreJobs plan book read (Ok noted.0) × AreSaidBy noted.0.plan.nodes (unused_in read noted.0.plan.nodes) noted.1
@@ -55,11 +50,15 @@ abbrev pub IsNoted : Texts → List ℕ → Result Noted Reported → Type 0
 IsNoted texts footprints (Ok noted) = IsPrepared texts footprints (Ok noted.prepared) × IsUnused noted.prepared footprints noted.unused
 IsNoted texts footprints (Err reported) = IsPrepared texts footprints (Err reported)
 
+-- the jobs of what was planned, with footprints that were read ahead, and what is said of those that lie unused
+abbrev pub AreNotedOn : Planned → Result Footprints Reported → Result Noted Reported → Type 0
+AreNotedOn planned read =
+    ThenAny (Then read (AreNotedOf planned.book planned.plan)) (λ found answer.
+    answer ≡ Ok (record { prepared = with_jobs planned found.0; unused = found.1 }))
+
 -- the same of a build whose listing and footprints were read ahead
 abbrev pub IsNotedWith : Texts → Result (List Name) Reported → Result Footprints Reported → Result Noted Reported → Type 0
-IsNotedWith texts listed read =
-    ThenAny (IsPlannedWith texts listed) (λ planned. ThenAny (Then read (AreNotedOf planned.book planned.plan)) (λ found answer.
-    answer ≡ Ok (record { prepared = with_jobs planned found.0; unused = found.1 })))
+IsNotedWith texts listed read = ThenAny (IsPlannedWith texts listed) (λ planned. AreNotedOn planned read)
 
 -- the fault of footprints that lie unused names the first of their targets
 abbrev pub unused_fault : Unused → Reported

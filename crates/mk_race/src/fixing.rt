@@ -3,7 +3,7 @@ ghost use Rattle.std.specs.Prelude.{◌≡◌, IfOk, Ok};
 ghost use Rattle.mk_name.specs.Gives.{Answers};
 ghost use Rattle.mk_fix.specs.Fixes.{IsFix};
 ghost use Rattle.mk_report.specs.FixText.{IsFixText};
-ghost use Rattle.mk_race.specs.Fixed.{HoldsOfFixed, IsFixing, IsFixingOf, with_lines};
+ghost use Rattle.mk_race.specs.Fixed.{HoldsOfFixed, HoldsOfTried, IsFixing, IsFixingOf, IsTried, with_lines};
 ghost use Rattle.mk_race.specs.Judged.{IsAnswered, IsSafe, NoScheduleShows};
 ghost use Rattle.mk_race.specs.Stages.{texts_of};
 
@@ -35,6 +35,15 @@ pub enum Fixing {
         edges: Vec<(u32, u32)>,
         refusal: Option<Fault>,
     },
+}
+
+/// What comes of lines behind a makefile.
+#[derive(Drop)]
+enum Tried {
+    /// The build is safe, by these jobs, which have all that there was, and this certificate.
+    Safe(Jobs, Certificate),
+    /// It is not; and why the texts are refused, where they are.
+    Unsafe(Option<Fault>),
 }
 
 /// The lines that fix a build: behind its makefile they give its jobs the edges of their fix (see [`fix`]), and nothing else.
@@ -104,31 +113,43 @@ fn with_text(
         IsFixingOf (texts_of input.now) input.now.footprints.now jobs (Ok fixing)) }
     ensures headline { IfOk result (HoldsOfFixed (texts_of input.now) input.now.footprints.now) }
 {
-    match judge_again(alloc, input, &lines) {
+    match try_lines(alloc, input, &jobs, &edges, &lines) {
+        Ok(Tried::Safe(new, certificate)) => Ok(Fixing::Fixed {
+            lines,
+            jobs: new,
+            certificate,
+        }),
+        Ok(Tried::Unsafe(refusal)) => Ok(Fixing::NotFixed {
+            jobs,
+            edges,
+            refusal,
+        }),
+        Err(error) => Err(error),
+    }
+}
+
+/// What comes of a build with these lines behind its makefile, which say the fix of these jobs. The only error is out of memory.
+fn try_lines(
+    alloc: Global,
+    input: &Input<'_>,
+    jobs: &Jobs,
+    edges: &[(u32, u32)],
+    lines: &[u8],
+) -> Result<Tried, AllocError>
+    requires fix { IsFix jobs.now edges.now }
+    requires says { IsFixText input.now.makefile.now jobs.now edges.now lines.now }
+    ensures answer { IfOk result (IsTried (texts_of input.now) input.now.footprints.now jobs.now edges.now lines.now) }
+    ensures headline { IfOk result (HoldsOfTried (texts_of input.now) input.now.footprints.now lines.now) }
+{
+    match judge_again(alloc, input, lines) {
         Ok(Answer::Safe(new, certificate)) => {
-            if have_all(&jobs, &edges, &new) {
-                return Ok(Fixing::Fixed {
-                    lines,
-                    jobs: new,
-                    certificate,
-                });
+            if have_all(jobs, edges, &new) {
+                return Ok(Tried::Safe(new, certificate));
             }
-            Ok(Fixing::NotFixed {
-                jobs,
-                edges,
-                refusal: None,
-            })
+            Ok(Tried::Unsafe(None))
         }
-        Ok(Answer::Race(_jobs, _trace)) => Ok(Fixing::NotFixed {
-            jobs,
-            edges,
-            refusal: None,
-        }),
-        Ok(Answer::Refused(fault)) => Ok(Fixing::NotFixed {
-            jobs,
-            edges,
-            refusal: Some(fault),
-        }),
+        Ok(Answer::Race(_jobs, _trace)) => Ok(Tried::Unsafe(None)),
+        Ok(Answer::Refused(fault)) => Ok(Tried::Unsafe(Some(fault))),
         Err(error) => Err(error),
     }
 }

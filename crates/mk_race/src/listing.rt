@@ -1,6 +1,6 @@
 //! All races of a build.
 ghost use Rattle.mk_name.specs.Gives.{Answers};
-ghost use Rattle.mk_race.specs.Listed.{AreFound, IsListed};
+ghost use Rattle.mk_race.specs.Listed.{AreFound, IsListed, IsListedOf};
 ghost use Rattle.mk_race.specs.Stages.{texts_of};
 
 use crate::input::Input;
@@ -26,6 +26,14 @@ pub fn list_races(alloc: Global, input: &Input<'_>) -> Result<RaceList, Halt>
     ensures { Answers result (IsListed (texts_of input.now) input.now.footprints.now) }
 {
     let Prepared { jobs, .. } = prepare(alloc, input)?;
+    list_jobs(alloc, jobs)
+}
+
+/// All races of jobs, each once, with the jobs. Where more than 1,000,000 pairs of nodes clash the fault is `TooManyPairs` in the
+/// jobs, at place 0; the only other error is out of memory.
+pub fn list_jobs(alloc: Global, jobs: Jobs) -> Result<RaceList, Halt>
+    ensures { Answers result (IsListedOf jobs) }
+{
     let found = races_of(alloc, &jobs)?;
     Ok(RaceList { jobs, found })
 }

@@ -5,6 +5,7 @@ ghost use Rattle.mk_macro.specs.Macros.{macros_of};
 ghost use Rattle.mk_name.specs.Gives.{Answers};
 ghost use Rattle.mk_text.specs.GivesLines.{GivesLines};
 ghost use Rattle.mk_text.specs.LogicalLines.{logical_lines};
+ghost use Rattle.mk_race.specs.Parts.{IsPlannedWith};
 ghost use Rattle.mk_race.specs.Stages.{IsBookOf, IsGraphed, IsPlanned, texts_of, reported_in};
 
 use crate::input::Input;
@@ -13,12 +14,14 @@ use mk_graph::planning::plan;
 use mk_include::includes::Includes;
 use mk_jobs::plan::Plan;
 use mk_macro::macros::Macros;
-use mk_name::fault::{Halt, Source};
+use mk_name::fault::{Fault, Halt, Source};
 use mk_name::name::Name;
+use mk_read::texts::text_below;
 use mk_rules::reading::read_rules;
 use mk_rules::rulebook::Rulebook;
 use mk_text::line::Line;
 use mk_text::lines::lines;
+use mk_text::list_reader::ListReader;
 use mk_text::listing::Listing;
 use mk_text::root::Root;
 use std::alloc::Global;
@@ -52,19 +55,35 @@ pub(crate) struct Graphed {
 pub fn plan_of(alloc: Global, input: &Input<'_>) -> Result<Planned, Halt>
     ensures { Answers result (IsPlanned (texts_of input.now)) }
 {
+    let listing = text_below::<ListReader>(alloc, input.root, input.listing)?;
+    plan_ahead(alloc, input, listing)
+}
+
+/// The plan of a build whose listing was read ahead; that of the input counts for nothing.
+pub(crate) fn plan_ahead(
+    alloc: Global,
+    input: &Input<'_>,
+    listing: Result<Listing, Fault>,
+) -> Result<Planned, Halt>
+    ensures { Answers result (IsPlannedWith (texts_of input.now) listing) }
+{
     let root = Root::read(alloc, input.root)?;
     let goals = goals_of(alloc, input.operands, &root)?;
     let mut macros = Macros::new(alloc, input.operands)?;
     let includes = Includes::read(alloc, input.includes, &root)?;
-    let listing = Listing::read(alloc, input.listing, &root)?;
-    let goals = goals.as_slice();
-    let graphed = graph_of(alloc, input, &root, goals, &includes, &mut macros, &listing)?;
-    Ok(Planned {
-        root,
-        listing,
-        book: graphed.book,
-        plan: graphed.plan,
-    })
+    match listing {
+        Ok(listing) => {
+            let goals = goals.as_slice();
+            let graphed = graph_of(alloc, input, &root, goals, &includes, &mut macros, &listing)?;
+            Ok(Planned {
+                root,
+                listing,
+                book: graphed.book,
+                plan: graphed.plan,
+            })
+        }
+        Err(fault) => Err(Halt::Fault(fault)),
+    }
 }
 
 /// The rules of a build, and the plan of what these goals need.

@@ -1,16 +1,18 @@
 //! From the texts of a build to its jobs.
 ghost use Rattle.mk_name.specs.Gives.{Answers};
-ghost use Rattle.mk_race.specs.Stages.{AreJobs, IsJobs, IsPrepared, texts_of};
+ghost use Rattle.mk_race.specs.Stages.{AreJobs, IsPrepared, texts_of};
 
 use crate::input::Input;
-use crate::planning::{Planned, plan_of};
+use crate::unused::noted_ahead;
 use mk_foot::attaching::attach;
+use mk_foot::foot_reader::FootReader;
 use mk_foot::footprints::Footprints;
-use mk_foot::reading::read_footprints;
 use mk_jobs::jobs::Jobs;
 use mk_jobs::plan::Plan;
 use mk_name::fault::Halt;
+use mk_read::texts::text_below;
 use mk_rules::rulebook::Rulebook;
+use mk_text::list_reader::ListReader;
 use mk_text::listing::Listing;
 use mk_text::root::Root;
 use std::alloc::Global;
@@ -28,38 +30,17 @@ pub struct Prepared {
 
 /// The jobs of a build.
 ///
-/// The first fault is answered: those of the plan (see [`plan_of`]), then of the footprints by their lines, and then of
-/// the nodes with their footprints. The only other error is out of memory.
+/// The first fault is answered: those of the plan (see [`plan_of`](crate::planning::plan_of)), then of the footprints by their lines,
+/// and then of the nodes with their footprints. The only other error is out of memory.
 pub fn prepare(alloc: Global, input: &Input<'_>) -> Result<Prepared, Halt>
     ensures { Answers result (IsPrepared (texts_of input.now) input.now.footprints.now) }
 {
-    let planned = plan_of(alloc, input)?;
-    let Planned {
-        root,
-        listing,
-        book,
-        plan,
-    } = planned;
-    let jobs = jobs_of(alloc, &root, &book, plan, input.footprints)?;
-    Ok(Prepared {
-        root,
-        listing,
-        jobs,
-    })
-}
-
-/// The jobs of a plan, whose book this is, with the footprints of a text.
-fn jobs_of(
-    alloc: Global,
-    root: &Root,
-    book: &Rulebook,
-    plan: Plan,
-    footprints: &[u8],
-) -> Result<Jobs, Halt>
-    ensures { Answers result (IsJobs root.now book.now plan footprints.now) }
-{
-    let footprints = read_footprints(alloc, footprints, root)?;
-    jobs_with(alloc, plan, book, footprints)
+    let listing = text_below::<ListReader>(alloc, input.root, input.listing)?;
+    let footprints = text_below::<FootReader>(alloc, input.root, input.footprints)?;
+    match noted_ahead(alloc, input, listing, footprints) {
+        Ok(noted) => Ok(noted.prepared),
+        Err(halt) => Err(halt),
+    }
 }
 
 /// The jobs of a plan, whose book this is, with these footprints.

@@ -1,5 +1,5 @@
 //! From the texts of a build and of a log to the log in serial order.
-ghost use Rattle.std.specs.Prelude.{ℕ, ◌≡◌, ◌<◌, List, IfOk};
+ghost use Rattle.std.specs.Prelude.{ℕ, ◌≡◌, ◌<◌, List, IfOk, Ok};
 ghost use Rattle.mk_name.specs.Gives.{Answers};
 ghost use Rattle.mk_name.specs.Names.{Name as SpecName, has, same_name};
 ghost use Rattle.mk_jobs.specs.Jobs.{IsRaceFree, is_listed, name_of, node_count};
@@ -9,8 +9,8 @@ ghost use Rattle.mk_sched.specs.Stored.{store_of};
 ghost use Rattle.mk_sched.specs.Stores.{AgreesWith};
 ghost use Rattle.mk_decide.specs.Pairs.{HasFewPairs};
 ghost use Rattle.mk_race.specs.Serialised as spec;
-ghost use Rattle.mk_race.specs.Serialised.{IsLawful, IsLawfulBuild, IsLawfulOn, IsOrder, IsOrderOn, IsSerialised, IsWhole};
-ghost use Rattle.mk_race.specs.Stages.{texts_of};
+ghost use Rattle.mk_race.specs.Serialised.{IsLawful, IsLawfulBuild, IsLawfulOn, IsOrder, IsOrderOn, IsSerialised, IsSerialisedOn, IsWhole};
+ghost use Rattle.mk_race.specs.Stages.{AreListed, IsPrepared, Texts, texts_of};
 
 use crate::input::Input;
 use crate::preparing::{Prepared, prepare};
@@ -85,6 +85,24 @@ pub fn serialise_log(
         (IsLawfulBuild (texts_of input.now) input.now.footprints.now log.now tie) }
 {
     let prepared = prepare(alloc, input)?;
+    serialise_prepared(alloc, prepared, log, limit, tie)
+}
+
+/// Puts a log in serial order on the jobs of a build, as [`serialise_log`] does. The first fault is that of the log, and then
+/// `TooManyPairs`. The only other error is out of memory.
+pub fn serialise_prepared(
+    alloc: Global,
+    prepared: Prepared,
+    log: &[u8],
+    limit: u32,
+    tie: bool,
+) -> Result<Serialised, Halt>
+    requires { AreListed prepared }
+    ensures answer { Answers result (IsSerialisedOn prepared log.now limit tie) }
+    // What is put in serial order is the same build, by the law of serial lists, of any texts that mean it.
+    ensures law { IfOk result (λ given. (texts : Texts) (footprints : List ℕ)
+        → IsPrepared texts footprints (Ok prepared) → IsLawfulBuild texts footprints log.now tie given) }
+{
     let order = order_on(alloc, &prepared, log, limit, tie)?;
     Ok(Serialised {
         jobs: prepared.jobs,
@@ -100,8 +118,7 @@ fn order_on(
     limit: u32,
     tie: bool,
 ) -> Result<Ordered, Halt>
-    requires { (n : ℕ) → n < node_count prepared.now.jobs
-        → is_listed prepared.now.jobs n ≡ has same_name prepared.now.listing (name_of prepared.now.jobs n) }
+    requires { AreListed prepared.now }
     ensures answer { Answers result (IsOrderOn prepared.now log.now limit tie) }
     ensures law { IfOk result (IsLawfulOn prepared.now log.now tie) }
 {

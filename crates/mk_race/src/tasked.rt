@@ -6,7 +6,7 @@ ghost use Rattle.mk_race.specs.Tasked as spec;
 ghost use Rattle.mk_race.specs.Tasked.{tasked};
 
 use crate::judging::{decided, refused};
-use crate::listing::{RaceList, races_of};
+use crate::listing::{RaceList, list_jobs};
 use crate::verifying::verify_on;
 use mk_jobs::jobs::Jobs;
 use mk_name::fault::Halt;
@@ -47,8 +47,7 @@ pub fn list_tasks(alloc: Global, root: &[u8], tasks: &[u8]) -> Result<RaceList, 
     ensures { Answers result (spec.IsListedBelow root.now tasks.now) }
 {
     let jobs = prepare_tasks(alloc, root, tasks)?;
-    let found = races_of(alloc, &jobs)?;
-    Ok(RaceList { jobs, found })
+    list_jobs(alloc, jobs)
 }
 
 /// Whether a proof is accepted for a text of tasks below a root, as [`verify_proof`](crate::verifying::verify_proof) says it for a build.

@@ -8,15 +8,14 @@ ghost use Rattle.mk_name.specs.Gives.{Answers, Gives};
 ghost use Rattle.mk_jobs.specs.Plan.{node_at};
 ghost use Rattle.mk_name.specs.declared.fault.Halt.TheVariants as halts;
 ghost use Rattle.mk_race.specs.Parts.{AreReadFrom, texts_with};
-ghost use Rattle.mk_race.specs.Stages.{IsPrepared, Then, texts_of};
+ghost use Rattle.mk_race.specs.Stages.{AreListed, IsPrepared, Then, texts_of};
 ghost use Rattle.mk_race.specs.Unused as spec;
 
 use crate::input::{Input, Settings};
-use crate::parts::plan_ahead;
-use crate::planning::{Planned, plan_of};
+use crate::parts::noted_parts;
+use crate::planning::{Planned, plan_ahead};
 use crate::preparing::{Prepared, jobs_with};
 use mk_foot::footprints::Footprints;
-use mk_foot::reading::read_footprints;
 use mk_jobs::jobs::Jobs;
 use mk_jobs::plan::Plan;
 use mk_jobs::recipe::has_recipe;
@@ -24,7 +23,6 @@ use mk_name::fault::{Fault, Halt, Kind, Source};
 use mk_name::name::Name;
 use mk_rules::rulebook::Rulebook;
 use mk_text::listing::Listing;
-use mk_text::root::Root;
 use std::alloc::{AllocError, Global};
 
 /// The nodes that nothing makes, though their names are targets of footprints: the first of them, and how many they are.
@@ -45,23 +43,13 @@ pub struct Noted {
     pub unused: Option<Unused>,
 }
 
-/// The jobs of a build as [`prepare`](crate::preparing::prepare) gives them, with its footprints that lie unused.
+/// The jobs of a build whose listing and footprints were read ahead, each into what it says or its first fault, with its footprints
+/// that lie unused.
 ///
-/// The first fault is that of the jobs, and then, where it is strict, `UnusedFootprint` in the jobs at the first node that
-/// nothing makes though its name is a footprint's target, which it names. The only other error is out of memory.
-pub fn prepare_noting(alloc: Global, input: &Input<'_>, strict: bool) -> Result<Noted, Halt>
-    ensures answer { Answers result (spec.IsNotedBy strict (texts_of input.now) input.now.footprints.now) }
-    ensures prepared { IfOk result (λ noted. IsPrepared (texts_of input.now) input.now.footprints.now (Ok noted.prepared)) }
-{
-    let noted = noted_of(alloc, input)?;
-    if strict {
-        return strictly(alloc, noted);
-    }
-    Ok(noted)
-}
-
-/// The same for a build whose listing and footprints were read ahead, each into what it says or its first fault: what
-/// [`prepare_noting`] gives for texts that these are the results of. Where the root is refused they count for nothing.
+/// Where these are the results of two texts below the root of the settings, the jobs are those that
+/// [`prepare`](crate::preparing::prepare) gives for those texts, with the same first fault. Where the root is refused they count for
+/// nothing. After those faults comes, where it is strict, `UnusedFootprint` in the jobs at the first node that nothing makes though its
+/// name is a footprint's target, which it names. The only other error is out of memory.
 pub fn note_parts(
     alloc: Global,
     settings: &Settings<'_>,
@@ -77,17 +65,9 @@ pub fn note_parts(
     ensures prepared { IfOk result (λ noted. (listed lines : List ℕ)
         → AreReadFrom (texts_with settings.now base.now makefile.now listed) lines listing footprints
         → IsPrepared (texts_with settings.now base.now makefile.now listed) lines (Ok noted.prepared)) }
+    ensures listed { IfOk result (λ noted. AreListed noted.prepared) }
 {
-    let input = Input {
-        base,
-        makefile,
-        includes: settings.includes,
-        listing: b"",
-        footprints: b"",
-        root: settings.root,
-        operands: settings.operands,
-    };
-    let noted = noted_ahead(alloc, &input, listing, footprints)?;
+    let noted = noted_parts(alloc, settings, base, makefile, listing, footprints)?;
     if !strict {
         return Ok(noted);
     }
@@ -96,7 +76,8 @@ pub fn note_parts(
 
 /// The jobs of a build, where no footprints lie unused; else the fault of these.
 fn strictly(alloc: Global, noted: Noted) -> Result<Noted, Halt>
-    ensures { Gives result (spec.strictly noted noted.unused) }
+    ensures answer { Gives result (spec.strictly noted noted.unused) }
+    ensures prepared { IfOk result (λ given. given.prepared ≡ noted.prepared) }
 {
     let Noted { prepared, unused } = noted;
     match unused {
@@ -123,66 +104,46 @@ fn unused_fault(alloc: Global, unused: Unused) -> Result<Halt, AllocError>
     Ok(Halt::Fault(fault))
 }
 
-/// The jobs of a build, with its footprints that lie unused.
-fn noted_of(alloc: Global, input: &Input<'_>) -> Result<Noted, Halt>
-    ensures { Answers result (spec.IsNoted (texts_of input.now) input.now.footprints.now) }
-{
-    let planned = plan_of(alloc, input)?;
-    let Planned {
-        root,
-        listing,
-        book,
-        plan,
-    } = planned;
-    let noted = jobs_noted(alloc, &root, &book, plan, input.footprints)?;
-    let (jobs, unused) = noted;
-    let prepared = Prepared {
-        root,
-        listing,
-        jobs,
-    };
-    Ok(Noted { prepared, unused })
-}
-
-/// The jobs of a plan, whose book this is, with the footprints of a text, and what is said of those that lie unused.
-fn jobs_noted(
-    alloc: Global,
-    root: &Root,
-    book: &Rulebook,
-    plan: Plan,
-    footprints: &[u8],
-) -> Result<(Jobs, Option<Unused>), Halt>
-    ensures { Answers result (spec.AreNoted root.now book.now plan footprints.now) }
-{
-    let footprints = read_footprints(alloc, footprints, root)?;
-    noted_jobs(alloc, book, plan, footprints)
-}
-
 /// The jobs of a build whose listing and footprints were read ahead, with its footprints that lie unused; those of the input count for
 /// nothing.
-fn noted_ahead(
+pub(crate) fn noted_ahead(
     alloc: Global,
     input: &Input<'_>,
     listing: Result<Listing, Fault>,
     footprints: Result<Footprints, Fault>,
 ) -> Result<Noted, Halt>
-    ensures { Answers result (spec.IsNotedWith (texts_of input.now) listing footprints) }
+    ensures answer { Answers result (spec.IsNotedWith (texts_of input.now) listing footprints) }
+    ensures listed { IfOk result (λ noted. AreListed noted.prepared) }
 {
     let planned = plan_ahead(alloc, input, listing)?;
+    noted_on(alloc, planned, footprints)
+}
+
+/// The jobs of what was planned, with footprints that were read ahead, and what is said of those that lie unused.
+fn noted_on(
+    alloc: Global,
+    planned: Planned,
+    footprints: Result<Footprints, Fault>,
+) -> Result<Noted, Halt>
+    ensures { Answers result (spec.AreNotedOn planned footprints) }
+{
     let Planned {
         root,
         listing,
         book,
         plan,
     } = planned;
-    let noted = noted_with(alloc, &book, plan, footprints)?;
-    let (jobs, unused) = noted;
-    let prepared = Prepared {
-        root,
-        listing,
-        jobs,
-    };
-    Ok(Noted { prepared, unused })
+    match noted_with(alloc, &book, plan, footprints) {
+        Ok((jobs, unused)) => Ok(Noted {
+            prepared: Prepared {
+                root,
+                listing,
+                jobs,
+            },
+            unused,
+        }),
+        Err(halt) => Err(halt),
+    }
 }
 
 /// The jobs of a plan, whose book this is, with footprints that were read ahead, and what is said of those that lie unused.

@@ -1,12 +1,11 @@
-//! Tests of the program by [`mk_program::race_words`], over files and outputs in memory; of `mk_run`, over devices in memory; and of
-//! texts of tasks. They stand in a crate of their own, so that the program is not proved a second time for its tests.
+//! Tests of the program by [`mk_program::race_words`], over files and outputs in memory, where no folder shows what they say; of
+//! `mk_run`, over devices in memory; and of the jobs that texts of tasks mean. They stand in a crate of their own, so that the program
+//! is not proved a second time for its tests. What the program answers is shown by cases.
 //!
 //! [`shelf::Shelf`] is an opener that states what its files hold, and [`outcomes::run`] a run over it whose contract
 //! says what comes out: so the premises of `race_words` are met together by something that runs.
 #![tactic(auto)]
 
-#[cfg(test)]
-mod cases;
 #[cfg(test)]
 mod failures;
 #[cfg(test)]
@@ -15,7 +14,5 @@ pub mod outcomes;
 #[cfg(test)]
 mod runs;
 pub mod shelf;
-#[cfg(test)]
-mod tables;
 #[cfg(test)]
 mod tasks;

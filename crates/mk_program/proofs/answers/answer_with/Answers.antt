@@ -59,13 +59,13 @@ returns-in-Serialise-clause-answer g c =
 
 pub returns-in-List-clause-failure : goal.returns-in-List-clause-failure
 returns-in-List-clause-failure g c =
-    whole_failure (g.P.Opener.files c.args.opener.now) c.args.request.now (pairs c.args.includes.now) c.text_reply-in-List.result _ c.in-List.is
-    c.text_reply-in-List.ensures.failure
+    own_failure (g.P.Opener.files c.args.opener.now) c.args.request.now (pairs c.args.includes.now) c.list_reply.result _ c.in-List.is
+    c.list_reply.ensures.failure
 
 pub returns-in-List-clause-answer : goal.returns-in-List-clause-answer
 returns-in-List-clause-answer g c =
-    whole_answer (g.P.Opener.files c.args.opener.now) c.args.request.now (pairs c.args.includes.now) c.text_reply-in-List.result _ c.in-List.is
-    c.text_reply-in-List.ensures.answer
+    own_answer (g.P.Opener.files c.args.opener.now) c.args.request.now (pairs c.args.includes.now) c.list_reply.result _ c.in-List.is
+    c.list_reply.ensures.answer
 
 pub returns-in-Missing-clause-failure : goal.returns-in-Missing-clause-failure
 returns-in-Missing-clause-failure g c =

@@ -37,7 +37,7 @@ returns-clause-answer c =
     let said = c.settings_of-settings.ensures in
     let operands = ap words (said.operands ∙ c.as_slice-2.ensures.value) ∙ c.in_ok-operands.ensures ∙ ap words c.as_slice.ensures.value in
     λ text base makefile below.
-    subst (λ (x : Texts). Answers c.note_parts.result (IsNotedBy build.strict x (text inputs.Footprints)))
+    subst (λ (x : Texts). Answers c.note_parts.result (IsNotedBy c.args.strict x (text inputs.Footprints)))
     (texts_are _ _ _ _ _ _ _ _ (text inputs.Listing) (text inputs.Listing) _ _ said.root operands base makefile refl (ap pairs said.includes) _ _ refl refl)
     (c.note_parts.ensures.answer (text inputs.Listing) (text inputs.Footprints)
     (read_from build.root.now c.settings_of-settings.result.root.now text c.args.listing c.args.footprints below said.root _ refl refl))

@@ -1,45 +1,12 @@
-use Rattle.std.proofs.Common.{ℕ, ◌∙◌, List, subst, sym}
-use Rattle.std.proofs.lemmas.Bool.{false≢true}
-use Rattle.mk_fix.specs.Again.{HaveAll}
-use Rattle.mk_report.specs.declared.answer.Answer.TheVariants as answers
-use Rattle.mk_race.specs.Stages.{texts_of}
-use Rattle.mk_race.proofs.Fixings.{answered_with, tried_with}
 use Rattle.mk_race.proofs.fixing.with_text.Goals as goal
-
-pub returns-then-have_all-clause-answer : goal.returns-then-have_all-clause-answer
-returns-then-have_all-clause-answer c = record {
-  edges = c.args.edges.items;
-  fix = c.requires.fix;
-  says = c.requires.says;
-  safe = answered_with (texts_of c.args.input.now) c.args.input.now.footprints.now c.deref.result.now c.args.lines.items c.in-Ok-Safe.field-0 _ c.deref.ensures.value c.in-Ok-Safe.field-0-is
-      c.in-Ok-Safe.ensures.answer;
-  all = subst (λ (edges : List (ℕ × ℕ)). HaveAll c.args.jobs edges c.in-Ok-Safe.new) c.deref-in-Ok-Safe.ensures.value (c.have_all.ensures.0 c.if-have_all.true);
-}
 
 pub returns-in-Ok-Safe-clause-answer : goal.returns-in-Ok-Safe-clause-answer
 returns-in-Ok-Safe-clause-answer c =
-    let texts = texts_of c.args.input.now in
-    let footprints = c.args.input.now.footprints.now in
-    let answer = answers.Safe c.in-Ok-Safe.new c.in-Ok-Safe.certificate in
-    tried_with texts footprints c.args.jobs c.args.edges.items c.args.lines.items answer c.requires.fix c.requires.says
-    (answered_with texts footprints c.deref.result.now c.args.lines.items c.in-Ok-Safe.field-0 answer c.deref.ensures.value c.in-Ok-Safe.field-0-is c.in-Ok-Safe.ensures.answer)
-    (λ all. false≢true (sym c.if-have_all.false
-    ∙ c.have_all.ensures.1 (subst (λ (edges : List (ℕ × ℕ)). HaveAll c.args.jobs edges c.in-Ok-Safe.new) (sym c.deref-in-Ok-Safe.ensures.value) all)))
-
-pub returns-in-Ok-Race-clause-answer : goal.returns-in-Ok-Race-clause-answer
-returns-in-Ok-Race-clause-answer c =
-    let texts = texts_of c.args.input.now in
-    let footprints = c.args.input.now.footprints.now in
-    let answer = answers.Race c.in-Ok-Race._jobs c.in-Ok-Race._trace in
-    tried_with texts footprints c.args.jobs c.args.edges.items c.args.lines.items answer c.requires.fix c.requires.says
-    (answered_with texts footprints c.deref.result.now c.args.lines.items c.in-Ok-Race.field-0 answer c.deref.ensures.value c.in-Ok-Race.field-0-is c.in-Ok-Race.ensures.answer)
-    tt
-
-pub returns-in-Ok-Refused-clause-answer : goal.returns-in-Ok-Refused-clause-answer
-returns-in-Ok-Refused-clause-answer c =
-    let texts = texts_of c.args.input.now in
-    let footprints = c.args.input.now.footprints.now in
-    let answer = answers.Refused c.in-Ok-Refused.fault in
-    tried_with texts footprints c.args.jobs c.args.edges.items c.args.lines.items answer c.requires.fix c.requires.says
-    (answered_with texts footprints c.deref.result.now c.args.lines.items c.in-Ok-Refused.field-0 answer c.deref.ensures.value c.in-Ok-Refused.field-0-is c.in-Ok-Refused.ensures.answer)
-    tt
+    let given = rw (c.deref.ensures.value, c.deref-2.ensures.value, c.in-Ok-Safe.field-0-is) at c.in-Ok-Safe.ensures.answer in
+    record {
+      edges = c.args.edges.items;
+      fix = c.requires.fix;
+      says = c.requires.says;
+      safe = given.0;
+      all = given.1;
+    }

@@ -3,25 +3,25 @@ use Rattle.std.proofs.lemmas.Result.{IfOk-weaker}
 use Rattle.mk_name.specs.Gives.{HaltsAmong}
 use Rattle.mk_name.specs.declared.fault.Halt.{Halt}
 use Rattle.mk_race.specs.Parts.{texts_with}
-use Rattle.mk_race.specs.Stages.{IsPrepared}
+use Rattle.mk_race.specs.Unused.{IsNoted}
 use Rattle.mk_race.proofs.parts.judge_parts.Goals as goal
 
 pub returns-in-Ok-clause-answer : goal.returns-in-Ok-clause-answer
 returns-in-Ok-clause-answer c =
     IfOk-weaker c.judge_prepared.result _ _ (λ answer decided listed lines from.
-    (Ok c.in-Ok.prepared, c.in-Ok.ensures listed lines from, decided)) c.judge_prepared.ensures.answer
+    (Ok c.in-Ok.noted.prepared, (c.in-Ok.ensures.answer listed lines from).0, decided)) c.judge_prepared.ensures.answer
 
 pub returns-in-Ok-clause-headline : goal.returns-in-Ok-clause-headline
 returns-in-Ok-clause-headline c =
     IfOk-weaker c.judge_prepared.result _ _ (λ answer shows safe listed lines from.
-    shows (texts_with c.args.settings.now c.args.base.now c.args.makefile.now listed) lines (c.in-Ok.ensures listed lines from) safe)
+    shows (texts_with c.args.settings.now c.args.base.now c.args.makefile.now listed) lines (c.in-Ok.ensures.answer listed lines from).0 safe)
     c.judge_prepared.ensures.headline
 
 pub returns-in-Err-clause-answer : goal.returns-in-Err-clause-answer
 returns-in-Err-clause-answer c =
     IfOk-weaker c.refused.result _ _ (λ answer h listed lines from. (
       Err h.0,
-      subst (λ (halt : Halt). HaltsAmong halt (IsPrepared (texts_with c.args.settings.now c.args.base.now c.args.makefile.now listed) lines)) h.1
-          (c.in-Err.ensures listed lines from),
+      subst (λ (halt : Halt). HaltsAmong halt (IsNoted (texts_with c.args.settings.now c.args.base.now c.args.makefile.now listed) lines)) h.1
+          (c.in-Err.ensures.answer listed lines from),
       h.2,
     )) c.refused.ensures

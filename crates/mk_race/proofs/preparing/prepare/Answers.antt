@@ -1,10 +1,13 @@
-use Rattle.std.proofs.lemmas.Result.{err_from_is_err_and}
 use Rattle.mk_race.specs.Stages.{texts_of}
-use Rattle.mk_race.proofs.Staging.{not_prepared}
+use Rattle.mk_race.proofs.NotedAhead.{halts_there, jobs_there}
 use Rattle.mk_race.proofs.preparing.prepare.Goals as goal
 
-pub returns-in_err-jobs : goal.returns-in_err-jobs
-returns-in_err-jobs c =
-    let p = err_from_is_err_and c.from_residual-in_err-jobs.result c.from_residual-in_err-jobs.ensures.1 in
-    rw (p.1, p.2) (not_prepared (texts_of c.args.input.now) c.args.input.now.footprints.now c.in_ok-planned.planned
-    c.in_err-jobs.field-0.0 c.in_ok-planned.ensures c.in_err-jobs.ensures)
+pub returns-in-Ok : goal.returns-in-Ok
+returns-in-Ok c =
+    jobs_there (texts_of c.args.input.now) c.args.input.now.footprints.now c.in_ok-listing.listing c.in_ok-footprints.footprints
+    (record { listing = c.in_ok-listing.ensures; footprints = c.in_ok-footprints.ensures }) c.in-Ok.noted c.in-Ok.ensures.answer
+
+pub returns-in-Err : goal.returns-in-Err
+returns-in-Err c =
+    halts_there (texts_of c.args.input.now) c.args.input.now.footprints.now c.in_ok-listing.listing c.in_ok-footprints.footprints
+    (record { listing = c.in_ok-listing.ensures; footprints = c.in_ok-footprints.ensures }) c.in-Err.halt c.in-Err.ensures.answer

@@ -1,4 +1,4 @@
-use Rattle.std.proofs.Common.{ℕ, List, subst, sym}
+use Rattle.std.proofs.Common.{subst, sym}
 use Rattle.mk_jobs.specs.Jobs.{IsRaceFree}
 use Rattle.mk_fix.specs.Fixes.{IsFix}
 use Rattle.mk_fix.proofs.Fixing.{to_live}

@@ -1,6 +1,6 @@
 use Rattle.std.proofs.lemmas.Result.{err_from_is_err_and}
 use Rattle.mk_race.specs.Parts.{texts_with}
-use Rattle.mk_race.proofs.NotedAhead.{parts_not_noted, parts_noted, parts_prepared_by}
+use Rattle.mk_race.proofs.NotedAhead.{parts_prepared_by}
 use Rattle.mk_race.proofs.Noting.{lax_is, not_noted_by, strict_is}
 use Rattle.mk_race.proofs.unused.note_parts.Goals as goal
 
@@ -9,34 +9,28 @@ returns-in_err-noted-clause-answer c =
     let p = err_from_is_err_and c.from_residual.result c.from_residual.ensures.1 in
     let a = c.args in
     rw (p.1, p.2) (λ listed lines from.
-    not_noted_by (texts_with a.settings.now a.base.now a.makefile.now listed) lines a.strict c.in_err-noted.field-0.0
-    (parts_not_noted a.settings.now a.base.now a.makefile.now a.listing a.footprints c.in_err-noted.field-0.0 c.in_err-noted.ensures listed lines from))
+    not_noted_by (texts_with a.settings.now a.base.now a.makefile.now listed) lines a.strict c.in_err-noted.field-0.0 (c.in_err-noted.ensures.answer listed lines from))
 
 pub returns-then-not-strict-clause-answer : goal.returns-then-not-strict-clause-answer
 returns-then-not-strict-clause-answer c =
     let a = c.args in
     λ listed lines from.
-    lax_is (texts_with a.settings.now a.base.now a.makefile.now listed) lines a.strict c.in_ok-noted.noted
-    (parts_noted a.settings.now a.base.now a.makefile.now a.listing a.footprints c.in_ok-noted.noted c.in_ok-noted.ensures listed lines from) c.if-not-strict.true
+    lax_is (texts_with a.settings.now a.base.now a.makefile.now listed) lines a.strict c.in_ok-noted.noted (c.in_ok-noted.ensures.answer listed lines from)
+    c.if-not-strict.true
 
 pub returns-then-not-strict-clause-prepared : goal.returns-then-not-strict-clause-prepared
-returns-then-not-strict-clause-prepared c =
-    let a = c.args in
-    λ listed lines from.
-    (parts_noted a.settings.now a.base.now a.makefile.now a.listing a.footprints c.in_ok-noted.noted c.in_ok-noted.ensures listed lines from).0
+returns-then-not-strict-clause-prepared c = λ listed lines from. (c.in_ok-noted.ensures.answer listed lines from).0
 
 pub returns-clause-answer : goal.returns-clause-answer
 returns-clause-answer c =
     let a = c.args in
     λ listed lines from.
     strict_is (texts_with a.settings.now a.base.now a.makefile.now listed) lines a.strict c.in_ok-noted.noted c.strictly.result
-    (parts_noted a.settings.now a.base.now a.makefile.now a.listing a.footprints c.in_ok-noted.noted c.in_ok-noted.ensures listed lines from)
-    c.if-not-strict.false c.strictly.ensures
+    (c.in_ok-noted.ensures.answer listed lines from) c.if-not-strict.false c.strictly.ensures.answer
 
 pub returns-clause-prepared : goal.returns-clause-prepared
 returns-clause-prepared c =
     let a = c.args in
     parts_prepared_by a.settings.now a.base.now a.makefile.now a.listing a.footprints a.strict c.strictly.result (λ listed lines from.
     strict_is (texts_with a.settings.now a.base.now a.makefile.now listed) lines a.strict c.in_ok-noted.noted c.strictly.result
-    (parts_noted a.settings.now a.base.now a.makefile.now a.listing a.footprints c.in_ok-noted.noted c.in_ok-noted.ensures listed lines from)
-    c.if-not-strict.false c.strictly.ensures)
+    (c.in_ok-noted.ensures.answer listed lines from) c.if-not-strict.false c.strictly.ensures.answer)
