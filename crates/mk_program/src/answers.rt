@@ -141,14 +141,16 @@ fn verify_reply<P: Opener>(
     let verifying = Verifying {
         proof: verify.proof,
     };
+    let build = &verify.build;
     let footprints = verify.footprints;
     noted_reply(
         alloc,
         opener,
-        &verify.build,
+        build,
         footprints,
         includes,
         &verifying,
+        build.strict,
     )
 }
 
@@ -172,14 +174,16 @@ fn replay_reply<P: Opener>(
         limit: replay.limit,
         tie: replay.tie,
     };
+    let build = &replay.build;
     let footprints = replay.footprints;
     noted_reply(
         alloc,
         opener,
-        &replay.build,
+        build,
         footprints,
         includes,
         &replaying,
+        build.strict,
     )
 }
 

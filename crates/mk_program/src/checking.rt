@@ -41,8 +41,17 @@ pub(crate) fn check_reply<P: Opener>(
     let checking = Checking {
         proof: check.print_proof,
     };
+    let build = &check.build;
     let footprints = check.footprints;
-    noted_reply(alloc, opener, &check.build, footprints, includes, &checking)
+    noted_reply(
+        alloc,
+        opener,
+        build,
+        footprints,
+        includes,
+        &checking,
+        build.strict,
+    )
 }
 
 impl Question for Checking {

@@ -59,7 +59,8 @@ pub(crate) trait Question {
 }
 
 /// Reads a build and the input of a question about it, and gives the answer, or the report of the build's first fault; and the note.
-/// `Failure::Read` names the first input whose file cannot be opened, or cannot be read; the only other failure is out of memory.
+/// A strict build has the fault of footprints that lie unused. `Failure::Read` names the first input whose file cannot be opened, or
+/// cannot be read; the only other failure is out of memory.
 pub(crate) fn noted_reply<P: Opener, Q: Question>(
     alloc: Global,
     opener: &mut P,
@@ -67,6 +68,7 @@ pub(crate) fn noted_reply<P: Opener, Q: Question>(
     footprints: &str,
     includes: &[(&[u8], &[u8])],
     question: &Q,
+    strict: bool,
 ) -> Result<Reply, Failure>
     ensures status { IfOk result (λ reply. reply.answer.status ≢ Status.Failed) }
     ensures read { OnOk result (InputsMayBeRead (P.files opener.old)
@@ -75,21 +77,14 @@ pub(crate) fn noted_reply<P: Opener, Q: Question>(
         (inputs_with build.now footprints.entry (Q.other question.now)))) }
     ensures answer { IfOk result (λ reply. (text : InputFile → List ℕ)
         → Hold (P.files opener.old).text (inputs_with build.now footprints.entry (Q.other question.now)) text
-        → spec.SaysNoting build.now.strict (texts_for build.now
+        → spec.SaysNoting strict (texts_for build.now
         (map (λ pair. (pair.0.now, pair.1.now)) includes.now) text) (text InputFile.Footprints)
         (Q.says question.now (texts_for build.now (map (λ pair. (pair.0.now, pair.1.now)) includes.now) text)
         (text InputFile.Footprints) (other_text (Q.other question.now) text))
         reply.answer.status reply.answer.text.items reply.note.items) }
 {
-    reply_to(
-        alloc,
-        opener,
-        build,
-        footprints,
-        includes,
-        question,
-        build.strict,
-    )
+    let read = read_build(alloc, opener, build, footprints, question.other_input())?;
+    Ok(reply_over(alloc, build, includes, read, question, strict)?)
 }
 
 /// The same without a note, of a build that is not strict: its footprints may lie unused.
@@ -115,35 +110,8 @@ pub(crate) fn quiet_reply<P: Opener, Q: Question>(
         reply.answer.status reply.answer.text.items) }
     ensures note { IfOk result (λ reply. reply.note.items ≡ []) }
 {
-    let reply = reply_to(alloc, opener, build, footprints, includes, question, false)?;
+    let reply = noted_reply(alloc, opener, build, footprints, includes, question, false)?;
     Ok(without_note(alloc, reply.answer))
-}
-
-/// Reads a build and the input of a question about it, and gives the answer, or the report of the build's first fault; and the note.
-fn reply_to<P: Opener, Q: Question>(
-    alloc: Global,
-    opener: &mut P,
-    build: &BuildArgs<'_>,
-    footprints: &str,
-    includes: &[(&[u8], &[u8])],
-    question: &Q,
-    strict: bool,
-) -> Result<Reply, Failure>
-    ensures status { IfOk result (λ reply. reply.answer.status ≢ Status.Failed) }
-    ensures read { OnOk result (InputsMayBeRead (P.files opener.old)
-        (inputs_with build.now footprints.entry (Q.other question.now))) }
-    ensures failure { IfErr result (IsShortOr (IsUnread (P.files opener.old)
-        (inputs_with build.now footprints.entry (Q.other question.now)))) }
-    ensures answer { IfOk result (λ reply. (text : InputFile → List ℕ)
-        → Hold (P.files opener.old).text (inputs_with build.now footprints.entry (Q.other question.now)) text
-        → spec.SaysNoting strict (texts_for build.now
-        (map (λ pair. (pair.0.now, pair.1.now)) includes.now) text) (text InputFile.Footprints)
-        (Q.says question.now (texts_for build.now (map (λ pair. (pair.0.now, pair.1.now)) includes.now) text)
-        (text InputFile.Footprints) (other_text (Q.other question.now) text))
-        reply.answer.status reply.answer.text.items reply.note.items) }
-{
-    let read = read_build(alloc, opener, build, footprints, question.other_input())?;
-    Ok(reply_over(alloc, build, includes, read, question, strict)?)
 }
 
 /// The answer to a question about the build that was read, or the report of its first fault; and the note. The only error is out

@@ -4,7 +4,7 @@ use Rattle.mk_request.specs.declared.inputs.InputFile.TheVariants.{Base}
 use Rattle.mk_request.specs.declared.inputs.InputPath.{InputPath}
 use Rattle.mk_files.specs.Builds.{IsReadAs, inputs_with}
 use Rattle.mk_files.specs.Inputs.{Hold}
-use Rattle.mk_program.proofs.noting.reply_to.Goals as goal
+use Rattle.mk_program.proofs.noting.noted_reply.Goals as goal
 
 pub returns-clause-answer : goal.returns-clause-answer
 returns-clause-answer g c =
