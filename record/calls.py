@@ -9,7 +9,7 @@ from record.lives import Life
 from record.moves import Moves
 from record.names import Found, Inode
 from record.replay import DEVICES
-from record.strace import Call, first_text, folders, is_cut, remembered, texts, unescape
+from record.strace import MAKES_PROCESS, Call, first_text, folders, is_cut, remembered, texts, unescape
 
 WRITING = re.compile(r"O_WRONLY|O_RDWR|O_TRUNC|O_CREAT")
 LOOKS = {"stat", "lstat", "access", "getxattr", "lgetxattr", "listxattr", "llistxattr", "statfs", "newfstatat",
@@ -23,6 +23,7 @@ OF_PROCESS = re.compile(r"/proc/(?:(\d+)/|loadavg$)")
 SHARING = {"shmget", "semget", "msgget", "mq_open"}
 SOCKET = re.compile(r'sun_path="((?:[^"\\]|\\.)*)"')
 HIDING = {"chroot", "pivot_root", "mount", "move_mount", "umount", "umount2", "setns", "open_by_handle_at", "io_uring_setup"}
+OF_WRAPPER = {"execve", *MAKES_PROCESS}  # what counts of the recorder's own wrapper
 SCRIPTS = 5  # how many scripts may be the interpreter of one another; the kernel allows no more
 GIVEN_TIME = re.compile(r"tv_[nu]sec=\d+\}(?: /\*[^*]*\*/)?\]|modtime=")
 MODE = re.compile(r", (0[0-7]*)$")
@@ -32,11 +33,22 @@ TEXT_END = re.compile(r'^.*"(?:[^"\\]|\\.)*"', re.S)
 
 
 class Spelled(NamedTuple):
-    """The first path of a call's arguments: the folder that it starts from, the path, and the folder that the process is in."""
+    """The first path of a call's arguments: the folder that it starts from, the path, and the folder that the process is in; whether the
+    call is about an open file, and whether it stops at a link."""
 
     base: str
     path: str
     folder: str
+    is_open: bool = False
+    at_link: bool = False
+
+
+class Opening(NamedTuple):
+    """What the arguments of an open say besides its path."""
+
+    flags: str
+    changes: bool
+    follow: bool
 
 
 @remembered
@@ -46,15 +58,17 @@ def spelled(args: str) -> Spelled:
     where = folders(args.split('"', 1)[0])
     base = where[0] if where else ""
     folder = base if args.startswith("AT_FDCWD") else ""
+    is_open, at_link = args[:1].isdigit() and "AT_EMPTY_PATH" in args, "NOFOLLOW" in args
     if base and not word and (word is None or "AT_EMPTY_PATH" in args or "NULL" in args):
-        return Spelled("", base, folder)
-    return Spelled(base, word or "", folder)
+        return Spelled("", base, folder, is_open, at_link)
+    return Spelled(base, word or "", folder, is_open, at_link)
 
 
 @remembered
-def flags_of(args: str) -> str:
+def opening(args: str) -> Opening:
     """What stands behind the path of an open."""
-    return TEXT_END.sub("", args)
+    flags = TEXT_END.sub("", args)
+    return Opening(flags, bool(WRITING.search(flags)), "O_NOFOLLOW" not in flags and not ("O_EXCL" in flags and "O_CREAT" in flags))
 
 
 class Calls(Moves):
@@ -63,21 +77,24 @@ class Calls(Moves):
     def call(self, life: Life, call: Call) -> None:
         """One finished call."""
         name, ok = call.name, not call.error
-        if name in ("clone", "clone3", "fork", "vfork"):
-            if life.pid in self.begun:
-                self.begun.remove(life.pid)
-            if ok and call.result > 0:
-                self.child(life, call.result, "CLONE_FS" in call.args)
-            return
-        if life.is_wrapper and name != "execve":
-            return
         handler = HANDLERS.get(name)
+        if life.is_wrapper and name not in OF_WRAPPER:
+            return
         if handler is not None:
             handler(self, life, call, ok)
         elif name in HIDING and ok:
             self.holes.append("files that are opened after %s are not seen: %s" % (name, " ".join(life.argv)[:100]))
         elif name in SHARING and ok:
             self.sockets.append(" ".join(life.argv)[:100])
+
+    def on_fork(self, life: Life, call: Call, ok: bool) -> None:
+        """A process, or a thread, has started."""
+        if life.pid in self.begun:
+            self.begun.remove(life.pid)
+        if ok and call.result > 0:
+            self.child(life, call.result, "CLONE_FS" in call.args)
+
+    on_vfork = on_clone = on_clone3 = on_fork
 
     def on_bind(self, life: Life, call: Call, ok: bool) -> None:
         """A socket with a name is a file, which whoever talks to it opens."""
@@ -106,10 +123,12 @@ class Calls(Moves):
         return found.base, found.path
 
     def on_look(self, life: Life, call: Call, ok: bool) -> None:
-        base, path = self.base_and_path(life, call)
-        if not path or (call.args[:1].isdigit() and "AT_EMPTY_PATH" in call.args):
+        base, path, folder, is_open, at_link = spelled(call.args)
+        if folder:
+            life.folder = folder
+        if not path or is_open:
             return
-        follow = call.name not in NOFOLLOW and "NOFOLLOW" not in call.args
+        follow = not at_link and call.name not in NOFOLLOW
         plain = path if call.name == "stat" or (call.name == "newfstatat" and follow and not path.startswith("/")) else ""
         link = call.name.startswith("readlink") and ok
         found = self.look(life, path, ok or call.error == "EINVAL", follow, "R" if link else "S", base, plain)
@@ -127,7 +146,7 @@ class Calls(Moves):
 
     def is_unknown(self, life: Life) -> bool:
         """Whether nobody knows if a program compares the ages of what it looks at, or of what it has opened."""
-        return (not life.traits().is_ageless or self.is_inside(life.program)) and not life.is_make
+        return not life.is_make and (not life.traits().is_ageless or self.is_inside(life.program))
 
     @staticmethod
     def is_own(life: Life, path: str, found: Found) -> bool:
@@ -219,11 +238,10 @@ class Calls(Moves):
                 self.note_watcher(life, path)
                 return  # a pipe, a terminal or the like
             base, path = "", call.opened
-        flags = flags_of(call.args)
-        changes = call.name == "creat" or bool(WRITING.search(flags))
+        flags, changes, follow = opening(call.args)
+        changes = changes or call.name == "creat"
         if "O_TMPFILE" in flags or not path:
             return
-        follow = "O_NOFOLLOW" not in flags and not ("O_EXCL" in flags and "O_CREAT" in flags)
         if not ok:
             found = self.look(life, path, call.error in ("EEXIST", "EISDIR", "ENXIO", "EACCES", "ENOTEMPTY"), follow, base=base)
             if changes and call.error == "ENOENT" and found.missing != found.path:

@@ -34,7 +34,8 @@ from record.owners import Make, Owners
 from record.progress import watched
 from record.python import settle
 from record.report import Judged, colours, read_json, report
-from record.strace import read_trace, skipping
+from record.skips import sifted
+from record.strace import read_trace
 from record.unasked import unasked
 from record.warm import stand_alone, warm_names
 from record.words import read_logs
@@ -113,9 +114,9 @@ def replay_trace(spool: Path, names: Names, real: str, folder: str, tops: List[s
     mask = os.umask(0)
     os.umask(mask)
     replay = Calls(names, str(spool), os.path.realpath(real), folder, tops, mask)
-    skip = skipping(spool / "trace", tops)
-    with open(spool / "trace", encoding="latin-1") as lines:
-        for event in read_trace(watched(lines, (spool / "trace").stat().st_size), skip):
+    trace = sifted(spool / "trace", tops, spool / "sifted")
+    with open(trace, encoding="latin-1", newline="\n") as lines:
+        for event in read_trace(watched(lines, trace.stat().st_size)):
             replay.play(event)
     return replay
 
@@ -238,7 +239,7 @@ def attempt(options: argparse.Namespace, words: List[str], tools: Dict[str, str]
         if options.missing:
             record.missing = write_missing(out, record, found.builds, names, found.lives, spool)
         if options.keep_trace:
-            shutil.copytree(spool, out / "trace", ignore=shutil.ignore_patterns("bin", "real", "outputs", "again", "*.start", "stop.mk"))
+            shutil.copytree(spool, out / "trace", ignore=shutil.ignore_patterns("bin", "real", "outputs", "again", "*.start", "stop.mk", "sifted"))
         if status != 1 or not any(stage.jobs for ninja in found.ninjas for stage in ninja.stages):
             return record, False
         record.hints = hints(found.ninjas, names)

@@ -8,7 +8,7 @@ import os
 import stat
 from dataclasses import dataclass, field
 from pathlib import Path
-from typing import Dict, Iterable, List, Optional, Set, Tuple
+from typing import Dict, Iterable, List, Optional, Sequence, Set, Tuple
 
 LINK_LIMIT = 40
 
@@ -43,16 +43,13 @@ def join(folder: str, name: str) -> str:
     return folder + name if folder.endswith("/") else folder + "/" + name
 
 
-@dataclass
 class Found:
     """Where a path leads: its real spelling, what is there, the links on the way, the first name that is not there."""
 
-    path: str
-    inode: Optional[Inode]
-    folder: Optional[Inode]
-    name: str
-    links: List[str] = field(default_factory=list)
-    missing: str = ""
+    __slots__ = ("path", "inode", "folder", "name", "links", "missing")
+
+    def __init__(self, path: str, inode: Optional[Inode], folder: Optional[Inode], name: str, links: Sequence[str] = (), missing: str = "") -> None:
+        self.path, self.inode, self.folder, self.name, self.links, self.missing = path, inode, folder, name, links, missing
 
 
 @dataclass
@@ -62,7 +59,7 @@ class Where:
 
     node: Optional[Inode]
     path: str
-    links: List[str]
+    links: Sequence[str]
     missing: str
     absent: Set[str] = field(default_factory=set)
 
@@ -174,11 +171,13 @@ class Names:
         where = self.wheres.get(spelled) or self.where(spelled)
         here = join(where.path, name)
         if where.node is None:
-            return Found(here, None, None, "", list(where.links), where.missing)
-        child = where.node.entries.get(name) or self.ask_once(where, where.node, name, here)
+            return Found(here, None, None, "", where.links, where.missing)
+        child = where.node.entries.get(name)
+        if child is None and not where.node.walked:
+            child = self.ask_once(where, where.node, name, here)
         if child is not None and child.kind == "l" and follow:
             return self.walk_along(whole, True)
-        return Found(here, child, where.node, name, list(where.links), "" if child else here)
+        return Found(here, child, where.node, name, where.links, "" if child else here)
 
     def where(self, spelled: str) -> Where:
         """Where the spelling of a folder leads. It is kept, but not where a file or a ring of links stands in the way."""
@@ -191,7 +190,7 @@ class Names:
 
     def ask_once(self, where: Where, folder: Inode, name: str, path: str) -> Optional[Inode]:
         """What the disk has under a name of a folder that was not walked; it is asked once for a name that is absent."""
-        if self.is_walked(folder) or name in where.absent:
+        if name in where.absent:
             return None
         child = self.ask(folder, name, path)
         if child is None:
