@@ -2,7 +2,7 @@
 
 import os
 import re
-from typing import Callable, Dict, NamedTuple, Tuple
+from typing import Callable, Dict, List, NamedTuple, Tuple
 
 from record import shelltext
 from record.lives import Life
@@ -171,7 +171,7 @@ class Calls(Moves):
         life.taken = ()
         found = self.names.find(life.folder, words[0], True)
         life.is_wrapper = words[0].startswith(self.spool + "/bin/")
-        argv = argv if life.is_wrapper else shelltext.with_interpreter(argv, found.path)
+        argv = argv if life.is_wrapper else shelltext.with_interpreter(argv, found.path, self.first_words(found.path))
         life.program = found.path
         life.is_ninja = argv == words[1:] and bool(shelltext.NINJA.match(os.path.basename(found.path)))
         if life.is_ninja:
@@ -183,7 +183,7 @@ class Calls(Moves):
         self.is_open_shell = self.is_open_shell or shelltext.sets_options(argv, life.folder)
         if shelltext.asks_reads(argv, life.folder):
             self.askers.append(" ".join(argv)[:100])
-        if os.path.realpath(found.path) == self.real or found.path == self.real:
+        if self.is_real_make(found.path):
             self.begin_make(life, was_wrapper, was_make, forked)
         else:
             life.is_make = life.is_make and life.number >= 0 and was_make
@@ -192,10 +192,22 @@ class Calls(Moves):
         self.look(life, words[0], True, True, "R")
         self.look_at_interpreters(life, words[0])
 
+    def first_words(self, path: str) -> List[str]:
+        """The words of a script's first line, read once: the build has ended."""
+        if path not in self.firsts:
+            self.firsts[path] = shelltext.first_words(path)
+        return self.firsts[path]
+
+    def is_real_make(self, path: str) -> bool:
+        """Whether a program is the make that the recorder knows."""
+        if path not in self.makes_by_path:
+            self.makes_by_path[path] = path == self.real or os.path.realpath(path) == self.real
+        return self.makes_by_path[path]
+
     def look_at_interpreters(self, life: Life, program: str) -> None:
         """The kernel reads the interpreter of a script by itself, and that of an interpreter which is a script."""
         for _ in range(SCRIPTS):
-            words = shelltext.first_words(self.names.find(life.folder, program, True).path)
+            words = self.first_words(self.names.find(life.folder, program, True).path)
             if not words:
                 return
             program = words[0]

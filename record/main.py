@@ -1,6 +1,7 @@
 """`race-record -- make [GOALS]` or `-- ninja`: one recorded build, and the verdict of `race` on it."""
 
 import argparse
+import gc
 import os
 import re
 import shutil
@@ -230,7 +231,9 @@ def attempt(options: argparse.Namespace, words: List[str], tools: Dict[str, str]
         record = Record(options.words, folder, status, round(seconds, 2), dict(tools))
         if status != 0:
             record.holes.append("the build ended with status %d" % status)
+        gc.disable()  # what is read is needed to the end: a search for garbage takes time and finds none
         found = import_record(spool, names, kept, real, folder, record)
+        gc.enable()
         finish(record, found, names, options.warm)
         write_record(out, record, found.builds, found.assumed)
         for number, build in zip(record.builds, found.builds if options.footprints else ()):

@@ -70,6 +70,7 @@ class Names:
     def __init__(self) -> None:
         self.root = Inode("d")
         self.wheres: Dict[str, Where] = {}  # by spelling; they hold until a folder or a link comes or goes
+        self.ends: Dict[str, Found] = {}  # by spelling, where it ends in a link: what was there; they hold as long
         self.before: Dict[str, str] = {}
         self.tops: List[str] = []
 
@@ -140,6 +141,7 @@ class Names:
         """A node gets or loses a name: where it is a folder or a link, spellings lead elsewhere."""
         if changed is not None and changed.kind != "f":
             self.wheres.clear()
+            self.ends.clear()
 
     def child_of(self, folder: Inode, name: str) -> Optional[Inode]:
         """What a folder has under a name; outside of the walked folders the disk says it."""
@@ -176,7 +178,7 @@ class Names:
         if child is None and not where.node.walked:
             child = self.ask_once(where, where.node, name, here)
         if child is not None and child.kind == "l" and follow:
-            return self.walk_along(whole, True)
+            return self.end(whole)
         return Found(here, child, where.node, name, where.links, "" if child else here)
 
     def where(self, spelled: str) -> Where:
@@ -187,6 +189,17 @@ class Names:
         if node is not None or self.walk_along(where.missing, False).inode is None:
             self.wheres[spelled] = where
         return where
+
+    def end(self, whole: str) -> Found:
+        """Where a path leads that ends in a link. The way is kept where something is there."""
+        known = self.ends.get(whole)
+        child = known.folder.entries.get(known.name) if known is not None and known.folder is not None else None
+        if known is None or child is None:
+            known = self.walk_along(whole, True)
+            child = known.inode
+        if child is not None and known.folder is not None:
+            self.ends[whole] = known
+        return Found(known.path, child, known.folder, known.name, known.links, known.missing)
 
     def ask_once(self, where: Where, folder: Inode, name: str, path: str) -> Optional[Inode]:
         """What the disk has under a name of a folder that was not walked; it is asked once for a name that is absent."""

@@ -40,6 +40,8 @@ class Replay:
         self.makers: List[str] = []
         self.progress: List[str] = []  # folders in which CMake counts what is built
         self.aged: Dict[str, bool] = {}
+        self.firsts: Dict[str, List[str]] = {}  # by program: the words of its first line, where it is a script
+        self.makes_by_path: Dict[str, bool] = {}  # by program: whether it is the make that the recorder knows
         self.scripts: Dict[str, int] = {}  # those whose text compares no ages, and when they were first asked
         self.watchers: List[str] = []  # who lists the processes that run, or waits for changes of files
         self.askers: List[str] = []  # who asks when a file was read last

@@ -2,6 +2,7 @@
 
 import re
 from dataclasses import dataclass, field
+from functools import cached_property
 from pathlib import Path
 from typing import Dict, Iterable, List, Optional, Set, Tuple
 
@@ -49,6 +50,14 @@ class Round:
     must: Dict[str, int] = field(default_factory=dict)  # target: jobs before its line
     vpath: Dict[str, str] = field(default_factory=dict)
     base: Optional[Base] = None
+
+    @cached_property
+    def due(self) -> Dict[int, List[str]]:
+        """By how many jobs came before: the targets that had to be made since the last of them. Asked when all words are read."""
+        found: Dict[int, List[str]] = {}
+        for target, count in self.must.items():
+            found.setdefault(count, []).append(target)
+        return found
 
 
 @dataclass

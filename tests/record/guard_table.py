@@ -106,7 +106,7 @@ NAMES: List[Guard] = [
     Guard("lists of make: exported macros", "memory.py", "open_names = exported_lists(builder.known)", "open_names = False", small("wildcard_that_a_target_exports"), YES),
     Guard("macros: exports of a target", "macros.py", r"(?:[^\t\n#][^\n]*?:)?[ \t]*(?:(?:override|private)[ \t]+)*export", r"[ \t]*export", small("macro_that_a_target_exports"), YES),
     Guard("patterns keep other names out", "build.py", " and fnmatchcase(name, pattern):", ":", case("glob-other-names"), FALSE_RACE),
-    Guard("scripts are of their interpreter", "calls.py", "argv = argv if life.is_wrapper else shelltext.with_interpreter(argv, found.path)", "pass", small("script_that_compares_ages"), YES),
+    Guard("scripts are of their interpreter", "calls.py", "argv = argv if life.is_wrapper else shelltext.with_interpreter(argv, found.path, self.first_words(found.path))", "pass", small("script_that_compares_ages"), YES),
 ]
 FOLDERS: List[Guard] = [
     Guard("folders: strict makers meet", "folders.py", "    for at in folder.strict & makers:\n", "    for at in ():\n", small("folder_made_by_two_who_fail"), YES),
@@ -174,7 +174,7 @@ AGES: List[Guard] = [
 ]
 OWNERS: List[Guard] = [
     Guard("acts of make belong to somebody", "owners.py", "            owners = self.owners_at(make, rounds, table, births, place)\n", "            owners = set()\n", case("file-function"), YES),
-    Guard("acts: to what had to be made since the last job", "owners.py", "            owners.update((number, t) for t, count", "            set().update((number, t) for t, count", case("shell-function-stranger"), YES),
+    Guard("acts: to what had to be made since the last job", "owners.py", "            owners.update((number, t) for t in one.due", "            set().update((number, t) for t in one.due", case("shell-function-stranger"), YES),
     Guard("acts: not to what make looks at later", "owners.py", "{o for o in owners if looks.get(o[1], -1) < place} or owners", "owners", small("act_before_the_next_target"), FALSE_RACE),
     Guard("acts: not the removal of intermediate files", "owners.py", "self.removed_last(make) | ", "", small("intermediate_file_that_make_removes"), FALSE_RACE),
     Guard("acts: not the looks into archives", "owners.py", "self.removed_last(make) | self.read_archives(make, names)", "self.removed_last(make)", small("archive_beside_another_target"), FALSE_RACE),
