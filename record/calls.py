@@ -2,16 +2,16 @@
 
 import os
 import re
-from typing import Callable, Dict, List, NamedTuple, Tuple
+from typing import Callable, Dict, List, Tuple
 
 from record import shelltext
+from record.arguments import TEXT_END, opening, spelled
 from record.lives import Life
 from record.moves import Moves
 from record.names import Found, Inode
 from record.replay import DEVICES
-from record.strace import MAKES_PROCESS, Call, first_text, folders, is_cut, remembered, texts, unescape
+from record.strace import MAKES_PROCESS, Call, first_text, folders, is_cut, texts, unescape
 
-WRITING = re.compile(r"O_WRONLY|O_RDWR|O_TRUNC|O_CREAT")
 LOOKS = {"stat", "lstat", "access", "getxattr", "lgetxattr", "listxattr", "llistxattr", "statfs", "newfstatat",
          "faccessat", "faccessat2", "name_to_handle_at", "statx", "fstatat64", "readlink", "readlinkat", "statfs64", "stat64", "lstat64"}
 NOFOLLOW = {"lstat", "lstat64", "lgetxattr", "llistxattr", "readlink", "readlinkat", "unlink", "rmdir", "lchown", "lsetxattr", "lremovexattr"}
@@ -29,46 +29,6 @@ GIVEN_TIME = re.compile(r"tv_[nu]sec=\d+\}(?: /\*[^*]*\*/)?\]|modtime=")
 MODE = re.compile(r", (0[0-7]*)$")
 TIMED = re.compile(r"\s(-\w*w|--(wait|timeout))")  # `flock -w SECONDS`
 ANY_PORT = re.compile(r"_port=htons\(0\)")
-TEXT_END = re.compile(r'^.*"(?:[^"\\]|\\.)*"', re.S)
-
-
-class Spelled(NamedTuple):
-    """The first path of a call's arguments: the folder that it starts from, the path, and the folder that the process is in; whether the
-    call is about an open file, and whether it stops at a link."""
-
-    base: str
-    path: str
-    folder: str
-    is_open: bool = False
-    at_link: bool = False
-
-
-class Opening(NamedTuple):
-    """What the arguments of an open say besides its path."""
-
-    flags: str
-    changes: bool
-    follow: bool
-
-
-@remembered
-def spelled(args: str) -> Spelled:
-    """What the arguments of an *at-call say of their first path."""
-    word = first_text(args)
-    where = folders(args.split('"', 1)[0])
-    base = where[0] if where else ""
-    folder = base if args.startswith("AT_FDCWD") else ""
-    is_open, at_link = args[:1].isdigit() and "AT_EMPTY_PATH" in args, "NOFOLLOW" in args
-    if base and not word and (word is None or "AT_EMPTY_PATH" in args or "NULL" in args):
-        return Spelled("", base, folder, is_open, at_link)
-    return Spelled(base, word or "", folder, is_open, at_link)
-
-
-@remembered
-def opening(args: str) -> Opening:
-    """What stands behind the path of an open."""
-    flags = TEXT_END.sub("", args)
-    return Opening(flags, bool(WRITING.search(flags)), "O_NOFOLLOW" not in flags and not ("O_EXCL" in flags and "O_CREAT" in flags))
 
 
 class Calls(Moves):
@@ -244,13 +204,14 @@ class Calls(Moves):
             life.enter(where[0])
 
     def on_open(self, life: Life, call: Call, ok: bool) -> None:
-        base, path = self.base_and_path(life, call)
+        base, path, folder, flags, changes, follow = opening(call.args)
+        if folder:
+            life.folder = folder
         if ok and DEVICES.match(path):
             if not call.opened.startswith("/") or DEVICES.match(call.opened) and not self.is_inside(call.opened):
                 self.note_watcher(life, path)
                 return  # a pipe, a terminal or the like
             base, path = "", call.opened
-        flags, changes, follow = opening(call.args)
         changes = changes or call.name == "creat"
         if "O_TMPFILE" in flags or not path:
             return

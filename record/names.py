@@ -70,6 +70,7 @@ class Names:
     def __init__(self) -> None:
         self.root = Inode("d")
         self.wheres: Dict[str, Where] = {}  # by spelling; they hold until a folder or a link comes or goes
+        self.spots: Dict[Tuple[str, str], Tuple[Where, str, str]] = {}  # by folder and path: the last name, where it is, and its real path
         self.ends: Dict[str, Found] = {}  # by spelling, where it ends in a link: what was there; they hold as long
         self.before: Dict[str, str] = {}
         self.tops: List[str] = []
@@ -141,6 +142,7 @@ class Names:
         """A node gets or loses a name: where it is a folder or a link, spellings lead elsewhere."""
         if changed is not None and changed.kind != "f":
             self.wheres.clear()
+            self.spots.clear()
             self.ends.clear()
 
     def child_of(self, folder: Inode, name: str) -> Optional[Inode]:
@@ -166,20 +168,26 @@ class Names:
 
     def find(self, base: str, path: str, follow: bool) -> Found:
         """Follows a path from a folder; `follow`: the last name too, where it is a link."""
-        whole = path if path.startswith("/") else join(base, path)
-        spelled, _, name = whole.rpartition("/")
-        if name in ("", ".", ".."):
-            return self.walk_along(whole, follow or path.endswith("/"))
-        where = self.wheres.get(spelled) or self.where(spelled)
-        here = join(where.path, name)
-        if where.node is None:
+        spot = self.spots.get((base, path))
+        if spot is None:
+            whole = path if path.startswith("/") else join(base, path)
+            spelled, _, name = whole.rpartition("/")
+            if name in ("", ".", ".."):
+                return self.walk_along(whole, follow or path.endswith("/"))
+            where = self.wheres.get(spelled) or self.where(spelled)
+            spot = (where, name, join(where.path, name))
+            if spelled in self.wheres:
+                self.spots[base, path] = spot
+        where, name, here = spot
+        node = where.node
+        if node is None:
             return Found(here, None, None, "", where.links, where.missing)
-        child = where.node.entries.get(name)
-        if child is None and not where.node.walked:
-            child = self.ask_once(where, where.node, name, here)
-        if child is not None and child.kind == "l" and follow:
-            return self.end(whole)
-        return Found(here, child, where.node, name, where.links, "" if child else here)
+        child = node.entries.get(name)
+        if child is None and not node.walked:
+            child = self.ask_once(where, node, name, here)
+        if child is not None and follow and child.kind == "l":
+            return self.end(path if path.startswith("/") else join(base, path))
+        return Found(here, child, node, name, where.links, "" if child else here)
 
     def where(self, spelled: str) -> Where:
         """Where the spelling of a folder leads. It is kept, but not where a file or a ring of links stands in the way."""

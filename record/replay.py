@@ -90,11 +90,13 @@ class Replay:
     def play(self, event: Event) -> None:
         """One event of the trace; those of a process wait until it is known who started it."""
         self.place += 1
+        if isinstance(event, Call) and not self.waiting:
+            life = self.lives.get(event.pid)
+            if life is not None and life.died > self.place:  # nearly always
+                self.call(life, event)
+                return
         pid = getattr(event, "pid", -1)
-        life = self.lives.get(pid)
-        if life is not None and life.died > self.place and not self.waiting and isinstance(event, Call):  # nearly always
-            self.call(life, event)
-        elif pid >= 0 and (pid in self.waiting or self.is_unclear(pid)):
+        if pid >= 0 and (pid in self.waiting or self.is_unclear(pid)):
             self.waiting.setdefault(pid, []).append(event)
         else:
             self.take(event)
