@@ -203,6 +203,8 @@ def is_on_the_way(folder: str, word: str) -> bool:
 @lru_cache(KEPT)
 def quiet_folders(text: str) -> Set[str]:
     """The folders that a shell's text makes in one of the quiet forms, as it spells them."""
+    if "mkdir" not in text and "install" not in text:
+        return set()
     quiet = r"(?:\s*(?:2\s*)?>\s*/dev/null|\s*2>&1)*"
     ends, asked = r"\s*(?:;|&&|\n|$|\))", r"\s+-[de]\s+(?P<d>" + DIRECTORY + r")(?:\s+\])?" + quiet
     made = r"(?:mkdir\s+-p|install\s+-d)\s+(?P<made>" + DIRECTORY + ")" + quiet

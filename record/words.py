@@ -2,12 +2,13 @@
 
 import re
 from dataclasses import dataclass, field
-from functools import cached_property
+from functools import cached_property, lru_cache
 from pathlib import Path
 from typing import Dict, Iterable, List, Optional, Set, Tuple
 
 from record.database import Base, read_base
 
+KEPT = 1 << 14  # how many lines are remembered: most come again for each target that needs the same
 CHILD = re.compile(r"(Putting child|Live child|Reaping (?:winning|losing) child|Removing child) (0x[0-9a-f]+) (?:\((.*)\) )?PID (\d+)")
 CONSIDERED = re.compile(r"^( *)(Considering target file|Pruning file) '(.*)'\.$|^( *)File '(.*)' was considered already\.$")
 VPATH = re.compile(r"^ *No need to remake target '(.*)'; using VPATH name '(.*)'\.$")
@@ -89,6 +90,16 @@ class Words:
         return found
 
 
+@lru_cache(KEPT)
+def considered_in(text: str) -> Optional[Tuple[int, str]]:
+    """How deep make was when it considered a target, and which, by a line of its words."""
+    match = CONSIDERED.match(text)
+    if match is None:
+        return None
+    shallow, _, name, deep, again = match.groups()
+    return (len(deep), again) if name is None else (len(shallow), name)
+
+
 class _Reader:
     def __init__(self, words: Words) -> None:
         self.words = words
@@ -133,12 +144,11 @@ class _Reader:
 
     def line(self, text: str) -> None:
         words = self.words
-        considered = CONSIDERED.match(text) if self.round is not None else None
+        considered = considered_in(text) if self.round is not None else None
         child = CHILD.match(text) if considered is None else None
-        if considered:  # as nearly all lines are
+        if considered is not None:  # as nearly all lines are
             self.clock += 1
-            shallow, _, name, deep, again = considered.groups()
-            self.considered(len(deep if name is None else shallow), again if name is None else name)
+            self.considered(*considered)
         elif child:
             self.child(child.group(1), child.group(2), child.group(3) or "", int(child.group(4)))
         elif text.startswith("Reading makefiles..."):
