@@ -17,7 +17,7 @@ CACHE = "__pycache__"
 LISTS = re.compile(r"listdir|scandir|glob|walk|iterdir|\bPath\b|pathlib|\bexec\b|\beval\b|__import__|importlib|pkgutil|runpy|copytree|rmtree|archive|zip|tarfile"
                    r"|filecmp|mailbox|tabnanny|modulefinder|pydoc|lib2to3|addsitedir|logging.handlers|compileall|unittest|pytest|setuptools|distutils|pkg_resources|metadata|\bstat\b|getmtime")
 SYSTEM = re.compile(r"/etc/|(?:/usr)?/lib(?:32|64)?/(?!python)")
-PACKAGES = re.compile(r"/(?:site|dist)-packages/(?!_distutils_hack/)")  # the exception is what setuptools runs at each start
+PACKAGES = re.compile(r"/(?:site|dist)-packages/(?!_distutils_hack/|apport_python_hook\.)")  # the exceptions are what setuptools and Ubuntu run at each start
 MODULES = ("*.py", "*.pyc", "*.so", "*/")  # what an import looks for in a list; the last is any folder
 
 

@@ -28,6 +28,8 @@ FLAGS = r"O_(?:WRONLY|RDWR|CREAT|TRUNC)"
 CHANGING = (
     r"\d+ +(?:open|openat2?)\(" + AT + r'"(?:(?:[^"\\]|\\.)*\.\.)?FOLDERS(?:[^"\\]|\\.)*", [^\n]*' + FLAGS + r"|\d+ +(?:open|openat2?)\([^\n]*" + FLAGS
     + r"[^\n]*= \d+<FOLDERS|\d+ +" + NAMES + r'[^\n]*(?:"(?:(?:[^"\\]|\\.)*\.\.)?|<)FOLDERS|\d+ +(?:chdir|fchdir)\([^\n]*(?:"(?:(?:[^"\\]|\\.)*\.\.)?|<)FOLDERS')
+# Texts of Python that do not come with it: python.py asks whether they list folders.
+MODULES = re.compile(rb"(?!.*/lib(?:32|64)?/python[\d.]*/(?!(?:site|dist)-packages/)).*\.pyc?$|.*/(?:site|dist)-packages/.*\.so$", re.S)
 # What each line that changes something has: a look for these is quick, and few lines have one.
 MARKS = [re.compile(FLAGS.encode()), re.compile((r"\n\d+ +(?:" + NAMES + r"|f?chdir\()").encode())]
 
@@ -44,27 +46,27 @@ def has_change(lines: bytes, changes: "re.Pattern[bytes]") -> bool:
 
 
 class Skip:
-    """Looks at the system's folders by names of which no link leads to a top."""
+    """Looks at the system's folders by names of which no link leads to a top, and not at texts that a Python may take in."""
 
     def __init__(self, looks: "re.Pattern[bytes]", changes: "re.Pattern[bytes]", tops: List[str]) -> None:
         self.looks, self.changes, self.tops = looks, changes, tops
         self.known: Set[Optional[bytes]] = {None}  # spellings that were looked up; a look at an open file has none
-        self.leading: Set[Optional[bytes]] = set()  # those of them that lead to a top
+        self.counting: Set[Optional[bytes]] = set()  # those of them that count
 
-    def leads(self, spelling: bytes) -> bool:
-        """Whether a name leads to a top."""
+    def counts(self, spelling: bytes) -> bool:
+        """Whether a look by a name is read all the same: the name leads to a top, or a Python may take in what is there."""
         real = os.path.realpath(unescape(spelling.decode("latin-1")))
-        return any((real + "/").startswith(top.rstrip("/") + "/") for top in self.tops)
+        return any((real + "/").startswith(top.rstrip("/") + "/") for top in self.tops) or bool(MODULES.match(spelling))
 
     def rest(self, lines: bytes) -> bytes:
         """What is left of some lines, each behind a newline, without such looks."""
         parts = self.looks.split(lines)
-        new = {*parts[1::2]} - self.known
-        self.known |= new
-        self.leading.update(one for one in new if self.leads(one))
-        if not self.leading:
+        spellings = {*parts[1::2]}
+        self.counting.update(one for one in spellings - self.known if self.counts(one))
+        self.known |= spellings
+        if self.counting.isdisjoint(spellings):
             return b"".join(parts[::2])
-        return self.looks.sub(lambda found: found.group() if found.group(1) in self.leading else b"", lines)
+        return self.looks.sub(lambda found: found.group() if found.group(1) in self.counting else b"", lines)
 
 
 def skipping(tops: List[str]) -> Optional[Skip]:
