@@ -56,6 +56,7 @@ class Replay:
                 parents = [self.lives[p] for p in self.begun if p in self.lives and p != pid]
                 if parents:
                     self.inherit(life, parents[-1])
+                    life.parent = parents[0] if len(parents) == 1 else None
             else:
                 life.adopted, life.mask = True, self.mask
             self.lives[pid] = life
