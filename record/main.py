@@ -10,6 +10,7 @@ import subprocess
 import sys
 import tempfile
 import time
+from concurrent.futures import ThreadPoolExecutor
 from dataclasses import dataclass
 from pathlib import Path
 from typing import Dict, List, Optional, Tuple
@@ -35,7 +36,7 @@ from record.owners import Make, Owners
 from record.progress import watched
 from record.python import settle
 from record.report import Judged, colours, read_json, report
-from record.skips import sifted
+from record.skips import sift
 from record.strace import read_trace
 from record.unasked import unasked
 from record.warm import stand_alone, warm_names
@@ -95,8 +96,8 @@ def prepare_spool(spool: Path, real: str) -> None:
             path.chmod(0o755)
 
 
-def run_build(words: List[str], spool: Path) -> Tuple[int, float]:
-    """The build under strace; its status and seconds."""
+def run_build(words: List[str], spool: Path, tops: List[str]) -> Tuple[int, float]:
+    """The build under strace, whose trace is sifted meanwhile; its status and seconds."""
     env = dict(os.environ)
     if "MAKELEVEL" in env:
         for name in ("MAKELEVEL", "MAKEFLAGS", "MFLAGS", "MAKE_TERMOUT", "MAKE_TERMERR"):
@@ -105,9 +106,15 @@ def run_build(words: List[str], spool: Path) -> Tuple[int, float]:
     began = time.monotonic()
     old = signal.signal(signal.SIGINT, signal.SIG_IGN)
     heard = old if old in (signal.SIG_IGN, signal.SIG_DFL) else signal.SIG_DFL
-    status = subprocess.call(STRACE + ["-o", str(spool / "trace"), "--"] + words, env=env, preexec_fn=lambda: signal.signal(signal.SIGINT, heard))
+    (spool / "trace").touch()
+    with ThreadPoolExecutor(1) as pool:
+        words = STRACE + ["-o", str(spool / "trace"), "--"] + words
+        process = subprocess.Popen(words, env=env, preexec_fn=lambda: signal.signal(signal.SIGINT, heard))
+        sifting = pool.submit(sift, spool / "trace", tops, spool / "sifted", lambda: process.poll() is not None)
+        status, seconds = process.wait(), time.monotonic() - began
+        sifting.result()
     signal.signal(signal.SIGINT, old)
-    return status, time.monotonic() - began
+    return status, seconds
 
 
 def replay_trace(spool: Path, names: Names, real: str, folder: str, tops: List[str]) -> Calls:
@@ -115,7 +122,7 @@ def replay_trace(spool: Path, names: Names, real: str, folder: str, tops: List[s
     mask = os.umask(0)
     os.umask(mask)
     replay = Calls(names, str(spool), os.path.realpath(real), folder, tops, mask)
-    trace = sifted(spool / "trace", tops, spool / "sifted")
+    trace = spool / ("sifted" if (spool / "sifted").exists() else "trace")
     with open(trace, encoding="latin-1", newline="\n") as lines:
         for event in read_trace(watched(lines, trace.stat().st_size)):
             replay.play(event)
@@ -227,7 +234,7 @@ def attempt(options: argparse.Namespace, words: List[str], tools: Dict[str, str]
         prepare_spool(spool, real)
         if options.missing:
             (spool / "again").touch()
-        status, seconds = run_build(by_name(words, real), spool)
+        status, seconds = run_build(by_name(words, real), spool, names.tops)
         record = Record(options.words, folder, status, round(seconds, 2), dict(tools))
         if status != 0:
             record.holes.append("the build ended with status %d" % status)
@@ -242,7 +249,7 @@ def attempt(options: argparse.Namespace, words: List[str], tools: Dict[str, str]
         if options.missing:
             record.missing = write_missing(out, record, found.builds, names, found.lives, spool)
         if options.keep_trace:
-            shutil.copytree(spool, out / "trace", ignore=shutil.ignore_patterns("bin", "real", "outputs", "again", "*.start", "stop.mk", "sifted"))
+            shutil.copytree(spool, out / "trace", ignore=shutil.ignore_patterns("bin", "real", "outputs", "again", "*.start", "stop.mk", "sifted*"))
         if status != 1 or not any(stage.jobs for ninja in found.ninjas for stage in ninja.stages):
             return record, False
         record.hints = hints(found.ninjas, names)

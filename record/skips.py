@@ -1,16 +1,16 @@
 """What of a trace need not be read: looks at the system's folders, where nobody changes a name there. A trace is sifted once, a piece at
-a time and by bytes: most of its lines are such looks, and one regular expression passes over them.
+a time and by bytes: most of its lines are such looks, and one regular expression passes over them. That is done while the build runs.
 """
 
 import os
 import re
+import time
 from pathlib import Path
-from typing import Iterator, List, Optional, Set
+from typing import Callable, Iterator, List, Optional, Set
 
-from record.progress import watched
 from record.strace import unescape
 
-PIECE = 1 << 18  # bytes
+PIECE, WAIT = 1 << 18, 0.05  # bytes of a piece; seconds until more may be there
 SYSTEM = ["usr", "lib", "lib32", "lib64", "etc", "bin", "sbin"]
 AT = r"(?:AT_FDCWD<[^>\n]*>, |)"
 RESULT = r"(?:\d|-1 E(?:NO|INVAL))[^\n]*"
@@ -78,30 +78,32 @@ def skipping(tops: List[str]) -> Optional[Skip]:
     return Skip(*(re.compile(text.replace("FOLDERS", folders_of_system).encode()) for text in (LOOKING, CHANGING)), tops)
 
 
-def pieces(trace: Path) -> Iterator[bytes]:
-    """The bytes of a trace, some whole lines at a time."""
+def pieces(trace: Path, has_ended: Callable[[], bool]) -> Iterator[bytes]:
+    """The bytes of a trace, some whole lines at a time; until the build has ended more may come."""
     with open(trace, "rb") as file:
-        rest = b""
-        while True:
+        rest, is_last, read = b"", False, b""
+        while read or not is_last:
+            is_last = has_ended()  # asked before the read: what is written until then is read
             read = file.read(PIECE)
-            if not read:
-                break
             whole, newline, last = (rest + read).rpartition(b"\n")
             rest = last
-            yield whole + newline
+            if whole:
+                yield whole + newline
+            elif not is_last:
+                time.sleep(WAIT)
         yield rest
 
 
-def sifted(trace: Path, tops: List[str], to: Path) -> Path:
-    """The file to read in the place of a trace: `to`, without the looks that need not be read, or the trace itself where somebody changes
-    a name of the system's folders."""
-    skip = skipping(tops)
+def sift(trace: Path, tops: List[str], to: Path, has_ended: Callable[[], bool] = lambda: True) -> None:
+    """Writes what has to be read of a trace, also while that is written. No file is there where somebody changes a name of the system's
+    folders: then all of the trace has to be read."""
+    skip, part = skipping(tops), to.with_suffix(".part")
     if skip is None:
-        return trace
-    with open(to, "wb") as file:
-        for piece in watched(pieces(trace), trace.stat().st_size):
+        return
+    with open(part, "wb") as file:
+        for piece in pieces(trace, has_ended):
             left = skip.rest(b"\n" + piece.rstrip(b"\n"))
             if has_change(left, skip.changes):
-                return trace
+                return
             file.write(left)
-    return to
+    part.rename(to)

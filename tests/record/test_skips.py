@@ -8,7 +8,7 @@ from pathlib import Path
 from typing import List
 
 import support  # noqa: F401
-from record.skips import PIECE, Skip, sifted
+from record.skips import PIECE, Skip, pieces, sift
 from record.strace import read_trace
 
 
@@ -22,7 +22,8 @@ class Skips(unittest.TestCase):
         with tempfile.TemporaryDirectory() as room:
             path = Path(room) / "trace"
             path.write_text("".join(line + "\n" for line in lines))
-            with open(sifted(path, tops, Path(room) / "sifted"), newline="\n") as file:
+            sift(path, tops, Path(room) / "sifted")
+            with open(Path(room) / ("sifted" if (Path(room) / "sifted").exists() else "trace"), newline="\n") as file:
                 return len(list(read_trace(file)))
 
     def test_look_at_a_library(self) -> None:
@@ -76,6 +77,18 @@ class Skips(unittest.TestCase):
 
     def test_open_with_other_flags_is_read(self) -> None:
         self.assertEqual(1, self.kept([self.LOOK.replace("O_RDONLY", "O_RDONLY|O_DIRECT"), self.LOOK], ["/w"]))
+
+    def test_trace_that_is_still_written(self) -> None:
+        with tempfile.TemporaryDirectory() as room, open(Path(room) / "trace", "w") as file:
+            told = iter([("1 a\n2", False), ("2 b\n", False), ("", False), ("3 c\n4", True)])
+
+            def has_ended() -> bool:
+                text, is_last = next(told, ("", True))
+                file.write(text)
+                file.flush()
+                return is_last
+
+            self.assertEqual([b"1 a\n", b"22 b\n", b"3 c\n", b"4"], list(pieces(Path(room) / "trace", has_ended)))
 
     def test_trace_of_several_pieces(self) -> None:
         other = '7 openat(AT_FDCWD</w>, "a", O_RDONLY) = 3</w/a>'
