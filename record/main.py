@@ -36,7 +36,7 @@ from record.owners import Make, Owners
 from record.progress import watched
 from record.python import settle
 from record.report import Judged, colours, read_json, report
-from record.skips import sift
+from record.skips import sift, unseen_changes
 from record.strace import read_trace
 from record.unasked import unasked
 from record.warm import stand_alone, warm_names
@@ -126,6 +126,7 @@ def replay_trace(spool: Path, names: Names, real: str, folder: str, tops: List[s
     with open(trace, encoding="latin-1", newline="\n") as lines:
         for event in read_trace(watched(lines, trace.stat().st_size)):
             replay.play(event)
+    replay.holes += unseen_changes(replay.outside) if trace.name == "sifted" else []
     return replay
 
 

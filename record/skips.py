@@ -6,7 +6,7 @@ import os
 import re
 import time
 from pathlib import Path
-from typing import Callable, Iterator, List, Optional, Set
+from typing import Callable, Iterable, Iterator, List, Optional, Set
 
 from record.strace import unescape
 
@@ -76,6 +76,12 @@ def skipping(tops: List[str]) -> Optional[Skip]:
         return None
     folders_of_system = "/(?:%s)(?=[/\">])" % "|".join(safe)
     return Skip(*(re.compile(text.replace("FOLDERS", folders_of_system).encode()) for text in (LOOKING, CHANGING)), tops)
+
+
+def unseen_changes(changed: Iterable[str]) -> List[str]:
+    """What is wrong with a trace that was sifted: a name of the system's folders changed, and no line shows both the name and the change,
+    as where a link leads there and the call was interrupted."""
+    return ["who looks at %s is not known, and it changed" % name for name in changed if name.startswith(tuple("/%s/" % p for p in SYSTEM))][:1]
 
 
 def pieces(trace: Path, has_ended: Callable[[], bool]) -> Iterator[bytes]:

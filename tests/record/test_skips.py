@@ -8,6 +8,8 @@ from pathlib import Path
 from typing import List
 
 import support  # noqa: F401
+from record.main import replay_trace
+from record.names import Inode, Names
 from record.skips import PIECE, Skip, pieces, sift
 from record.strace import read_trace
 
@@ -77,6 +79,16 @@ class Skips(unittest.TestCase):
 
     def test_open_with_other_flags_is_read(self) -> None:
         self.assertEqual(1, self.kept([self.LOOK.replace("O_RDONLY", "O_RDONLY|O_DIRECT"), self.LOOK], ["/w"]))
+
+    def test_change_that_no_line_shows_is_a_hole(self) -> None:
+        lines = ['7 openat(AT_FDCWD</w>, "link/x", O_WRONLY|O_CREAT, 0666 <unfinished ...>', "7 <... openat resumed>) = 3</usr/lib/x>", "7 +++ exited with 0 +++"]
+        with tempfile.TemporaryDirectory() as room:
+            names = Names()
+            names.folder("/w").walked = True
+            names.put(names.folder("/w"), "link", Inode("l", "/usr/lib"))
+            (Path(room) / "trace").write_text("\n".join(lines) + "\n")
+            sift(Path(room) / "trace", ["/w"], Path(room) / "sifted")
+            self.assertEqual(["who looks at /usr/lib/x is not known, and it changed"], replay_trace(Path(room), names, "/usr/bin/make", "/w", ["/w"]).holes)
 
     def test_trace_that_is_still_written(self) -> None:
         with tempfile.TemporaryDirectory() as room, open(Path(room) / "trace", "w") as file:
