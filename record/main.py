@@ -9,6 +9,7 @@ import signal
 import subprocess
 import sys
 import tempfile
+import threading
 import time
 from concurrent.futures import ThreadPoolExecutor
 from dataclasses import dataclass
@@ -110,8 +111,10 @@ def run_build(words: List[str], spool: Path, tops: List[str]) -> Tuple[int, floa
     with ThreadPoolExecutor(1) as pool:
         words = STRACE + ["-o", str(spool / "trace"), "--"] + words
         process = subprocess.Popen(words, env=env, preexec_fn=lambda: signal.signal(signal.SIGINT, heard))
-        sifting = pool.submit(sift, spool / "trace", tops, spool / "sifted", lambda: process.poll() is not None)
+        ended = threading.Event()
+        sifting = pool.submit(sift, spool / "trace", tops, spool / "sifted", ended.wait)
         status, seconds = process.wait(), time.monotonic() - began
+        ended.set()
         sifting.result()
     signal.signal(signal.SIGINT, old)
     return status, seconds

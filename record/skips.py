@@ -4,7 +4,6 @@ a time and by bytes: most of its lines are such looks, and one regular expressio
 
 import os
 import re
-import time
 from pathlib import Path
 from typing import Callable, Iterable, Iterator, List, Optional, Set
 
@@ -84,23 +83,23 @@ def unseen_changes(changed: Iterable[str]) -> List[str]:
     return ["who looks at %s is not known, and it changed" % name for name in changed if name.startswith(tuple("/%s/" % p for p in SYSTEM))][:1]
 
 
-def pieces(trace: Path, has_ended: Callable[[], bool]) -> Iterator[bytes]:
-    """The bytes of a trace, some whole lines at a time; until the build has ended more may come."""
+def pieces(trace: Path, has_ended: Callable[[float], object]) -> Iterator[bytes]:
+    """The bytes of a trace, some whole lines at a time; until the build has ended, which is waited for so many seconds, more may come."""
     with open(trace, "rb") as file:
         rest, is_last, read = b"", False, b""
         while read or not is_last:
-            is_last = has_ended()  # asked before the read: what is written until then is read
+            is_last = bool(has_ended(0))  # asked before the read: what is written until then is read
             read = file.read(PIECE)
             whole, newline, last = (rest + read).rpartition(b"\n")
             rest = last
             if whole:
                 yield whole + newline
             elif not is_last:
-                time.sleep(WAIT)
+                has_ended(WAIT)
         yield rest
 
 
-def sift(trace: Path, tops: List[str], to: Path, has_ended: Callable[[], bool] = lambda: True) -> None:
+def sift(trace: Path, tops: List[str], to: Path, has_ended: Callable[[float], object] = lambda seconds: True) -> None:
     """Writes what has to be read of a trace, also while that is written. No file is there where somebody changes a name of the system's
     folders: then all of the trace has to be read."""
     skip, part = skipping(tops), to.with_suffix(".part")

@@ -59,7 +59,7 @@ TRACE: List[Guard] = [
     Guard("system: texts that a Python may take in", "skips.py", " or bool(MODULES.match(spelling))", "", "test_skips.Skips.test_texts_of_python_that_do_not_come_with_it_are_read"),
     Guard("system: changes that no line shows", "main.py", 'replay.holes += unseen_changes(replay.outside) if trace.name == "sifted" else []', "pass",
           "test_skips.Skips.test_change_that_no_line_shows_is_a_hole"),
-    Guard("system: what is still written", "skips.py", "is_last = has_ended()", "is_last = True", "test_skips.Skips.test_trace_that_is_still_written"),
+    Guard("system: what is still written", "skips.py", "is_last = bool(has_ended(0))", "is_last = True", "test_skips.Skips.test_trace_that_is_still_written"),
     Guard("system: lines of two pieces", "skips.py", "            rest = last\n", "            rest = b''\n", "test_skips.Skips.test_trace_of_several_pieces"),
     Guard("lines: unreadable call", "strace.py", 'if not text.endswith("= ?"):\n                yield Unread(line.strip())', "pass", "test_strace.Lines.test_other_text_is_a_hole"),
     Guard("lines: no process number", "strace.py", '(Unread(line.strip()) if line.strip() else None), ""', 'None, ""', "test_strace.Lines.test_other_text_is_a_hole"),

@@ -94,8 +94,8 @@ class Skips(unittest.TestCase):
         with tempfile.TemporaryDirectory() as room, open(Path(room) / "trace", "w") as file:
             told = iter([("1 a\n2", False), ("2 b\n", False), ("", False), ("3 c\n4", True)])
 
-            def has_ended() -> bool:
-                text, is_last = next(told, ("", True))
+            def has_ended(seconds: float) -> bool:
+                text, is_last = next(told, ("", True)) if seconds == 0 else ("", False)
                 file.write(text)
                 file.flush()
                 return is_last
