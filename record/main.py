@@ -148,7 +148,7 @@ def import_record(spool: Path, names: Names, kept: Kept, real: str, folder: str,
     """Of a trace and make's words: the builds, the holes, and what was taken for granted."""
     assumed = Assumptions()
     replay = replay_trace(spool, names, real, folder, names.tops)
-    for example in settle(replay.all):
+    for example in settle(replay.all, names.tops):
         assumed.add("bytecode", example)
     owners = Owners(replay.all, read_logs(spool))
     if owners.makes:

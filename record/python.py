@@ -6,7 +6,7 @@ of the program lists folders.
 
 import os
 import re
-from typing import Iterator, List, Set
+from typing import Iterator, List, Sequence, Set
 
 from record import shelltext
 from record.lives import Life
@@ -29,17 +29,22 @@ def is_python(life: Life) -> bool:
     return not any(re.search(r"[*?\[$`]", text) for text in texts)
 
 
-def settle(lives: List[Life]) -> Iterator[str]:
+def settle(lives: List[Life], tops: Sequence[str] = ()) -> Iterator[str]:
     """Puts what is meant in the place of what each Python did by itself; the words of those that had byte code in the project. Where
     another program looks into a folder of byte code, all stays as it is."""
     known = [life for life in lives if is_python(life)]
     others = {cache_of(path) for life in lives if not is_python(life) for _, path in life.events if CACHE in path}
     for life in known:
-        names = [path for _, path in life.events if CACHE in path and cache_of(path) not in others]
+        names = [path for _, path in life.events if CACHE in path and cache_of(path) not in others and not is_of_system(path, tops)]
         settle_lists(life)
         settle_code(life, others)
         if names:
             yield "%s: %s" % (" ".join(life.argv)[:60], names[0])
+
+
+def is_of_system(path: str, tops: Sequence[str]) -> bool:
+    """Whether byte code came with the system: no recipe writes it."""
+    return path.startswith(("/usr/", "/lib")) and not any(path.startswith(top.rstrip("/") + "/") for top in tops)
 
 
 def cache_of(path: str) -> str:

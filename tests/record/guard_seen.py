@@ -26,7 +26,8 @@ def python(name: str) -> str:
 
 
 SEEN_GUARDS: List[Guard] = [
-    Guard("Python: byte code and modules", "main.py", "for example in settle(replay.all):", "for example in ():", python("modules_and_byte_code"), FALSE_RACE),
+    Guard("Python: byte code of the system", "python.py", " and not is_of_system(path, tops)", "", "test_python.Python.test_byte_code_of_the_system_is_no_assumption"),
+    Guard("Python: byte code and modules", "main.py", "for example in settle(replay.all, names.tops):", "for example in ():", python("modules_and_byte_code"), FALSE_RACE),
     Guard("Python: byte code that others read", "python.py", "if cache_of(path) in others:", "if False:", python("byte_code_that_another_program_reads"), YES),
     Guard("Python: scripts that list", "python.py", " or any(lists_folders(path) for path in sources)", "", python("script_that_lists_the_folder"), YES),
     Guard("Python: packages that list", "python.py", " and not PACKAGES.search(path)", "", python("what_comes_with_python")),

@@ -6,7 +6,8 @@ import unittest
 from typing import Dict
 
 import support
-from record.python import is_of_python
+from record.lives import Life
+from record.python import is_of_python, settle
 
 HELPER = {"t/lib.py": "def text():\n    return 'x'\n"}
 SCRIPT = "import sys, lib\nopen(sys.argv[1], 'w').write(lib.text())\n"
@@ -51,6 +52,12 @@ class Python(unittest.TestCase):
     def test_module_that_is_read_as_byte_code(self) -> None:
         makefile = "all: t/x.c t/y.c\nt/x.c: ; python3 -S t/gen.py t/x.c\nt/y.c: ; python3 -S t/gen.py t/y.c\nall: z\nz: ; touch t/lib.py; touch z\n"
         self.of(makefile, SCRIPT, 1)
+
+    def test_byte_code_of_the_system_is_no_assumption(self) -> None:
+        system = "/usr/lib/python3/dist-packages/__pycache__/x.cpython-311.pyc"
+        for path, top, count in ((system, "/w", 0), (system, "/usr/lib", 1), ("/w/__pycache__/x.cpython-311.pyc", "/w", 1)):
+            life = Life(1, argv=["python3", "x.py"], ran=[["python3", "x.py"]], events={("R", path): 1})
+            self.assertEqual(count, len(list(settle([life], [top]))), path)
 
     def test_what_comes_with_python(self) -> None:
         for path in ("/usr/lib/python3.11/os.py", "/usr/lib/python3/dist-packages/_distutils_hack/__init__.py", "/lib/x86_64-linux-gnu/a.so", "/etc/python3.11/sitecustomize.py"):
