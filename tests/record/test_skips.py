@@ -74,7 +74,7 @@ class Skips(unittest.TestCase):
 
     def test_texts_of_python_that_do_not_come_with_it_are_read(self) -> None:
         for path, count in (("/usr/lib/python3/dist-packages/x/y.py", 1), ("/usr/local/lib/python3.9/site-packages/__pycache__/x.cpython-39.pyc", 1), ("/usr/share/x/y.py", 1),
-                            ("/usr/lib/python3/dist-packages/x.so", 1), ("/usr/lib/python3.9/os.py", 0), ("/usr/lib/python3.9/lib-dynload/x.so", 0), ("/usr/lib/x.so", 0)):
+                            ("/usr/lib/python3/dist-packages/x.so", 1), ("/usr/share/python-wheels/x.whl", 1), ("/usr/lib/python3.9/os.py", 0), ("/usr/lib/python3.9/lib-dynload/x.so", 0), ("/usr/lib/x.so", 0)):
             self.assertEqual(count, self.kept([self.LOOK.replace("/usr/lib/x.so", path), self.LOOK], ["/w"]), path)
 
     def test_open_with_other_flags_is_read(self) -> None:
