@@ -92,10 +92,10 @@ class Skips(unittest.TestCase):
 
     def test_trace_that_is_still_written(self) -> None:
         with tempfile.TemporaryDirectory() as room, open(Path(room) / "trace", "w") as file:
-            told = iter([("1 a\n2", False), ("2 b\n", False), ("", False), ("3 c\n4", True)])
+            steps = iter([("1 a\n2", False), ("2 b\n", False), ("", False), ("3 c\n4", True)])
 
             def has_ended(seconds: float) -> bool:
-                text, is_last = next(told, ("", True)) if seconds == 0 else ("", False)
+                text, is_last = next(steps, ("", True)) if seconds == 0 else ("", False)
                 file.write(text)
                 file.flush()
                 return is_last
