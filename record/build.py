@@ -10,7 +10,7 @@ from record.ages import add_ages
 from record.assumptions import Assumptions
 from record.considered import Considered, is_row
 from record.fixed import asked_ages, fixed_looks, remade_anyway
-from record.folders import add_folders
+from record.folders import Events, add_folders
 from record.graph import Build, Graph, Node, Task, befores, order_tasks
 from record.macros import Macros, Use, uses
 from record.memory import libraries, place_listings, share_listings
@@ -25,6 +25,8 @@ LOOKS = "RSN"
 
 class Builder:
     """Makes the tasks of a round."""
+
+    events_of_all: Optional[Events] = None
 
     def __init__(self, make: Make, number: int, names: Names, assumed: Assumptions) -> None:
         self.graph = Graph(make, number)

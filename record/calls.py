@@ -2,16 +2,16 @@
 
 import os
 import re
-from typing import Callable, Dict, NamedTuple, Tuple
+from typing import Callable, Dict, List, Tuple
 
 from record import shelltext
+from record.arguments import TEXT_END, opening, spelled
 from record.lives import Life
 from record.moves import Moves
 from record.names import Found, Inode
 from record.replay import DEVICES
-from record.strace import Call, first_text, folders, is_cut, remembered, texts, unescape
+from record.strace import MAKES_PROCESS, Call, first_text, folders, is_cut, texts, unescape
 
-WRITING = re.compile(r"O_WRONLY|O_RDWR|O_TRUNC|O_CREAT")
 LOOKS = {"stat", "lstat", "access", "getxattr", "lgetxattr", "listxattr", "llistxattr", "statfs", "newfstatat",
          "faccessat", "faccessat2", "name_to_handle_at", "statx", "fstatat64", "readlink", "readlinkat", "statfs64", "stat64", "lstat64"}
 NOFOLLOW = {"lstat", "lstat64", "lgetxattr", "llistxattr", "readlink", "readlinkat", "unlink", "rmdir", "lchown", "lsetxattr", "lremovexattr"}
@@ -23,38 +23,12 @@ OF_PROCESS = re.compile(r"/proc/(?:(\d+)/|loadavg$)")
 SHARING = {"shmget", "semget", "msgget", "mq_open"}
 SOCKET = re.compile(r'sun_path="((?:[^"\\]|\\.)*)"')
 HIDING = {"chroot", "pivot_root", "mount", "move_mount", "umount", "umount2", "setns", "open_by_handle_at", "io_uring_setup"}
+OF_WRAPPER = {"execve", *MAKES_PROCESS}  # what counts of the recorder's own wrapper
 SCRIPTS = 5  # how many scripts may be the interpreter of one another; the kernel allows no more
 GIVEN_TIME = re.compile(r"tv_[nu]sec=\d+\}(?: /\*[^*]*\*/)?\]|modtime=")
 MODE = re.compile(r", (0[0-7]*)$")
 TIMED = re.compile(r"\s(-\w*w|--(wait|timeout))")  # `flock -w SECONDS`
 ANY_PORT = re.compile(r"_port=htons\(0\)")
-TEXT_END = re.compile(r'^.*"(?:[^"\\]|\\.)*"', re.S)
-
-
-class Spelled(NamedTuple):
-    """The first path of a call's arguments: the folder that it starts from, the path, and the folder that the process is in."""
-
-    base: str
-    path: str
-    folder: str
-
-
-@remembered
-def spelled(args: str) -> Spelled:
-    """What the arguments of an *at-call say of their first path."""
-    word = first_text(args)
-    where = folders(args.split('"', 1)[0])
-    base = where[0] if where else ""
-    folder = base if args.startswith("AT_FDCWD") else ""
-    if base and not word and (word is None or "AT_EMPTY_PATH" in args or "NULL" in args):
-        return Spelled("", base, folder)
-    return Spelled(base, word or "", folder)
-
-
-@remembered
-def flags_of(args: str) -> str:
-    """What stands behind the path of an open."""
-    return TEXT_END.sub("", args)
 
 
 class Calls(Moves):
@@ -63,21 +37,24 @@ class Calls(Moves):
     def call(self, life: Life, call: Call) -> None:
         """One finished call."""
         name, ok = call.name, not call.error
-        if name in ("clone", "clone3", "fork", "vfork"):
-            if life.pid in self.begun:
-                self.begun.remove(life.pid)
-            if ok and call.result > 0:
-                self.child(life, call.result, "CLONE_FS" in call.args)
-            return
-        if life.is_wrapper and name != "execve":
-            return
         handler = HANDLERS.get(name)
+        if life.is_wrapper and name not in OF_WRAPPER:
+            return
         if handler is not None:
             handler(self, life, call, ok)
         elif name in HIDING and ok:
             self.holes.append("files that are opened after %s are not seen: %s" % (name, " ".join(life.argv)[:100]))
         elif name in SHARING and ok:
             self.sockets.append(" ".join(life.argv)[:100])
+
+    def on_fork(self, life: Life, call: Call, ok: bool) -> None:
+        """A process, or a thread, has started."""
+        if life.pid in self.begun:
+            self.begun.remove(life.pid)
+        if ok and call.result > 0:
+            self.child(life, call.result, "CLONE_FS" in call.args)
+
+    on_vfork = on_clone = on_clone3 = on_fork
 
     def on_bind(self, life: Life, call: Call, ok: bool) -> None:
         """A socket with a name is a file, which whoever talks to it opens."""
@@ -106,10 +83,12 @@ class Calls(Moves):
         return found.base, found.path
 
     def on_look(self, life: Life, call: Call, ok: bool) -> None:
-        base, path = self.base_and_path(life, call)
-        if not path or (call.args[:1].isdigit() and "AT_EMPTY_PATH" in call.args):
+        base, path, folder, is_open, at_link = spelled(call.args)
+        if folder:
+            life.folder = folder
+        if not path or is_open:
             return
-        follow = call.name not in NOFOLLOW and "NOFOLLOW" not in call.args
+        follow = not at_link and call.name not in NOFOLLOW
         plain = path if call.name == "stat" or (call.name == "newfstatat" and follow and not path.startswith("/")) else ""
         link = call.name.startswith("readlink") and ok
         found = self.look(life, path, ok or call.error == "EINVAL", follow, "R" if link else "S", base, plain)
@@ -127,7 +106,7 @@ class Calls(Moves):
 
     def is_unknown(self, life: Life) -> bool:
         """Whether nobody knows if a program compares the ages of what it looks at, or of what it has opened."""
-        return (not life.traits().is_ageless or self.is_inside(life.program)) and not life.is_make
+        return not life.is_make and (not life.traits().is_ageless or self.is_inside(life.program))
 
     @staticmethod
     def is_own(life: Life, path: str, found: Found) -> bool:
@@ -152,7 +131,7 @@ class Calls(Moves):
         life.taken = ()
         found = self.names.find(life.folder, words[0], True)
         life.is_wrapper = words[0].startswith(self.spool + "/bin/")
-        argv = argv if life.is_wrapper else shelltext.with_interpreter(argv, found.path)
+        argv = argv if life.is_wrapper else shelltext.with_interpreter(argv, found.path, self.first_words(found.path))
         life.program = found.path
         life.is_ninja = argv == words[1:] and bool(shelltext.NINJA.match(os.path.basename(found.path)))
         if life.is_ninja:
@@ -164,7 +143,7 @@ class Calls(Moves):
         self.is_open_shell = self.is_open_shell or shelltext.sets_options(argv, life.folder)
         if shelltext.asks_reads(argv, life.folder):
             self.askers.append(" ".join(argv)[:100])
-        if os.path.realpath(found.path) == self.real or found.path == self.real:
+        if self.is_real_make(found.path):
             self.begin_make(life, was_wrapper, was_make, forked)
         else:
             life.is_make = life.is_make and life.number >= 0 and was_make
@@ -173,10 +152,22 @@ class Calls(Moves):
         self.look(life, words[0], True, True, "R")
         self.look_at_interpreters(life, words[0])
 
+    def first_words(self, path: str) -> List[str]:
+        """The words of a script's first line, read once: the build has ended."""
+        if path not in self.firsts:
+            self.firsts[path] = shelltext.first_words(path)
+        return self.firsts[path]
+
+    def is_real_make(self, path: str) -> bool:
+        """Whether a program is the make that the recorder knows."""
+        if path not in self.makes_by_path:
+            self.makes_by_path[path] = path == self.real or os.path.realpath(path) == self.real
+        return self.makes_by_path[path]
+
     def look_at_interpreters(self, life: Life, program: str) -> None:
         """The kernel reads the interpreter of a script by itself, and that of an interpreter which is a script."""
         for _ in range(SCRIPTS):
-            words = shelltext.first_words(self.names.find(life.folder, program, True).path)
+            words = self.first_words(self.names.find(life.folder, program, True).path)
             if not words:
                 return
             program = words[0]
@@ -213,17 +204,17 @@ class Calls(Moves):
             life.enter(where[0])
 
     def on_open(self, life: Life, call: Call, ok: bool) -> None:
-        base, path = self.base_and_path(life, call)
+        base, path, folder, flags, changes, follow = opening(call.args)
+        if folder:
+            life.folder = folder
         if ok and DEVICES.match(path):
             if not call.opened.startswith("/") or DEVICES.match(call.opened) and not self.is_inside(call.opened):
                 self.note_watcher(life, path)
                 return  # a pipe, a terminal or the like
             base, path = "", call.opened
-        flags = flags_of(call.args)
-        changes = call.name == "creat" or bool(WRITING.search(flags))
+        changes = changes or call.name == "creat"
         if "O_TMPFILE" in flags or not path:
             return
-        follow = "O_NOFOLLOW" not in flags and not ("O_EXCL" in flags and "O_CREAT" in flags)
         if not ok:
             found = self.look(life, path, call.error in ("EEXIST", "EISDIR", "ENXIO", "EACCES", "ENOTEMPTY"), follow, base=base)
             if changes and call.error == "ENOENT" and found.missing != found.path:

@@ -149,7 +149,7 @@ class Considered:
             elif kind in "LQ":
                 folder, _, pattern = path.partition("\0")
                 found |= {one for one in self.changed if os.path.dirname(one) == folder and fnmatchcase(os.path.basename(one), pattern or "*")}
-        return found & {*self.writers}
+        return {path for path in found if path in self.writers}
 
 
 def stems_of(pattern: str, name: str) -> Iterator[Tuple[str, str]]:

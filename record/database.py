@@ -71,6 +71,8 @@ class _Files:
     def remark(self, text: str) -> None:
         base = self.base
         self.is_macro = not self.name and bool(ORIGIN.match(text))
+        if not text.startswith("#  "):
+            return
         self.is_recipe = self.is_recipe or text.startswith("#  recipe to execute")
         place = PLACE.match(text)
         if place and self.name:

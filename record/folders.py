@@ -7,6 +7,7 @@ folder that is not there yet, and a removal conflict with all that nothing order
 import os
 import re
 from dataclasses import dataclass, field
+from functools import lru_cache
 from typing import TYPE_CHECKING, Dict, List, Set, Tuple
 
 from record import shelltext
@@ -15,6 +16,10 @@ from record.owners import Work
 
 if TYPE_CHECKING:
     from record.build import Builder
+
+
+Events = List[Tuple[int, List[Tuple[str, str, int]]]]
+dirname = lru_cache(1 << 14)(os.path.dirname)  # recipes have most of their paths in common
 
 
 @dataclass
@@ -81,7 +86,7 @@ def parents_of_all(paths: Set[str]) -> Set[str]:
     found: Set[str] = set()
     for path in paths:
         while path not in ("/", ""):
-            path = os.path.dirname(path)
+            path = dirname(path)
             if path in found:
                 break
             found.add(path)
@@ -102,8 +107,8 @@ def gather(builder: "Builder") -> Dict[str, Folder]:
             elif folder is not None and not path.endswith("/"):
                 note(folder, at, kind, place)
             if kind in "RSWCDMTEXUL" and not path.endswith("/"):
-                touched.add(path)
-        for above in parents_of_all(touched):
+                touched.add(dirname(path))
+        for above in parents_of_all(touched) | touched:
             if above in table:
                 table[above].users.add(at)
     for path in renamed:
@@ -111,7 +116,14 @@ def gather(builder: "Builder") -> Dict[str, Folder]:
     return table
 
 
-def each(builder: "Builder") -> List[Tuple[int, List[Tuple[str, str, int]]]]:
+def each(builder: "Builder") -> Events:
+    """Tasks with their events, put together once."""
+    if builder.events_of_all is None:
+        builder.events_of_all = put_together(builder)
+    return builder.events_of_all
+
+
+def put_together(builder: "Builder") -> Events:
     """Tasks with their events, acts of make with the task that has them. A decision asks only for a name (`s`): where that is
     not there it makes no difference whether its folder is."""
     found = []
@@ -260,7 +272,7 @@ def add_times(builder: "Builder") -> None:
         for kind, path, _ in events:
             if kind not in "CDXt":
                 continue
-            where = path if kind == "t" else os.path.dirname(path.rstrip("/"))
+            where = path if kind == "t" else dirname(path.rstrip("/"))
             if where in wanted:
                 builder.timers.setdefault(where, set()).add(at)
     for where, changers in builder.timers.items():
@@ -296,7 +308,7 @@ def add_modes(builder: "Builder") -> None:
                 apart(builder, path + "/@links", "how many names %s has" % path, at, counted[path] - {at})
 
 
-def changed_modes(builder: "Builder", table: List[Tuple[int, List[Tuple[str, str, int]]]]) -> Set[str]:
+def changed_modes(builder: "Builder", table: Events) -> Set[str]:
     """The folders whose mode a recipe changes: to give one the mode that it was made with is no change."""
     given: Dict[str, Set[str]] = {}
     for kind, text in ((k, p) for _, events in table for k, p, _ in events if k == "m"):

@@ -48,6 +48,7 @@ class Graph:
         self.base: Base = self.round.base or Base()
         self.nodes: Dict[str, Node] = {}
         self.notes: List[str] = []
+        self.known_late: Optional[Set[str]] = None
         self.read_nodes()
         self.split_double_colons()
         self.join_grouped()
@@ -127,6 +128,12 @@ class Graph:
         return seen
 
     def late(self) -> Set[str]:
+        """The same for all who ask."""
+        if self.known_late is None:
+            self.known_late = self.find_late()
+        return self.known_late
+
+    def find_late(self) -> Set[str]:
         """What make may look at after its first pass: what only a later rule of a double-colon target needs, and
         intermediate files."""
         later = [n for n in self.nodes.values() if n.rule]

@@ -1,6 +1,7 @@
 """`race-record -- make [GOALS]` or `-- ninja`: one recorded build, and the verdict of `race` on it."""
 
 import argparse
+import gc
 import os
 import re
 import shutil
@@ -8,7 +9,9 @@ import signal
 import subprocess
 import sys
 import tempfile
+import threading
 import time
+from concurrent.futures import ThreadPoolExecutor
 from dataclasses import dataclass
 from pathlib import Path
 from typing import Dict, List, Optional, Tuple
@@ -34,7 +37,8 @@ from record.owners import Make, Owners
 from record.progress import watched
 from record.python import settle
 from record.report import Judged, colours, read_json, report
-from record.strace import read_trace, skipping
+from record.skips import sift, unseen_changes
+from record.strace import read_trace
 from record.unasked import unasked
 from record.warm import stand_alone, warm_names
 from record.words import read_logs
@@ -93,8 +97,8 @@ def prepare_spool(spool: Path, real: str) -> None:
             path.chmod(0o755)
 
 
-def run_build(words: List[str], spool: Path) -> Tuple[int, float]:
-    """The build under strace; its status and seconds."""
+def run_build(words: List[str], spool: Path, tops: List[str]) -> Tuple[int, float]:
+    """The build under strace, whose trace is sifted meanwhile; its status and seconds."""
     env = dict(os.environ)
     if "MAKELEVEL" in env:
         for name in ("MAKELEVEL", "MAKEFLAGS", "MFLAGS", "MAKE_TERMOUT", "MAKE_TERMERR"):
@@ -103,9 +107,17 @@ def run_build(words: List[str], spool: Path) -> Tuple[int, float]:
     began = time.monotonic()
     old = signal.signal(signal.SIGINT, signal.SIG_IGN)
     heard = old if old in (signal.SIG_IGN, signal.SIG_DFL) else signal.SIG_DFL
-    status = subprocess.call(STRACE + ["-o", str(spool / "trace"), "--"] + words, env=env, preexec_fn=lambda: signal.signal(signal.SIGINT, heard))
+    (spool / "trace").touch()
+    with ThreadPoolExecutor(1) as pool:
+        words = STRACE + ["-o", str(spool / "trace"), "--"] + words
+        process = subprocess.Popen(words, env=env, preexec_fn=lambda: signal.signal(signal.SIGINT, heard))
+        ended = threading.Event()
+        sifting = pool.submit(sift, spool / "trace", tops, spool / "sifted", ended.wait)
+        status, seconds = process.wait(), time.monotonic() - began
+        ended.set()
+        sifting.result()
     signal.signal(signal.SIGINT, old)
-    return status, time.monotonic() - began
+    return status, seconds
 
 
 def replay_trace(spool: Path, names: Names, real: str, folder: str, tops: List[str]) -> Calls:
@@ -113,10 +125,11 @@ def replay_trace(spool: Path, names: Names, real: str, folder: str, tops: List[s
     mask = os.umask(0)
     os.umask(mask)
     replay = Calls(names, str(spool), os.path.realpath(real), folder, tops, mask)
-    skip = skipping(spool / "trace", tops)
-    with open(spool / "trace", encoding="latin-1") as lines:
-        for event in read_trace(watched(lines, (spool / "trace").stat().st_size), skip):
+    trace = spool / ("sifted" if (spool / "sifted").exists() else "trace")
+    with open(trace, encoding="latin-1", newline="\n") as lines:
+        for event in read_trace(watched(lines, trace.stat().st_size)):
             replay.play(event)
+    replay.holes += unseen_changes(replay.outside) if trace.name == "sifted" else []
     return replay
 
 
@@ -135,7 +148,7 @@ def import_record(spool: Path, names: Names, kept: Kept, real: str, folder: str,
     """Of a trace and make's words: the builds, the holes, and what was taken for granted."""
     assumed = Assumptions()
     replay = replay_trace(spool, names, real, folder, names.tops)
-    for example in settle(replay.all):
+    for example in settle(replay.all, names.tops):
         assumed.add("bytecode", example)
     owners = Owners(replay.all, read_logs(spool))
     if owners.makes:
@@ -225,11 +238,13 @@ def attempt(options: argparse.Namespace, words: List[str], tools: Dict[str, str]
         prepare_spool(spool, real)
         if options.missing:
             (spool / "again").touch()
-        status, seconds = run_build(by_name(words, real), spool)
+        status, seconds = run_build(by_name(words, real), spool, names.tops)
         record = Record(options.words, folder, status, round(seconds, 2), dict(tools))
         if status != 0:
             record.holes.append("the build ended with status %d" % status)
+        gc.disable()  # what is read is needed to the end: a search for garbage takes time and finds none
         found = import_record(spool, names, kept, real, folder, record)
+        gc.enable()
         finish(record, found, names, options.warm)
         write_record(out, record, found.builds, found.assumed)
         for number, build in zip(record.builds, found.builds if options.footprints else ()):
@@ -238,7 +253,7 @@ def attempt(options: argparse.Namespace, words: List[str], tools: Dict[str, str]
         if options.missing:
             record.missing = write_missing(out, record, found.builds, names, found.lives, spool)
         if options.keep_trace:
-            shutil.copytree(spool, out / "trace", ignore=shutil.ignore_patterns("bin", "real", "outputs", "again", "*.start", "stop.mk"))
+            shutil.copytree(spool, out / "trace", ignore=shutil.ignore_patterns("bin", "real", "outputs", "again", "*.start", "stop.mk", "sifted*"))
         if status != 1 or not any(stage.jobs for ninja in found.ninjas for stage in ninja.stages):
             return record, False
         record.hints = hints(found.ninjas, names)

@@ -8,7 +8,7 @@ import os
 import stat
 from dataclasses import dataclass, field
 from pathlib import Path
-from typing import Dict, Iterable, List, Optional, Set, Tuple
+from typing import Dict, Iterable, List, Optional, Sequence, Set, Tuple
 
 LINK_LIMIT = 40
 
@@ -43,16 +43,13 @@ def join(folder: str, name: str) -> str:
     return folder + name if folder.endswith("/") else folder + "/" + name
 
 
-@dataclass
 class Found:
     """Where a path leads: its real spelling, what is there, the links on the way, the first name that is not there."""
 
-    path: str
-    inode: Optional[Inode]
-    folder: Optional[Inode]
-    name: str
-    links: List[str] = field(default_factory=list)
-    missing: str = ""
+    __slots__ = ("path", "inode", "folder", "name", "links", "missing")
+
+    def __init__(self, path: str, inode: Optional[Inode], folder: Optional[Inode], name: str, links: Sequence[str] = (), missing: str = "") -> None:
+        self.path, self.inode, self.folder, self.name, self.links, self.missing = path, inode, folder, name, links, missing
 
 
 @dataclass
@@ -62,7 +59,7 @@ class Where:
 
     node: Optional[Inode]
     path: str
-    links: List[str]
+    links: Sequence[str]
     missing: str
     absent: Set[str] = field(default_factory=set)
 
@@ -73,6 +70,8 @@ class Names:
     def __init__(self) -> None:
         self.root = Inode("d")
         self.wheres: Dict[str, Where] = {}  # by spelling; they hold until a folder or a link comes or goes
+        self.spots: Dict[Tuple[str, str], Tuple[Where, str, str]] = {}  # by folder and path: the last name, where it is, and its real path
+        self.ends: Dict[str, Found] = {}  # by spelling, where it ends in a link: what was there; they hold as long
         self.before: Dict[str, str] = {}
         self.tops: List[str] = []
 
@@ -143,6 +142,8 @@ class Names:
         """A node gets or loses a name: where it is a folder or a link, spellings lead elsewhere."""
         if changed is not None and changed.kind != "f":
             self.wheres.clear()
+            self.spots.clear()
+            self.ends.clear()
 
     def child_of(self, folder: Inode, name: str) -> Optional[Inode]:
         """What a folder has under a name; outside of the walked folders the disk says it."""
@@ -167,18 +168,26 @@ class Names:
 
     def find(self, base: str, path: str, follow: bool) -> Found:
         """Follows a path from a folder; `follow`: the last name too, where it is a link."""
-        whole = path if path.startswith("/") else join(base, path)
-        spelled, _, name = whole.rpartition("/")
-        if name in ("", ".", ".."):
-            return self.walk_along(whole, follow or path.endswith("/"))
-        where = self.wheres.get(spelled) or self.where(spelled)
-        here = join(where.path, name)
-        if where.node is None:
-            return Found(here, None, None, "", list(where.links), where.missing)
-        child = where.node.entries.get(name) or self.ask_once(where, where.node, name, here)
-        if child is not None and child.kind == "l" and follow:
-            return self.walk_along(whole, True)
-        return Found(here, child, where.node, name, list(where.links), "" if child else here)
+        spot = self.spots.get((base, path))
+        if spot is None:
+            whole = path if path.startswith("/") else join(base, path)
+            spelled, _, name = whole.rpartition("/")
+            if name in ("", ".", ".."):
+                return self.walk_along(whole, follow or path.endswith("/"))
+            where = self.wheres.get(spelled) or self.where(spelled)
+            spot = (where, name, join(where.path, name))
+            if spelled in self.wheres:
+                self.spots[base, path] = spot
+        where, name, here = spot
+        node = where.node
+        if node is None:
+            return Found(here, None, None, "", where.links, where.missing)
+        child = node.entries.get(name)
+        if child is None and not node.walked:
+            child = self.ask_once(where, node, name, here)
+        if child is not None and follow and child.kind == "l":
+            return self.end(path if path.startswith("/") else join(base, path))
+        return Found(here, child, node, name, where.links, "" if child else here)
 
     def where(self, spelled: str) -> Where:
         """Where the spelling of a folder leads. It is kept, but not where a file or a ring of links stands in the way."""
@@ -189,9 +198,20 @@ class Names:
             self.wheres[spelled] = where
         return where
 
+    def end(self, whole: str) -> Found:
+        """Where a path leads that ends in a link. The way is kept where something is there."""
+        known = self.ends.get(whole)
+        child = known.folder.entries.get(known.name) if known is not None and known.folder is not None else None
+        if known is None or child is None:
+            known = self.walk_along(whole, True)
+            child = known.inode
+        if child is not None and known.folder is not None:
+            self.ends[whole] = known
+        return Found(known.path, child, known.folder, known.name, known.links, known.missing)
+
     def ask_once(self, where: Where, folder: Inode, name: str, path: str) -> Optional[Inode]:
         """What the disk has under a name of a folder that was not walked; it is asked once for a name that is absent."""
-        if self.is_walked(folder) or name in where.absent:
+        if name in where.absent:
             return None
         child = self.ask(folder, name, path)
         if child is None:

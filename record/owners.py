@@ -5,6 +5,7 @@ import bisect
 import os
 import re
 from dataclasses import dataclass, field
+from functools import cached_property
 from pathlib import Path
 from typing import TYPE_CHECKING, Dict, Iterable, List, Optional, Set, Tuple
 
@@ -48,10 +49,18 @@ class Make:
     first_looks: Dict[str, int] = field(default_factory=dict)  # target: when make first looked at it
     pieces: List[Tuple[int, List[Tuple[str, str, int]]]] = field(default_factory=list)  # what it did by itself, where it expands prerequisites late
 
+    @cached_property
+    def kinds(self) -> Dict[str, Set[str]]:
+        """By path: the kinds of its own acts."""
+        found: Dict[str, Set[str]] = {}
+        for act in self.life.acts:
+            found.setdefault(act.path, set()).add(act.kind)
+        return found
+
     def never_read(self, name: str) -> bool:
         """Whether it looked for a makefile, as for `-include`, and found none: that one says nothing."""
         path = os.path.normpath(os.path.join(self.folder, name))
-        kinds = {act.kind for act in self.life.acts if act.path == path}
+        kinds = self.kinds.get(path, set())
         return len(self.life.starts) < 2 and "N" in kinds and "R" not in kinds and not os.path.lexists(path)
 
     def has_one_slot(self) -> bool:
@@ -276,5 +285,5 @@ class Owners:
             if before is None and at < len(table) and number != table[at][1] and one.jobs:
                 continue
             recipes = one.base.recipes if one.base else {}
-            owners.update((number, t) for t, count in one.must.items() if count == done and t in recipes)
+            owners.update((number, t) for t in one.due.get(done, ()) if t in recipes)
         return owners

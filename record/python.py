@@ -6,7 +6,7 @@ of the program lists folders.
 
 import os
 import re
-from typing import Iterator, List, Set
+from typing import Iterator, List, Sequence, Set
 
 from record import shelltext
 from record.lives import Life
@@ -15,10 +15,11 @@ from record.looked import BYTE_CODE
 PYTHON = re.compile(r"(?:.*/)?python[\d.]*$")
 CACHE = "__pycache__"
 LISTS = re.compile(r"listdir|scandir|glob|walk|iterdir|\bPath\b|pathlib|\bexec\b|\beval\b|__import__|importlib|pkgutil|runpy|copytree|rmtree|archive|zip|tarfile"
-                   r"|filecmp|mailbox|tabnanny|modulefinder|pydoc|lib2to3|addsitedir|logging.handlers|compileall|unittest|pytest|setuptools|distutils|pkg_resources|metadata|\bstat\b|getmtime")
+                   r"|filecmp|mailbox|tabnanny|modulefinder|pydoc|lib2to3|addsitedir|logging.handlers|compileall|unittest|pytest|setuptools|distutils|pkg_resources|metadata|ctypes|\bstat\b|getmtime")
 SYSTEM = re.compile(r"/etc/|(?:/usr)?/lib(?:32|64)?/(?!python)")
-PACKAGES = re.compile(r"/(?:site|dist)-packages/(?!_distutils_hack/)")  # the exception is what setuptools runs at each start
-MODULES = ("*.py", "*.pyc", "*.so", "*/")  # what an import looks for in a list; the last is any folder
+PACKAGES = re.compile(r"/(?:site|dist)-packages/(?!_distutils_hack/|apport_python_hook\.)")  # the exceptions are what setuptools and Ubuntu run at each start
+TEXTS = (".py", ".pyc", ".so", ".zip", ".egg", ".whl", ".pyz")  # how the names of files end that modules may come from
+MODULES = ("*.py", "*.pyc", "*.so", "*.pth", "*/")  # what an import, or the start of Python, looks for in a list; the last is any folder
 
 
 def is_python(life: Life) -> bool:
@@ -29,17 +30,22 @@ def is_python(life: Life) -> bool:
     return not any(re.search(r"[*?\[$`]", text) for text in texts)
 
 
-def settle(lives: List[Life]) -> Iterator[str]:
+def settle(lives: List[Life], tops: Sequence[str] = ()) -> Iterator[str]:
     """Puts what is meant in the place of what each Python did by itself; the words of those that had byte code in the project. Where
     another program looks into a folder of byte code, all stays as it is."""
     known = [life for life in lives if is_python(life)]
     others = {cache_of(path) for life in lives if not is_python(life) for _, path in life.events if CACHE in path}
     for life in known:
-        names = [path for _, path in life.events if CACHE in path and cache_of(path) not in others]
+        names = [path for _, path in life.events if CACHE in path and cache_of(path) not in others and not is_of_system(path, tops)]
         settle_lists(life)
         settle_code(life, others)
         if names:
             yield "%s: %s" % (" ".join(life.argv)[:60], names[0])
+
+
+def is_of_system(path: str, tops: Sequence[str]) -> bool:
+    """Whether byte code came with the system: no recipe writes it."""
+    return path.startswith(("/usr/", "/lib")) and not any(path.startswith(top.rstrip("/") + "/") for top in tops)
 
 
 def cache_of(path: str) -> str:
@@ -67,8 +73,9 @@ def settle_lists(life: Life) -> None:
     """Lists of folders in which it finds modules."""
     lists = [path for kind, path in life.events if kind == "L" and path.endswith("\0*")]
     library = library_of(life)
-    read = [BYTE_CODE.sub(r"\1\2.py", path) for kind, path in life.events if kind == "R" and not is_of_python(path, library)]
-    sources = [path for path in read if path.endswith((".py", ".so"))]
+    events = (event for one in life.threads or (life,) for event in one.events)
+    read = [BYTE_CODE.sub(r"\1\2.py", path) for kind, path in events if kind == "R" and not is_of_python(path, library)]
+    sources = [path for path in read if path.endswith(TEXTS)]
     if not lists or script_of(life) not in (os.path.basename(path) for path in sources) or any(lists_folders(path) for path in sources):
         return
     for path in lists:

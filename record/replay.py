@@ -13,6 +13,8 @@ from record.strace import Begun, Call, Ended, Event, Unread
 DEVICES = re.compile(r"/dev/(null|zero|full|u?random|tty\w*|ptmx|console|std(in|out|err)|fd(/.*)?|pts(/.*)?)$|/proc(/|$)|/sys(/|$)")
 
 PROGRESS = "/CMakeFiles/Progress"
+KERNEL = ("/dev/", "/proc", "/sys")  # how a name begins that is a device, or that the kernel shows
+
 
 class Replay:
     """Plays the events of a trace in the name space and keeps what each life did."""
@@ -20,6 +22,7 @@ class Replay:
     def __init__(self, names: Names, spool: str, real: str, folder: str, tops: List[str], mask: int = 0o22) -> None:
         self.mask = mask
         self.names, self.spool, self.real, self.tops = names, spool, real, tops
+        self.below_tops = tuple(top.rstrip("/") + "/" for top in tops)
         self.first_folder = folder
         self.lives: Dict[int, Life] = {}
         self.all: List[Life] = []
@@ -37,6 +40,8 @@ class Replay:
         self.makers: List[str] = []
         self.progress: List[str] = []  # folders in which CMake counts what is built
         self.aged: Dict[str, bool] = {}
+        self.firsts: Dict[str, List[str]] = {}  # by program: the words of its first line, where it is a script
+        self.makes_by_path: Dict[str, bool] = {}  # by program: whether it is the make that the recorder knows
         self.scripts: Dict[str, int] = {}  # those whose text compares no ages, and when they were first asked
         self.watchers: List[str] = []  # who lists the processes that run, or waits for changes of files
         self.askers: List[str] = []  # who asks when a file was read last
@@ -51,6 +56,7 @@ class Replay:
                 parents = [self.lives[p] for p in self.begun if p in self.lives and p != pid]
                 if parents:
                     self.inherit(life, parents[-1])
+                    life.parent = parents[0] if len(parents) == 1 else None
             else:
                 life.adopted, life.mask = True, self.mask
             self.lives[pid] = life
@@ -85,6 +91,11 @@ class Replay:
     def play(self, event: Event) -> None:
         """One event of the trace; those of a process wait until it is known who started it."""
         self.place += 1
+        if isinstance(event, Call) and not self.waiting:
+            life = self.lives.get(event.pid)
+            if life is not None and life.died > self.place:  # nearly always
+                self.call(life, event)
+                return
         pid = getattr(event, "pid", -1)
         if pid >= 0 and (pid in self.waiting or self.is_unclear(pid)):
             self.waiting.setdefault(pid, []).append(event)
@@ -129,7 +140,7 @@ class Replay:
 
     # ---------------------------------------------------------------- events
     def put(self, life: Life, kind: str, path: str, word: str = "") -> None:
-        if DEVICES.match(path) and not self.is_inside(path):
+        if path.startswith(KERNEL) and DEVICES.match(path) and not self.is_inside(path):
             if is_hidden(kind, path):
                 self.holes.append("a file is known by the number of its descriptor alone: %s of %s" % (path, " ".join(life.argv)[:60]))
             return
@@ -142,18 +153,23 @@ class Replay:
             self.outside[path.rstrip("/")] = None
         if life.is_make and life.number >= 0 or life.is_ninja and kind in "RU":
             life.acts.append(Act(self.place, kind, path, word))
-        life.events.setdefault((kind, path), self.place)
+        if (kind, path) not in life.events:
+            life.events[kind, path] = self.place
         if kind in "WCD":
             life.changed[path] = self.place
 
     def is_inside(self, path: str) -> bool:
         """Whether a path is in one of the folders that the build works in."""
-        return any(path == top or path.startswith(top.rstrip("/") + "/") for top in self.tops)
+        return path.startswith(self.below_tops) or path in self.tops
 
     def found(self, life: Life, path: str, follow: bool, base: str = "", word: str = "") -> Found:
-        plain = plain_path(life, path, self.lives)
-        found = Found(plain, None, None, "") if NUMBER.match(plain) else self.names.find(base or life.folder, plain, follow)
-        self.put_links(life, found, word)
+        if path.startswith(KERNEL):
+            plain = plain_path(life, path, self.lives)
+            found = Found(plain, None, None, "") if NUMBER.match(plain) else self.names.find(base or life.folder, plain, follow)
+        else:
+            found = self.names.find(base or life.folder, path, follow)
+        if found.links:
+            self.put_links(life, found, word)
         return found
 
     def put_links(self, life: Life, found: Found, word: str = "") -> None:

@@ -12,6 +12,8 @@ ANY = "\x01"  # what stands for the first part of a name
 def stems(target: str, name: str) -> Iterator[Tuple[str, str]]:
     """The stem by which a pattern fits a name, and the folder that is put in front of prerequisites."""
     head, _, tail = target.partition("%")
+    if not name.endswith(tail):  # as of most
+        return
     folder, last = ("", name) if "/" in target or name.endswith(")") else os.path.split(name)
     if last.startswith(head) and last.endswith(tail) and len(last) > len(head) + len(tail):
         yield last[len(head): len(last) - len(tail)], folder

@@ -9,6 +9,7 @@ from typing import Iterable, List, Optional, Set, Tuple
 
 SHELLS = ("sh", "dash", "bash", "ksh", "zsh", "ash")
 NAMES_NEXT = re.compile(r"[-+]\w*[oO]\w*|--rcfile|--init-file")  # options of a shell whose value is the next word
+LETTERS = re.compile(r"-\w")
 NINJA = re.compile(r"(?:ninja|ninja-build|samu|samurai)(?:[-.\d]*)$")
 # Programs that look at files by name, and not to compare their ages, where AGES finds no word for that.
 AGELESS = frozenset((
@@ -60,7 +61,7 @@ DIRECTORY = r"(?:\"[^\"]*\"|'[^']*'|[^\s;|&<>()'\"`]+)"
 
 def base_name(argv: List[str]) -> str:
     """The program's name without its folder."""
-    return os.path.basename(argv[0]) if argv else ""
+    return argv[0].rpartition("/")[2] if argv else ""
 
 
 def is_removal(argv: List[str]) -> bool:
@@ -72,14 +73,16 @@ def is_removal(argv: List[str]) -> bool:
 def shell_words(argv: List[str]) -> Tuple[str, str]:
     """The text of `sh -c TEXT`, and the script of `sh SCRIPT`: the first word that is no option of the shell. Where it has neither
     it reads its standard input."""
+    if base_name(argv) not in SHELLS:
+        return "", ""
     options, at = "", 1
-    while base_name(argv) in SHELLS and at < len(argv) and argv[at][:1] in ("-", "+"):
+    while at < len(argv) and argv[at][:1] in ("-", "+"):
         word, at = argv[at], at + 1
         if word in ("-", "--"):
             break
-        options += word if re.match(r"-\w", word) else ""
+        options += word if LETTERS.match(word) else ""
         at += bool(NAMES_NEXT.fullmatch(word))
-    first = argv[at] if base_name(argv) in SHELLS and at < len(argv) else ""
+    first = argv[at] if at < len(argv) else ""
     return (first, "") if "c" in options else ("", "" if "s" in options else first)
 
 
@@ -103,9 +106,8 @@ def first_words(path: str) -> List[str]:
     return first[2:].decode("utf-8", "surrogateescape").split() if first.startswith(b"#!") else []
 
 
-def with_interpreter(argv: List[str], path: str) -> List[str]:
-    """The words of a script, as its first line lets an interpreter run it."""
-    words = first_words(path)
+def with_interpreter(argv: List[str], path: str, words: List[str]) -> List[str]:
+    """The words of a script, as those of its first line let an interpreter run it."""
     if words and os.path.basename(words[0]) == "env":
         words = [w for w in words[1:] if not w.startswith("-") and "=" not in w][:1]
     return words[:1] + [path] + argv[1:] if words else argv
@@ -201,6 +203,8 @@ def is_on_the_way(folder: str, word: str) -> bool:
 @lru_cache(KEPT)
 def quiet_folders(text: str) -> Set[str]:
     """The folders that a shell's text makes in one of the quiet forms, as it spells them."""
+    if "mkdir" not in text and "install" not in text:
+        return set()
     quiet = r"(?:\s*(?:2\s*)?>\s*/dev/null|\s*2>&1)*"
     ends, asked = r"\s*(?:;|&&|\n|$|\))", r"\s+-[de]\s+(?P<d>" + DIRECTORY + r")(?:\s+\])?" + quiet
     made = r"(?:mkdir\s+-p|install\s+-d)\s+(?P<made>" + DIRECTORY + ")" + quiet
@@ -288,8 +292,10 @@ def shows_ages(argv: List[str]) -> bool:
 
 def asks_size(argv: List[str]) -> bool:
     """Whether a program shows how large a folder is: some file systems count its names."""
+    if base_name(argv) != "stat":
+        return False
     text = "".join(" " + word for word in argv[1:]) + " "
-    return base_name(argv) == "stat" and (not FORMAT_OF_STAT.search(text) or bool(re.search(r"%[-+ 0#'\d.]*[sbB]", text)))
+    return not FORMAT_OF_STAT.search(text) or bool(re.search(r"%[-+ 0#'\d.]*[sbB]", text))
 
 
 def asks_reads(argv: List[str], folder: str) -> bool:

@@ -1,12 +1,9 @@
 """The reader of strace's lines: one lazy pass that gives calls and ends of processes in the order of the trace."""
 
-import mmap
-import os
 import re
 from dataclasses import dataclass
 from functools import lru_cache
-from pathlib import Path
-from typing import Callable, Dict, Iterable, Iterator, List, NamedTuple, Optional, TypeVar, Union
+from typing import Callable, Dict, Iterable, Iterator, List, NamedTuple, Optional, Tuple, TypeVar, Union
 
 KEPT, SHORT = 1 << 14, 1000  # how many texts are remembered, and how long they are at most
 Answer = TypeVar("Answer")
@@ -14,21 +11,6 @@ CALL = re.compile(r"(\w+)\((.*)\)\s+= (-?\d+|\?)(?:<((?:[^<>\\]|\\.)*)>(?:\(dele
 ESCAPE = re.compile(r"\\([0-7]{1,3}|x[0-9a-f]{2}|.)", re.S)
 TEXT = re.compile(r'"((?:[^"\\]|\\.)*)"(\.\.\.)?')
 FOLDER = re.compile(r"(?:AT_FDCWD|\d+)<((?:[^<>\\]|\\.)*)>")
-SYSTEM = ["usr", "lib", "lib32", "lib64", "etc", "bin", "sbin"]
-AT = r"(?:AT_FDCWD<[^>]*>, )?"
-# Common calls stand first, and a line with one text is tried before one with two: a trace has a thousand looks for each change.
-RESULT = r" = (?:\d|-1 E(?:NO|INVAL))"
-LOOKING = (
-    r"\d+ +(?:readlink(?:at)?|open(?:at)?|newfstatat|access|faccessat2?|statx?|lstat|statfs)\(" + AT + r'"(FOLDERS[^"]*)"'
-    r'(?:[^"]*' + RESULT + r'|[^"]*"[^"]*"[^"]*' + RESULT + r')|\d+ +newfstatat\(\d+<[^>]*>, "", [^"]* = 0$')
-NAMES = r"(?:creat|rename\w*|unlink\w*|rmdir|mkdir\w*|mknod\w*|link\w*|symlink\w*|truncate|[fl]?ch(?:mod|own)\w*|utime\w*|futimesat)\("
-FLAGS = r"O_(?:WRONLY|RDWR|CREAT|TRUNC)"
-# A name may be relative to a folder of the system: strace shows which file was opened, and where a call with a folder starts from.
-CHANGING = (
-    r"\d+ +(?:open|openat2?)\(" + AT + r'"(?:(?:[^"\\]|\\.)*\.\.)?FOLDERS(?:[^"\\]|\\.)*", [^\n]*' + FLAGS + r"|\d+ +(?:open|openat2?)\([^\n]*" + FLAGS
-    + r"[^\n]*= \d+<FOLDERS|\d+ +" + NAMES + r'[^\n]*(?:"(?:(?:[^"\\]|\\.)*\.\.)?|<)FOLDERS|\d+ +(?:chdir|fchdir)\([^\n]*(?:"(?:(?:[^"\\]|\\.)*\.\.)?|<)FOLDERS')
-# What each line that changes something has: a look for these is quick, and few lines have one.
-MARKS = [re.compile(FLAGS.encode()), re.compile((r"\n\d+ +(?:" + NAMES + r"|f?chdir\()").encode())]
 PLAIN = {"n": "\n", "t": "\t", "r": "\r", "v": "\v", "f": "\f"}
 
 
@@ -131,90 +113,49 @@ def folders(args: str) -> List[str]:
 
 
 MAKES_PROCESS = ("clone", "clone3", "fork", "vfork")
+UNFINISHED = "<unfinished ...>"
 
 
-def line_at(trace: mmap.mmap, at: int) -> bytes:
-    """The line around a place of the trace."""
-    end = trace.find(b"\n", at)
-    return trace[trace.rfind(b"\n", 0, at) + 1:end if end >= 0 else len(trace)]
-
-
-def has_change(trace: mmap.mmap, changes: "re.Pattern[bytes]") -> bool:
-    """Whether a line of the trace matches `changes`."""
-    if changes.match(line_at(trace, 0)):
-        return True
-    return any(changes.match(line_at(trace, mark.end() - 1)) for marks in MARKS for mark in marks.finditer(trace))
-
-
-class Skip:
-    """What need not be read: looks at the system's folders by names of which no link leads to a top."""
-
-    def __init__(self, looks: "re.Pattern[str]", tops: List[str]) -> None:
-        self.looks, self.tops = looks, tops
-        self.leads: Dict[str, bool] = {}  # by spelling: whether it leads to a top
-
-    def match(self, line: str) -> bool:
-        """Whether a line is such a look."""
-        found = self.looks.match(line)
-        path = found.group(1) if found is not None else None
-        if path is not None and path not in self.leads:
-            real = os.path.realpath(unescape(path))
-            self.leads[path] = any((real + "/").startswith(top.rstrip("/") + "/") for top in self.tops)
-        return found is not None and not (path is not None and self.leads[path])
-
-
-def skipping(trace: Path, tops: List[str]) -> Optional[Skip]:
-    """What need not be read, where nobody changes a name of the system's folders and no top is there."""
-    safe = [p for p in SYSTEM if not any((t + "/").startswith("/%s/" % p) for t in tops)]
-    if not safe:
-        return None
-    folders_of_system = "/(?:%s)(?=[/\">])" % "|".join(safe)
-    changes = re.compile(CHANGING.replace("FOLDERS", folders_of_system).encode())
-    with open(trace, "rb") as file:
-        if os.fstat(file.fileno()).st_size == 0:
-            return None
-        with mmap.mmap(file.fileno(), 0, access=mmap.ACCESS_READ) as whole:
-            if has_change(whole, changes):
-                return None
-    return Skip(re.compile(LOOKING.replace("FOLDERS", folders_of_system)), tops)
-
-
-def read_trace(lines: Iterable[str], skip: Optional[Skip] = None) -> Iterator[Event]:
-    """The events of a trace, one at a time, except lines that `skip` matches."""
-    open_calls: Dict[int, str] = {}
+def read_trace(lines: Iterable[str]) -> Iterator[Event]:
+    """The events of a trace, one at a time. Most lines are a whole call: these take the short way."""
+    begun: Dict[int, str] = {}  # by process: the call that is not finished
+    pids: Dict[str, int] = {}
     for line in lines:
-        if skip is not None and skip.match(line):
-            continue
         number, _, text = line.partition(" ")
-        if not number.isdecimal():
-            if line.strip():
-                yield Unread(line.strip())
-            continue
-        pid, text = int(number), text.strip()
-        if text.startswith("+++"):
-            if "superseded" not in text:
-                yield Ended(pid)
-            continue
-        if text.startswith("---"):
-            continue
-        if text.endswith("<unfinished ...>"):
-            open_calls[pid] = text[: -len("<unfinished ...>")].rstrip()
-            if text.startswith(MAKES_PROCESS):
-                yield Begun(pid)
-            continue
-        if text.startswith("<... "):
-            begun = open_calls.pop(pid, None)
-            if begun is None:
-                if " = ?" not in text:
-                    yield Unread(line.strip())
+        text = text.strip()
+        pid = pids.get(number)
+        if pid is None and number.isdecimal():
+            pid = pids[number] = int(number)
+        if pid is None or text[:1] in "+-<" or text.endswith(UNFINISHED):
+            event, text = odd(line, pid, text, begun)
+            if event is not None:
+                yield event
+            if not text or pid is None:
                 continue
-            text = begun + text[text.index("resumed>") + len("resumed>"):]
         call = said(text)
         if call is None:
             if not text.endswith("= ?"):
                 yield Unread(line.strip())
-            continue
-        if call.result is not None:
-            yield Call(pid, call.name, call.args, call.result, call.error, call.opened)
+        elif call.result is not None:
+            yield Call(pid, *call)  # type: ignore[arg-type]
         elif call.name.startswith("open"):  # it waited for another process, as at a named pipe, until a signal came
             yield Call(pid, call.name, call.args, -1, "ENXIO")
+
+
+def odd(line: str, pid: Optional[int], text: str, begun: Dict[int, str]) -> Tuple[Optional[Event], str]:
+    """What a line says that is no whole call, and the text of a call that is finished by it."""
+    if pid is None:
+        return (Unread(line.strip()) if line.strip() else None), ""
+    if text.startswith("+++"):
+        return (None if "superseded" in text else Ended(pid)), ""
+    if text.startswith("---"):
+        return None, ""
+    if text.endswith(UNFINISHED):
+        begun[pid] = text[: -len(UNFINISHED)].rstrip()
+        return (Begun(pid) if text.startswith(MAKES_PROCESS) else None), ""
+    if not text.startswith("<... "):
+        return (None if text else Unread(line.strip())), text
+    first = begun.pop(pid, None)
+    if first is None:
+        return (None if " = ?" in text else Unread(line.strip())), ""
+    return None, first + text[text.index("resumed>") + len("resumed>"):]

@@ -2,11 +2,13 @@
 
 import re
 from dataclasses import dataclass, field
+from functools import cached_property, lru_cache
 from pathlib import Path
-from typing import Dict, Iterable, List, Optional, Set
+from typing import Dict, Iterable, List, Optional, Set, Tuple
 
 from record.database import Base, read_base
 
+KEPT = 1 << 14  # how many lines are remembered: most come again for each target that needs the same
 CHILD = re.compile(r"(Putting child|Live child|Reaping (?:winning|losing) child|Removing child) (0x[0-9a-f]+) (?:\((.*)\) )?PID (\d+)")
 CONSIDERED = re.compile(r"^( *)(Considering target file|Pruning file) '(.*)'\.$|^( *)File '(.*)' was considered already\.$")
 VPATH = re.compile(r"^ *No need to remake target '(.*)'; using VPATH name '(.*)'\.$")
@@ -34,7 +36,7 @@ class Considered:
     name: str
     index: int
     done: int
-    prerequisites: List[str] = field(default_factory=list)
+    prerequisites: Dict[str, None] = field(default_factory=dict)  # in order
 
 
 @dataclass
@@ -49,6 +51,14 @@ class Round:
     must: Dict[str, int] = field(default_factory=dict)  # target: jobs before its line
     vpath: Dict[str, str] = field(default_factory=dict)
     base: Optional[Base] = None
+
+    @cached_property
+    def due(self) -> Dict[int, List[str]]:
+        """By how many jobs came before: the targets that had to be made since the last of them. Asked when all words are read."""
+        found: Dict[int, List[str]] = {}
+        for target, count in self.must.items():
+            found.setdefault(count, []).append(target)
+        return found
 
 
 @dataclass
@@ -80,18 +90,28 @@ class Words:
         return found
 
 
+@lru_cache(KEPT)
+def considered_in(text: str) -> Optional[Tuple[int, str]]:
+    """How deep make was when it considered a target, and which, by a line of its words."""
+    match = CONSIDERED.match(text)
+    if match is None:
+        return None
+    shallow, _, name, deep, again = match.groups()
+    return (len(deep), again) if name is None else (len(shallow), name)
+
+
 class _Reader:
     def __init__(self, words: Words) -> None:
         self.words = words
         self.round: Optional[Round] = None
-        self.stack: Dict[int, str] = {}
+        self.stack: List[Tuple[int, str]] = []  # depths and names of the targets that are being looked at
         self.children: Dict[str, Job] = {}
         self.clock = 0
 
     def begin(self, stage: str) -> None:
         self.round = Round(stage, len(self.words.read) - 1)
         self.words.rounds.append(self.round)
-        self.stack, self.children = {}, {}
+        self.stack, self.children = [], {}
 
     def child(self, what: str, pointer: str, name: str, pid: int) -> None:
         if self.round is None:
@@ -109,23 +129,27 @@ class _Reader:
 
     def considered(self, depth: int, name: str) -> None:
         assert self.round is not None
-        for deeper in [d for d in self.stack if d >= depth]:
-            del self.stack[deeper]
+        while self.stack and self.stack[-1][0] >= depth:
+            self.stack.pop()
         nodes = self.round.nodes
         if name not in nodes:
             nodes[name] = Considered(name, self.clock, -1)
         if self.stack:
-            parent = nodes[self.stack[max(self.stack)]]
-            if name not in parent.prerequisites and name != parent.name:
-                parent.prerequisites.append(name)
+            parent = self.stack[-1][1]
+            if name != parent:
+                nodes[parent].prerequisites.setdefault(name)
         elif name not in self.round.goals:
             self.round.goals.append(name)
-        self.stack[depth] = name
+        self.stack.append((depth, name))
 
     def line(self, text: str) -> None:
         words = self.words
-        child = CHILD.match(text)
-        if child:
+        considered = considered_in(text) if self.round is not None else None
+        child = CHILD.match(text) if considered is None else None
+        if considered is not None:  # as nearly all lines are
+            self.clock += 1
+            self.considered(*considered)
+        elif child:
             self.child(child.group(1), child.group(2), child.group(3) or "", int(child.group(4)))
         elif text.startswith("Reading makefiles..."):
             words.read.append([])
@@ -162,20 +186,15 @@ class _Reader:
     def target(self, text: str) -> None:
         assert self.round is not None
         self.clock += 1
-        match = CONSIDERED.match(text)
-        if match and match.group(2):
-            self.considered(len(match.group(1)), match.group(3))
-        elif match:
-            self.considered(len(match.group(4)), match.group(5))
-        elif FINISHED.match(text):
-            seen = self.round.nodes.get(FINISHED.match(text).group(1))  # type: ignore[union-attr]
+        finished, vpath, must = FINISHED.match(text), VPATH.match(text), MUST.match(text)
+        if finished:
+            seen = self.round.nodes.get(finished.group(1))
             if seen is not None and seen.done < 0:
                 seen.done = self.clock
-        elif VPATH.match(text):
-            name, path = VPATH.match(text).groups()  # type: ignore[union-attr]
-            self.round.vpath[name] = path
-        elif MUST.match(text):
-            self.round.must.setdefault(MUST.match(text).group(1), len(self.round.jobs))  # type: ignore[union-attr]
+        elif vpath:
+            self.round.vpath[vpath.group(1)] = vpath.group(2)
+        elif must:
+            self.round.must.setdefault(must.group(1), len(self.round.jobs))
 
 
 def base_hole(lines: List[str]) -> str:
@@ -206,21 +225,22 @@ def read_words(pid: int, life: int, lines: Iterable[str]) -> Words:
     """What a make process said, of the lines that the wrapper kept: each of its starts ends in a data base."""
     words = Words(pid, life)
     reader = _Reader(words)
-    bases: List[List[str]] = []
+    bases, base = 0, []  # how many data bases it printed, and the lines of the one that has not ended
     for raw in lines:
         text = raw.rstrip("\n")
-        if bases and not is_end(bases[-1]):
-            bases[-1].append(text)
-            if is_end(bases[-1]):
-                take_base(words, bases[-1])
+        if base:
+            base.append(text)
+            if is_end(base):
+                take_base(words, base)
+                base = []
         elif text.startswith("# Make data base"):
-            bases.append([text])
+            bases, base = bases + 1, [text]
         else:
             reader.line(text)
-    if bases and not is_end(bases[-1]):
-        take_base(words, bases[-1])
-    if len(bases) != len(words.read):
-        words.holes.append("a make that began %d times printed %d data bases: make %s" % (len(words.read), len(bases), words.args))
+    if base:
+        take_base(words, base)
+    if bases != len(words.read):
+        words.holes.append("a make that began %d times printed %d data bases: make %s" % (len(words.read), bases, words.args))
     return words
 
 

@@ -131,8 +131,9 @@ if shutil.which("ninja"):
 
 def timed(words: List[str], folder: Path, ends: Tuple[int, ...]) -> Tuple[float, float]:
     """Seconds of a command, by the clock and of the processors."""
+    kept = {name: value for name, value in os.environ.items() if name != "PYTHONDONTWRITEBYTECODE"}  # the recorder is not compiled each time
     before, began = resource.getrusage(resource.RUSAGE_CHILDREN), time.monotonic()
-    ran = subprocess.run(words, cwd=folder, stdin=subprocess.DEVNULL, capture_output=True, check=False)
+    ran = subprocess.run(words, cwd=folder, stdin=subprocess.DEVNULL, capture_output=True, check=False, env=kept)
     clock, after = time.monotonic() - began, resource.getrusage(resource.RUSAGE_CHILDREN)
     if ran.returncode not in ends:
         sys.exit("%s ended with %d:\n%s" % (" ".join(words), ran.returncode, (ran.stdout + ran.stderr).decode(errors="replace")[-2000:]))

@@ -26,11 +26,16 @@ def python(name: str) -> str:
 
 
 SEEN_GUARDS: List[Guard] = [
-    Guard("Python: byte code and modules", "main.py", "for example in settle(replay.all):", "for example in ():", python("modules_and_byte_code"), FALSE_RACE),
+    Guard("Python: packed modules", "python.py", ", \".zip\", \".egg\", \".whl\", \".pyz\")", ")", "test_python.Python.test_packed_module_that_lists_the_folder", YES),
+    Guard("Python: what it looks for when it starts", "python.py", ', "*.pth"', "", "test_python.Python.test_lists_of_imports_are_about_modules"),
+    Guard("Python: modules that threads take in", "python.py", "for one in life.threads or (life,) for event in one.events", "for event in life.events",
+          "test_python.Python.test_module_that_a_thread_takes_in"),
+    Guard("Python: byte code of the system", "python.py", " and not is_of_system(path, tops)", "", "test_python.Python.test_byte_code_of_the_system_is_no_assumption"),
+    Guard("Python: byte code and modules", "main.py", "for example in settle(replay.all, names.tops):", "for example in ():", python("modules_and_byte_code"), FALSE_RACE),
     Guard("Python: byte code that others read", "python.py", "if cache_of(path) in others:", "if False:", python("byte_code_that_another_program_reads"), YES),
     Guard("Python: scripts that list", "python.py", " or any(lists_folders(path) for path in sources)", "", python("script_that_lists_the_folder"), YES),
     Guard("Python: packages that list", "python.py", " and not PACKAGES.search(path)", "", python("what_comes_with_python")),
-    Guard("Python: modules that list", "python.py", r'BYTE_CODE.sub(r"\1\2.py", path)', "path", python("module_that_lists_the_folder"), YES),
+    Guard("Python: modules that list", "python.py", r'BYTE_CODE.sub(r"\1\2.py", path)', 'path.replace(".pyc", "")', python("module_that_lists_the_folder"), YES),
     Guard("Python: modules that a recipe makes", "python.py", 'MODULES = ("*.py", ', "MODULES = (", python("module_that_a_recipe_makes"), YES),
     Guard("moved folders: come and go", "moves.py", "            self.move_folder(life, old.path, new.path)\n", "", seen("folder_that_is_moved"), YES),
     Guard("moved folders: those below", "moves.py", "                    self.move_folder(life, old.path + name, new.path + name)\n", "                    pass\n", trace("folders_below_one_that_is_moved")),

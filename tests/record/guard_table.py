@@ -51,13 +51,19 @@ def warm(name: str) -> str:
 LOOKS = ("build.py", "return {**self.make.looked.get(spelled, {}), **self.make.looked.get(node.name, {})}", "return {}")
 
 TRACE: List[Guard] = [
-    Guard("devices are no files", "replay.py", "if DEVICES.match(path) and not self.is_inside(path):", "if False:", small("devices_are_no_files"), FALSE_RACE),
-    Guard("devices: no path below a top is left out", "replay.py", "if DEVICES.match(path) and not self.is_inside(path):", "if DEVICES.match(path):", "test_replay.Footprints.test_no_path_below_a_top_is_left_out"),
-    Guard("system: what somebody changes is read", "strace.py", "if has_change(whole, changes):", "if False:", "test_strace.Skips.test_look_where_somebody_changes_a_name"),
-    Guard("system: a change below a top is none elsewhere", "strace.py", 'if not any((t + "/").startswith("/%s/" % p) for t in tops)', "", "test_strace.Skips.test_change_below_a_top_leaves_other_folders_skipped"),
-    Guard("lines: unreadable call", "strace.py", 'if not text.endswith("= ?"):\n                yield Unread(line.strip())', "", "test_strace.Lines.test_other_text_is_a_hole"),
-    Guard("lines: no process number", "strace.py", "            if line.strip():\n                yield Unread(line.strip())", "            pass", "test_strace.Lines.test_other_text_is_a_hole"),
-    Guard("lines: end without a beginning", "strace.py", 'if " = ?" not in text:\n                    yield Unread(line.strip())', "pass", "test_strace.Lines.test_other_text_is_a_hole"),
+    Guard("devices are no files", "replay.py", "if path.startswith(KERNEL) and DEVICES.match(path) and not self.is_inside(path):", "if False:", small("devices_are_no_files"), FALSE_RACE),
+    Guard("devices: no path below a top is left out", "replay.py", "if path.startswith(KERNEL) and DEVICES.match(path) and not self.is_inside(path):", "if DEVICES.match(path):", "test_replay.Footprints.test_no_path_below_a_top_is_left_out"),
+    Guard("system: what somebody changes is read", "skips.py", "if has_change(left, skip.changes):", "if False:", "test_skips.Skips.test_look_where_somebody_changes_a_name"),
+    Guard("system: a change below a top is none elsewhere", "skips.py", 'if not any((t + "/").startswith("/%s/" % p) for t in tops)', "", "test_skips.Skips.test_change_below_a_top_leaves_other_folders_skipped"),
+    Guard("system: opens that change something", "skips.py", "|(?!, O_)[^", "|[^", "test_skips.Skips.test_look_where_somebody_changes_a_name"),
+    Guard("system: texts that a Python may take in", "skips.py", " or bool(MODULES.match(spelling))", "", "test_skips.Skips.test_texts_of_python_that_do_not_come_with_it_are_read"),
+    Guard("system: changes that no line shows", "main.py", 'replay.holes += unseen_changes(replay.outside) if trace.name == "sifted" else []', "pass",
+          "test_skips.Skips.test_change_that_no_line_shows_is_a_hole"),
+    Guard("system: what is still written", "skips.py", "is_last = bool(has_ended(0))", "is_last = True", "test_skips.Skips.test_trace_that_is_still_written"),
+    Guard("system: lines of two pieces", "skips.py", "            rest = last\n", "            rest = b''\n", "test_skips.Skips.test_trace_of_several_pieces"),
+    Guard("lines: unreadable call", "strace.py", 'if not text.endswith("= ?"):\n                yield Unread(line.strip())', "pass", "test_strace.Lines.test_other_text_is_a_hole"),
+    Guard("lines: no process number", "strace.py", '(Unread(line.strip()) if line.strip() else None), ""', 'None, ""', "test_strace.Lines.test_other_text_is_a_hole"),
+    Guard("lines: end without a beginning", "strace.py", '(None if " = ?" in text else Unread(line.strip())), ""', 'None, ""', "test_strace.Lines.test_other_text_is_a_hole"),
     Guard("lines: a hole", "replay.py", 'self.holes.append("a line of the trace cannot be read: "', 'str("a line of the trace cannot be read: "', "test_replay.Footprints.test_line_that_cannot_be_read_is_a_hole"),
     Guard("calls after which names are unclear: a hole", "calls.py", "elif name in HIDING and ok:", "elif False:", "test_replay.Footprints.test_calls_that_hide_files_are_holes"),
     Guard("opens that lead elsewhere: a hole", "calls.py", 'self.holes.append("a name leads to another file', 'str("a name leads to another file', "test_replay.Footprints.test_an_open_that_leads_elsewhere_is_a_hole"),
@@ -66,7 +72,9 @@ TRACE: List[Guard] = [
     Guard("threads change their folder together", "replay.py", "        if is_thread:\n", "        if False:\n", "test_replay.Lives.test_threads_change_their_folder_together"),
     Guard("numbers: a dead process is another", "replay.py", "if life is None or life.died <= self.place:", "if life is None:", "test_replay.Lives.test_number_that_comes_again_before_the_call_returns"),
     Guard("numbers: jobs of one number in order", "words.py", "if not known or known[-1] is not owner:", "if not known:", "test_owners.Holes.test_number_of_two_jobs"),
-    Guard("children: begun before the call ends", "strace.py", "if text.startswith(MAKES_PROCESS):\n                yield Begun(pid)", "", "test_strace.Lines.test_creation_begins_before_it_ends"),
+    Guard("children: what is above one that is seen first", "replay.py", "                    life.parent = parents[0] if len(parents) == 1 else None\n", "",
+          "test_replay.Lives.test_script_above_a_child_that_is_seen_first"),
+    Guard("children: begun before the call ends", "strace.py", "(Begun(pid) if text.startswith(MAKES_PROCESS) else None)", "None", "test_strace.Lines.test_creation_begins_before_it_ends"),
     Guard("children: wait while the parent is unclear", "replay.py", "return len({(p.folder, p.is_wrapper, p.mask) for p in parents}) > 1", "return False", "test_replay.Lives.test_folder_of_a_child_that_two_may_have_started"),
     Guard("past: make by an absolute path", "calls.py", '        else:\n            self.past.append(" ".join(life.argv)[:200])', "        else:\n            pass", case("absolute-make"), LOST_HOLE),
     Guard("past: make with words of its own", "main.py", 'for t in path.read_text(errors="replace").splitlines()]', "for t in ()]", "test_output.Output.test_own_words_of_a_make_that_was_asked_for_them", LOST_HOLE),
@@ -79,9 +87,9 @@ TRACE: List[Guard] = [
     Guard("wrapper: words of a wrapper above", "options.py", '    if "--debug=v,j,m" not in flags:\n', "    if True:\n", "test_wrapper.Asked.test_words_of_a_wrapper_above_are_taken_out"),
     Guard("wrapper: words that a recipe hands on", "wrapper.py", "plain_args(args)\n", "args\n", "test_output.Output.test_flags_that_a_recipe_hands_on"),
     Guard("wrapper: make that begins again", "wrapper.py", 'if WORDS[0] in args and "MAKE_RESTARTS" in os.environ:', "if False:", case("remade-makefile")),
-    Guard("wrapper: the data base of a make that goes on", "words.py", "    if len(bases) != len(words.read):\n", "    if False:\n", "test_words.Holes.test_data_base_that_a_recipe_prints_whole"),
+    Guard("wrapper: the data base of a make that goes on", "words.py", "    if bases != len(words.read):\n", "    if False:\n", "test_words.Holes.test_data_base_that_a_recipe_prints_whole"),
     Guard("wrapper: a data base that is not whole", "words.py", "    if hole:\n", "    if False:\n", "test_words.Holes.test_data_base_that_is_cut"),
-    Guard("wrapper's own calls are nobody's", "calls.py", 'if life.is_wrapper and name != "execve":', "if False:", "test_replay.Lives.test_what_the_wrapper_does_is_nobodys"),
+    Guard("wrapper's own calls are nobody's", "calls.py", "if life.is_wrapper and name not in OF_WRAPPER:", "if False:", "test_replay.Lives.test_what_the_wrapper_does_is_nobodys"),
 ]
 NAMES: List[Guard] = [
     Guard("links on the way are read", "replay.py", 'self.put(life, "R", link, word)', "pass", small("link_on_the_way"), YES),
@@ -104,7 +112,7 @@ NAMES: List[Guard] = [
     Guard("lists of make: exported macros", "memory.py", "open_names = exported_lists(builder.known)", "open_names = False", small("wildcard_that_a_target_exports"), YES),
     Guard("macros: exports of a target", "macros.py", r"(?:[^\t\n#][^\n]*?:)?[ \t]*(?:(?:override|private)[ \t]+)*export", r"[ \t]*export", small("macro_that_a_target_exports"), YES),
     Guard("patterns keep other names out", "build.py", " and fnmatchcase(name, pattern):", ":", case("glob-other-names"), FALSE_RACE),
-    Guard("scripts are of their interpreter", "calls.py", "argv = argv if life.is_wrapper else shelltext.with_interpreter(argv, found.path)", "pass", small("script_that_compares_ages"), YES),
+    Guard("scripts are of their interpreter", "calls.py", "argv = argv if life.is_wrapper else shelltext.with_interpreter(argv, found.path, self.first_words(found.path))", "pass", small("script_that_compares_ages"), YES),
 ]
 FOLDERS: List[Guard] = [
     Guard("folders: strict makers meet", "folders.py", "    for at in folder.strict & makers:\n", "    for at in ():\n", small("folder_made_by_two_who_fail"), YES),
@@ -172,7 +180,7 @@ AGES: List[Guard] = [
 ]
 OWNERS: List[Guard] = [
     Guard("acts of make belong to somebody", "owners.py", "            owners = self.owners_at(make, rounds, table, births, place)\n", "            owners = set()\n", case("file-function"), YES),
-    Guard("acts: to what had to be made since the last job", "owners.py", "            owners.update((number, t) for t, count", "            set().update((number, t) for t, count", case("shell-function-stranger"), YES),
+    Guard("acts: to what had to be made since the last job", "owners.py", "            owners.update((number, t) for t in one.due", "            set().update((number, t) for t in one.due", case("shell-function-stranger"), YES),
     Guard("acts: not to what make looks at later", "owners.py", "{o for o in owners if looks.get(o[1], -1) < place} or owners", "owners", small("act_before_the_next_target"), FALSE_RACE),
     Guard("acts: not the removal of intermediate files", "owners.py", "self.removed_last(make) | ", "", small("intermediate_file_that_make_removes"), FALSE_RACE),
     Guard("acts: not the looks into archives", "owners.py", "self.removed_last(make) | self.read_archives(make, names)", "self.removed_last(make)", small("archive_beside_another_target"), FALSE_RACE),
@@ -250,7 +258,7 @@ UNFILED: List[Guard] = [
     Guard("ages: folders by whole names", "calls.py", 'path == "." or path.startswith("/") and above', 'path == "." or path.startswith("/")', small("ages_of_a_folder_by_its_whole_name"), YES),
     Guard("recipes: behind another mark", "database.py", 'self.is_recipe = self.is_recipe or text.startswith("#  recipe to execute")', "pass", small("file_behind_another_mark_of_recipes"), YES),
     Guard("recipes: behind an empty line", "database.py", "if self.is_recipe and (text or self.goes_on):", "if self.is_recipe and text:", small("macro_behind_an_empty_line"), YES),
-    Guard("system folders: links to a top", "strace.py", "return found is not None and not (path is not None and self.leads[path])", "return found is not None", "test_strace.Skips.test_link_that_leads_to_a_top"),
+    Guard("system folders: links to a top", "skips.py", "return any((real +", "return False and any((real +", "test_skips.Skips.test_link_that_leads_to_a_top"),
     Guard("macros: in the environment", "macros.py", "(use.reads & changed) | exported", "use.reads & changed", small("macro_in_the_environment"), YES),
     Guard("macros: of leaves", "build.py", " or node.name in self.macros:", ":", small("macro_of_leaves"), FALSE_RACE),
     Guard("macros: set by the recipe itself", "macros.py", "                found.reads.discard(one.name)\n", "                pass\n", small("macro_that_each_recipe_sets"), FALSE_RACE),

@@ -133,7 +133,8 @@ CASES += [
          files={"sub/build.ninja": RULES + "build ../y: sh ../x\n  c = touch ../y ran\n"}),
     Case("ages-of-two-inputs", SAFE, sh("x", "", "touch x") + sh("y", "", "sleep 0.1; touch y") + sh("z", "x y", "ninja -C sub && touch z"),
          files={"sub/build.ninja": RULES + sh("out", "../x ../y", "cat ../x ../y > out")}),
-    Case("beside-each-other", SAFE, GEN, ["two makes or ninjas ran at once"], words="sh ./all", files={"all": "ninja & ninja -C sub; wait\n", "sub/build.ninja": RULES + sh("h", "", "sleep 1; touch h")}),
+    Case("beside-each-other", SAFE, sh("g", "", "timeout 60 sh -c 'until test -e sub/began; do sleep 0.02; done'; echo 1 > g"), ["two makes or ninjas ran at once"], words="sh ./all",
+         files={"all": "ninja & ninja -C sub; wait\n", "sub/build.ninja": RULES + sh("h", "", "touch began h")}),
     Case("inner-ninja-that-fails", NONE, sh("x", "", "ninja -C sub || touch x"), ["ninja left no log"], files={"sub/build.ninja": RULES + sh("h", "", "false")}),
 ]
 CASES += [

@@ -6,7 +6,10 @@ from itertools import count
 from typing import List, Tuple
 
 import support  # noqa: F401
-from record.progress import LINES, watched
+from record.progress import BYTES, watched
+
+
+LINES = BYTES // 10 + 1  # of ten bytes: so many are read between two looks at the clock
 
 
 class Terminal(io.StringIO):

@@ -6,7 +6,8 @@ import unittest
 from typing import Dict
 
 import support
-from record.python import is_of_python
+from record.lives import Life
+from record.python import is_of_python, settle, settle_lists
 
 HELPER = {"t/lib.py": "def text():\n    return 'x'\n"}
 SCRIPT = "import sys, lib\nopen(sys.argv[1], 'w').write(lib.text())\n"
@@ -42,6 +43,26 @@ class Python(unittest.TestCase):
                 files = {folder + "/more.py": "import os\ndef text():\n    return '%d' % len(os.listdir('t'))\n"}
                 self.of(TWO, "import sys\nsys.path.append('%s')\nimport more\nopen(sys.argv[1], 'w').write(more.text())\n" % folder, 1, files=files)
 
+    def test_packed_module_that_lists_the_folder(self) -> None:
+        text = "import os\ndef text():\n    return '%d' % len(os.listdir('t'))\n"
+        packed = "p: ; printf \"%s\" > more.py; python3 -c \"import zipfile; zipfile.ZipFile('more.egg', 'w').write('more.py')\"; rm more.py; touch p\nt/x.c t/y.c: p\n"
+        makefile = TWO.replace("python3 -S", "PYTHONPATH=more.egg python3 -S") + packed % text.replace("\n", "\\n").replace("%", "%%")
+        self.of(makefile, "import sys, more\nopen(sys.argv[1], 'w').write(more.text())\n", 1)
+
+    def test_module_that_a_thread_takes_in(self) -> None:
+        with support.Project({"gen.py": "import more\n", "more.py": "import os\nos.listdir('.')\n"}) as project:
+            listed = ("L", "%s\0*" % project.folder)
+            life = Life(1, argv=["python3", "gen.py"], ran=[["python3", "gen.py"]], events={("R", str(project.folder / "gen.py")): 1, listed: 2})
+            life.join_threads(Life(2, events={("R", str(project.folder / "more.py")): 1}))
+            settle_lists(life)
+            self.assertIn(listed, life.events)
+
+    def test_lists_of_imports_are_about_modules(self) -> None:
+        with support.Project({"gen.py": "x = 1\n"}) as project:
+            life = Life(1, argv=["python3", "gen.py"], ran=[["python3", "gen.py"]], events={("R", str(project.folder / "gen.py")): 1, ("L", "%s\0*" % project.folder): 2})
+            settle_lists(life)
+            self.assertEqual({"*.py", "*.pyc", "*.so", "*.pth", "*/"}, {path.partition("\0")[2] for kind, path in life.events if kind == "L"})
+
     def test_module_that_a_recipe_makes(self) -> None:
         self.of("all: t/x.c t/more.py\nt/x.c: ; python3 -S t/gen.py t/x.c\nt/more.py: ; echo > $@\n", "try:\n    import more\nexcept ImportError:\n    pass\n" + SCRIPT, 1)
 
@@ -51,6 +72,12 @@ class Python(unittest.TestCase):
     def test_module_that_is_read_as_byte_code(self) -> None:
         makefile = "all: t/x.c t/y.c\nt/x.c: ; python3 -S t/gen.py t/x.c\nt/y.c: ; python3 -S t/gen.py t/y.c\nall: z\nz: ; touch t/lib.py; touch z\n"
         self.of(makefile, SCRIPT, 1)
+
+    def test_byte_code_of_the_system_is_no_assumption(self) -> None:
+        system = "/usr/lib/python3/dist-packages/__pycache__/x.cpython-311.pyc"
+        for path, top, count in ((system, "/w", 0), (system, "/usr/lib", 1), ("/w/__pycache__/x.cpython-311.pyc", "/w", 1)):
+            life = Life(1, argv=["python3", "x.py"], ran=[["python3", "x.py"]], events={("R", path): 1})
+            self.assertEqual(count, len(list(settle([life], [top]))), path)
 
     def test_what_comes_with_python(self) -> None:
         for path in ("/usr/lib/python3.11/os.py", "/usr/lib/python3/dist-packages/_distutils_hack/__init__.py", "/lib/x86_64-linux-gnu/a.so", "/etc/python3.11/sitecustomize.py"):

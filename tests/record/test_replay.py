@@ -57,6 +57,11 @@ class Lives(unittest.TestCase):
         self.assertIs(child.parent, lives_of(replay, 1)[0])
         self.assertIn(("W", "a"), events_of(child))
 
+    def test_script_above_a_child_that_is_seen_first(self) -> None:
+        replay = played('1 execve("/bin/sh", ["sh", "install-sh", "-d", "d"], 0x1 /* 1 var */) = 0', "1 vfork( <unfinished ...>",
+                        '2 execve("/bin/mkdir", ["mkdir", "d"], 0x1 /* 1 var */) = 0', '2 mkdir("d", 0777) = 0', "1 <... vfork resumed>) = 2")
+        self.assertIn(("T", "d"), events_of(lives_of(replay, 2)[0]))
+
     def test_folder_of_a_child_that_is_seen_first(self) -> None:
         replay = played("1 vfork( <unfinished ...>", '2 chdir("sub") = 0', f'2 openat(AT_FDCWD<{TOP}/sub>, "a", O_WRONLY|O_CREAT, 0666) = 3<{TOP}/sub/a>',
                         "1 <... vfork resumed>) = 2")

@@ -34,9 +34,9 @@ class Words(unittest.TestCase):
     def test_first_line_of_a_script(self) -> None:
         with support.Project({"one": "#!/bin/sh -e\n", "two": "#!/usr/bin/env -S python3\n", "three": "text\n"}) as project:
             paths = [os.path.join(project.folder, name) for name in ("one", "two", "three", "none")]
-            self.assertEqual(["/bin/sh", paths[0], "x"], shelltext.with_interpreter(["./one", "x"], paths[0]))
-            self.assertEqual(["python3", paths[1]], shelltext.with_interpreter(["./two"], paths[1]))
-            self.assertEqual([["./three"], ["./none"]], [shelltext.with_interpreter(["./" + os.path.basename(p)], p) for p in paths[2:]])
+            self.assertEqual(["/bin/sh", paths[0], "x"], shelltext.with_interpreter(["./one", "x"], paths[0], shelltext.first_words(paths[0])))
+            self.assertEqual(["python3", paths[1]], shelltext.with_interpreter(["./two"], paths[1], shelltext.first_words(paths[1])))
+            self.assertEqual([["./three"], ["./none"]], [shelltext.with_interpreter(["./" + os.path.basename(p)], p, shelltext.first_words(p)) for p in paths[2:]])
 
 
 class Patterns(unittest.TestCase):
