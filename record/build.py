@@ -12,6 +12,7 @@ from record.considered import Considered, is_row
 from record.fixed import asked_ages, fixed_looks, remade_anyway
 from record.folders import add_folders
 from record.graph import Build, Graph, Node, Task, befores, order_tasks
+from record.inner import add_inner
 from record.macros import Macros, Use, uses
 from record.memory import libraries, place_listings, share_listings
 from record.names import Names, join
@@ -322,6 +323,7 @@ class Builder:
                 self.add_decision(looker, at, node, node.label in asked)
         for label, at in self.first_of.items():
             build.tasks[at].reads.update(self.asked[label])
+        add_inner(self)
         add_macros(self, created)
         add_outputs(self)
         count_listings(self, created)

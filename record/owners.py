@@ -8,7 +8,7 @@ from dataclasses import dataclass, field
 from pathlib import Path
 from typing import TYPE_CHECKING, Dict, Iterable, List, Optional, Set, Tuple
 
-from record.globs import patterns
+from record.globs import listed, patterns
 from record.lives import Act, Key, Life
 from record.options import asks_jobs
 from record.words import SEVERAL, Job, Round, Words, makefiles
@@ -42,7 +42,9 @@ class Make:
     folder: str
     work: Dict[int, Work] = field(default_factory=dict)  # by id of the job
     acts: Dict[Tuple[int, str], Work] = field(default_factory=dict)  # by number of the round and target
-    globs: List[str] = field(default_factory=list)
+    globs: List[str] = field(default_factory=list)  # patterns that it asks for by `wildcard`
+    listed_first: List[str] = field(default_factory=list)  # those of rules, and of lines that include makefiles
+    is_called: bool = False  # a make above calls it by `$(shell ..)`: it has the environment with which that was started
     listed: Dict[str, int] = field(default_factory=dict)  # folder: when it was first listed by make itself
     looked: Dict[str, Dict[str, int]] = field(default_factory=dict)  # name as make spells it: the paths that it led to, and when first
     first_looks: Dict[str, int] = field(default_factory=dict)  # target: when make first looked at it
@@ -59,7 +61,7 @@ class Make:
         a make that none is above are the user's own."""
         if not any(life.is_make or life.is_ninja for life in self.life.up() if life is not self.life):
             return False
-        return self.words.slots == "1" if self.words.slots else not self.words.below and not asks_jobs([], self.words.flags)
+        return self.words.slots == "1" if self.words.slots else not (self.words.below or self.is_called or asks_jobs([], self.words.flags))
 
 
 class Owners:
@@ -86,11 +88,12 @@ class Owners:
             self.holes.extend(make.words.holes)
             self.match_jobs(make)
         for make in self.makes:
+            make.is_called = self.is_called(make)
             self.collect(make)
 
     def add_make(self, life: Life, words: Words) -> None:
         make = Make(words, life, self.folder_of(life, words))
-        make.globs = self.patterns_of(make)
+        make.globs, make.listed_first = self.patterns_of(make)
         self.makes.append(make)
         self.of_life[id(life)] = make
         if words.status is None:
@@ -110,16 +113,16 @@ class Owners:
         return folder
 
     @staticmethod
-    def patterns_of(make: Make) -> List[str]:
-        """The patterns of `$(wildcard ..)` in the makefiles that were read."""
+    def patterns_of(make: Make) -> Tuple[List[str], List[str]]:
+        """The patterns of `$(wildcard ..)` in the makefiles that were read, and those of rules."""
         texts = [make.words.args, make.words.flags]
         for name in makefiles(make.words):
             try:
                 texts.append(Path(make.folder, name).read_text(errors="replace"))
             except OSError:
                 if not make.never_read(name):
-                    return ["*"]
-        return sorted(patterns(texts, make.words.values()))
+                    return ["*"], []
+        return sorted(patterns(texts, make.words.values())), sorted(listed(texts, make.words.values()))
 
     def match_jobs(self, make: Make) -> None:
         """The k-th process of a number that make started is its k-th job of that number."""
@@ -152,6 +155,14 @@ class Owners:
         children = sorted(make.life.children, key=lambda life: life.born)
         return any(second.born < first.died for first, second in zip(children, children[1:]))
 
+    def is_called(self, make: Make) -> bool:
+        """Whether a make above calls a make by `$(shell ..)`, and leaves MAKEFLAGS as that make has found it: it may ask for several jobs."""
+        chain = list(make.life.up())
+        for child, up in zip(chain, chain[1:]):
+            if up.is_make or up.is_ninja:
+                return up.is_make and id(child) not in self.jobs and not any("MAKEFLAGS" in word for one in chain[:chain.index(up)] for argv in one.ran for word in argv)
+        return False
+
     # ---------------------------------------------------------------- what jobs did
     def below(self, life: Life) -> Iterable[Life]:
         """A life and all that it started."""
@@ -170,7 +181,7 @@ class Owners:
                 work.makes.append(make)
             for (kind, path), place in one.events.items():
                 if kind == "Q":
-                    for pattern in make.globs if make is not None else ["*"]:
+                    for pattern in [*make.globs, *make.listed_first] if make is not None else ["*"]:
                         work.add("L", path + "\0" + pattern, place)
                 else:
                     work.add(kind, path, place)

@@ -1,0 +1,27 @@
+"""The guards of what no call of the trace names: see guard_table.py, and test_hidden.py for the tests."""
+
+from typing import List
+
+from guard_table import FALSE_RACE, YES, Guard
+
+
+def hidden(name: str) -> str:
+    """The test of a makefile of test_hidden.py."""
+    return "test_hidden.Makefiles.test_" + name
+
+
+HIDDEN_GUARDS: List[Guard] = [
+    Guard("makes inside: names that are searched", "inner.py", "for name in searched(base, searches, one, target) if", "for name in () if", hidden("search_in_a_make_inside"), YES),
+    Guard("makes inside: by way of other files", "inner.py", "DEPTH if is_deep else 1", "1", hidden("search_by_way_of_a_file_in_a_make_inside"), YES),
+    Guard("makes inside: not the targets of rules", "inner.py", "        if name not in base.prerequisites or", "        if True or", hidden("search_for_what_a_rule_makes_inside"), FALSE_RACE),
+    Guard("makes inside: search paths", "inner.py", "                yield from (path_of(builder, make, name) for name in elsewhere(base, asked))\n", "                yield from ()\n", hidden("search_path_of_a_make_inside"), YES),
+    Guard("makes inside: search paths of other names", "inner.py", 'if pattern in (name, "%") or any(stems("/" + pattern, "/" + name)):', "if True:", hidden("search_path_of_other_names_inside"), FALSE_RACE),
+    Guard("makes inside: search paths that are not needed", "inner.py", " and not is_there(builder, make, name))", ")", hidden("search_path_that_is_not_needed_inside"), FALSE_RACE),
+    Guard("makes inside: patterns of rules", "owners.py", "[*make.globs, *make.listed_first] if make", "make.globs if make", hidden("pattern_of_a_rule_in_a_make_inside"), YES),
+    Guard("makes inside: patterns of other names", "globs.py", "        if not macros.is_plain(text):\n", '        found.add("*")\n        if not macros.is_plain(text):\n', hidden("pattern_of_other_names_inside"), FALSE_RACE),
+    Guard("makes inside: lines that include makefiles", "globs.py", ", *INCLUDE.findall(macros.text)]", "]", hidden("pattern_of_an_include_in_a_make_inside"), YES),
+    Guard("makes inside: makefiles that they look for", "inner.py", "    yield from (join(make.folder, name) for name in default_names(make) if name in last_parts)\n", "", hidden("makefile_that_a_make_inside_looks_for"), YES),
+    Guard("makes inside: makefiles that words name", "inner.py", "() if read else DEFAULTS", "DEFAULTS", hidden("makefile_that_a_make_inside_is_handed"), FALSE_RACE),
+    Guard("serial: not a make that make calls", "owners.py", "self.words.below or self.is_called or", "self.words.below or", hidden("make_that_make_calls"), YES),
+    Guard("serial: a make that make calls without flags", "owners.py", ' and not any("MAKEFLAGS" in word', ' and not any(False', hidden("make_that_make_calls_without_flags"), FALSE_RACE),
+]
