@@ -323,7 +323,7 @@ class Builder:
                 self.add_decision(looker, at, node, node.label in asked)
         for label, at in self.first_of.items():
             build.tasks[at].reads.update(self.asked[label])
-        add_inner(self)
+        add_inner(self, created)
         add_macros(self, created)
         add_outputs(self)
         count_listings(self, created)

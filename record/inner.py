@@ -1,8 +1,8 @@
 """What a make inside a recipe asks of the disk by lists of folders alone, so that no call of the trace names it: the names by which it searches
-an implicit rule, those in folders of search paths, and its makefile where no word says which."""
+an implicit rule, those in folders of search paths, and its makefile where no word says which. And the ages of folders that it compares."""
 
 import os
-from typing import TYPE_CHECKING, Iterable, Iterator, Set
+from typing import TYPE_CHECKING, Container, Iterable, Iterator, Set
 
 from record.ages import works_of
 from record.database import Base
@@ -17,14 +17,17 @@ if TYPE_CHECKING:
 DEFAULTS = ("GNUmakefile", "makefile", "Makefile")
 
 
-def add_inner(builder: "Builder") -> None:
-    """A recipe reads the names that the makes inside it ask for, where another one writes them."""
+def add_inner(builder: "Builder", created: Container[str]) -> None:
+    """A recipe reads the names that the makes inside it ask for, where another one writes them. `created`: folders in which recipes make names."""
     writers = builder.build.writers
     last_parts = {os.path.basename(path) for path in writers}
     for at, task in enumerate(builder.build.tasks):
         for who, work in works_of(builder, at):
             for make in work.makes:
                 builder.build.tasks[who].reads.update(path for path in asked_by(builder, make, last_parts) if path in writers)
+                for folder in compared(builder, make, who):
+                    if folder in created:
+                        builder.timed.setdefault(folder, set()).add(who)
 
 
 def asked_by(builder: "Builder", make: Make, last_parts: Set[str]) -> Iterator[str]:
@@ -44,6 +47,18 @@ def asked_by(builder: "Builder", make: Make, last_parts: Set[str]) -> Iterator[s
 def path_of(builder: "Builder", make: Make, name: str) -> str:
     """Where a name leads from the folder of a make."""
     return builder.names.find(make.folder, name, True).path
+
+
+def compared(builder: "Builder", make: Make, who: int) -> Iterator[str]:
+    """The paths whose ages a make compares, except for targets that only this recipe makes, and that were not there: it makes them anyway."""
+    for one in make.words.rounds:
+        base, ran = one.base or Base(), {job.target for job in one.jobs}
+        for target, node in one.nodes.items():
+            plain = [name for name in node.prerequisites if name not in base.order_only.get(target, ()) and name not in base.phony]
+            path = path_of(builder, make, one.vpath.get(target, target))
+            is_new = target in ran and builder.before.get(path) is None and builder.build.writers.get(path, {who}) == {who}
+            if plain and target not in base.phony and not is_new:
+                yield from (path, *(path_of(builder, make, one.vpath.get(name, name)) for name in plain))
 
 
 def is_there(builder: "Builder", make: Make, name: str) -> bool:

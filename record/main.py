@@ -34,7 +34,7 @@ from record.owners import Make, Owners
 from record.progress import watched
 from record.python import settle
 from record.report import Judged, colours, read_json, report
-from record.strace import read_trace, skipping
+from record.strace import SYSTEM, read_trace, skipping
 from record.unasked import unasked
 from record.warm import stand_alone, warm_names
 from record.words import read_logs
@@ -42,7 +42,7 @@ from record.wrapper import note_output
 
 HERE = Path(__file__).resolve().parent
 CALLS = ("%file,fchdir,getdents64,getdents,clone,clone3,fork,vfork,fchmod,fchown,ftruncate,fsetxattr,fremovexattr,connect,bind,flock,"
-         "shmget,semget,msgget,mq_open,umask,setns,open_by_handle_at,io_uring_setup")
+         "shmget,semget,msgget,mq_open,umask,setns,open_by_handle_at,io_uring_setup,?fchown32,?ftruncate64")
 STRACE = ["strace", "-f", "-q", "-y", "--seccomp-bpf", "-s", "131072", "-e", "signal=hup,int,quit,abrt,kill,segv,pipe,term,xfsz", "-e", "trace=" + CALLS]
 EXAMPLE = """examples:
   race-record -- make -C src all       one serial build, then the verdict
@@ -113,7 +113,7 @@ def replay_trace(spool: Path, names: Names, real: str, folder: str, tops: List[s
     mask = os.umask(0)
     os.umask(mask)
     replay = Calls(names, str(spool), os.path.realpath(real), folder, tops, mask)
-    skip = skipping(spool / "trace", tops)
+    skip = skipping(spool / "trace", tops) if not names.leads_to(SYSTEM) else None
     with open(spool / "trace", encoding="latin-1") as lines:
         for event in read_trace(watched(lines, (spool / "trace").stat().st_size), skip):
             replay.play(event)
@@ -141,6 +141,7 @@ def import_record(spool: Path, names: Names, kept: Kept, real: str, folder: str,
     if owners.makes:
         assumed.add("serial", "")
     record.holes += replay.holes + owners.holes
+    record.holes += ["nobody knows who started a process: " + one for one in replay.strays()]
     record.holes += ["a make ran past the recorder: " + p for p in replay.past]
     for path in sorted(spool.glob("*.past")):
         record.holes += ["a make that prints its own words (-d, -p, --debug) ran past the recorder: " + t for t in path.read_text(errors="replace").splitlines()]

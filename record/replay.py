@@ -76,6 +76,10 @@ class Replay:
         """Scripts that were changed when they had run: what is read of them now is not what ran."""
         return [path for life in self.all for path, place in life.changed.items() if place > self.scripts.get(path, 1 << 60)]
 
+    def strays(self) -> List[str]:
+        """Processes of which nobody knows who started them: in a name space of its own a process has another number than in the trace."""
+        return [" ".join(life.argv)[:100] for life in self.all[1:] if not life.adopted] + ["number %d" % pid for pid in self.waiting]
+
     @staticmethod
     def inherit(child: Life, parent: Life) -> None:
         child.folder, child.cut, child.mask, child.taken = parent.folder, parent.cut, parent.mask, parent.taken

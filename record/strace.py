@@ -192,6 +192,8 @@ def read_trace(lines: Iterable[str], skip: Optional[Skip] = None) -> Iterator[Ev
             continue
         pid, text = int(number), text.strip()
         if text.startswith("+++"):
+            if "(core dumped)" in text:
+                yield Call(pid, "core", "", 0, "")
             if "superseded" not in text:
                 yield Ended(pid)
             continue

@@ -3,7 +3,7 @@
 import re
 from dataclasses import dataclass, field
 from pathlib import Path
-from typing import Dict, Iterable, List, Optional, Set
+from typing import Dict, Iterable, Iterator, List, Optional, Set
 
 from record.database import Base, read_base
 
@@ -12,6 +12,7 @@ CONSIDERED = re.compile(r"^( *)(Considering target file|Pruning file) '(.*)'\.$|
 VPATH = re.compile(r"^ *No need to remake target '(.*)'; using VPATH name '(.*)'\.$")
 FINISHED = re.compile(r"^ *Finished prerequisites of target file '(.*)'\.$")
 MUST = re.compile(r"^ *Must remake target '(.*)'\.$")
+FAILED = re.compile(r"^ *Failed to remake target file '(.*)'\.$")
 RUNNING = re.compile(r" *Recipe of '")  # make says so where it does not wait for a recipe
 SEVERAL = "a makefile or GNUMAKEFLAGS asks for several jobs, and so they ran; say -j1: make "
 READING = re.compile(r"^Reading makefile '(.*)'((?: \([^)]*\))*)\.\.\.$")
@@ -47,6 +48,7 @@ class Round:
     goals: List[str] = field(default_factory=list)
     jobs: List[Job] = field(default_factory=list)
     must: Dict[str, int] = field(default_factory=dict)  # target: jobs before its line
+    failed: List[str] = field(default_factory=list)
     vpath: Dict[str, str] = field(default_factory=dict)
     base: Optional[Base] = None
 
@@ -174,6 +176,8 @@ class _Reader:
         elif VPATH.match(text):
             name, path = VPATH.match(text).groups()  # type: ignore[union-attr]
             self.round.vpath[name] = path
+        elif FAILED.match(text):
+            self.round.failed.append(FAILED.match(text).group(1))  # type: ignore[union-attr]
         elif MUST.match(text):
             self.round.must.setdefault(MUST.match(text).group(1), len(self.round.jobs))  # type: ignore[union-attr]
 
@@ -202,6 +206,16 @@ def take_base(words: Words, lines: List[str]) -> None:
         one.base = one.base or found
 
 
+def failures(words: Words) -> Iterator[str]:
+    """Recipes that failed, and make went on, since no makefile has to be there that needs them. Of what such a makefile needs besides, one
+    job runs nothing more, and several run it."""
+    for one in words.rounds:
+        ran, needed = {job.target for job in one.jobs}, {name for node in one.nodes.values() for name in node.prerequisites}
+        for name in one.failed if one.stage == "makefiles" else ():
+            if name in ran & needed:
+                yield "a recipe failed for a makefile that need not be there, and what stands behind it did not run: %s" % name
+
+
 def read_words(pid: int, life: int, lines: Iterable[str]) -> Words:
     """What a make process said, of the lines that the wrapper kept: each of its starts ends in a data base."""
     words = Words(pid, life)
@@ -219,6 +233,7 @@ def read_words(pid: int, life: int, lines: Iterable[str]) -> Words:
             reader.line(text)
     if bases and not is_end(bases[-1]):
         take_base(words, bases[-1])
+    words.holes += failures(words)
     if len(bases) != len(words.read):
         words.holes.append("a make that began %d times printed %d data bases: make %s" % (len(words.read), len(bases), words.args))
     return words

@@ -2,12 +2,17 @@
 
 from typing import List
 
-from guard_table import FALSE_RACE, YES, Guard
+from guard_table import FALSE_RACE, LOST_HOLE, UNSAID, YES, Guard
 
 
 def hidden(name: str) -> str:
     """The test of a makefile of test_hidden.py."""
     return "test_hidden.Makefiles.test_" + name
+
+
+def trace(name: str) -> str:
+    """A test of lines of a trace."""
+    return "test_hidden.Traces.test_" + name
 
 
 HIDDEN_GUARDS: List[Guard] = [
@@ -22,6 +27,18 @@ HIDDEN_GUARDS: List[Guard] = [
     Guard("makes inside: lines that include makefiles", "globs.py", ", *INCLUDE.findall(macros.text)]", "]", hidden("pattern_of_an_include_in_a_make_inside"), YES),
     Guard("makes inside: makefiles that they look for", "inner.py", "    yield from (join(make.folder, name) for name in default_names(make) if name in last_parts)\n", "", hidden("makefile_that_a_make_inside_looks_for"), YES),
     Guard("makes inside: makefiles that words name", "inner.py", "() if read else DEFAULTS", "DEFAULTS", hidden("makefile_that_a_make_inside_is_handed"), FALSE_RACE),
+    Guard("makes inside: ages of folders", "inner.py", "                    if folder in created:\n", "                    if False:\n", hidden("age_of_a_folder_in_a_make_inside"), YES),
+    Guard("makes inside: ages of folders behind a bar", "inner.py", "if name not in base.order_only.get(target, ()) and name", "if name", hidden("age_of_a_folder_behind_a_bar_inside"), FALSE_RACE),
+    Guard("makes inside: ages of folders for new targets", "inner.py", "target not in base.phony and not is_new:", "target not in base.phony:", hidden("age_of_a_folder_for_a_new_target_inside"), FALSE_RACE),
+    Guard("holes: recipes that failed for a makefile", "words.py", "    words.holes += failures(words)\n", "", hidden("failure_for_a_makefile_that_need_not_be_there"), LOST_HOLE),
+    Guard("holes: not makefiles that failed", "words.py", "if name in ran & needed:", "if name in ran:", hidden("failure_of_a_makefile_that_need_not_be_there"), "0 != 2"),
+    Guard("loaders are read", "calls.py", "interpreter_words(path) if self.is_inside(path) else ", "", hidden("loader_that_a_recipe_makes"), YES),
+    Guard("sockets: without a file", "calls.py", "(ok or path is None)", "ok", hidden("socket_without_a_file_that_nobody_opened"), UNSAID),
+    Guard("strays: in no process", "replay.py", 'for life in self.all[1:] if not life.adopted]', "for life in ()]", trace("process_that_nobody_started")),
+    Guard("strays: of several", "replay.py", ' + ["number %d" % pid for pid in self.waiting]', "", trace("process_that_several_may_have_started")),
+    Guard("holes: memory that is kept", "strace.py", 'yield Call(pid, "core", "", 0, "")', "pass", trace("memory_of_a_process_that_a_signal_ends")),
+    Guard("calls of 32 bits", "calls.py", '           "truncate64", "ftruncate64", "chown32", "lchown32", "fchown32", ', "           ", trace("names_of_calls_of_32_bits")),
+    Guard("system: links that lead there", "main.py", " if not names.leads_to(SYSTEM) else None", "", trace("name_that_leads_to_the_system")),
     Guard("serial: not a make that make calls", "owners.py", "self.words.below or self.is_called or", "self.words.below or", hidden("make_that_make_calls"), YES),
     Guard("serial: a make that make calls without flags", "owners.py", ' and not any("MAKEFLAGS" in word', ' and not any(False', hidden("make_that_make_calls_without_flags"), FALSE_RACE),
 ]

@@ -1,13 +1,19 @@
 """Small makefiles with what no call of the trace names: lists of folders from which makes inside recipes answer, programs that the kernel
 reads by itself, processes of which nobody sees who started them, recipes that one job never reaches."""
 
+import os
 import unittest
 from typing import Dict
 
-from test_small import COMMANDS, Small, test_of
+import support
+from record.main import replay_trace
+from record.names import Names
+from test_replay import TOP, events_of, lives_of, played
+from test_small import Small, test_of
 
 INNER = "all: in gen\ngen: ; %s; touch gen\nin: ; $(MAKE) -f in.mk; touch in\n"
 TWO_RULES = "%.t: %.a ; cp $< $@\n%.t: %.b ; cp $< $@\n"
+SOCKET = "import socket\nsocket.socket(socket.AF_UNIX).connect_ex('\\0race-test')\n"
 ROW = "all: p q\np: ; @echo 1 > p\nq: ; @cat p > q || true\n"
 
 HIDDEN: Dict[str, Small] = {
@@ -26,10 +32,20 @@ HIDDEN: Dict[str, Small] = {
     "pattern_of_an_include_in_a_make_inside": Small("race", INNER % "echo X = 1 > d/n.mk", {"d/k.mk": "Y = 1\n", "in.mk": "include d/*.mk\nout: ; echo $(X) > out\n"}),
     "makefile_that_a_make_inside_looks_for": Small("race", "all: in gen\ngen: ; printf 'all: ; echo 2 > out\\n' > s/makefile; touch gen\nin: ; $(MAKE) -C s; touch in\n", {"s/Makefile": "all: ; echo 1 > out\n"}),
     "makefile_that_a_make_inside_is_handed": Small("safe", "all: in gen\ngen: ; printf 'all: ; echo 2 > out\\n' > s/makefile; touch gen\nin: ; $(MAKE) -C s -f m.mk; touch in\n", {"s/m.mk": "all: ; echo 1 > out\n"}),
+    "age_of_a_folder_in_a_make_inside": Small("race", "all: in gen\ngen: ; echo n > d/n; touch gen\nin: ; $(MAKE) -f in.mk; touch in\n", {"d/k": "k", "t": "t", "in.mk": "t: d ; touch t log\n"}, "touch -d 2001-01-01 d; touch -d 2002-01-01 t"),
+    "age_of_a_folder_behind_a_bar_inside": Small("safe", "all: in gen\ngen: ; echo n > d/n; touch gen\nin: ; $(MAKE) -f in.mk; touch in\n", {"d/k": "k", "t": "t", "in.mk": "t: | d ; touch t log\n"}, "touch -d 2001-01-01 d; touch -d 2002-01-01 t"),
+    "age_of_a_folder_for_a_new_target_inside": Small("safe", "all: in gen\ngen: ; echo n > d/n; touch gen\nin: ; $(MAKE) -f in.mk; touch in\n", {"d/k": "k", "in.mk": "t: d ; touch t log\n"}),
     # a make that make calls has the environment of that make: it may ask for several jobs there
     "make_that_make_calls": Small("race", "X := $(shell $(MAKE) -s -f in.mk)\nall: ; touch all\n", {"in.mk": ROW}),
     "make_that_make_calls_without_flags": Small("safe", "X := $(shell env -u MAKEFLAGS $(MAKE) -s -f in.mk)\nall: ; touch all\n", {"in.mk": ROW}),
     "make_of_one_job_that_make_calls": Small("safe", "X := $(shell $(MAKE) -s -j1 -f in.mk)\nall: ; touch all\n", {"in.mk": ROW}),
+    # recipes that one job never reaches, as one has failed, and make goes on
+    "failure_for_a_makefile_that_need_not_be_there": Small("no verdict", "-include x.d\nall: ; touch all\nx.d: p q ; touch x.d\np: ; false\nq: ; touch q\n", says="what stands behind it did not run: p"),
+    "failure_of_a_makefile_that_need_not_be_there": Small("safe", "-include x.d\nall: ; touch all\nx.d: p ; false\np: ; touch p\n"),
+    # programs that the kernel reads by itself
+    "loader_that_a_recipe_makes": Small("race", "all: use ld.so\nld.so: ; cp /bin/cat ld.so\nuse: ; ./prog > use || true\n", {"p.c": "int main(void) { return 0; }\n"}, "cc -Wl,--dynamic-linker=./ld.so -o prog p.c"),
+    # sockets
+    "socket_without_a_file_that_nobody_opened": Small("safe", "all: ; python3 t/s.py; touch all\n", {"t/s.py": SOCKET}, says="a process talks to a server"),
 }
 
 
@@ -39,6 +55,37 @@ class Makefiles(unittest.TestCase):
 
 for key, one in HIDDEN.items():
     setattr(Makefiles, "test_" + key, test_of(key, one))
+
+
+class Traces(unittest.TestCase):
+    """Lines of a trace."""
+
+    def test_process_that_nobody_started(self) -> None:
+        begun = ('1 execve("/bin/sh", ["sh"], 0x1 /* 1 var */) = 0', "1 clone(child_stack=NULL, flags=SIGCHLD) = 2")
+        self.assertEqual(["cat x"], played(*begun, '77 execve("/bin/cat", ["cat", "x"], 0x1 /* 1 var */) = 0').strays())
+        self.assertEqual([], played(*begun, '2 execve("/bin/cat", ["cat", "x"], 0x1 /* 1 var */) = 0').strays())
+
+    def test_process_that_several_may_have_started(self) -> None:
+        lines = ("1 vfork() = 2", '2 chdir("d") = 0', "1 vfork( <unfinished ...>", "2 vfork( <unfinished ...>", '77 execve("/bin/cat", ["cat"], 0x1 /* 1 var */) = 0')
+        self.assertEqual(["number 77"], played(*lines).strays())
+
+    def test_memory_of_a_process_that_a_signal_ends(self) -> None:
+        self.assertIn("core dumped", "".join(played('1 access("x", F_OK) = 0', "1 +++ killed by SIGSEGV (core dumped) +++").holes))
+        self.assertEqual([], played('1 access("x", F_OK) = 0', "1 +++ killed by SIGSEGV +++").holes)
+
+    def test_names_of_calls_of_32_bits(self) -> None:
+        replay = played('1 truncate64("x", 0) = 0', '1 chown32("y", 0, 0) = 0', '1 lchown32("z", 0, 0) = 0', f"1 fchown32(3<{TOP}/q>, 0, 0) = 0")
+        self.assertLessEqual({("W", name) for name in "xyzq"}, events_of(lives_of(replay, 1)[0]))
+
+    def test_name_that_leads_to_the_system(self) -> None:
+        for target, wanted in (("/usr/lib", True), ("/usr/bin/env", False), ("k", False)):
+            with support.Project({"trace": '1 access("/usr/race-test", F_OK) = -1 ENOENT (No such file)\n', "top/k": "k"}) as project:
+                top = os.path.realpath(project.folder / "top")
+                os.symlink(target, top + "/l")
+                names = Names()
+                names.walk(top)
+                replay = replay_trace(project.folder, names, "/bin/make", top, [top])
+                self.assertEqual(wanted, any(("N", "/usr/race-test") in life.events for life in replay.all), target)
 
 
 if __name__ == "__main__":
