@@ -2,7 +2,7 @@
 
 from typing import List
 
-from guard_table import FALSE_RACE, LOST_HOLE, UNSAID, YES, Guard
+from guard_table import FALSE_RACE, LOST_HOLE, UNSAID, YES, Guard, warm
 
 
 def hidden(name: str) -> str:
@@ -39,6 +39,12 @@ HIDDEN_GUARDS: List[Guard] = [
     Guard("holes: memory that is kept", "strace.py", 'yield Call(pid, "core", "", 0, "")', "pass", trace("memory_of_a_process_that_a_signal_ends")),
     Guard("calls of 32 bits", "calls.py", '           "truncate64", "ftruncate64", "chown32", "lchown32", "fchown32", ', "           ", trace("names_of_calls_of_32_bits")),
     Guard("system: links that lead there", "main.py", " if not names.leads_to(SYSTEM) else None", "", trace("name_that_leads_to_the_system")),
+    Guard("warm: folders that are left", "warm.py", "return sorted({*left, ", "return sorted({", warm("folder_that_a_recipe_does_not_wait_for"), LOST_HOLE),
+    Guard("warm: folders that all wait for", "warm.py", "if not is_plain or any(True for _ in early_users(build, builds, node)):", "if True:", warm("folder_that_all_wait_for"), "0 != 2"),
+    Guard("warm: folders whose recipe does more", "warm.py", "if not is_plain or any(True", "if any(True", warm("folder_whose_recipe_does_more"), LOST_HOLE),
+    Guard("warm: folders with sources", "warm.py", ' and not any(kind != "d" and is_below(path, node.path) for path, kind in names.before.items()):', ":", warm("folder_with_sources"), "0 != 2"),
+    Guard("warm: folders of other makes", "warm.py", "        for at, task in enumerate(other.tasks) if other is build or id(other.make) not in inside else ():", "        for at, task in enumerate(other.tasks) if other is build else ():", warm("folder_of_an_inner_make"), LOST_HOLE),
+    Guard("warm: folders for makes inside", "warm.py", " if other is build or id(other.make) not in inside else ():", ":", warm("folder_for_an_inner_make"), "0 != 2"),
     Guard("serial: not a make that make calls", "owners.py", "self.words.below or self.is_called or", "self.words.below or", hidden("make_that_make_calls"), YES),
     Guard("serial: a make that make calls without flags", "owners.py", ' and not any("MAKEFLAGS" in word', ' and not any(False', hidden("make_that_make_calls_without_flags"), FALSE_RACE),
 ]
