@@ -27,11 +27,11 @@ LOOKS = "RSN"
 class Builder:
     """Makes the tasks of a round."""
 
-    def __init__(self, make: Make, number: int, names: Names, assumed: Assumptions) -> None:
+    def __init__(self, make: Make, number: int, names: Names, assumed: Assumptions, before: Optional[Dict[str, str]] = None) -> None:
         self.graph = Graph(make, number)
         self.make, self.number, self.names, self.assumed = make, number, names, assumed
         self.build = Build(make, self.graph.round.stage, self.graph)
-        self.before = names.before
+        self.before = names.before if before is None else before
         self.of_node: Dict[str, int] = {}
         self.look_of: Dict[str, int] = {}
         self.first_of: Dict[str, int] = {}

@@ -31,6 +31,7 @@ from record.ninja_import import beside, import_ninjas
 from record.ninja_import import versions as ninja_versions
 from record.ninja_runs import Kept, Ninja
 from record.owners import Make, Owners
+from record.past import Past, beginning
 from record.progress import watched
 from record.python import settle
 from record.report import Judged, colours, read_json, report
@@ -162,14 +163,12 @@ def import_record(spool: Path, names: Names, kept: Kept, real: str, folder: str,
     for path in sorted(set(replay.progress)):
         assumed.add("progress", path)
     add_granted(owners, assumed, str(spool))
-    builds = []
-    for make in sorted(owners.makes, key=lambda m: m.life.born):
-        for number, one in enumerate(make.words.rounds):
-            acts = [t for n, t in make.acts if n == number]
-            if one.jobs or acts:
-                builder = Builder(make, number, names, assumed)
-                builds.append(builder.run())
-                record.holes += builder.holes
+    builds, past = [], Past(names.before, replay.changes)
+    for place, make, number in sorted(((beginning(m, n), m, n) for m in owners.makes for n in range(len(m.words.rounds))), key=lambda found: found[0]):
+        if make.words.rounds[number].jobs or any(n == number for n, _ in make.acts):
+            builder = Builder(make, number, names, assumed, past.until(place))
+            builds.append(builder.run())
+            record.holes += builder.holes
     builds = sorted(builds + of_ninja, key=lambda build: build.make.life.born)
     return Imported(builds, assumed, replay.all, ninjas, idle_targets(owners, names))
 

@@ -44,6 +44,7 @@ class Make:
     acts: Dict[Tuple[int, str], Work] = field(default_factory=dict)  # by number of the round and target
     globs: List[str] = field(default_factory=list)  # patterns that it asks for by `wildcard`
     listed_first: List[str] = field(default_factory=list)  # those of rules, and of lines that include makefiles
+    ready: List[int] = field(default_factory=list)  # for each start: when it had read its makefiles
     is_called: bool = False  # a make above calls it by `$(shell ..)`: it has the environment with which that was started
     listed: Dict[str, int] = field(default_factory=dict)  # folder: when it was first listed by make itself
     looked: Dict[str, Dict[str, int]] = field(default_factory=dict)  # name as make spells it: the paths that it led to, and when first
@@ -199,7 +200,8 @@ class Owners:
                 make.looked.setdefault(act.word, {}).setdefault(act.path, act.place)
         for start, (begin, _) in enumerate(make.life.starts):
             end = make.life.starts[start + 1][0] if start + 1 < len(make.life.starts) else 1 << 60
-            self.place_acts(make, start, self.read_by(make, start, begin, end), end)
+            make.ready.append(self.read_by(make, start, begin, end))
+            self.place_acts(make, start, make.ready[-1], end)
 
     def read_by(self, make: Make, start: int, begin: int, end: int) -> int:
         """When make had read its makefiles, or found that they are not there: it looks at the first of them again."""

@@ -2,7 +2,7 @@
 
 import os
 import re
-from typing import Dict, List, Set
+from typing import Dict, List, Set, Tuple
 
 from record import shelltext
 from record.lives import Act, Life
@@ -39,6 +39,7 @@ class Replay:
         self.aged: Dict[str, bool] = {}
         self.scripts: Dict[str, int] = {}  # those whose text compares no ages, and when they were first asked
         self.watchers: List[str] = []  # who lists the processes that run, or waits for changes of files
+        self.changes: List[Tuple[int, str, str]] = []  # names that come and go, in order
         self.askers: List[str] = []  # who asks when a file was read last
         self.is_open_shell = bool(shelltext.SHELL_MACROS & {*os.environ})  # shells may have other options than their words say
 
@@ -149,6 +150,8 @@ class Replay:
         life.events.setdefault((kind, path), self.place)
         if kind in "WCD":
             life.changed[path] = self.place
+        if kind in "CDMX":
+            self.changes.append((self.place, kind, path))
 
     def is_inside(self, path: str) -> bool:
         """Whether a path is in one of the folders that the build works in."""

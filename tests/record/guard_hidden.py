@@ -45,6 +45,13 @@ HIDDEN_GUARDS: List[Guard] = [
     Guard("warm: folders with sources", "warm.py", ' and not any(kind != "d" and is_below(path, node.path) for path, kind in names.before.items()):', ":", warm("folder_with_sources"), "0 != 2"),
     Guard("warm: folders of other makes", "warm.py", "        for at, task in enumerate(other.tasks) if other is build or id(other.make) not in inside else ():", "        for at, task in enumerate(other.tasks) if other is build else ():", warm("folder_of_an_inner_make"), LOST_HOLE),
     Guard("warm: folders for makes inside", "warm.py", " if other is build or id(other.make) not in inside else ():", ":", warm("folder_for_an_inner_make"), "0 != 2"),
+    Guard("past: what earlier makes made", "main.py", "past.until(place))", "names.before)", hidden("target_that_an_earlier_make_has_made"), YES),
+    Guard("past: what earlier makes removed", "past.py", "            self.now.pop(name, None)\n", "            pass\n", hidden("folder_that_an_earlier_make_has_removed"), YES),
+    Guard("past: what is made while make reads", "past.py", "make.ready[start] if start < len(make.ready) else make.life.born", "make.life.born", hidden("target_that_is_made_while_make_reads"), YES),
+    Guard("past: what is made for a makefile", "past.py", "return max([make.ready", "ended = ()\n    return max([make.ready", hidden("target_that_is_made_for_a_makefile"), YES),
+    Guard("past: what was made in an earlier place", "past.py", "        if place < self.place:\n", "        if False:\n", trace("names_that_come_and_go")),
+    Guard("past: folders that are moved", "past.py", '"M": "d", ', '"M": "f", ', trace("names_that_come_and_go")),
+    Guard("past: folders that the make above made", "past.py", "        elif found == \"d\" or name not in self.now:", "        elif found != \"d\" and name not in self.now:", hidden("folder_that_the_make_above_has_made"), FALSE_RACE),
     Guard("serial: not a make that make calls", "owners.py", "self.words.below or self.is_called or", "self.words.below or", hidden("make_that_make_calls"), YES),
     Guard("serial: a make that make calls without flags", "owners.py", ' and not any("MAKEFLAGS" in word', ' and not any(False', hidden("make_that_make_calls_without_flags"), FALSE_RACE),
 ]

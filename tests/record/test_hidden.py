@@ -8,11 +8,13 @@ from typing import Dict
 import support
 from record.main import replay_trace
 from record.names import Names
+from record.past import Past
 from test_replay import TOP, events_of, lives_of, played
-from test_small import Small, test_of
+from test_small import COMMANDS, Small, test_of
 
 INNER = "all: in gen\ngen: ; %s; touch gen\nin: ; $(MAKE) -f in.mk; touch in\n"
 TWO_RULES = "%.t: %.a ; cp $< $@\n%.t: %.b ; cp $< $@\n"
+KEPT = "all: gen t\nt: p ; touch t log\ngen: ; sleep 0.02; touch p gen\n"
 SOCKET = "import socket\nsocket.socket(socket.AF_UNIX).connect_ex('\\0race-test')\n"
 ROW = "all: p q\np: ; @echo 1 > p\nq: ; @cat p > q || true\n"
 
@@ -35,6 +37,13 @@ HIDDEN: Dict[str, Small] = {
     "age_of_a_folder_in_a_make_inside": Small("race", "all: in gen\ngen: ; echo n > d/n; touch gen\nin: ; $(MAKE) -f in.mk; touch in\n", {"d/k": "k", "t": "t", "in.mk": "t: d ; touch t log\n"}, "touch -d 2001-01-01 d; touch -d 2002-01-01 t"),
     "age_of_a_folder_behind_a_bar_inside": Small("safe", "all: in gen\ngen: ; echo n > d/n; touch gen\nin: ; $(MAKE) -f in.mk; touch in\n", {"d/k": "k", "t": "t", "in.mk": "t: | d ; touch t log\n"}, "touch -d 2001-01-01 d; touch -d 2002-01-01 t"),
     "age_of_a_folder_for_a_new_target_inside": Small("safe", "all: in gen\ngen: ; echo n > d/n; touch gen\nin: ; $(MAKE) -f in.mk; touch in\n", {"d/k": "k", "in.mk": "t: d ; touch t log\n"}),
+    # what is there when a build begins, and not when the recording does
+    "target_that_an_earlier_make_has_made": Small("race", "t: p ; touch t\n", {"p": "p", "2.mk": KEPT}),
+    "target_that_the_make_above_has_made": Small("race", "in: pre ; $(MAKE) -f 2.mk; touch in\npre: ; touch t pre\n", {"p": "p", "2.mk": KEPT}),
+    "target_that_is_made_while_make_reads": Small("race", "X := $(shell touch t; sleep 0.05)\n" + KEPT, {"p": "p"}),
+    "target_that_is_made_for_a_makefile": Small("race", "-include x.d\n" + KEPT + "x.d: ; touch t x.d\n", {"p": "p"}),
+    "folder_that_an_earlier_make_has_removed": Small("race", "all: a b\na: ; mkdir -p d; touch d/a a\nb: ; touch d/b b || true\nclean: ; rmdir d\n", setup="mkdir d"),
+    "folder_that_the_make_above_has_made": Small("safe", "in: pre ; $(MAKE) -f 2.mk; touch in\npre: ; mkdir d; touch pre\n", {"2.mk": "all: a b\na b: ; touch d/$@ $@\n"}),
     # a make that make calls has the environment of that make: it may ask for several jobs there
     "make_that_make_calls": Small("race", "X := $(shell $(MAKE) -s -f in.mk)\nall: ; touch all\n", {"in.mk": ROW}),
     "make_that_make_calls_without_flags": Small("safe", "X := $(shell env -u MAKEFLAGS $(MAKE) -s -f in.mk)\nall: ; touch all\n", {"in.mk": ROW}),
@@ -47,6 +56,9 @@ HIDDEN: Dict[str, Small] = {
     # sockets
     "socket_without_a_file_that_nobody_opened": Small("safe", "all: ; python3 t/s.py; touch all\n", {"t/s.py": SOCKET}, says="a process talks to a server"),
 }
+
+COMMANDS["target_that_an_earlier_make_has_made"] = ["sh", "-c", "make t && sleep 0.05 && make -f 2.mk"]
+COMMANDS["folder_that_an_earlier_make_has_removed"] = ["sh", "-c", "make clean && make all"]
 
 
 class Makefiles(unittest.TestCase):
@@ -76,6 +88,12 @@ class Traces(unittest.TestCase):
     def test_names_of_calls_of_32_bits(self) -> None:
         replay = played('1 truncate64("x", 0) = 0', '1 chown32("y", 0, 0) = 0', '1 lchown32("z", 0, 0) = 0', f"1 fchown32(3<{TOP}/q>, 0, 0) = 0")
         self.assertLessEqual({("W", name) for name in "xyzq"}, events_of(lives_of(replay, 1)[0]))
+
+    def test_names_that_come_and_go(self) -> None:
+        replay = played('1 mkdir("d", 0777) = 0', f'1 openat(AT_FDCWD<{TOP}>, "d/x", O_WRONLY|O_CREAT, 0666) = 3<{TOP}/d/x>', '1 rename("d", "e") = 0', '1 unlink("e/x") = 0')
+        past = Past({}, replay.changes)
+        found = [{name[len(TOP) + 1:]: kind for name, kind in past.until(place).items()} for place in (1, 2, 3, 4, 5, 2)]
+        self.assertEqual([{}, {"d": "d"}, {"d": "d", "d/x": "f"}, {"e": "d", "e/x": "f"}, {"e": "d"}, {"d": "d"}], found)
 
     def test_name_that_leads_to_the_system(self) -> None:
         for target, wanted in (("/usr/lib", True), ("/usr/bin/env", False), ("k", False)):
