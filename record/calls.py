@@ -23,7 +23,7 @@ CHANGES = {"chmod", "chown", "lchown", "utime", "utimes", "truncate", "setxattr"
 TIMES = {"utime", "utimes", "utimensat", "futimesat", "utimensat_time64"}
 # After these, what a process opens is not what the trace names, or is not in the trace at all.
 OF_PROCESS = re.compile(r"/proc/(?:(\d+)/|loadavg$)")
-SHARING = {"shmget", "semget", "msgget", "mq_open"}
+SHARING = {"shmget", "semget", "msgget", "mq_open", "add_key", "request_key"}
 SOCKET = re.compile(r'sun_path="((?:[^"\\]|\\.)*)"')
 HIDING = {"chroot", "pivot_root", "mount", "move_mount", "umount", "umount2", "setns", "open_by_handle_at", "io_uring_setup"}
 SCRIPTS = 5  # how many scripts may be the interpreter of one another; the kernel allows no more
@@ -247,6 +247,8 @@ class Calls(Moves):
             return
         if "O_EXCL" in flags:
             self.fresh.add(found.path)
+        if "O_CREAT" in flags and not self.is_inside(found.path):
+            self.put(life, "C", found.path)  # the disk has it after the build: nobody knows whether it was there before
         if "O_WRONLY" not in flags and "O_TRUNC" not in flags and call.name != "creat":
             self.put(life, "R", found.path)
         self.write(life, found, False)

@@ -52,6 +52,8 @@ HIDDEN_GUARDS: List[Guard] = [
     Guard("past: what was made in an earlier place", "past.py", "        if place < self.place:\n", "        if False:\n", trace("names_that_come_and_go")),
     Guard("past: folders that are moved", "past.py", '"M": "d", ', '"M": "f", ', trace("names_that_come_and_go")),
     Guard("past: folders that the make above made", "past.py", "        elif found == \"d\" or name not in self.now:", "        elif found != \"d\" and name not in self.now:", hidden("folder_that_the_make_above_has_made"), FALSE_RACE),
+    Guard("at once: below others that run at once", "granted.py", " or beside_others and overlap_above(path, who, beside_others):", ":", hidden("two_makes_of_one_recipe_at_once"), UNSAID),
+    Guard("at once: not one after the other", "granted.py", "            if last is not None and child.born < last.died:", "            if last is not None:", hidden("two_makes_of_one_recipe_in_a_row")),
     Guard("serial: not a make that make calls", "owners.py", "self.words.below or self.is_called or", "self.words.below or", hidden("make_that_make_calls"), YES),
     Guard("serial: a make that make calls without flags", "owners.py", ' and not any("MAKEFLAGS" in word', ' and not any(False', hidden("make_that_make_calls_without_flags"), FALSE_RACE),
 ]
