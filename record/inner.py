@@ -2,6 +2,7 @@
 an implicit rule, those in folders of search paths, and its makefile where no word says which. And the ages of folders that it compares."""
 
 import os
+from itertools import chain
 from typing import TYPE_CHECKING, Container, Iterable, Iterator, Set
 
 from record.ages import works_of
@@ -23,11 +24,12 @@ def add_inner(builder: "Builder", created: Container[str]) -> None:
     last_parts = {os.path.basename(path) for path in writers}
     for at, task in enumerate(builder.build.tasks):
         for who, work in works_of(builder, at):
+            ages = (compared(builder, make, who) for make in work.makes)
+            by_ninja = (builder.names.find(ninja.folder, name, True).path for ninja in work.ninjas for pair in ninja.compared() for name in pair)
+            for folder in (path for path in chain(by_ninja, *ages) if path in created):
+                builder.timed.setdefault(folder, set()).add(who)
             for make in work.makes:
                 builder.build.tasks[who].reads.update(path for path in asked_by(builder, make, last_parts) if path in writers)
-                for folder in compared(builder, make, who):
-                    if folder in created:
-                        builder.timed.setdefault(folder, set()).add(who)
 
 
 def asked_by(builder: "Builder", make: Make, last_parts: Set[str]) -> Iterator[str]:
@@ -53,12 +55,14 @@ def compared(builder: "Builder", make: Make, who: int) -> Iterator[str]:
     """The paths whose ages a make compares, except for targets that only this recipe makes, and that were not there: it makes them anyway."""
     for one in make.words.rounds:
         base, ran = one.base or Base(), {job.target for job in one.jobs}
+        paths = {name: path_of(builder, make, one.vpath.get(name, name)) for name in one.nodes}
+        asked: Set[str] = set()
         for target, node in one.nodes.items():
             plain = [name for name in node.prerequisites if name not in base.order_only.get(target, ()) and name not in base.phony]
-            path = path_of(builder, make, one.vpath.get(target, target))
-            is_new = target in ran and builder.before.get(path) is None and builder.build.writers.get(path, {who}) == {who}
+            is_new = target in ran and builder.before.get(paths[target]) is None and builder.build.writers.get(paths[target], {who}) == {who}
             if plain and target not in base.phony and not is_new:
-                yield from (path, *(path_of(builder, make, one.vpath.get(name, name)) for name in plain))
+                asked.update((target, *plain))
+        yield from (paths[name] for name in asked if name in paths)
 
 
 def is_there(builder: "Builder", make: Make, name: str) -> bool:
