@@ -27,7 +27,7 @@ HIDDEN_GUARDS: List[Guard] = [
     Guard("makes inside: lines that include makefiles", "globs.py", ", *INCLUDE.findall(macros.text)]", "]", hidden("pattern_of_an_include_in_a_make_inside"), YES),
     Guard("makes inside: makefiles that they look for", "inner.py", "    yield from (join(make.folder, name) for name in default_names(make) if name in last_parts)\n", "", hidden("makefile_that_a_make_inside_looks_for"), YES),
     Guard("makes inside: makefiles that words name", "inner.py", "() if read else DEFAULTS", "DEFAULTS", hidden("makefile_that_a_make_inside_is_handed"), FALSE_RACE),
-    Guard("makes inside: ages of folders", "inner.py", "                    if folder in created:\n", "                    if False:\n", hidden("age_of_a_folder_in_a_make_inside"), YES),
+    Guard("makes inside: ages of folders", "inner.py", "(path for path in chain(by_ninja, *ages) if path in created)", "()", hidden("age_of_a_folder_in_a_make_inside"), YES),
     Guard("makes inside: ages of folders behind a bar", "inner.py", "if name not in base.order_only.get(target, ()) and name", "if name", hidden("age_of_a_folder_behind_a_bar_inside"), FALSE_RACE),
     Guard("makes inside: ages of folders for new targets", "inner.py", "target not in base.phony and not is_new:", "target not in base.phony:", hidden("age_of_a_folder_for_a_new_target_inside"), FALSE_RACE),
     Guard("holes: recipes that failed for a makefile", "words.py", "    words.holes += failures(words)\n", "", hidden("failure_for_a_makefile_that_need_not_be_there"), LOST_HOLE),

@@ -93,4 +93,4 @@ OWN: List[Guard] = [
     Guard("listings of interpreters count for make", "calls.py", "for pattern in shelltext.patterns(life.argv, life.cut):", "for pattern in () if shelltext.is_interpreter(life.argv) else shelltext.patterns(life.argv, life.cut):", case("python-lists"), YES),
     Guard("listings of interpreters count for make, of their own folder", "calls.py", "for pattern in shelltext.patterns(life.argv, life.cut):", "for pattern in () if shelltext.is_interpreter(life.argv) else shelltext.patterns(life.argv, life.cut):", case("python-lists-its-folder"), YES),
 ]
-NINJA_GUARDS = WARM + HOLES + ATTRIBUTION + ORDER + OWN
+NINJA_GUARDS = WARM + INSIDE + HOLES + ATTRIBUTION + ORDER + OWN
