@@ -35,6 +35,7 @@ class Builder:
         self.of_node: Dict[str, int] = {}
         self.look_of: Dict[str, int] = {}
         self.first_of: Dict[str, int] = {}
+        self.listed = make.listed_in(self.graph.round.start)
         self.asked: Dict[str, Set[str]] = {}  # by label of a first look: the names that it is about
         self.made: Set[str] = set()
         self.tried: Set[str] = set()  # folders that a recipe could not remove, as they held something
@@ -377,9 +378,10 @@ class Builder:
         return any(path == top or path.startswith(top.rstrip("/") + "/") for top in self.names.tops)
 
     def first_birth(self) -> int:
-        """When the first recipe of this make began."""
+        """When the first recipe of this make began, since that was started anew."""
         if self.began < 0:
-            self.began = min((l.born for w in self.make.work.values() for l in w.lives), default=1 << 60)
+            since = self.make.begin(self.graph.round.start)
+            self.began = min((l.born for w in self.make.work.values() for l in w.lives if l.born >= since), default=1 << 60)
         return self.began
 
     def drop_lonely(self, kept: AbstractSet[str] = frozenset()) -> None:

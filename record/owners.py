@@ -48,7 +48,8 @@ class Make:
     is_called: bool = False  # a make above calls it by `$(shell ..)`: it has the environment with which that was started
     listed: Dict[str, int] = field(default_factory=dict)  # folder: when it was first listed by make itself
     looked: Dict[str, Dict[str, int]] = field(default_factory=dict)  # name as make spells it: the paths that it led to, and when first
-    first_looks: Dict[str, int] = field(default_factory=dict)  # target: when make first looked at it
+    lists: List[Tuple[int, str]] = field(default_factory=list)  # each list of a folder that it read by itself, or piece of one
+    first_looks: Dict[int, Dict[str, int]] = field(default_factory=dict)  # by start and target: when make first looked at it
     pieces: List[Tuple[int, List[Tuple[str, str, int]]]] = field(default_factory=list)  # what it did by itself, where it expands prerequisites late
 
     def never_read(self, name: str) -> bool:
@@ -56,6 +57,18 @@ class Make:
         path = os.path.normpath(os.path.join(self.folder, name))
         kinds = {act.kind for act in self.life.acts if act.path == path}
         return len(self.life.starts) < 2 and "N" in kinds and "R" not in kinds and not os.path.lexists(path)
+
+    def begin(self, start: int) -> int:
+        """When it began, or began again: then it knows nothing of what it has listed."""
+        return self.life.starts[start][0] if start < len(self.life.starts) else 1 << 60
+
+    def listed_in(self, start: int) -> Dict[str, Tuple[int, int]]:
+        """When each folder was listed after a start: when its list was begun, and when the last piece was read."""
+        found: Dict[str, Tuple[int, int]] = {}
+        for place, path in self.lists:
+            if self.begin(start) <= place < self.begin(start + 1):
+                found[path] = (found[path][0] if path in found else place, place)
+        return found
 
     def has_one_slot(self) -> bool:
         """Whether it runs one job at a time whatever the user says: by its words, or as no make above hands it jobs. The words of
@@ -196,6 +209,7 @@ class Owners:
         for act in make.life.acts:
             if act.kind == "Q":
                 make.listed.setdefault(act.path, act.place)
+                make.lists.append((act.place, act.path))
             if act.word:
                 make.looked.setdefault(act.word, {}).setdefault(act.path, act.place)
         for start, (begin, _) in enumerate(make.life.starts):
@@ -237,8 +251,7 @@ class Owners:
                 work = Work()
                 self.take(work, life)
                 pieces.append((life.born, [(k, p, s) for (k, p), s in work.events.items()], work))
-        looks = self.first_looks(make, names, end)
-        make.first_looks = {**looks, **make.first_looks}
+        looks = make.first_looks[start] = self.first_looks(make, names, make.begin(start), end)
         if any(r.base is not None and ".SECONDEXPANSION" in r.base.prerequisites for _, r in rounds):
             make.pieces += [(place, events) for place, events, _ in pieces]
         for place, events, ran in pieces:
@@ -263,13 +276,13 @@ class Owners:
         return {id(act) for act in make.life.acts if act.kind in "RSN" and act.path in archives}
 
     @staticmethod
-    def first_looks(make: Make, names: Set[str], end: int) -> Dict[str, int]:
+    def first_looks(make: Make, names: Set[str], begin: int, end: int) -> Dict[str, int]:
         """When make first looked at each target: its recipe is expanded behind that. None where its words say how old files are."""
         found: Dict[str, int] = {}
         if re.search(r"(^| )(-[a-zA-Z]*[oW]|--(old|new|what|assume))", make.words.args + " " + make.words.flags):
             return found
         for act in make.life.acts:
-            if act.word in names and act.place < end:
+            if act.word in names and begin <= act.place < end:
                 found.setdefault(act.word, act.place)
         return found
 

@@ -160,7 +160,7 @@ GRAPH: List[Guard] = [
     Guard("double colons: what a later rule needs", "graph.py", "            self.hold_back(parts)\n", "", small("double_colon_holds_back"), FALSE_RACE),
     Guard("grouped targets wait for the one that runs", "graph.py", "                    member.prerequisites[name] = None\n", "                    pass\n", case("two-outputs-grouped"), FALSE_RACE),
     Guard("searches: a folder not listed before", "considered.py", ">= self.builder.first_birth():\n            return True", ">= self.builder.first_birth():\n            return False", small("search_sees_a_name_that_goes"), YES),
-    Guard("searches: a folder listed before", "considered.py", "if self.builder.make.listed.get(os.path.dirname(path), 1 << 60) >= self.builder.first_birth():", "if True:", small("search_in_an_early_listing"), FALSE_RACE),
+    Guard("searches: a folder listed before", "considered.py", "if self.builder.listed.get(os.path.dirname(path), (0, 1 << 60))[1] >= self.builder.first_birth():", "if True:", small("search_in_an_early_listing"), FALSE_RACE),
     Guard("searches: said", "considered.py", 'self.builder.assumed.add("search", path)', "pass", small("search_in_an_early_listing"), UNSAID),
     Guard("second rounds: one build each", "words.py", '        elif text.startswith("Updating makefiles"):\n            self.begin("makefiles")\n', "", small("race_among_makefiles"), YES),
 ]

@@ -8,7 +8,9 @@ from typing import Dict
 import support
 from record.main import replay_trace
 from record.names import Names
+from record.owners import Make
 from record.past import Past
+from record.words import Words
 from test_replay import TOP, events_of, lives_of, played
 from test_small import COMMANDS, Small, test_of
 
@@ -44,6 +46,9 @@ HIDDEN: Dict[str, Small] = {
     "target_that_is_made_for_a_makefile": Small("race", "-include x.d\n" + KEPT + "x.d: ; touch t x.d\n", {"p": "p"}),
     "folder_that_an_earlier_make_has_removed": Small("race", "all: a b\na: ; mkdir -p d; touch d/a a\nb: ; touch d/b b || true\nclean: ; rmdir d\n", setup="mkdir d"),
     "folder_that_the_make_above_has_made": Small("safe", "in: pre ; $(MAKE) -f 2.mk; touch in\npre: ; mkdir d; touch pre\n", {"2.mk": "all: a b\na b: ; touch d/$@ $@\n"}),
+    # a make that begins again knows nothing of what it has listed
+    "listing_of_a_make_that_begins_again": Small("race", "-include x.d\nall: a b c\na: ; echo 1 > d/n; touch a\nb: a ; echo '$(wildcard d/*)' > b\nc: ; echo '$(wildcard d/*)' > c\nx.d: ; echo '# $(wildcard d/*)' > x.d\n", {"d/k": "k"}),
+    "search_of_a_make_that_begins_again": Small("safe", "-include x.d\nall: z.t g\n" + TWO_RULES + "g: ; echo a > d/z.a; touch g\nx.d: ; touch x.d\n", {"z.b": "b", "d/k": "k"}),
     # a make that make calls has the environment of that make: it may ask for several jobs there
     "make_that_make_calls": Small("race", "X := $(shell $(MAKE) -s -f in.mk)\nall: ; touch all\n", {"in.mk": ROW}),
     "make_that_make_calls_without_flags": Small("safe", "X := $(shell env -u MAKEFLAGS $(MAKE) -s -f in.mk)\nall: ; touch all\n", {"in.mk": ROW}),
@@ -91,6 +96,11 @@ class Traces(unittest.TestCase):
     def test_names_of_calls_of_32_bits(self) -> None:
         replay = played('1 truncate64("x", 0) = 0', '1 chown32("y", 0, 0) = 0', '1 lchown32("z", 0, 0) = 0', f"1 fchown32(3<{TOP}/q>, 0, 0) = 0")
         self.assertLessEqual({("W", name) for name in "xyzq"}, events_of(lives_of(replay, 1)[0]))
+
+    def test_list_that_is_read_in_pieces(self) -> None:
+        make = Make(Words(7, 0), lives_of(played('1 access("x", F_OK) = 0'), 1)[0], TOP)
+        make.life.starts, make.lists = [(1, TOP), (5, TOP)], [(2, "d"), (3, "d"), (6, "d"), (7, "e"), (9, "d")]
+        self.assertEqual([{"d": (2, 3)}, {"d": (6, 9), "e": (7, 7)}], [make.listed_in(start) for start in (0, 1)])
 
     def test_names_that_come_and_go(self) -> None:
         replay = played('1 mkdir("d", 0777) = 0', f'1 openat(AT_FDCWD<{TOP}>, "d/x", O_WRONLY|O_CREAT, 0666) = 3<{TOP}/d/x>', '1 rename("d", "e") = 0', '1 unlink("e/x") = 0')
