@@ -53,7 +53,7 @@ HIDDEN_GUARDS: List[Guard] = [
     Guard("past: folders that are moved", "past.py", '"M": "d", ', '"M": "f", ', trace("names_that_come_and_go")),
     Guard("past: folders that the make above made", "past.py", "        elif found == \"d\" or name not in self.now:", "        elif found != \"d\" and name not in self.now:", hidden("folder_that_the_make_above_has_made"), FALSE_RACE),
     Guard("at once: below others that run at once", "granted.py", " or beside_others and overlap_above(path, who, beside_others):", ":", hidden("two_makes_of_one_recipe_at_once"), UNSAID),
-    Guard("at once: not one after the other", "granted.py", "            if last is not None and child.born < last.died:", "            if last is not None:", hidden("two_makes_of_one_recipe_in_a_row")),
+    Guard("at once: not one after the other", "granted.py", "(wrote or wrote_too) and one.born < other.died and other.born < one.died for", "(wrote or wrote_too) for", hidden("two_makes_of_one_recipe_in_a_row")),
     Guard("lists: of a make that begins again", "owners.py", "            if self.begin(start) <= place < self.begin(start + 1):", "            if True:", hidden("listing_of_a_make_that_begins_again"), YES,
           ("memory.py", "if last > began}", "if first > began}")),
     Guard("lists: in pieces", "owners.py", "found[path] = (found[path][0] if path in found else place, place)", "found.setdefault(path, (place, place))", trace("list_that_is_read_in_pieces")),

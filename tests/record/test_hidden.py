@@ -43,9 +43,9 @@ HIDDEN: Dict[str, Small] = {
     "target_that_an_earlier_make_has_made": Small("race", "t: p ; touch t\n", {"p": "p", "2.mk": KEPT}),
     "target_that_the_make_above_has_made": Small("race", "in: pre ; $(MAKE) -f 2.mk; touch in\npre: ; touch t pre\n", {"p": "p", "2.mk": KEPT}),
     "target_that_is_made_while_make_reads": Small("race", "X := $(shell touch t; sleep 0.05)\n" + KEPT, {"p": "p"}),
-    "target_that_is_made_for_a_makefile": Small("race", "-include x.d\n" + KEPT + "x.d: ; touch t x.d\n", {"p": "p"}),
+    "target_that_is_made_for_a_makefile": Small("race", "-include x.d\n" + KEPT + "x.d: ; touch t\n", {"p": "p"}),
     "folder_that_an_earlier_make_has_removed": Small("race", "all: a b\na: ; mkdir -p d; touch d/a a\nb: ; touch d/b b || true\nclean: ; rmdir d\n", setup="mkdir d"),
-    "folder_that_the_make_above_has_made": Small("safe", "in: pre ; $(MAKE) -f 2.mk; touch in\npre: ; mkdir d; touch pre\n", {"2.mk": "all: a b\na b: ; touch d/$@ $@\n"}),
+    "folder_that_the_make_above_has_made": Small("safe", "in: pre ; $(MAKE) -f 2.mk; touch in\npre: ; mkdir d; touch pre\n", {"2.mk": "all: a b\na: ; mkdir -p d; touch d/a a\nb: ; touch d/b b\n"}),
     # a make that begins again knows nothing of what it has listed
     "listing_of_a_make_that_begins_again": Small("race", "-include x.d\nall: a b c\na: ; echo 1 > d/n; touch a\nb: a ; echo '$(wildcard d/*)' > b\nc: ; echo '$(wildcard d/*)' > c\nx.d: ; echo '# $(wildcard d/*)' > x.d\n", {"d/k": "k"}),
     "search_of_a_make_that_begins_again": Small("safe", "-include x.d\nall: z.t g\n" + TWO_RULES + "g: ; echo a > d/z.a; touch g\nx.d: ; touch x.d\n", {"z.b": "b", "d/k": "k"}),
@@ -59,8 +59,8 @@ HIDDEN: Dict[str, Small] = {
     # programs that the kernel reads by itself
     "loader_that_a_recipe_makes": Small("race", "all: use ld.so\nld.so: ; cp /bin/cat ld.so\nuse: ; ./prog > use || true\n", {"p.c": "int main(void) { return 0; }\n"}, "cc -Wl,--dynamic-linker=./ld.so -o prog p.c"),
     # makes of one recipe that run at once
-    "two_makes_of_one_recipe_at_once": Small("safe", "all: ; $(MAKE) -f in.mk p & sleep 0.4; $(MAKE) -f in.mk q; wait\n", {"in.mk": "p: ; echo 1 > p; sleep 1\nq: ; cat p > q\n"}, says="two processes of one recipe touch a file"),
-    "two_makes_of_one_recipe_in_a_row": Small("safe", "all: ; $(MAKE) -f in.mk p & wait; $(MAKE) -f in.mk q | cat\n", {"in.mk": "p: ; echo 1 > p\nq: ; cat p > q\n"}, lacks="two processes of one recipe touch a file"),
+    "two_makes_of_one_recipe_at_once": Small("safe", "all: ; $(MAKE) -f in.mk p & sleep 0.4; $(MAKE) -f in.mk q; wait\n", {"in.mk": "p:\n\techo 1 > p\n\tsleep 1\nq: ; cat p > q\n"}, says="two processes of one recipe touch a file"),
+    "two_makes_of_one_recipe_in_a_row": Small("safe", "all: ; $(MAKE) -f in.mk p | cat; $(MAKE) -f in.mk q | cat\n", {"in.mk": "p: ; echo 1 > p\nq: ; cat p > q\n"}, lacks="two processes of one recipe touch a file"),
     # sockets
     "socket_without_a_file_that_nobody_opened": Small("safe", "all: ; python3 t/s.py; touch all\n", {"t/s.py": SOCKET}, says="a process talks to a server"),
 }
