@@ -179,6 +179,14 @@ def skipping(trace: Path, tops: List[str]) -> Optional[Skip]:
     return Skip(re.compile(LOOKING.replace("FOLDERS", folders_of_system)), tops)
 
 
+def ends(pid: int, text: str) -> Iterator[Event]:
+    """What a line about the end of a process says: also that the kernel has kept its memory."""
+    if "(core dumped)" in text:
+        yield Call(pid, "core", "", 0, "")
+    if "superseded" not in text:
+        yield Ended(pid)
+
+
 def read_trace(lines: Iterable[str], skip: Optional[Skip] = None) -> Iterator[Event]:
     """The events of a trace, one at a time, except lines that `skip` matches."""
     open_calls: Dict[int, str] = {}
@@ -192,10 +200,7 @@ def read_trace(lines: Iterable[str], skip: Optional[Skip] = None) -> Iterator[Ev
             continue
         pid, text = int(number), text.strip()
         if text.startswith("+++"):
-            if "(core dumped)" in text:
-                yield Call(pid, "core", "", 0, "")
-            if "superseded" not in text:
-                yield Ended(pid)
+            yield from ends(pid, text)
             continue
         if text.startswith("---"):
             continue
