@@ -12,6 +12,7 @@ from record.considered import Considered, is_row
 from record.fixed import asked_ages, fixed_looks, remade_anyway
 from record.folders import Events, add_folders
 from record.graph import Build, Graph, Node, Task, befores, order_tasks
+from record.inner import add_inner
 from record.macros import Macros, Use, uses
 from record.memory import libraries, place_listings, share_listings
 from record.names import Names, join
@@ -28,14 +29,15 @@ class Builder:
 
     events_of_all: Optional[Events] = None
 
-    def __init__(self, make: Make, number: int, names: Names, assumed: Assumptions) -> None:
+    def __init__(self, make: Make, number: int, names: Names, assumed: Assumptions, before: Optional[Dict[str, str]] = None) -> None:
         self.graph = Graph(make, number)
         self.make, self.number, self.names, self.assumed = make, number, names, assumed
         self.build = Build(make, self.graph.round.stage, self.graph)
-        self.before = names.before
+        self.before = names.before if before is None else before
         self.of_node: Dict[str, int] = {}
         self.look_of: Dict[str, int] = {}
         self.first_of: Dict[str, int] = {}
+        self.listed = make.listed_in(self.graph.round.start)
         self.asked: Dict[str, Set[str]] = {}  # by label of a first look: the names that it is about
         self.made: Set[str] = set()
         self.tried: Set[str] = set()  # folders that a recipe could not remove, as they held something
@@ -324,6 +326,7 @@ class Builder:
                 self.add_decision(looker, at, node, node.label in asked)
         for label, at in self.first_of.items():
             build.tasks[at].reads.update(self.asked[label])
+        add_inner(self, created)
         add_macros(self, created)
         add_outputs(self)
         count_listings(self, created)
@@ -377,9 +380,10 @@ class Builder:
         return any(path == top or path.startswith(top.rstrip("/") + "/") for top in self.names.tops)
 
     def first_birth(self) -> int:
-        """When the first recipe of this make began."""
+        """When the first recipe of this make began, since that was started anew."""
         if self.began < 0:
-            self.began = min((l.born for w in self.make.work.values() for l in w.lives), default=1 << 60)
+            since = self.make.begin(self.graph.round.start)
+            self.began = min((l.born for w in self.make.work.values() for l in w.lives if l.born >= since), default=1 << 60)
         return self.began
 
     def drop_lonely(self, kept: AbstractSet[str] = frozenset()) -> None:

@@ -7,6 +7,7 @@ from typing import Callable, Dict, List, Tuple
 from record import shelltext
 from record.arguments import TEXT_END, opening, spelled
 from record.lives import Life
+from record.loader import interpreter_words
 from record.moves import Moves
 from record.names import Found, Inode
 from record.replay import DEVICES
@@ -14,17 +15,20 @@ from record.strace import MAKES_PROCESS, Call, first_text, folders, is_cut, text
 
 LOOKS = {"stat", "lstat", "access", "getxattr", "lgetxattr", "listxattr", "llistxattr", "statfs", "newfstatat",
          "faccessat", "faccessat2", "name_to_handle_at", "statx", "fstatat64", "readlink", "readlinkat", "statfs64", "stat64", "lstat64"}
-NOFOLLOW = {"lstat", "lstat64", "lgetxattr", "llistxattr", "readlink", "readlinkat", "unlink", "rmdir", "lchown", "lsetxattr", "lremovexattr"}
+NOFOLLOW = {"lstat", "lstat64", "lgetxattr", "llistxattr", "readlink", "readlinkat", "unlink", "rmdir", "lchown", "lchown32", "lsetxattr",
+            "lremovexattr"}
 CHANGES = {"chmod", "chown", "lchown", "utime", "utimes", "truncate", "setxattr", "lsetxattr", "removexattr", "lremovexattr", "fchmodat",
-           "fchmodat2", "fchownat", "utimensat", "futimesat", "fchmod", "fchown", "ftruncate", "fsetxattr", "fremovexattr"}
-TIMES = {"utime", "utimes", "utimensat", "futimesat"}
+           "fchmodat2", "fchownat", "utimensat", "futimesat", "fchmod", "fchown", "ftruncate", "fsetxattr", "fremovexattr",
+           "truncate64", "ftruncate64", "chown32", "lchown32", "fchown32", "utimensat_time64"}
+TIMES = {"utime", "utimes", "utimensat", "futimesat", "utimensat_time64"}
 # After these, what a process opens is not what the trace names, or is not in the trace at all.
 OF_PROCESS = re.compile(r"/proc/(?:(\d+)/|loadavg$)")
-SHARING = {"shmget", "semget", "msgget", "mq_open"}
+SHARING = {"shmget", "semget", "msgget", "mq_open", "add_key", "request_key"}
 SOCKET = re.compile(r'sun_path="((?:[^"\\]|\\.)*)"')
 HIDING = {"chroot", "pivot_root", "mount", "move_mount", "umount", "umount2", "setns", "open_by_handle_at", "io_uring_setup"}
 OF_WRAPPER = {"execve", *MAKES_PROCESS}  # what counts of the recorder's own wrapper
 SCRIPTS = 5  # how many scripts may be the interpreter of one another; the kernel allows no more
+BY_NUMBER = {"fchmod", "fchown", "fchown32", "ftruncate", "ftruncate64", "fsetxattr", "fremovexattr"}
 GIVEN_TIME = re.compile(r"tv_[nu]sec=\d+\}(?: /\*[^*]*\*/)?\]|modtime=")
 MODE = re.compile(r", (0[0-7]*)$")
 TIMED = re.compile(r"\s(-\w*w|--(wait|timeout))")  # `flock -w SECONDS`
@@ -58,9 +62,9 @@ class Calls(Moves):
 
     def on_bind(self, life: Life, call: Call, ok: bool) -> None:
         """A socket with a name is a file, which whoever talks to it opens."""
-        if ok and "AF_UNIX" in call.args or "AF_INET" in call.args and not ANY_PORT.search(call.args):
-            self.sockets.append(" ".join(life.argv)[:100])
         path = SOCKET.search(call.args)
+        if "AF_UNIX" in call.args and (ok or path is None) or "AF_INET" in call.args and not ANY_PORT.search(call.args):
+            self.sockets.append(" ".join(life.argv)[:100])
         found = self.found(life, unescape(path.group(1)), True) if path is not None else None
         if found is not None and call.name == "bind" and ok:
             self.write(life, found, True)
@@ -68,6 +72,10 @@ class Calls(Moves):
             self.put_look(life, found, call.error not in ("ENOENT", "ENOTDIR"), "R")
 
     on_connect = on_bind
+
+    def on_core(self, life: Life, call: Call, ok: bool) -> None:
+        """The kernel keeps the memory of a process that a signal ends, in a file of whose name the trace says nothing."""
+        self.holes.append("a process left its memory in a file that nobody saw (core dumped): " + " ".join(life.argv)[:100])
 
     def on_flock(self, life: Life, call: Call, ok: bool) -> None:
         """Who waits for a lock does the same whoever has it; who does not wait sees whether another has it."""
@@ -165,9 +173,10 @@ class Calls(Moves):
         return self.makes_by_path[path]
 
     def look_at_interpreters(self, life: Life, program: str) -> None:
-        """The kernel reads the interpreter of a script by itself, and that of an interpreter which is a script."""
+        """The kernel reads the interpreter of a script by itself, and that of an interpreter which is a script; so it does with the loader of a program."""
         for _ in range(SCRIPTS):
-            words = self.first_words(self.names.find(life.folder, program, True).path)
+            path = self.names.find(life.folder, program, True).path
+            words = interpreter_words(path) if self.is_inside(path) else self.first_words(path)
             if not words:
                 return
             program = words[0]
@@ -229,6 +238,8 @@ class Calls(Moves):
             return
         if "O_EXCL" in flags:
             self.fresh.add(found.path)
+        if "O_CREAT" in flags and not self.is_inside(found.path):
+            self.put(life, "C", found.path)  # the disk has it after the build: nobody knows whether it was there before
         if "O_WRONLY" not in flags and "O_TRUNC" not in flags and call.name != "creat":
             self.put(life, "R", found.path)
         self.write(life, found, False)
@@ -343,7 +354,7 @@ class Calls(Moves):
         if not path:
             where = folders(call.args)
             path = where[0] if where else ""
-        if not path or not path.startswith("/") and call.name in ("fchmod", "fchown", "ftruncate", "fsetxattr", "fremovexattr"):
+        if not path or not path.startswith("/") and call.name in BY_NUMBER:
             return
         if not ok:
             self.look(life, path, False, True, base=base)

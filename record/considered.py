@@ -35,6 +35,7 @@ class Considered:
         self.builder, self.base = builder, builder.graph.base
         self.writers, self.late = builder.build.writers, builder.graph.late()
         nodes = builder.graph.nodes.values()
+        self.looks = builder.make.first_looks.get(builder.graph.round.start, {})
         self.first = {node.name: node.first for node in nodes if node.rule == 0}
         self.expanding = [node for node in nodes if node.rule == 0 and self.is_expanded(node)]
         self.searches, self.last_parts = Searches(self.base), {os.path.basename(path) for path in self.writers}
@@ -61,7 +62,7 @@ class Considered:
         """Whether the folder of a name was first listed when a recipe had begun: else each schedule sees what was there before."""
         if path not in self.writers:
             return False
-        if self.builder.make.listed.get(os.path.dirname(path), 1 << 60) >= self.builder.first_birth():
+        if self.builder.listed.get(os.path.dirname(path), (0, 1 << 60))[1] >= self.builder.first_birth():
             return True
         self.builder.assumed.add("search", path)
         return False
@@ -125,10 +126,10 @@ class Considered:
     @cached_property
     def pieces(self) -> Dict[str, List[Tuple[str, str]]]:
         """By target: what make did by itself while it considered it, or soon after."""
-        make, found = self.builder.make, {}
+        make, looks, found = self.builder.make, self.looks, {}
         for place, events in make.pieces if self.expanding else ():
             if place > self.builder.first_birth():
-                known = [(make.first_looks.get(node.name, 0), node) for node in self.expanding if self.end(node) > place]
+                known = [(looks.get(node.name, 0), node) for node in self.expanding if self.end(node) > place]
                 since = max((look for look, _ in known if look <= place), default=-1)
                 for node in (node for look, node in known if look == since):
                     found.setdefault(node.name, []).extend((kind, path) for kind, path, _ in events)
@@ -136,7 +137,7 @@ class Considered:
 
     def end(self, node: Node) -> int:
         """When make surely had all prerequisites of a target: it looks at them, or starts its recipe."""
-        looks, works = self.builder.make.first_looks, [self.builder.make.work[id(job)] for job in node.jobs if id(job) in self.builder.make.work]
+        looks, works = self.looks, [self.builder.make.work[id(job)] for job in node.jobs if id(job) in self.builder.make.work]
         after = [looks[one] for one in node.prerequisites if looks.get(one, 0) > looks.get(node.name, 0)]
         return min([*after, *(life.born for work in works for life in work.lives)], default=1 << 60)
 

@@ -8,6 +8,9 @@ from record.shelltext import loose
 CALL = re.compile(r"\$([({])wildcard[ \t]+")
 REFERENCE = re.compile(r"\$(?:\(([\w.-]+)(?::[^$(){}*?\[]*)?\)|\{([\w.-]+)(?::[^$(){}*?\[]*)?\}|(\w))")
 MAGIC = re.compile(r"[*?\[]")
+# A line of a makefile that is a rule, up to its recipe, and one that includes makefiles: make looks for the names in them.
+RULE = re.compile(r"(?m)^(?!\t)((?:[^\n=#:;]*\\\n)*[^\n=#;]*?:(?![:=])(?:[^\n;#=]*\\\n)*[^\n;#]*)")
+INCLUDE = re.compile(r"(?m)^ *[-s]?include[ \t]+((?:[^\n#]*\\\n)*[^\n#]*)")
 BRACKETS = {"(": ")", "{": "}"}
 NAMED = "\x01"  # names without a pattern
 UNKNOWN = "\x02"  # anything
@@ -74,6 +77,16 @@ def patterns(texts: List[str], values: Dict[str, str]) -> Set[str]:
         found.update(parts(words, macros))
     if macros.text.count("wildcard") > len(calls):
         found.add("*")
+    return found
+
+
+def listed(texts: List[str], values: Dict[str, str]) -> Set[str]:
+    """The patterns in rules and in lines that include makefiles; `*` where a macro in them may hold any."""
+    macros = Macros("\n".join(texts), values)
+    found: Set[str] = set()
+    for text in [*RULE.findall(macros.text), *INCLUDE.findall(macros.text)]:
+        if not macros.is_plain(text):
+            found.update(part for word in text.replace("\\\n", " ").split() for part in (["*"] if "$" in word and not macros.is_plain(word) else loose(word).split("/")) if MAGIC.search(part))
     return found
 
 

@@ -2,7 +2,8 @@
 
 import os
 import re
-from typing import Dict, Iterator, List, Tuple
+from itertools import combinations
+from typing import Dict, Iterator, List, Optional, Tuple
 
 from record import shelltext
 from record.assumptions import Assumptions
@@ -109,9 +110,35 @@ def at_once_in(work: Work, target: str, assumed: Assumptions) -> None:
     for life in sorted(work.lives, key=lambda life: life.born):
         for path in {path for kind, path in life.events if kind in "RWD" and path in written}:
             table.setdefault(path, []).append(life)
+    beside_others = branches(work)
     for path, who in table.items():
-        if overlap(path, who):
+        if overlap(path, who) or beside_others and overlap_above(path, who, beside_others):
             assumed.add("at-once", "%s in %s" % (path, target))
+
+
+def branches(work: Work) -> Dict[int, List[Life]]:
+    """For each process of a work, by its id, those of it and of who started it that ran beside another child of one process."""
+    found: Dict[int, List[Life]] = {}
+    for life in sorted(work.lives, key=lambda life: life.born):
+        last: Optional[Life] = None
+        for child in sorted(life.children, key=lambda child: child.born):
+            above = found.setdefault(id(child), list(found.get(id(life), ())))
+            if last is not None and child.born < last.died:
+                found[id(last)] = list(dict.fromkeys([*found[id(last)], last]))
+                above.append(child)
+            last = child if last is None or child.died > last.died else last
+    return {key: lives for key, lives in found.items() if lives}
+
+
+def overlap_above(path: str, who: List[Life], beside_others: Dict[int, List[Life]]) -> bool:
+    """Whether two processes touch a file, one of which writes it, below two that one process started and that ran at the same time."""
+    table: Dict[int, Dict[int, Tuple[Life, bool]]] = {}
+    for life in who:
+        for up in beside_others.get(id(life), ()):
+            children = table.setdefault(id(up.parent), {})
+            children[id(up)] = (up, writes(life, path) or id(up) in children and children[id(up)][1])
+    pairs = (pair for children in table.values() for pair in combinations(children.values(), 2))
+    return any((wrote or wrote_too) and one.born < other.died and other.born < one.died for (one, wrote), (other, wrote_too) in pairs)
 
 
 def outlived(owners: Owners, assumed: Assumptions) -> None:

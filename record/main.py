@@ -34,10 +34,11 @@ from record.ninja_import import beside, import_ninjas
 from record.ninja_import import versions as ninja_versions
 from record.ninja_runs import Kept, Ninja
 from record.owners import Make, Owners
+from record.past import Past, beginning
 from record.progress import watched
 from record.python import settle
 from record.report import Judged, colours, read_json, report
-from record.skips import sift, unseen_changes
+from record.skips import SYSTEM, sift, unseen_changes
 from record.strace import read_trace
 from record.unasked import unasked
 from record.warm import stand_alone, warm_names
@@ -46,7 +47,7 @@ from record.wrapper import note_output
 
 HERE = Path(__file__).resolve().parent
 CALLS = ("%file,fchdir,getdents64,getdents,clone,clone3,fork,vfork,fchmod,fchown,ftruncate,fsetxattr,fremovexattr,connect,bind,flock,"
-         "shmget,semget,msgget,mq_open,umask,setns,open_by_handle_at,io_uring_setup")
+         "shmget,semget,msgget,mq_open,?add_key,?request_key,umask,setns,open_by_handle_at,io_uring_setup,?fchown32,?ftruncate64")
 STRACE = ["strace", "-f", "-q", "-y", "--seccomp-bpf", "-s", "131072", "-e", "signal=hup,int,quit,abrt,kill,segv,pipe,term,xfsz", "-e", "trace=" + CALLS]
 EXAMPLE = """examples:
   race-record -- make -C src all       one serial build, then the verdict
@@ -125,7 +126,7 @@ def replay_trace(spool: Path, names: Names, real: str, folder: str, tops: List[s
     mask = os.umask(0)
     os.umask(mask)
     replay = Calls(names, str(spool), os.path.realpath(real), folder, tops, mask)
-    trace = spool / ("sifted" if (spool / "sifted").exists() else "trace")
+    trace = spool / ("sifted" if (spool / "sifted").exists() and not names.leads_to(SYSTEM) else "trace")
     with open(trace, encoding="latin-1", newline="\n") as lines:
         for event in read_trace(watched(lines, trace.stat().st_size)):
             replay.play(event)
@@ -154,6 +155,7 @@ def import_record(spool: Path, names: Names, kept: Kept, real: str, folder: str,
     if owners.makes:
         assumed.add("serial", "")
     record.holes += replay.holes + owners.holes
+    record.holes += ["nobody knows who started a process: " + one for one in replay.strays()]
     record.holes += ["a make ran past the recorder: " + p for p in replay.past]
     for path in sorted(spool.glob("*.past")):
         record.holes += ["a make that prints its own words (-d, -p, --debug) ran past the recorder: " + t for t in path.read_text(errors="replace").splitlines()]
@@ -174,14 +176,12 @@ def import_record(spool: Path, names: Names, kept: Kept, real: str, folder: str,
     for path in sorted(set(replay.progress)):
         assumed.add("progress", path)
     add_granted(owners, assumed, str(spool))
-    builds = []
-    for make in sorted(owners.makes, key=lambda m: m.life.born):
-        for number, one in enumerate(make.words.rounds):
-            acts = [t for n, t in make.acts if n == number]
-            if one.jobs or acts:
-                builder = Builder(make, number, names, assumed)
-                builds.append(builder.run())
-                record.holes += builder.holes
+    builds, past = [], Past(names.before, replay.changes)
+    for place, make, number in sorted(((beginning(m, n), m, n) for m in owners.makes for n in range(len(m.words.rounds))), key=lambda found: found[0]):
+        if make.words.rounds[number].jobs or any(n == number for n, _ in make.acts):
+            builder = Builder(make, number, names, assumed, past.until(place))
+            builds.append(builder.run())
+            record.holes += builder.holes
     builds = sorted(builds + of_ninja, key=lambda build: build.make.life.born)
     return Imported(builds, assumed, replay.all, ninjas, idle_targets(owners, names))
 

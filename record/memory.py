@@ -49,7 +49,7 @@ def own_folders(builder: "Builder", node: Node) -> Optional[Set[str]]:
 def share_listings(builder: "Builder") -> None:
     """Make lists a folder once. A recipe that looks for names there later sees the same, and in another order it may be the first."""
     make, began = builder.make, builder.first_birth()
-    late = {folder: place for folder, place in make.listed.items() if place > began}
+    late = {folder: first for folder, (first, last) in builder.listed.items() if last > began}
     for node in builder.graph.nodes.values() if late else ():
         asked = folders_asked(builder.known, builder.names, node) if node.jobs or node.must and node.has_recipe else set()
         for folder, place in late.items():

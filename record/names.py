@@ -246,6 +246,11 @@ class Names:
             return Found(os.path.normpath(join(here, rest)), None, None, "", links, here)
         return Found(node.path(), node, node.parent, node.name, links)
 
+    def leads_to(self, folders: Iterable[str]) -> bool:
+        """Whether a link from before the build leads to a folder below some folders of the root: a name that begins in a top may then end there."""
+        real = (self.find("/", path, True).path for path, kind in self.before.items() if kind == "l")
+        return any(path.split("/")[1] in folders and os.path.isdir(path) for path in real)
+
     def aliases(self, inode: Optional[Inode]) -> List[str]:
         """All names of a file."""
         if inode is None or inode.kind == "d":

@@ -8,6 +8,7 @@ from record.assumptions import Assumptions
 from record.build import Builder
 from record.folders import add_folders, parents
 from record.graph import Build, Node, Task, befores, order_tasks
+from record.inner import add_inner
 from record.names import Names, join
 from record.ninja_fix import owner_of
 from record.ninja_manifest import Edge
@@ -193,6 +194,7 @@ class NinjaBuilder(Builder):
         created = self.created()
         for at, task in enumerate(self.build.tasks):
             self.add_events(at, self.events(task), created)
+        add_inner(self, created)
         count_listings(self, created)
         add_folders(self)
         note_sources(self)

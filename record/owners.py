@@ -9,7 +9,7 @@ from functools import cached_property
 from pathlib import Path
 from typing import TYPE_CHECKING, Dict, Iterable, List, Optional, Set, Tuple
 
-from record.globs import patterns
+from record.globs import listed, patterns
 from record.lives import Act, Key, Life
 from record.options import asks_jobs
 from record.words import SEVERAL, Job, Round, Words, makefiles
@@ -43,10 +43,14 @@ class Make:
     folder: str
     work: Dict[int, Work] = field(default_factory=dict)  # by id of the job
     acts: Dict[Tuple[int, str], Work] = field(default_factory=dict)  # by number of the round and target
-    globs: List[str] = field(default_factory=list)
+    globs: List[str] = field(default_factory=list)  # patterns that it asks for by `wildcard`
+    listed_first: List[str] = field(default_factory=list)  # those of rules, and of lines that include makefiles
+    ready: List[int] = field(default_factory=list)  # for each start: when it had read its makefiles
+    is_called: bool = False  # a make above calls it by `$(shell ..)`: it has the environment with which that was started
     listed: Dict[str, int] = field(default_factory=dict)  # folder: when it was first listed by make itself
     looked: Dict[str, Dict[str, int]] = field(default_factory=dict)  # name as make spells it: the paths that it led to, and when first
-    first_looks: Dict[str, int] = field(default_factory=dict)  # target: when make first looked at it
+    lists: List[Tuple[int, str]] = field(default_factory=list)  # each list of a folder that it read by itself, or piece of one
+    first_looks: Dict[int, Dict[str, int]] = field(default_factory=dict)  # by start and target: when make first looked at it
     pieces: List[Tuple[int, List[Tuple[str, str, int]]]] = field(default_factory=list)  # what it did by itself, where it expands prerequisites late
 
     @cached_property
@@ -63,12 +67,24 @@ class Make:
         kinds = self.kinds.get(path, set())
         return len(self.life.starts) < 2 and "N" in kinds and "R" not in kinds and not os.path.lexists(path)
 
+    def begin(self, start: int) -> int:
+        """When it began, or began again: then it knows nothing of what it has listed."""
+        return self.life.starts[start][0] if start < len(self.life.starts) else 1 << 60
+
+    def listed_in(self, start: int) -> Dict[str, Tuple[int, int]]:
+        """When each folder was listed after a start: when its list was begun, and when the last piece was read."""
+        found: Dict[str, Tuple[int, int]] = {}
+        for place, path in self.lists:
+            if self.begin(start) <= place < self.begin(start + 1):
+                found[path] = (found[path][0] if path in found else place, place)
+        return found
+
     def has_one_slot(self) -> bool:
         """Whether it runs one job at a time whatever the user says: by its words, or as no make above hands it jobs. The words of
         a make that none is above are the user's own."""
         if not any(life.is_make or life.is_ninja for life in self.life.up() if life is not self.life):
             return False
-        return self.words.slots == "1" if self.words.slots else not self.words.below and not asks_jobs([], self.words.flags)
+        return self.words.slots == "1" if self.words.slots else not (self.words.below or self.is_called or asks_jobs([], self.words.flags))
 
 
 class Owners:
@@ -95,11 +111,12 @@ class Owners:
             self.holes.extend(make.words.holes)
             self.match_jobs(make)
         for make in self.makes:
+            make.is_called = self.is_called(make)
             self.collect(make)
 
     def add_make(self, life: Life, words: Words) -> None:
         make = Make(words, life, self.folder_of(life, words))
-        make.globs = self.patterns_of(make)
+        make.globs, make.listed_first = self.patterns_of(make)
         self.makes.append(make)
         self.of_life[id(life)] = make
         if words.status is None:
@@ -119,16 +136,16 @@ class Owners:
         return folder
 
     @staticmethod
-    def patterns_of(make: Make) -> List[str]:
-        """The patterns of `$(wildcard ..)` in the makefiles that were read."""
+    def patterns_of(make: Make) -> Tuple[List[str], List[str]]:
+        """The patterns of `$(wildcard ..)` in the makefiles that were read, and those of rules."""
         texts = [make.words.args, make.words.flags]
         for name in makefiles(make.words):
             try:
                 texts.append(Path(make.folder, name).read_text(errors="replace"))
             except OSError:
                 if not make.never_read(name):
-                    return ["*"]
-        return sorted(patterns(texts, make.words.values()))
+                    return ["*"], []
+        return sorted(patterns(texts, make.words.values())), sorted(listed(texts, make.words.values()))
 
     def match_jobs(self, make: Make) -> None:
         """The k-th process of a number that make started is its k-th job of that number."""
@@ -161,6 +178,14 @@ class Owners:
         children = sorted(make.life.children, key=lambda life: life.born)
         return any(second.born < first.died for first, second in zip(children, children[1:]))
 
+    def is_called(self, make: Make) -> bool:
+        """Whether a make above calls a make by `$(shell ..)`, and leaves MAKEFLAGS as that make has found it: it may ask for several jobs."""
+        chain = list(make.life.up())
+        for child, up in zip(chain, chain[1:]):
+            if up.is_make or up.is_ninja:
+                return up.is_make and id(child) not in self.jobs and not any("MAKEFLAGS" in word for one in chain[:chain.index(up)] for argv in one.ran for word in argv)
+        return False
+
     # ---------------------------------------------------------------- what jobs did
     def below(self, life: Life) -> Iterable[Life]:
         """A life and all that it started."""
@@ -179,7 +204,7 @@ class Owners:
                 work.makes.append(make)
             for (kind, path), place in one.events.items():
                 if kind == "Q":
-                    for pattern in make.globs if make is not None else ["*"]:
+                    for pattern in [*make.globs, *make.listed_first] if make is not None else ["*"]:
                         work.add("L", path + "\0" + pattern, place)
                 else:
                     work.add(kind, path, place)
@@ -193,11 +218,13 @@ class Owners:
         for act in make.life.acts:
             if act.kind == "Q":
                 make.listed.setdefault(act.path, act.place)
+                make.lists.append((act.place, act.path))
             if act.word:
                 make.looked.setdefault(act.word, {}).setdefault(act.path, act.place)
         for start, (begin, _) in enumerate(make.life.starts):
             end = make.life.starts[start + 1][0] if start + 1 < len(make.life.starts) else 1 << 60
-            self.place_acts(make, start, self.read_by(make, start, begin, end), end)
+            make.ready.append(self.read_by(make, start, begin, end))
+            self.place_acts(make, start, make.ready[-1], end)
 
     def read_by(self, make: Make, start: int, begin: int, end: int) -> int:
         """When make had read its makefiles, or found that they are not there: it looks at the first of them again."""
@@ -233,8 +260,7 @@ class Owners:
                 work = Work()
                 self.take(work, life)
                 pieces.append((life.born, [(k, p, s) for (k, p), s in work.events.items()], work))
-        looks = self.first_looks(make, names, end)
-        make.first_looks = {**looks, **make.first_looks}
+        looks = make.first_looks[start] = self.first_looks(make, names, make.begin(start), end)
         if any(r.base is not None and ".SECONDEXPANSION" in r.base.prerequisites for _, r in rounds):
             make.pieces += [(place, events) for place, events, _ in pieces]
         for place, events, ran in pieces:
@@ -259,13 +285,13 @@ class Owners:
         return {id(act) for act in make.life.acts if act.kind in "RSN" and act.path in archives}
 
     @staticmethod
-    def first_looks(make: Make, names: Set[str], end: int) -> Dict[str, int]:
+    def first_looks(make: Make, names: Set[str], begin: int, end: int) -> Dict[str, int]:
         """When make first looked at each target: its recipe is expanded behind that. None where its words say how old files are."""
         found: Dict[str, int] = {}
         if re.search(r"(^| )(-[a-zA-Z]*[oW]|--(old|new|what|assume))", make.words.args + " " + make.words.flags):
             return found
         for act in make.life.acts:
-            if act.word in names and act.place < end:
+            if act.word in names and begin <= act.place < end:
                 found.setdefault(act.word, act.place)
         return found
 

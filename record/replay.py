@@ -2,7 +2,7 @@
 
 import os
 import re
-from typing import Dict, List, Set
+from typing import Dict, List, Set, Tuple
 
 from record import shelltext
 from record.lives import Act, Life
@@ -44,6 +44,7 @@ class Replay:
         self.makes_by_path: Dict[str, bool] = {}  # by program: whether it is the make that the recorder knows
         self.scripts: Dict[str, int] = {}  # those whose text compares no ages, and when they were first asked
         self.watchers: List[str] = []  # who lists the processes that run, or waits for changes of files
+        self.changes: List[Tuple[int, str, str]] = []  # names that come and go, in order
         self.askers: List[str] = []  # who asks when a file was read last
         self.is_open_shell = bool(shelltext.SHELL_MACROS & {*os.environ})  # shells may have other options than their words say
 
@@ -81,6 +82,10 @@ class Replay:
     def rewritten(self) -> List[str]:
         """Scripts that were changed when they had run: what is read of them now is not what ran."""
         return [path for life in self.all for path, place in life.changed.items() if place > self.scripts.get(path, 1 << 60)]
+
+    def strays(self) -> List[str]:
+        """Processes of which nobody knows who started them: in a name space of its own a process has another number than in the trace."""
+        return [" ".join(life.argv)[:100] for life in self.all[1:] if not life.adopted] + ["number %d" % pid for pid in self.waiting]
 
     @staticmethod
     def inherit(child: Life, parent: Life) -> None:
@@ -157,6 +162,8 @@ class Replay:
             life.events[kind, path] = self.place
         if kind in "WCD":
             life.changed[path] = self.place
+        if kind in "CDMX":
+            self.changes.append((self.place, kind, path))
 
     def is_inside(self, path: str) -> bool:
         """Whether a path is in one of the folders that the build works in."""

@@ -116,6 +116,12 @@ MAKES_PROCESS = ("clone", "clone3", "fork", "vfork")
 UNFINISHED = "<unfinished ...>"
 
 
+def ends(pid: int, text: str) -> List[Event]:
+    """What a line about the end of a process says: also that the kernel has kept its memory."""
+    kept: List[Event] = [Call(pid, "core", "", 0, "")] if "(core dumped)" in text else []
+    return kept + ([] if "superseded" in text else [Ended(pid)])
+
+
 def read_trace(lines: Iterable[str]) -> Iterator[Event]:
     """The events of a trace, one at a time. Most lines are a whole call: these take the short way."""
     begun: Dict[int, str] = {}  # by process: the call that is not finished
@@ -127,9 +133,8 @@ def read_trace(lines: Iterable[str]) -> Iterator[Event]:
         if pid is None and number.isdecimal():
             pid = pids[number] = int(number)
         if pid is None or text[:1] in "+-<" or text.endswith(UNFINISHED):
-            event, text = odd(line, pid, text, begun)
-            if event is not None:
-                yield event
+            events, text = odd(line, pid, text, begun)
+            yield from events
             if not text or pid is None:
                 continue
         call = said(text)
@@ -142,20 +147,20 @@ def read_trace(lines: Iterable[str]) -> Iterator[Event]:
             yield Call(pid, call.name, call.args, -1, "ENXIO")
 
 
-def odd(line: str, pid: Optional[int], text: str, begun: Dict[int, str]) -> Tuple[Optional[Event], str]:
+def odd(line: str, pid: Optional[int], text: str, begun: Dict[int, str]) -> Tuple[List[Event], str]:
     """What a line says that is no whole call, and the text of a call that is finished by it."""
     if pid is None:
-        return (Unread(line.strip()) if line.strip() else None), ""
+        return ([Unread(line.strip())] if line.strip() else []), ""
     if text.startswith("+++"):
-        return (None if "superseded" in text else Ended(pid)), ""
+        return ends(pid, text), ""
     if text.startswith("---"):
-        return None, ""
+        return [], ""
     if text.endswith(UNFINISHED):
         begun[pid] = text[: -len(UNFINISHED)].rstrip()
-        return (Begun(pid) if text.startswith(MAKES_PROCESS) else None), ""
+        return ([Begun(pid)] if text.startswith(MAKES_PROCESS) else []), ""
     if not text.startswith("<... "):
-        return (None if text else Unread(line.strip())), text
+        return ([] if text else [Unread(line.strip())]), text
     first = begun.pop(pid, None)
     if first is None:
-        return (None if " = ?" in text else Unread(line.strip())), ""
-    return None, first + text[text.index("resumed>") + len("resumed>"):]
+        return ([] if " = ?" in text else [Unread(line.strip())]), ""
+    return [], first + text[text.index("resumed>") + len("resumed>"):]

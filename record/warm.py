@@ -2,13 +2,15 @@
 
 import os
 import re
-from typing import Dict, List, Set
+from typing import Dict, Iterator, List, Set
 
-from record.graph import Build, Graph, Node
+from record.graph import Build, Graph, Node, Task
+from record.looked import is_below
 from record.names import Names
 from record.ninja_runs import Ninja
 
 BUILDS = re.compile(r"make|ninja", re.I)  # a recipe that may run several others
+MAKES_FOLDER = re.compile(r"\s*[@+-]*\s*mkdir\s+(?:(?:-p|--parents)\s+)?(?:\$@|\$\(@\)|([^\s;&|<>`$*?\[]+?))/?\s*")
 
 
 def warm_names(builds: List[Build], ninjas: List[Ninja], names: Names) -> List[str]:
@@ -17,6 +19,7 @@ def warm_names(builds: List[Build], ninjas: List[Ninja], names: Names) -> List[s
     What a tool makes to read it itself (makefiles, manifests) is no part of the question: configuring made it.
     """
     found: Set[str] = set()
+    left = {path for build in builds for path in left_folders(build, builds, names)}
     for build in builds:
         if build.tool == "make" and build.stage == "goals":
             found.update(node.path for node in build.graph.nodes.values() if node.has_recipe and not node.phony and not is_new_link(build, node, names))
@@ -25,7 +28,30 @@ def warm_names(builds: List[Build], ninjas: List[Ninja], names: Names) -> List[s
             found.difference_update(node.path for node in build.graph.nodes.values())
     for ninja in ninjas:
         found.update(targets_of(ninja, names))
-    return sorted(path for path in found if names.before.get(path) in ("f", "l"))
+    return sorted({*left, *(path for path in found if names.before.get(path) in ("f", "l"))})
+
+
+def left_folders(build: Build, builds: List[Build], names: Names) -> Iterator[str]:
+    """Targets that are folders in which there were no files before the build: an earlier one may have left them. Not those whose recipe
+    makes the folder and does nothing else, where all who use the folder wait for it."""
+    nodes = build.graph.nodes.values() if build.tool == "make" and build.stage == "goals" else ()
+    for node in nodes:
+        if node.has_recipe and not node.phony and names.before.get(node.path) == "d" and not any(kind != "d" and is_below(path, node.path) for path, kind in names.before.items()):
+            lines = [MAKES_FOLDER.fullmatch(line) for line in build.graph.base.recipes.get(node.name, [])]
+            is_plain = bool(lines) and all(line and line.group(1) in (None, node.name.rstrip("/")) for line in lines)
+            if not is_plain or any(True for _ in early_users(build, builds, node)):
+                yield node.path
+
+
+def early_users(build: Build, builds: List[Build], node: Node) -> Iterator[Task]:
+    """The tasks that use a folder, and do not wait for the rule that makes it."""
+    inside = {id(make) for task in build.tasks for work in task.works for make in work.makes}
+    for other in builds:
+        own = [at for at, task in enumerate(other.tasks) if any(make is build.make for work in task.works for make in work.makes)]
+        for at, task in enumerate(other.tasks) if other is build or id(other.make) not in inside else ():
+            waits = node.label in build.graph.reached_from([task.node.label]) if other is build else any(one == at or other.is_before(one, at) for one in own)
+            if not waits and any(is_below(path, node.path) for work in task.works for _, path in work.events):
+                yield task
 
 
 def is_new_link(build: Build, node: Node, names: Names) -> bool:

@@ -4,7 +4,7 @@ import re
 from dataclasses import dataclass, field
 from functools import cached_property, lru_cache
 from pathlib import Path
-from typing import Dict, Iterable, List, Optional, Set, Tuple
+from typing import Dict, Iterable, Iterator, List, Optional, Set, Tuple
 
 from record.database import Base, read_base
 
@@ -14,6 +14,7 @@ CONSIDERED = re.compile(r"^( *)(Considering target file|Pruning file) '(.*)'\.$|
 VPATH = re.compile(r"^ *No need to remake target '(.*)'; using VPATH name '(.*)'\.$")
 FINISHED = re.compile(r"^ *Finished prerequisites of target file '(.*)'\.$")
 MUST = re.compile(r"^ *Must remake target '(.*)'\.$")
+FAILED = re.compile(r"^ *Failed to remake target file '(.*)'\.$")
 RUNNING = re.compile(r" *Recipe of '")  # make says so where it does not wait for a recipe
 SEVERAL = "a makefile or GNUMAKEFLAGS asks for several jobs, and so they ran; say -j1: make "
 READING = re.compile(r"^Reading makefile '(.*)'((?: \([^)]*\))*)\.\.\.$")
@@ -49,6 +50,7 @@ class Round:
     goals: List[str] = field(default_factory=list)
     jobs: List[Job] = field(default_factory=list)
     must: Dict[str, int] = field(default_factory=dict)  # target: jobs before its line
+    failed: List[str] = field(default_factory=list)
     vpath: Dict[str, str] = field(default_factory=dict)
     base: Optional[Base] = None
 
@@ -195,6 +197,8 @@ class _Reader:
             self.round.vpath[vpath.group(1)] = vpath.group(2)
         elif must:
             self.round.must.setdefault(must.group(1), len(self.round.jobs))
+        elif FAILED.match(text):
+            self.round.failed.append(FAILED.match(text).group(1))  # type: ignore[union-attr]
 
 
 def base_hole(lines: List[str]) -> str:
@@ -221,6 +225,16 @@ def take_base(words: Words, lines: List[str]) -> None:
         one.base = one.base or found
 
 
+def failures(words: Words) -> Iterator[str]:
+    """Recipes that failed, and make went on, since no makefile has to be there that needs them. Of what such a makefile needs besides, one
+    job runs nothing more, and several run it."""
+    for one in words.rounds:
+        ran, needed = {job.target for job in one.jobs}, {name for node in one.nodes.values() for name in node.prerequisites}
+        for name in one.failed if one.stage == "makefiles" else ():
+            if name in ran & needed:
+                yield "a recipe failed for a makefile that need not be there, and what stands behind it did not run: %s" % name
+
+
 def read_words(pid: int, life: int, lines: Iterable[str]) -> Words:
     """What a make process said, of the lines that the wrapper kept: each of its starts ends in a data base."""
     words = Words(pid, life)
@@ -239,6 +253,7 @@ def read_words(pid: int, life: int, lines: Iterable[str]) -> Words:
             reader.line(text)
     if base:
         take_base(words, base)
+    words.holes += failures(words)
     if bases != len(words.read):
         words.holes.append("a make that began %d times printed %d data bases: make %s" % (len(words.read), bases, words.args))
     return words

@@ -40,6 +40,13 @@ PRINTS: Dict[str, Dict[str, str]] = {
     "all: x ; @echo done\nx: y | d ; @touch x\nd: ; @mkdir d\n": {"x": "", "y": ""},
     "all: x.t\n%.t: %.i ; cp $< $@\n%.i: %.s ; cp $< $@\n": {"x.s": "s"},
 }
+# Makes inside a recipe that ask for a name by lists of folders: the makefile, what another recipe writes, its text, and other files.
+TWO_RULES = "%.t: %.a ; cp $< $@\n%.t: %.b ; cp $< $@\n"
+INSIDE = (
+    ("all: z.t\n" + TWO_RULES, "z.a", "a", {"z.b": "b\n"}), ("VPATH = v w\nall: x.c ; cp $< $@\n", "v/x.c", "v", {"v/k": "", "w/x.c": "w\n"}),
+    ("all: e/*.c ; cat $^ > $@\n", "e/n.c", "n", {"e/k.c": "k\n"}), ("include e/*.mk\nall: ; @echo $(V) > $@\n", "e/n.mk", "V = 1", {"e/k.mk": "U = 1\n"}),
+    ("all: ; @echo 1 > $@\n", "makefile", "all: ; @echo 2 > $@", {}), ("C = e/*.c\nall: $(C) ; cat $^ > $@\n", "e/n.h", "n", {"e/k.c": "k\n"}),
+)
 LISTS = (("find NAME.d > $@", "listings"), ("find NAME.d | sort > $@", ""), ("ls NAME.d > $@", ""), ("echo NAME.d/* > $@", ""))
 
 
@@ -51,6 +58,7 @@ class GadgetDraw(Draw):
         shapes: Dict[str, Callable[[str], Block]] = {
             "macro": self.macro, "keeper": self.keeper, "handed": self.handed, "kept": self.kept, "prints": self.prints, "interpreter": self.interpreter,
             "modes": self.modes, "ages": self.ages, "listing": self.listing, "inherited": self.inherited, "archive": self.archive,
+            "inside": self.inside, "searched": self.searched, "past": self.past,
         }
         self.shapes += [shapes[name] for name in shapes if not only or name in only]
         if not self.shapes:
@@ -161,6 +169,32 @@ class GadgetDraw(Draw):
         text += self.plain("NAME.s", "", "touch $@") + self.plain("NAME.c", "", "echo '$(V)' > $@")
         breaks = {name + end: "inherited" for end in ("", ".b", ".c")} if later in text else {}
         return Block([name, name + ".b"], text.replace("V", "V" + name).replace("NAME", name), {}, breaks)
+
+    def inside(self, name: str) -> Block:
+        """A make inside a recipe answers from a list of a folder, in which another recipe makes a name."""
+        makefile, written, text, files = self.random.choice(INSIDE)
+        rules = self.plain("NAME", " ".join(self.prerequisites()), "echo '%s' > NAME.d/%s; touch $@" % (text.replace("$", "$$"), written))
+        rules += self.plain("NAME.in", self.unless("NAME"), "$(MAKE) -s --no-print-directory -C NAME.d; touch $@")
+        self.done.append(name)
+        return Block(self.pair(name, name + ".in"), rules.replace("NAME", name), {"%s.d/%s" % (name, key): one for key, one in {**files, "Makefile": makefile}.items()})
+
+    def searched(self, name: str) -> Block:
+        """Make searches an implicit rule, or a search path, while a recipe makes a name that it looks for."""
+        text = self.plain("NAME", "", self.random.choice(("echo a > NAME.d/z.a", "rm NAME.d/z.c")) + "; touch $@")
+        is_path = self.random.random() < 0.5
+        text += "vpath %.c NAME.d NAME.e\nNAME.t: z.c ; @$N $@; cp $< $@\n" if is_path else TWO_RULES.replace("cp", "@$N $@; cp")
+        target = name + (".t" if is_path else ".d/z.t")
+        text += "%s: %s\n" % (target, self.unless("NAME"))
+        self.done.append(name)
+        return Block(self.pair(name, target), text.replace("NAME", name), {name + ".d/z.b": "b\n", name + ".d/z.c": "c\n", name + ".e/z.c": "e\n"})
+
+    def past(self, name: str) -> Block:
+        """A make inside a recipe finds a target that the make above has made, and what it needs may be made again."""
+        inner = HEAD + "all: %s\nt: p\n\t@$N $@; echo made >> log; touch $@\ng: %s\n\t@$N $@; touch p $@\n"
+        goals, needed = self.random.choice((("g t", ""), ("t g", ""), ("g t", "t")))
+        text = self.plain("NAME", " ".join(self.prerequisites()), "touch NAME.d/t $@; sleep 0.02") + self.plain("NAME.in", "NAME", "$(MAKE) -s --no-print-directory -C NAME.d; touch $@")
+        self.done.append(name)
+        return Block([name + ".in"], text.replace("NAME", name), {name + ".d/Makefile": inner % (goals, needed), name + ".d/p": ""})
 
     def archive(self, name: str) -> Block:
         """Two members of one archive."""

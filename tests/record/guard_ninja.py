@@ -34,6 +34,10 @@ WARM: List[Guard] = [
     Guard("ninja, warm: a header that the log knows is no input", "ninja_build.py", AFTER, BY_LOG, ninja("warm-by-log-of-headers"), LOST_RACE),
     Guard("ninja, fresh: logs of earlier builds go", "fresh.py", "Path(logs, name).unlink(missing_ok=True)", "pass", "test_ninja.Fresh.test_logs_go"),
 ]
+INSIDE: List[Guard] = [
+    Guard("ninja, makes inside: names that are searched", "ninja_build.py", "        add_inner(self, created)\n", "", ninja("search-of-a-make-inside"), YES),
+    Guard("ninja, ninjas inside: ages of folders", "inner.py", "chain(by_ninja, *ages)", "chain((), *ages)", ninja("age-of-a-folder-inside"), YES),
+]
 HOLES: List[Guard] = [
     Guard("ninja, holes: a command of nobody", "ninja_runs.py", 'self.holes.append("ninja ran a command that no', 'str("ninja ran a command that no', runs("command_that_no_statement_has")),
     Guard("ninja, holes: a command that is cut", "ninja_runs.py", " or any(job.life.cut for job in jobs):", ":", runs("command_that_is_cut")),
@@ -89,4 +93,4 @@ OWN: List[Guard] = [
     Guard("listings of interpreters count for make", "calls.py", "for pattern in shelltext.patterns(life.argv, life.cut):", "for pattern in () if shelltext.is_interpreter(life.argv) else shelltext.patterns(life.argv, life.cut):", case("python-lists"), YES),
     Guard("listings of interpreters count for make, of their own folder", "calls.py", "for pattern in shelltext.patterns(life.argv, life.cut):", "for pattern in () if shelltext.is_interpreter(life.argv) else shelltext.patterns(life.argv, life.cut):", case("python-lists-its-folder"), YES),
 ]
-NINJA_GUARDS = WARM + HOLES + ATTRIBUTION + ORDER + OWN
+NINJA_GUARDS = WARM + INSIDE + HOLES + ATTRIBUTION + ORDER + OWN

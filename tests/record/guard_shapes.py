@@ -31,4 +31,12 @@ SHAPES: Dict[str, str] = {
     "said: programs that may compare ages": "ages",
     "said: macros that are inherited": "inherited",
     "said: the order of listings": "listing",
+    "makes inside: names that are searched": "inside",
+    "makes inside: search paths": "inside",
+    "makes inside: patterns of rules": "inside",
+    "makes inside: lines that include makefiles": "inside",
+    "makes inside: makefiles that they look for": "inside",
+    "first looks: names that are searched": "searched",
+    "search paths": "searched",
+    "past: what earlier makes made": "past",
 }

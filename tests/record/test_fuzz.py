@@ -10,6 +10,8 @@ from fuzz_builds import Outcome, Result, assumptions, differences, judge, parts
 from fuzz_gadgets import COMMANDS, GadgetDraw
 from fuzz_ninja import NinjaDraw, NinjaProject
 from fuzz_projects import Block, Draw, Project, load
+from guard_found import FOUND_GUARDS
+from guard_hidden import HIDDEN_GUARDS
 from guard_shapes import SHAPES
 from guard_table import GUARDS
 from record.assumptions import TEXTS
@@ -82,7 +84,7 @@ class Projects(unittest.TestCase):
         """Over many seeds each shape is drawn, and what the command asks for; a shape alone is drawn where that is asked for."""
         drawn = [GadgetDraw(seed).draw() for seed in range(150)]
         text = "".join(project.makefile() for project in drawn)
-        for word in ("$(eval Vt", "$$(shell", "obj1", "$(MFLAGS)", "> $@ 2>&1", "| cat > $@", "mkdir -p -m 700", "touch -r", "cp -p", "tar xf", "find t", ": Vt", "ar rcD", ".x -s all"):
+        for word in ("$(eval Vt", "$$(shell", "obj1", "$(MFLAGS)", "> $@ 2>&1", "| cat > $@", "mkdir -p -m 700", "touch -r", "cp -p", "tar xf", "find t", ": Vt", "ar rcD", ".x -s all", "vpath %.c", ".d; touch", ".d/t "):
             self.assertIn(word, text)
         self.assertEqual({"-j1"}, {word for project in drawn for word in project.recorded})
         self.assertTrue(any(p.is_script for p in drawn) and any(p.head for p in drawn) and any(p.values for p in drawn))
@@ -90,7 +92,7 @@ class Projects(unittest.TestCase):
             self.assertTrue(all(block.text for block in GadgetDraw(1, [name]).draw().blocks), name)
 
     def test_shapes_of_guards(self) -> None:
-        names = {guard.name for guard in GUARDS}
+        names = {guard.name for guard in GUARDS + FOUND_GUARDS + HIDDEN_GUARDS}
         self.assertEqual(set(), set(SHAPES) - names)
 
     def test_manifests(self) -> None:

@@ -1,0 +1,62 @@
+"""The guards of what no call of the trace names: see guard_table.py, and test_hidden.py for the tests."""
+
+from typing import List
+
+from guard_table import FALSE_RACE, LOST_HOLE, UNSAID, YES, Guard, warm
+
+
+def hidden(name: str) -> str:
+    """The test of a makefile of test_hidden.py."""
+    return "test_hidden.Makefiles.test_" + name
+
+
+def trace(name: str) -> str:
+    """A test of lines of a trace."""
+    return "test_hidden.Traces.test_" + name
+
+
+HIDDEN_GUARDS: List[Guard] = [
+    Guard("makes inside: names that are searched", "inner.py", "for name in searched(base, searches, one, target) if", "for name in () if", hidden("search_in_a_make_inside"), YES),
+    Guard("makes inside: by way of other files", "inner.py", "DEPTH if is_deep else 1", "1", hidden("search_by_way_of_a_file_in_a_make_inside"), YES),
+    Guard("makes inside: not the targets of rules", "inner.py", "        if name not in base.prerequisites or", "        if True or", hidden("search_for_what_a_rule_makes_inside"), FALSE_RACE),
+    Guard("makes inside: search paths", "inner.py", "                yield from (path_of(builder, make, name) for name in elsewhere(base, asked))\n", "                yield from ()\n", hidden("search_path_of_a_make_inside"), YES),
+    Guard("makes inside: search paths of other names", "inner.py", 'if pattern in (name, "%") or any(stems("/" + pattern, "/" + name)):', "if True:", hidden("search_path_of_other_names_inside"), FALSE_RACE),
+    Guard("makes inside: search paths that are not needed", "inner.py", " and not is_there(builder, make, name))", ")", hidden("search_path_that_is_not_needed_inside"), FALSE_RACE),
+    Guard("makes inside: patterns of rules", "owners.py", "[*make.globs, *make.listed_first] if make", "make.globs if make", hidden("pattern_of_a_rule_in_a_make_inside"), YES),
+    Guard("makes inside: patterns of other names", "globs.py", "        if not macros.is_plain(text):\n", '        found.add("*")\n        if not macros.is_plain(text):\n', hidden("pattern_of_other_names_inside"), FALSE_RACE),
+    Guard("makes inside: lines that include makefiles", "globs.py", ", *INCLUDE.findall(macros.text)]", "]", hidden("pattern_of_an_include_in_a_make_inside"), YES),
+    Guard("makes inside: makefiles that they look for", "inner.py", "    yield from (join(make.folder, name) for name in default_names(make) if name in last_parts)\n", "", hidden("makefile_that_a_make_inside_looks_for"), YES),
+    Guard("makes inside: makefiles that words name", "inner.py", "() if read else DEFAULTS", "DEFAULTS", hidden("makefile_that_a_make_inside_is_handed"), FALSE_RACE),
+    Guard("makes inside: ages of folders", "inner.py", "(path for path in chain(by_ninja, *ages) if path in created)", "()", hidden("age_of_a_folder_in_a_make_inside"), YES),
+    Guard("makes inside: ages of folders behind a bar", "inner.py", "if name not in base.order_only.get(target, ()) and name", "if name", hidden("age_of_a_folder_behind_a_bar_inside"), FALSE_RACE),
+    Guard("makes inside: ages of folders for new targets", "inner.py", "target not in base.phony and not is_new:", "target not in base.phony:", hidden("age_of_a_folder_for_a_new_target_inside"), FALSE_RACE),
+    Guard("holes: recipes that failed for a makefile", "words.py", "    words.holes += failures(words)\n", "", hidden("failure_for_a_makefile_that_need_not_be_there"), LOST_HOLE),
+    Guard("holes: not makefiles that failed", "words.py", "if name in ran & needed:", "if name in ran:", hidden("failure_of_a_makefile_that_need_not_be_there"), "0 != 2"),
+    Guard("loaders are read", "calls.py", "interpreter_words(path) if self.is_inside(path) else ", "", hidden("loader_that_a_recipe_makes"), YES),
+    Guard("sockets: without a file", "calls.py", "(ok or path is None)", "ok", hidden("socket_without_a_file_that_nobody_opened"), UNSAID),
+    Guard("strays: in no process", "replay.py", 'for life in self.all[1:] if not life.adopted]', "for life in ()]", trace("process_that_nobody_started")),
+    Guard("strays: of several", "replay.py", ' + ["number %d" % pid for pid in self.waiting]', "", trace("process_that_several_may_have_started")),
+    Guard("holes: memory that is kept", "strace.py", 'yield Call(pid, "core", "", 0, "")', "pass", trace("memory_of_a_process_that_a_signal_ends")),
+    Guard("calls of 32 bits", "calls.py", '           "truncate64", "ftruncate64", "chown32", "lchown32", "fchown32", ', "           ", trace("names_of_calls_of_32_bits")),
+    Guard("system: links that lead there", "main.py", " if not names.leads_to(SYSTEM) else None", "", trace("name_that_leads_to_the_system")),
+    Guard("warm: folders that are left", "warm.py", "return sorted({*left, ", "return sorted({", warm("folder_that_a_recipe_does_not_wait_for"), LOST_HOLE),
+    Guard("warm: folders that all wait for", "warm.py", "if not is_plain or any(True for _ in early_users(build, builds, node)):", "if True:", warm("folder_that_all_wait_for"), "0 != 2"),
+    Guard("warm: folders whose recipe does more", "warm.py", "if not is_plain or any(True", "if any(True", warm("folder_whose_recipe_does_more"), LOST_HOLE),
+    Guard("warm: folders with sources", "warm.py", ' and not any(kind != "d" and is_below(path, node.path) for path, kind in names.before.items()):', ":", warm("folder_with_sources"), "0 != 2"),
+    Guard("warm: folders of other makes", "warm.py", "        for at, task in enumerate(other.tasks) if other is build or id(other.make) not in inside else ():", "        for at, task in enumerate(other.tasks) if other is build else ():", warm("folder_of_an_inner_make"), LOST_HOLE),
+    Guard("warm: folders for makes inside", "warm.py", " if other is build or id(other.make) not in inside else ():", ":", warm("folder_for_an_inner_make"), "0 != 2"),
+    Guard("past: what earlier makes made", "main.py", "past.until(place))", "names.before)", hidden("target_that_an_earlier_make_has_made"), YES),
+    Guard("past: what earlier makes removed", "past.py", "            self.now.pop(name, None)\n", "            pass\n", hidden("folder_that_an_earlier_make_has_removed"), YES),
+    Guard("past: what is made while make reads", "past.py", "make.ready[start] if start < len(make.ready) else make.life.born", "make.life.born", hidden("target_that_is_made_while_make_reads"), YES),
+    Guard("past: what is made for a makefile", "past.py", "return max([make.ready", "ended = ()\n    return max([make.ready", hidden("target_that_is_made_for_a_makefile"), YES),
+    Guard("past: what was made in an earlier place", "past.py", "        if place < self.place:\n", "        if False:\n", trace("names_that_come_and_go")),
+    Guard("past: folders that are moved", "past.py", '"M": "d", ', '"M": "f", ', trace("names_that_come_and_go")),
+    Guard("past: folders that the make above made", "past.py", "        elif found == \"d\" or name not in self.now:", "        elif found != \"d\" and name not in self.now:", hidden("folder_that_the_make_above_has_made"), FALSE_RACE),
+    Guard("at once: below others that run at once", "granted.py", " or beside_others and overlap_above(path, who, beside_others):", ":", hidden("two_makes_of_one_recipe_at_once"), UNSAID),
+    Guard("at once: not one after the other", "granted.py", "(wrote or wrote_too) and one.born < other.died and other.born < one.died for", "(wrote or wrote_too) for", hidden("two_makes_of_one_recipe_in_a_row")),
+    Guard("lists: of a make that begins again", "owners.py", "            if self.begin(start) <= place < self.begin(start + 1):", "            if True:", hidden("listing_of_a_make_that_begins_again"), YES,
+          ("memory.py", "if last > began}", "if first > began}")),
+    Guard("lists: in pieces", "owners.py", "found[path] = (found[path][0] if path in found else place, place)", "found.setdefault(path, (place, place))", trace("list_that_is_read_in_pieces")),
+    Guard("serial: not a make that make calls", "owners.py", "self.words.below or self.is_called or", "self.words.below or", hidden("make_that_make_calls"), YES),
+    Guard("serial: a make that make calls without flags", "owners.py", ' and not any("MAKEFLAGS" in word', ' and not any(False', hidden("make_that_make_calls_without_flags"), FALSE_RACE),
+]
