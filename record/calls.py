@@ -157,7 +157,7 @@ class Calls(Moves):
         life.is_ninja = argv == words[1:] and bool(shelltext.NINJA.match(os.path.basename(found.path)))
         if life.is_ninja:
             life.starts.append((self.place, life.folder))
-        life.argv, life.cut = argv, is_cut(call.args)
+        life.argv, life.cut, life.begun = argv, is_cut(call.args), self.place
         life.ran.append(argv)
         if life.is_wrapper:
             return

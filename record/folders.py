@@ -28,6 +28,8 @@ class Folder:
     looks: Dict[int, int] = field(default_factory=dict)  # task: its first look at the folder by its own name
     absent: Set[int] = field(default_factory=set)
     users: Set[int] = field(default_factory=set)
+    first_used: Dict[int, int] = field(default_factory=dict)  # task: when it first used a name below
+    first_asked: Dict[int, int] = field(default_factory=dict)  # task: when it first made the folder, or asked for it
     scripts: Set[int] = field(default_factory=set)  # tasks with a script that makes it where it is not there
     first_made: Dict[int, int] = field(default_factory=dict)
     created: Set[int] = field(default_factory=set)
@@ -76,15 +78,15 @@ def parents(path: str) -> List[str]:
     return found
 
 
-def parents_of_all(paths: Set[str]) -> Set[str]:
-    """The folders above some paths."""
-    found: Set[str] = set()
-    for path in paths:
+def parents_of_all(paths: Dict[str, int]) -> Dict[str, int]:
+    """The folders above some paths, with the first place of what is below."""
+    found: Dict[str, int] = {}
+    for path, place in sorted(paths.items(), key=lambda one: one[1]):
         while path not in ("/", ""):
             path = os.path.dirname(path)
             if path in found:
                 break
-            found.add(path)
+            found[path] = place
     return found
 
 
@@ -93,7 +95,7 @@ def gather(builder: "Builder") -> Dict[str, Folder]:
     table = {p: Folder() for p in builder.made | builder.tried}
     renamed = {p for p in builder.build.writers if p in builder.made}
     for at, events in each(builder) if table else ():
-        touched: Set[str] = set()
+        touched: Dict[str, int] = {}
         for kind, path, place in events:
             path, _, more = path.partition("\0")
             folder = table.get(path)
@@ -102,10 +104,11 @@ def gather(builder: "Builder") -> Dict[str, Folder]:
             elif folder is not None and not path.endswith("/"):
                 note(folder, at, kind, place)
             if kind in "RSWCDMTEXUL" and not path.endswith("/"):
-                touched.add(path)
-        for above in parents_of_all(touched):
+                touched[path] = min(place, touched.get(path, place))
+        for above, place in parents_of_all(touched).items():
             if above in table:
                 table[above].users.add(at)
+                table[above].first_used[at] = min(place, table[above].first_used.get(at, place))
     for path in renamed:
         table[path].created |= set()
     return table
@@ -150,6 +153,8 @@ def note(folder: Folder, at: int, kind: str, place: int) -> None:
         folder.first_made[at] = min(place, folder.first_made.get(at, place))
     if kind in "SsN":
         folder.looks[at] = min(place, folder.looks.get(at, place))
+    if kind in "MTEKSsN":
+        folder.first_asked[at] = min(place, folder.first_asked.get(at, place))
 
 
 def add_folders(builder: "Builder") -> None:
@@ -192,6 +197,8 @@ def add_folder(builder: "Builder", path: str, folder: Folder) -> None:
         look = folder.looks.get(at)
         if look is not None and look < folder.first_made[at] and not excused(builder, at, path):
             seen(builder, path, at, makers - {at})
+        elif folder.first_used.get(at, 1 << 60) < folder.first_asked.get(at, 0) and not any(builder.build.is_before(m, at) for m in makers - {at}):
+            seen(builder, path, at, makers - {at})  # it makes the folder too late for itself
     everyone = makers | folder.users | folder.absent | folder.scripts | set(folder.looks) | folder.tried
     for at in folder.gone:
         mark(builder, path + "/@gone", "that the folder %s is there" % path, everyone - {at}, {at})

@@ -42,6 +42,7 @@ class Life:
     folder: str = ""
     argv: List[str] = field(default_factory=list)
     ran: List[List[str]] = field(default_factory=list)
+    begun: int = 0  # where the program began that runs now
     cut: bool = False
     events: Dict[Key, int] = field(default_factory=dict)
     changed: Dict[str, int] = field(default_factory=dict)  # names: where it last changed what stands there

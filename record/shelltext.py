@@ -30,6 +30,7 @@ READ_TIMES = re.compile(r"(?:\btest|\[)\s[^;&|\n]*-N\s|\bfind\b[^;|\n]*\s-(?:ane
                         r"|\bls\s([^;|&\n]*?\s)?(?:-\w*u|--time=(?:a|u))")
 QUALIFIED = re.compile(r"[\w*?\])/>]\(")  # a pattern of zsh that may ask for ages, as `*(om)` does
 KEPT = 4096  # how many files are remembered
+LARGE = 1 << 18  # how much of a script is read
 MAKES = ("make", "gmake", "remake")
 PASSING = ("env", "nice", "ionice", "setsid", "timeout", "flock", "time", "stdbuf")  # they leave errors to who runs in their place
 GLOB_WORD = re.compile(r"[^\s;|&<>()'\"`=]*[*?\[][^\s;|&<>()'\"`]*")
@@ -269,7 +270,7 @@ def script_compares(path: str, folder: str, depth: int = 0) -> bool:
     """Whether the text of a script compares ages, or that of a script that it takes in; so may one that cannot be read."""
     try:
         with open(path, errors="replace") as file:
-            text = file.read(1 << 18)
+            text = file.read(LARGE)
     except OSError:
         return True
     taken = [name.strip("'\"") for name in TAKEN.findall(text)]
@@ -307,7 +308,7 @@ def contents(path: str) -> str:
     """The text of a script; nothing where it is gone."""
     try:
         with open(path, errors="replace") as file:
-            return file.read(1 << 18)
+            return file.read(LARGE)
     except OSError:
         return ""
 

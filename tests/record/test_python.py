@@ -42,6 +42,18 @@ class Python(unittest.TestCase):
                 files = {folder + "/more.py": "import os\ndef text():\n    return '%d' % len(os.listdir('t'))\n"}
                 self.of(TWO, "import sys\nsys.path.append('%s')\nimport more\nopen(sys.argv[1], 'w').write(more.text())\n" % folder, 1, files=files)
 
+    def test_that_a_script_begins(self) -> None:
+        for line, status in (("for f in /etc/pas*; do :; done", 0), ("echo t/*.c > /dev/null", 1)):
+            files = {"py": "#!/bin/sh\n%s\nexec python3 -S \"$@\"\n" % line, **HELPER}
+            self.of(TWO.replace("python3 -S", "sh ./py"), SCRIPT, status, files=files)
+
+    def test_module_that_a_site_starts(self) -> None:
+        """A module that runs before the script counts where a text names it."""
+        files = {"lib/site-packages/sitecustomize.py": "import some\n", "lib/site-packages/some.py": "import os\ndef names(d):\n    return os.listdir(d)\n", **HELPER}
+        makefile = TWO.replace("python3 -S", "PYTHONDONTWRITEBYTECODE=1 PYTHONPATH=lib/site-packages python3")
+        self.of(makefile, SCRIPT, 0, files=files)
+        self.of(makefile, SCRIPT + "import some\nsome.names('t')\n", 1, files=files)
+
     def test_module_that_a_recipe_makes(self) -> None:
         self.of("all: t/x.c t/more.py\nt/x.c: ; python3 -S t/gen.py t/x.c\nt/more.py: ; echo > $@\n", "try:\n    import more\nexcept ImportError:\n    pass\n" + SCRIPT, 1)
 
