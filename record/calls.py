@@ -4,7 +4,7 @@ import os
 import re
 from typing import Callable, Dict, NamedTuple, Tuple
 
-from record import shelltext
+from record import listed, shelltext
 from record.lives import Life
 from record.moves import Moves
 from record.names import Found, Inode
@@ -281,8 +281,8 @@ class Calls(Moves):
         elif where[0] == "/proc":
             self.watchers.append(" ".join(life.argv)[:100])
         else:
-            for pattern in shelltext.patterns(life.argv, life.cut):
-                self.put(life, "L", where[0] + "\0" + ("*" if self.is_open_shell or life.taken else pattern))
+            for pattern in listed.patterns(life, self.is_open_shell):
+                self.put(life, "L", where[0] + "\0" + pattern)
             if not shelltext.sorts_names(life.argv):
                 self.put(life, "l", where[0])
 

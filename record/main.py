@@ -23,9 +23,11 @@ from record.fresh import CannotClean, cold_copy, fresh_folder
 from record.granted import add_granted, idle_targets
 from record.graph import Build
 from record.judge import find_race, judge
+from record.jvm import settle_machines
 from record.lives import Life
 from record.missing import knows_missing, write_missing
 from record.missing_report import Question, missing_text
+from record.modules import settle_modules
 from record.names import Names
 from record.ninja_import import beside, import_ninjas
 from record.ninja_import import versions as ninja_versions
@@ -137,6 +139,8 @@ def import_record(spool: Path, names: Names, kept: Kept, real: str, folder: str,
     replay = replay_trace(spool, names, real, folder, names.tops)
     for example in settle(replay.all):
         assumed.add("bytecode", example)
+    settle_modules(replay.all)
+    settle_machines(replay.all)
     owners = Owners(replay.all, read_logs(spool))
     if owners.makes:
         assumed.add("serial", "")

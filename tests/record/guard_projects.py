@@ -15,7 +15,27 @@ def makedirs(name: str) -> str:
     return "test_projects.Makedirs.test_" + name
 
 
+def compilers(name: str) -> str:
+    """A test of compilers that list folders."""
+    return "test_compilers." + name
+
+
 PROJECT_GUARDS: List[Guard] = [
+    Guard("modules: names that were read", "modules.py", "        if may_ask(life, name, texts):", "        if False:", compilers("Compilers.test_modules_of_ocaml")),
+    Guard("modules: large letters", "modules.py", "    module = stem[:1].upper() + stem[1:]\n", "    module = stem\n", compilers("Compilers.test_modules_of_ocaml")),
+    Guard("modules: words of the compiler", "modules.py", "    if suffix in MODULES + LINKED and", "    if False and", compilers("Compilers.test_modules_of_ocaml")),
+    Guard("modules: files that are gone", "modules.py", "        if all(os.path.isfile(text) for text in texts):\n", "        if True:\n", compilers("Compilers.test_texts_that_are_gone")),
+    Guard("modules: files that are changed", "modules.py", "return sorted(found) if is_same else", "return sorted(found) if True else", compilers("Compilers.test_texts_that_are_gone")),
+    Guard("modules: compiled ones", "modules.py", "COMPRESSED in text or len(word) > 31 or", "False and", compilers("Compilers.test_modules_that_are_compiled")),
+    Guard("modules: compressed ones", "modules.py", "return len(text) > LARGE or COMPRESSED in text", "return len(text) > LARGE", compilers("Compilers.test_modules_that_are_compiled")),
+    Guard("modules: compilers alone", "modules.py", 'return "ocaml" if OCAML.match(name) else', 'return "ocaml" if True else', compilers("Compilers.test_other_programs")),
+    Guard("classes: folders that are absent", "modules.py", '            if kind in "SN":\n', "            if False:\n", compilers("Compilers.test_classes")),
+    Guard("classes: comments that count", "modules.py", 'any("doc" in word for word in life.ran[-1])', "False", compilers("Compilers.test_classes_that_comments_name")),
+    Guard("machines: who looks at them", "jvm.py", "    if any(KEPT.match(path) for life in lives if id(life) not in known", "    if any(False for life in lives if id(life) not in known", compilers("Machines.test_that_others_look_at")),
+    Guard("machines: who shows them", "jvm.py", "    if any(os.path.basename(argv[0]) in READERS", "    if any(False", compilers("Machines.test_that_others_look_at")),
+    Guard("libtool: words that are patterns", "listed.py", "        found.update(shelltext.loose(part)", "        set(shelltext.loose(part)", compilers("Libtool.test_link")),
+    Guard("libtool: its own script alone", "listed.py", '    if "ltmain.sh" not in', '    if "" not in', compilers("Libtool.test_other_modes_and_scripts")),
+    Guard("libtool: its modes", "listed.py", 'LIBTOOL or not {"--mode=link", "--mode=compile"} & {*life.argv}:', "LIBTOOL:", compilers("Libtool.test_other_modes_and_scripts")),
     Guard("folders: made behind their use", "folders.py", "elif folder.first_used.get(at, 1 << 60) < folder.first_asked.get(at, 0) and", "elif False and", project("folder_made_behind_its_use"), YES),
     Guard("folders: asked for behind their use", "folders.py", 'if kind in "MTEKSsN":', 'if kind in "MTE":', project("folder_asked_for_behind_its_use"), YES),
     Guard("Python: folders that may be there", "python.py", "        settle_made(life, own, read_at(life, sources))\n", "", makedirs("that_may_be_there"), FALSE_RACE),
