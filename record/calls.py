@@ -308,7 +308,9 @@ class Calls(Moves):
             self.put(life, "T" if quiet else "E", found.path)
         if ok or call.error == "EEXIST":
             mode = MODE.search(call.args)
-            self.put(life, "o", "%s\0%o" % (found.path, int(mode.group(1), 8) & ~life.mask if mode else -1))
+            given = "%o" % (int(mode.group(1), 8) & ~life.mask if mode else -1)
+            self.put(life, "o", found.path + "\0" + given)
+            self.names.modes.setdefault(found.path, set()).add(given)
         else:
             self.look(life, path, False, False, base=base)
             if found.missing:

@@ -28,7 +28,7 @@ class Folder:
     looks: Dict[int, int] = field(default_factory=dict)  # task: its first look at the folder by its own name
     absent: Set[int] = field(default_factory=set)
     users: Set[int] = field(default_factory=set)
-    first_used: Dict[int, int] = field(default_factory=dict)  # task: when it first used a name below
+    first_used: Dict[int, int] = field(default_factory=dict)  # task: when it first used a name below, other than one that is there
     first_asked: Dict[int, int] = field(default_factory=dict)  # task: when it first made the folder, or asked for it
     scripts: Set[int] = field(default_factory=set)  # tasks with a script that makes it where it is not there
     first_made: Dict[int, int] = field(default_factory=dict)
@@ -93,7 +93,7 @@ def parents_of_all(paths: Dict[str, int]) -> Dict[str, int]:
 def gather(builder: "Builder") -> Dict[str, Folder]:
     """All folders that recipes make or remove, with who uses them."""
     table = {p: Folder() for p in builder.made | builder.tried}
-    renamed = {p for p in builder.build.writers if p in builder.made}
+    renamed, never = {p for p in builder.build.writers if p in builder.made}, 1 << 60
     for at, events in each(builder) if table else ():
         touched: Dict[str, int] = {}
         for kind, path, place in events:
@@ -104,11 +104,11 @@ def gather(builder: "Builder") -> Dict[str, Folder]:
             elif folder is not None and not path.endswith("/"):
                 note(folder, at, kind, place)
             if kind in "RSWCDMTEXUL" and not path.endswith("/"):
-                touched[path] = min(place, touched.get(path, place))
+                touched[path] = min(place if kind not in "RS" else never, touched.get(path, never))
         for above, place in parents_of_all(touched).items():
             if above in table:
                 table[above].users.add(at)
-                table[above].first_used[at] = min(place, table[above].first_used.get(at, place))
+                table[above].first_used[at] = min(place, table[above].first_used.get(at, never))
     for path in renamed:
         table[path].created |= set()
     return table
@@ -309,5 +309,6 @@ def changed_modes(builder: "Builder", table: List[Tuple[int, List[Tuple[str, str
     for kind, text in ((k, p) for _, events in table for k, p, _ in events if k == "m"):
         path, _, mode = text.partition("\0")
         given.setdefault(path, set()).add(mode)
-    made = gather(builder) if given else {}
-    return {path for path, modes in given.items() if path not in made or builder.before.get(path) == "d" or len(modes) > 1 or set(made[path].modes) != modes}
+    made, known = gather(builder) if given else {}, builder.names.modes
+    first = {path: known.get(path, set()).union(made[path].modes if path in made else ()) for path in given}  # also those that a make above has made
+    return {path for path, modes in given.items() if builder.before.get(path) == "d" or len(modes) > 1 or first[path] != modes}

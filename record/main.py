@@ -17,6 +17,7 @@ from record.assumptions import Assumptions
 from record.again import JOBS, TRIES, by_name, hints, tops_of, undo, with_jobs
 from record.build import Builder
 from record.calls import Calls
+from record.exists import credit_makes, settle_exists
 from record.folder import Record, is_record, rewrite, write_record
 from record.footprints import write_footprints
 from record.fresh import CannotClean, cold_copy, fresh_folder
@@ -141,7 +142,12 @@ def import_record(spool: Path, names: Names, kept: Kept, real: str, folder: str,
         assumed.add("bytecode", example)
     settle_modules(replay.all)
     settle_machines(replay.all)
-    owners = Owners(replay.all, read_logs(spool))
+    logs = list(read_logs(spool))
+    markers = settle_exists(replay.all, logs)
+    for name in sorted(markers.paths):
+        assumed.add("makers", name)
+    owners = Owners(replay.all, logs)
+    credit_makes(owners, markers)
     if owners.makes:
         assumed.add("serial", "")
     record.holes += replay.holes + owners.holes

@@ -75,6 +75,7 @@ class Names:
         self.wheres: Dict[str, Where] = {}  # by spelling; they hold until a folder or a link comes or goes
         self.before: Dict[str, str] = {}
         self.tops: List[str] = []
+        self.modes: Dict[str, Set[str]] = {}  # folders that were made: with which modes
 
     def walk(self, top: str) -> None:
         """Takes in the tree below a real path, as it is now."""

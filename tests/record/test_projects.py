@@ -11,7 +11,24 @@ from test_small import Small, test_of
 
 PAIR = "all: x y\nx: ; mkdir -p out; touch x\ny: ; %s; touch y\n"
 
+# A makefile of Perl, and one below it: both have a rule for `b/.exists`.
+PERL = "NOECHO = @\nMKPATH = mkdir -p\nCHMOD = chmod\nTOUCH = touch\nPERM_DIR = 755\nDFSEP = /\n"
+MARKER = "$(D)$(DFSEP).exists :: Makefile\n\t$(NOECHO) $(MKPATH) $(D)\n\t$(NOECHO) $(CHMOD) $(PERM_DIR) $(D)\n\t$(NOECHO) $(TOUCH) $(D)$(DFSEP).exists\n"
+OUTER = PERL + "D = b\n.PHONY: all dirs sub\nall: dirs sub\ndirs: $(D)$(DFSEP).exists\n%s" + MARKER + "sub: ; $(MAKE) -C in\n"
+INNER = PERL + "D = ../b\n.PHONY: all dirs\nall: x\ndirs: $(D)$(DFSEP).exists\nx: dirs ; echo x > ../b/x; touch x\n" + MARKER
+
+ABOVE = "all: sub\nsub: mk ; $(MAKE) -C in\nmk: ; umask 022; mkdir -m %d b; touch mk\n"
+MODES = "all: a c\na: ; chmod 755 ../b; touch a\nc: ; ls -d ../b > c\n"
+
 PROJECTS: Dict[str, Small] = {
+    # `.exists` files of Perl's makefiles
+    "marker_of_two_makes": Small("safe", OUTER % "", {"in/Makefile": INNER}, "umask 022"),
+    "marker_that_is_older_than_a_file": Small("race", OUTER % "all: f\nf: $(D)$(DFSEP).exists ; touch f\n", {"in/Makefile": INNER}, "umask 022"),
+    "marker_that_a_recipe_does_not_wait_for": Small("race", OUTER % "", {"in/Makefile": INNER.replace("all: x", "all: dirs x").replace("x: dirs ;", "x: ;")}, "umask 022"),
+    "marker_with_a_text": Small("race", OUTER % "", {"in/Makefile": INNER.replace("\t$(NOECHO) $(TOUCH) $(D)", "\techo > $(D)")}, "umask 022"),
+    "marker_that_is_read": Small("race", OUTER % "all: f\nf: ; cat b/.exists > f\n", {"in/Makefile": INNER}, "umask 022"),
+    "mode_that_a_make_above_has_set": Small("safe", ABOVE % 755, {"in/Makefile": MODES}),
+    "mode_that_a_make_above_has_not_set": Small("race", ABOVE % 700, {"in/Makefile": MODES}),
     # folders that a recipe makes, and uses before that
     "folder_made_before_its_use": Small("safe", PAIR % "mkdir -p out; touch out/y"),
     "folder_made_behind_its_use": Small("race", PAIR % "touch out/y; mkdir -p out"),
