@@ -119,7 +119,7 @@ class Owners:
             except OSError:
                 if not make.never_read(name):
                     return ["*"]
-        return sorted(patterns(texts, make.words.values()))
+        return sorted(patterns(texts, make.words.values(), [name for one in make.words.rounds for name in one.nodes]))
 
     def match_jobs(self, make: Make) -> None:
         """The k-th process of a number that make started is its k-th job of that number."""
