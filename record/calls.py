@@ -281,7 +281,7 @@ class Calls(Moves):
         elif where[0] == "/proc":
             self.watchers.append(" ".join(life.argv)[:100])
         else:
-            for pattern in listed.patterns(life, self.is_open_shell):
+            for pattern in listed.patterns(life, where[0], self.is_open_shell):
                 self.put(life, "L", where[0] + "\0" + pattern)
             if not shelltext.sorts_names(life.argv):
                 self.put(life, "l", where[0])

@@ -6,16 +6,17 @@ from typing import List, Set
 
 from record import shelltext
 from record.lives import Life
+from record.shellvalues import patterns_in
 
 LIBTOOL = "libtool"
 ODD = "*[!-A-Za-z0-9._+]*"  # names with a sign that is in no usual one
 
 
-def patterns(life: Life, is_open_shell: bool) -> List[str]:
+def patterns(life: Life, where: str, is_open_shell: bool) -> List[str]:
     """The patterns of names that a program lists a folder for. Options of shells in the environment may change what patterns say."""
     if is_open_shell or life.taken or life.cut:
         return ["*"]
-    return libtool_patterns(life) or list(shelltext.patterns(life.argv, False))
+    return libtool_patterns(life) or patterns_in(life, where) or list(shelltext.patterns(life.argv, False))
 
 
 def libtool_patterns(life: Life) -> List[str]:

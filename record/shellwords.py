@@ -13,7 +13,8 @@ RESERVED = {"if", "then", "else", "elif", "fi", "do", "done", "while", "until", 
 # What sets macros in another way, or runs a text that is not to be seen here.
 HIDES = {"eval", ".", "source", "set", "shift", "read", "getopts", "unset", "export", "readonly", "local", "declare", "typeset", "printf", "mapfile", "readarray",
          "let", "trap", "alias", "shopt", "case", "select", "function", "coproc", "[[", "enable", "hash"}
-OPENS, CLOSES = {"if": "fi", "do": "done", "{": "}"}, {"fi", "done", "}"}
+CLOSES = {"fi", "done", "}"}
+KEEPS = re.compile(r"[-+][ehuvx]+")
 
 
 class Unread(Exception):
@@ -169,6 +170,12 @@ class Cutter:
             self.pieces.append(Piece(kind, text, quoted))
 
 
+def keeps(plain: str, behind: List[Tuple[str, List[Piece]]]) -> bool:
+    """Whether a word that may hide something does not: `set` with options that change no words, and `printf` without options."""
+    words = [Word(pieces).plain() if pieces else "" for _, pieces in behind[:next((n for n, one in enumerate(behind) if one[0]), len(behind))]]
+    return plain == "set" and bool(words) and all(KEEPS.fullmatch(word) for word in words) or plain == "printf" and not "".join(words[:1]).startswith("-")
+
+
 class Reader:
     """Reads a text, and those of the commands in its words, into one script."""
 
@@ -209,7 +216,7 @@ class Reader:
                 is_sure = True if plain not in ("!", "command", "builtin", "exec", "time") else is_sure
             elif pieces[0].kind == "text" and not pieces[0].quoted and ASSIGNS.match(pieces[0].text):
                 self.assign(word, is_sure and behind not in ("|", "&", ""))
-            elif plain in HIDES:
+            elif plain in HIDES and not keeps(plain, tokens[at:]):
                 raise Unread
             else:
                 is_start = is_sure = False
@@ -228,7 +235,7 @@ class Reader:
         """The blocks behind a word that begins or ends one."""
         if plain in ("if", "while", "until", "{"):
             return blocks + [self.count]
-        if plain in ("then", "else", "elif", "do"):
+        if plain in ("then", "else", "elif"):
             return blocks[:-1] + [self.count]
         return blocks[:-1] if plain in CLOSES else blocks
 

@@ -20,7 +20,20 @@ def compilers(name: str) -> str:
     return "test_compilers." + name
 
 
+def shells(name: str) -> str:
+    """A test of the texts of shells."""
+    return "test_shellvalues." + name
+
+
 PROJECT_GUARDS: List[Guard] = [
+    Guard("texts: macros that they set", "listed.py", " or patterns_in(life, where)", "", shells("Makefiles.test_rules_of_automake_for_info"), FALSE_RACE),
+    Guard("texts: folders of patterns", "shellvalues.py", 'if not one.folder or fnmatchcase(where, "*/" + one.folder)', "if True", shells("Makefiles.test_rules_of_automake_for_info"), FALSE_RACE),
+    Guard("texts: macros of the environment", "shellvalues.py", "        if not any(is_set(one, word) for one in settings):\n            return None\n", "", shells("Makefiles.test_loop_over_names_of_the_environment"), YES, ("shellvalues.py", "        if texts is None:\n            raise Unread\n", "")),
+    Guard("texts: what programs print", "shellvalues.py", "found[1] and not found[1].isdisjoint(programs_of(life))", "False", shells("Makefiles.test_names_that_a_program_prints"), YES),
+    Guard("texts: where a macro surely has a value", "shellvalues.py", "return word.blocks[:len(blocks)] == blocks and", "return", shells("Texts.test_unknown")),
+    Guard("texts: assignments that may be passed over", "shellwords.py", 'operator == "&&" and is_sure and is_start', 'operator == "&&"', shells("Texts.test_unknown")),
+    Guard("texts: words that hide something", "shellwords.py", "            elif plain in HIDES and not keeps(plain, tokens[at:]):\n                raise Unread\n", "", shells("Texts.test_unknown")),
+    Guard("texts: quoted signs", "shellvalues.py", "return [quoted(piece.text) if piece.quoted else piece.text]", "return [piece.text]", shells("Texts.test_known")),
     Guard("modules: names that were read", "modules.py", "        if may_ask(life, name, texts):", "        if False:", compilers("Compilers.test_modules_of_ocaml")),
     Guard("modules: large letters", "modules.py", "    module = stem[:1].upper() + stem[1:]\n", "    module = stem\n", compilers("Compilers.test_modules_of_ocaml")),
     Guard("modules: words of the compiler", "modules.py", "    if suffix in MODULES + LINKED and", "    if False and", compilers("Compilers.test_modules_of_ocaml")),

@@ -125,7 +125,7 @@ class Libtool(unittest.TestCase):
         with tempfile.TemporaryDirectory(prefix="race-test-") as room:
             Path(room, "libtool").write_text(text)
             argv = ["/bin/sh", "./libtool", *words.split()]
-            return patterns(Life(1, None, 1, 90, room, argv, [argv]), False)
+            return patterns(Life(1, None, 1, 90, room, argv, [argv]), room, False)
 
     def test_link(self) -> None:
         self.assertEqual({"*[!-A-Za-z0-9._+]*", "liba.la", "liba.*"}, {*self.of("--mode=link cc -o d/liba.la a.lo")})
