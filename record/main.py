@@ -153,7 +153,7 @@ def import_record(spool: Path, names: Names, kept: Kept, real: str, folder: str,
     record.holes += replay.holes + owners.holes
     record.holes += ["a make ran past the recorder: " + p for p in replay.past]
     for path in sorted(spool.glob("*.past")):
-        record.holes += ["a make that prints its own words (-d, -p, --debug) ran past the recorder: " + t for t in path.read_text(errors="replace").splitlines()]
+        record.holes += ["a make that prints its own words (-d, -p, --debug), or has nowhere to print them, ran past the recorder: " + t for t in path.read_text(errors="replace").splitlines()]
     for kind, found in (("sockets", replay.sockets), ("processes", replay.watchers), ("read-times", replay.askers), ("locks", replay.locks),
                         ("hard-links", replay.hard_links), ("ages", replay.rewritten())):
         for example in found:

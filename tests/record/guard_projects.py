@@ -2,7 +2,7 @@
 
 from typing import List
 
-from guard_table import FALSE_RACE, YES, Guard
+from guard_table import FALSE_RACE, UNSAID, YES, Guard
 
 
 def project(name: str) -> str:
@@ -53,6 +53,7 @@ PROJECT_GUARDS: List[Guard] = [
     Guard("wildcard: arguments", "globs.py", "macros.has_no_pattern(name) or name.isdigit() and macros.has_plain_arguments()", "macros.has_no_pattern(name)", "test_globs.Globs.test_arguments_of_functions"),
     Guard("wildcard: arguments by way of other macros", "globs.py", "            is_known = is_known and not any(found.group(1) in held", "            is_known = is_known and not any(False", "test_globs.Globs.test_arguments_of_functions"),
     Guard("wildcard: arguments in lines", "globs.py", "is_known = uses_arguments(self.text) == sum(map(uses_arguments, held.values())) and", "is_known =", "test_globs.Globs.test_arguments_of_functions"),
+    Guard("wrapper: makes with nowhere to print", "wrapper.py", "if query or is_closed(1):", "if query:", project("make_with_its_output_closed"), UNSAID),
     Guard("markers: of Perl", "exists.py", "        life.acts = [act for act in life.acts if act.path not in found]\n", "", project("marker_of_two_makes"), FALSE_RACE, ("exists.py", "return not {(\"R\", path)", "return False and not {(\"R\", path)")),
     Guard("markers: makes that would make the folder", "main.py", "    credit_makes(owners, markers)\n", "", project("marker_of_two_makes"), FALSE_RACE),
     Guard("markers: modes of folders that a make above has made", "folders.py", "known.get(path, set()).union(made[path].modes if path in made else ())", "set(made[path].modes if path in made else ())", project("mode_that_a_make_above_has_set"), FALSE_RACE),

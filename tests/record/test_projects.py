@@ -29,6 +29,9 @@ PROJECTS: Dict[str, Small] = {
     "marker_that_is_read": Small("race", OUTER % "all: f\nf: ; cat b/.exists > f\n", {"in/Makefile": INNER}, "umask 022"),
     "mode_that_a_make_above_has_set": Small("safe", ABOVE % 755, {"in/Makefile": MODES}),
     "mode_that_a_make_above_has_not_set": Small("race", ABOVE % 700, {"in/Makefile": MODES}),
+    # a make that has nowhere to print
+    "make_with_its_output_closed": Small("no verdict", "all: sub\nsub: ; $(MAKE) -f in.mk >&-\n", {"in.mk": "a: ; @touch a\n"}, says="in.mk (its standard output is closed)"),
+    "make_with_its_errors_closed": Small("safe", "all: sub\nsub: ; $(MAKE) -f in.mk 2>&-\n", {"in.mk": "a: ; @touch a\n"}),
     # folders that a recipe makes, and uses before that
     "folder_made_before_its_use": Small("safe", PAIR % "mkdir -p out; touch out/y"),
     "folder_made_behind_its_use": Small("race", PAIR % "touch out/y; mkdir -p out"),
