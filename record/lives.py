@@ -42,7 +42,6 @@ class Life:
     folder: str = ""
     argv: List[str] = field(default_factory=list)
     ran: List[List[str]] = field(default_factory=list)
-    begun: int = 0  # where the program began that runs now
     cut: bool = False
     events: Dict[Key, int] = field(default_factory=dict)
     changed: Dict[str, int] = field(default_factory=dict)  # names: where it last changed what stands there
@@ -61,6 +60,7 @@ class Life:
     handle: Tuple[int, str] = (-1, "")  # the descriptor that it got last, and what stands behind it, where that only stands for a name
     taken: Tuple[str, ...] = ()  # files that a shell read which its text does not name as its input
     known: Optional[Traits] = None
+    begun: int = 0  # where the program began that runs now
 
     def traits(self) -> Traits:
         """What the words say of its looks."""
