@@ -16,10 +16,10 @@ from record.lives import Life
 OCAML = re.compile(r"ocaml(?:c|opt|dep|cp|optp|mktop)(?:\.opt|\.byte)?$")
 JAVA = re.compile(r"java(?:c|doc)$")
 SYSTEM = re.compile(r"/(?:usr|lib\w*|etc|proc|sys|dev)/|.*/(?:lib/modules|lib/ct\.sym|lib/security/[^/]*|conf/[^/]*|hsperfdata_[^/]*/\d+)$")  # what names no module of a project
-MODULES = (".cmi", ".cmx", ".cmt", ".cmti", ".ml", ".mli", ".mll", ".mly")
+MODULES = (".cmi", ".cmx", ".ml", ".mli", ".mll", ".mly")
 LIBRARIES = (".cma", ".cmxa")
 COMPILED, COMPRESSED = (".cmi", ".cmx", ".cmo"), b"\x84\x95\xa6\xbd"
-LINKED = (".cmo", ".cma", ".cmxa", ".cmxs", ".o", ".a", ".so")
+LINKED = (".cmo", ".cma", ".cmx", ".cmxa", ".cmxs", ".o", ".a", ".so")
 OCAML_PARTS = re.compile(rb"""\"(?:\\.|[^"\\])*\"|'(?:\\[^\n]{1,4}?|[^'\\\n])'|\{([a-z_]*)\|.*?\|\1\}|\(\*|\*\)""", re.S)
 JAVA_PARTS = re.compile(rb"""\"{3}(?:\\.|[^\\])*?\"{3}|\"(?:\\.|[^"\\\n])*\"|'(?:\\.|[^'\\\n])+'|//[^\n]*|/\*.*?\*/""", re.S)
 SOURCES = (".ml", ".mli", ".java")
@@ -142,11 +142,12 @@ def asks_ocaml(life: Life, name: str, texts: List[str]) -> bool:
     words = life.argv[1:]
     if name in map(os.path.basename, words):
         return True
-    if suffix in MODULES + LINKED and any(is_word(one, " ".join(words).encode("utf-8", "surrogateescape")) for one in spelled):
-        return True
     if suffix not in MODULES:
-        return any(holds(text, one, False) for text in texts if text.endswith(LIBRARIES) for one in spelled)
-    return any(holds(text, module, True) for text in texts)
+        linked = {os.path.splitext(os.path.basename(word))[0] for word in words if word.endswith(LINKED)} | {word[2:] for word in words if word.startswith("-l")}
+        return not linked.isdisjoint(spelled) or any(holds(text, one, False) for text in texts if text.endswith(LIBRARIES) for one in spelled)
+    if suffix == ".cmx" and "opt" not in os.path.basename(life.ran[-1][0]).replace(".opt", ""):
+        return False
+    return any(is_word(one, " ".join(words).encode("utf-8", "surrogateescape")) for one in spelled) or any(holds(text, module, True) for text in texts)
 
 
 def is_word(name: str, text: bytes) -> bool:

@@ -36,7 +36,7 @@ PROJECT_GUARDS: List[Guard] = [
     Guard("texts: quoted signs", "shellvalues.py", "return [quoted(piece.text) if piece.quoted else piece.text]", "return [piece.text]", shells("Texts.test_known")),
     Guard("modules: names that were read", "modules.py", "        if may_ask(life, name, texts):", "        if False:", compilers("Compilers.test_modules_of_ocaml")),
     Guard("modules: large letters", "modules.py", "    module = stem[:1].upper() + stem[1:]\n", "    module = stem\n", compilers("Compilers.test_modules_of_ocaml")),
-    Guard("modules: words of the compiler", "modules.py", "    if suffix in MODULES + LINKED and", "    if False and", compilers("Compilers.test_modules_of_ocaml")),
+    Guard("modules: words of the compiler", "modules.py", "return not linked.isdisjoint(spelled) or", "return", compilers("Compilers.test_modules_of_ocaml")),
     Guard("modules: files that are gone", "modules.py", "        if all(os.path.isfile(text) for text in texts):\n", "        if True:\n", compilers("Compilers.test_texts_that_are_gone")),
     Guard("modules: files that are changed", "modules.py", "return sorted(found) if is_same else", "return sorted(found) if True else", compilers("Compilers.test_texts_that_are_gone")),
     Guard("modules: compiled ones", "modules.py", "COMPRESSED in text or len(word) > 31 or", "False and", compilers("Compilers.test_modules_that_are_compiled")),

@@ -51,7 +51,11 @@ class Compilers(unittest.TestCase):
 
     def test_modules_of_ocaml(self) -> None:
         self.assertTrue(self.ocaml("let x = B.y", "b.cmi"))
-        self.assertTrue(self.ocaml("open Bee_c", "bee_c.cmx"))
+        self.assertTrue(self.ocaml("open Bee_c", "bee_c.cmx", "ocamlopt.opt -c a.ml"))
+        self.assertFalse(self.ocaml("open Bee_c", "bee_c.cmx", "ocamlc.opt -c a.ml"))
+        self.assertTrue(self.ocaml("", "b.o", "ocamlopt -o a a.cmx b.cmx"))
+        self.assertTrue(self.ocaml("", "libb.a", "ocamlopt -o a a.cmx -cclib -lb"))
+        self.assertFalse(self.ocaml("", "a.cmo"))
         self.assertFalse(self.ocaml("let x = Bee.y", "b.cmi"))
         self.assertFalse(self.ocaml("(* B *) let x = \"B\" (* (* *) B *)", "b.cmi"))
         self.assertTrue(self.ocaml("let x = '\"' let y = B.z let t = \"\"", "b.cmi"))
