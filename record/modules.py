@@ -16,13 +16,13 @@ from record.lives import Life
 OCAML = re.compile(r"ocaml(?:c|opt|dep|cp|optp|mktop)(?:\.opt|\.byte)?$")
 JAVA = re.compile(r"java(?:c|doc)$")
 SYSTEM = re.compile(r"/(?:usr|lib\w*|etc|proc|sys|dev)/|.*/(?:lib/modules|lib/ct\.sym|lib/security/[^/]*|conf/[^/]*|hsperfdata_[^/]*/\d+)$")  # what names no module of a project
-MODULES = (".cmi", ".cmx", ".ml", ".mli", ".mll", ".mly")
+MODULES = (".cmi", ".cmx")
 LIBRARIES = (".cma", ".cmxa")
 COMPILED, COMPRESSED = (".cmi", ".cmx", ".cmo"), b"\x84\x95\xa6\xbd"
 LINKED = (".cmo", ".cma", ".cmx", ".cmxa", ".cmxs", ".o", ".a", ".so")
 OCAML_PARTS = re.compile(rb"""\"(?:\\.|[^"\\])*\"|'(?:\\[^\n]{1,4}?|[^'\\\n])'|\{([a-z_]*)\|.*?\|\1\}|\(\*|\*\)""", re.S)
 JAVA_PARTS = re.compile(rb"""\"{3}(?:\\.|[^\\])*?\"{3}|\"(?:\\.|[^"\\\n])*\"|'(?:\\.|[^'\\\n])+'|//[^\n]*|/\*.*?\*/""", re.S)
-SOURCES = (".ml", ".mli", ".java")
+SOURCES = (".ml", ".mli", ".mll", ".mly", ".java")
 OWN = ("module-info", "package-info")  # what Java looks for in any case
 LARGE = 1 << 24
 KEPT = 4096
@@ -97,11 +97,17 @@ def settle_packages(life: Life, part: Life, texts: List[str], disk: Disk, listed
                 look_for(life, part, path, place, texts, disk)
 
 
+def program_of(life: Life) -> str:
+    """The name of the program that a process runs, as bytecode too."""
+    words = [os.path.basename(word) for word in (life.ran[-1] if life.ran else [])[:2]]
+    return words[1] if words[:1] == ["ocamlrun"] and len(words) > 1 else "".join(words[:1])
+
+
 def kind_of(life: Life) -> str:
     """Which compiler a process runs, if any."""
-    words = [os.path.basename(word) for word in (life.ran[-1] if life.ran else [])[:2]]
-    name = words[1] if words[:1] == ["ocamlrun"] and len(words) > 1 else "".join(words[:1])
-    return "ocaml" if OCAML.match(name) else "java" if JAVA.match(name) and not life.cut else ""
+    if life.cut:
+        return ""
+    return "ocaml" if OCAML.match(program_of(life)) else "java" if JAVA.match(program_of(life)) else ""
 
 
 def parts_of(life: Life) -> Iterator[Life]:
@@ -142,12 +148,12 @@ def asks_ocaml(life: Life, name: str, texts: List[str]) -> bool:
     words = life.argv[1:]
     if name in map(os.path.basename, words):
         return True
-    if suffix not in MODULES:
+    program = program_of(life).replace(".opt", "")
+    if suffix in LINKED and suffix not in MODULES:
         linked = {os.path.splitext(os.path.basename(word))[0] for word in words if word.endswith(LINKED)} | {word[2:] for word in words if word.startswith("-l")}
         return not linked.isdisjoint(spelled) or any(holds(text, one, False) for text in texts if text.endswith(LIBRARIES) for one in spelled)
-    if suffix == ".cmx" and "opt" not in os.path.basename(life.ran[-1][0]).replace(".opt", ""):
-        return False
-    return any(is_word(one, " ".join(words).encode("utf-8", "surrogateescape")) for one in spelled) or any(holds(text, module, True) for text in texts)
+    wanted = SOURCES if "dep" in program else MODULES if "opt" in program else MODULES[:1]
+    return suffix in wanted and (any(is_word(one, " ".join(words).encode("utf-8", "surrogateescape")) for one in spelled) or any(holds(text, module, True) for text in texts))
 
 
 def is_word(name: str, text: bytes) -> bool:

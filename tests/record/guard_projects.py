@@ -41,7 +41,7 @@ PROJECT_GUARDS: List[Guard] = [
     Guard("modules: files that are changed", "modules.py", "return sorted(found) if is_same else", "return sorted(found) if True else", compilers("Compilers.test_texts_that_are_gone")),
     Guard("modules: compiled ones", "modules.py", "COMPRESSED in text or len(word) > 31 or", "False and", compilers("Compilers.test_modules_that_are_compiled")),
     Guard("modules: compressed ones", "modules.py", "return len(text) > LARGE or COMPRESSED in text", "return len(text) > LARGE", compilers("Compilers.test_modules_that_are_compiled")),
-    Guard("modules: compilers alone", "modules.py", 'return "ocaml" if OCAML.match(name) else', 'return "ocaml" if True else', compilers("Compilers.test_other_programs")),
+    Guard("modules: compilers alone", "modules.py", 'return "ocaml" if OCAML.match(program_of(life)) else', 'return "ocaml" if True else', compilers("Compilers.test_other_programs")),
     Guard("classes: folders that are absent", "modules.py", '            if kind in "SN":\n', "            if False:\n", compilers("Compilers.test_classes")),
     Guard("classes: comments that count", "modules.py", 'any("doc" in word for word in life.ran[-1])', "False", compilers("Compilers.test_classes_that_comments_name")),
     Guard("machines: who looks at them", "jvm.py", "    if any(KEPT.match(path) for life in lives if id(life) not in known", "    if any(False for life in lives if id(life) not in known", compilers("Machines.test_that_others_look_at")),
