@@ -116,6 +116,8 @@ class Calls(Moves):
         traits = life.traits()
         if traits.looks_at_links:
             self.put(life, "h", found.path)
+        if traits.is_tool and not life.is_query:
+            return
         if life.is_query or traits.is_interpreter and not (traits.makes_folders and shelltext.makes(life.argv, found.path)) or self.ages(life):
             is_folder = found.inode is not None and found.inode.kind == "d"
             if not is_folder or not self.is_own(life, path, found) or shelltext.names_here(life.argv):

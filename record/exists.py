@@ -35,7 +35,9 @@ def settle_exists(lives: List[Life], logs: Iterable[Words]) -> Markers:
             if os.path.basename(path) == NAME:
                 users.setdefault(path, []).append(life)
     bases = [one.base for words in logs for one in words.rounds if one.base is not None] if users else []
-    found = {path for path, some in users.items() if all(is_marker(life, path) for life in some) and all(is_plain(base, path) for base in bases)}
+    listed = {os.path.dirname(path) for path in users} & {path.partition("\0")[0] for life in lives if users for kind, path in life.events if kind == "L"}
+    plain = {path for path in users if os.path.dirname(path) not in listed and all(is_plain(base, path) for base in bases)}
+    found = {path for path in plain if all(is_marker(life, path) for life in users[path])}
     looks: Dict[Tuple[int, str], int] = {}
     for life in lives if found else ():
         for key in [key for key in life.events if key[1] in found]:

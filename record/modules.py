@@ -23,6 +23,7 @@ LINKED = (".cmo", ".cma", ".cmx", ".cmxa", ".cmxs", ".o", ".a", ".so")
 OCAML_PARTS = re.compile(rb"""\"(?:\\.|[^"\\])*\"|'(?:\\[^\n]{1,4}?|[^'\\\n])'|\{([a-z_]*)\|.*?\|\1\}|\(\*|\*\)""", re.S)
 JAVA_PARTS = re.compile(rb"""\"{3}(?:\\.|[^\\])*?\"{3}|\"(?:\\.|[^"\\\n])*\"|'(?:\\.|[^'\\\n])+'|//[^\n]*|/\*.*?\*/""", re.S)
 SOURCES = (".ml", ".mli", ".mll", ".mly", ".java")
+GIVEN = ("-d", "-s", "-h")  # words before folders that must be there, for older versions
 OWN = ("module-info", "package-info")  # what Java looks for in any case
 LARGE = 1 << 24
 KEPT = 4096
@@ -86,10 +87,11 @@ def settle_packages(life: Life, part: Life, texts: List[str], disk: Disk, listed
     """Folders of packages: Java's compilers ask for one before they list it, for all that they find listed there, and make one where it
     is not there and they write into it."""
     filled = {os.path.dirname(path) for kind, path in part.events if kind in "WC"}
+    given = {os.path.normpath(os.path.join(life.folder, value)) for word, value in zip(life.argv, life.argv[1:]) if word in GIVEN}
     for (kind, path), place in list(part.events.items()):
         if kind in "SaA" and os.path.dirname(path) in listed and not may_ask(life, os.path.basename(path), texts):
             del part.events[kind, path]
-        elif path in disk.made and place > life.begun and kind in "SNPMEaA":
+        elif path in disk.made and path not in given and place > life.begun and kind in "SNPMEaA":
             del part.events[kind, path]
             if kind in "ME" or path in filled:
                 part.events[("T", path)] = min(place, part.events.get(("T", path), place))

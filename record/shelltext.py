@@ -20,6 +20,7 @@ PROGRESS = ("cmake_progress_start", "cmake_progress_report", "cmake_echo_color")
 SORTERS = ("make", "gmake", "rm", "chmod", "chown", "rmdir", "git")  # a folder that `cp` or `mv` copies gets its names in that order
 MAKERS = ("install-sh", "mkinstalldirs", "libtool")
 EXTUTILS = re.compile(r"-MExtUtils::Command -e mkpath$|-MExtUtils::Install -e pm_to_blib\(")  # what Perl's makefiles make folders by
+TOOLS = re.compile(r"/usr/(?:local/)?bin/(?:makeinfo|texi2any|pod2man|pod2text|help2man)$")  # scripts of the system that compare no ages
 INTERPRETERS = re.compile(r"(python|perl|ruby|node|lua|tclsh|php)[\d.]*$")
 TAKES_IN = re.compile(r"(^|[;&|({\n`!]\s*|\b(then|do|else|elif|if|while|until|time|command|builtin)\s+|\b\w+=\S*\s+)(\.|source|eval)\s")  # text of another file
 OPTIONS = re.compile(r"\b(shopt|compgen|GLOBIGNORE)\b|\s[-+]O\s")  # of bash, by which patterns say something else, or nothing
@@ -384,6 +385,7 @@ class Traits:
         self.makes_folders = maker_at(argv) >= 0
         self.looks_at_links = looks_at_links(argv)
         self.is_interpreter = is_interpreter(argv)
+        self.is_tool = self.is_interpreter and TOOLS.match("".join(argv[1:2])) is not None
         self.is_ageless = is_ageless(argv)
         self.asks_size = asks_size(argv)
         self.is_shell = base_name(argv) in SHELLS

@@ -3,6 +3,7 @@
 None is known where a macro may come from the environment, or from what a program prints; then a list may be about any name.
 """
 
+import os
 import re
 from fnmatch import fnmatchcase
 from functools import lru_cache
@@ -13,6 +14,7 @@ from record.lives import Life
 from record.shellwords import Cutter, Piece, Reader, Script, Setting, Unread, Word
 
 MAGIC = re.compile(r"[*?\[]")
+SYSTEM = re.compile(r"/(?:bin|sbin|lib\w*|usr|etc|dev|proc)(?:/|$)")
 ANY, ONE, BLANK = "\x01", "\x03", "\x04"  # some text without a pattern, one sign that is none, a blank that does not cut a word
 LIMIT, DEPTH, KEPT = 64, 6, 1024
 PLAIN = {"echo", "printf", "test", "[", "cd", "pwd", "true", "false", ":", "read", "type", "command", "kill", "umask", "ulimit", "wait", "times"}  # no programs
@@ -44,7 +46,8 @@ def patterns_in(life: Life, where: str) -> List[str]:
     found = patterns_of(text)
     if found is None or found[1] and not found[1].isdisjoint(programs_of(life)):
         return []
-    return sorted({one.part for one in found[0] if not one.folder or fnmatchcase(where, "*/" + one.folder)})
+    is_sure = not any(kind == "R" and not SYSTEM.match(path) and os.path.islink(path) for kind, path in life.events)
+    return sorted({one.part for one in found[0] if not one.folder or not is_sure or fnmatchcase(where, "*/" + one.folder)})
 
 
 def programs_of(life: Life) -> Set[str]:

@@ -5,6 +5,7 @@ from dataclasses import dataclass, field
 from typing import Dict, List, Tuple
 
 SEPARATES = " \t"
+GOES_ON = "\\\n"
 OPERATORS = ("&&", "||", ";;", ";", "|", "&", "\n", "(", ")")
 REDIRECTS = re.compile(r"<<|[<>]+[&|]?")
 NAME = re.compile(r"[A-Za-z_]\w*")
@@ -74,6 +75,9 @@ class Cutter:
         """Operators, and words (with no operator) with their pieces."""
         found: List[Tuple[str, List[Piece]]] = []
         while self.at < len(self.text):
+            if self.text.startswith(GOES_ON, self.at):
+                self.at += len(GOES_ON)
+                continue
             operator = self.operator()
             if operator or self.text[self.at] in SEPARATES:
                 if self.is_word:
@@ -118,8 +122,9 @@ class Cutter:
             raise Unread
         if char == "\\":
             after = self.text[self.at + 1:self.at + 2]
-            is_kept = quoted and after not in ('"', "$", "`", "\\", "\n")
-            self.add("text", "" if after == "\n" else (char if is_kept else "") + after, True)
+            is_kept = quoted and after not in ('"', "$", "`", "\\")
+            if after != "\n":
+                self.add("text", (char if is_kept else "") + after, True)
             self.at += 2
         elif char == "`":
             end = self.find("`", self.at + 1)

@@ -10,6 +10,8 @@ from record.jvm import settle_machines
 from record.listed import patterns
 from record.lives import Life
 from record.modules import contents, holds, settle_modules, without_comments
+from record.shelltext import Traits
+from test_replay import TOP, events_of, lives_of, played
 
 Events = List[Tuple[str, str]]
 
@@ -87,6 +89,10 @@ class Compilers(unittest.TestCase):
         asked = {("L", "o/p\0%s.class" % name) for name in ("A", "B", "B$1")}
         self.assertEqual({("T", "o/p"), *asked, ("R", "A.java"), ("C", "o/p/A.class")}, found)
 
+    def test_folder_that_must_be_there(self) -> None:
+        found = self.left("javac -d o A.java", {"A.java": "class A { }"}, [("S", "o"), ("R", "A.java"), ("C", "o/A.class")], ["o/"])
+        self.assertEqual({("S", "o"), ("R", "A.java"), ("C", "o/A.class")}, found)
+
     def test_classes_that_are_only_read(self) -> None:
         events = [("S", "o/p"), ("L", "o/p\0*"), ("S", "o/p/B.class"), ("S", "o/p/C.class"), ("R", "A.java")]
         found = self.left("javac -d q A.java", {"A.java": "class A { B b; }"}, events, ["o/p/", "o/p/B.class", "o/p/C.class"])
@@ -123,6 +129,20 @@ class Machines(unittest.TestCase):
     def test_that_others_look_at(self) -> None:
         self.assertEqual(2, self.left("cat", "/tmp/hsperfdata_me/1"))
         self.assertEqual(2, self.left("jps", "/tmp/x"))
+
+
+class Tools(unittest.TestCase):
+    """Scripts of the system that are known."""
+
+    def test_scripts(self) -> None:
+        for words, is_tool in (("/usr/bin/perl /usr/bin/makeinfo -I .", True), ("/usr/bin/perl ./makeinfo -I .", False), ("/usr/bin/perl /usr/bin/other .", False), ("sh /usr/bin/makeinfo", False)):
+            self.assertEqual(is_tool, Traits(words.split()).is_tool, words)
+
+    def test_looks(self) -> None:
+        for program, is_seen in (("/usr/bin/makeinfo", False), ("/usr/bin/other", True)):
+            run = '1 execve("/usr/bin/perl", ["perl", "%s", "-I", "."], 0x1 /* 2 vars */) = 0' % program
+            look = '1 newfstatat(AT_FDCWD<%s>, "f", {st_mode=S_IFREG|0644, ...}, 0) = 0' % TOP
+            self.assertEqual(is_seen, ("A", "f") in events_of(lives_of(played(run, look), 1)[0]), program)
 
 
 class Libtool(unittest.TestCase):

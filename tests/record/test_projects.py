@@ -26,6 +26,7 @@ PROJECTS: Dict[str, Small] = {
     "marker_that_is_older_than_a_file": Small("race", OUTER % "all: f\nf: $(D)$(DFSEP).exists ; touch f\n", {"in/Makefile": INNER}, "umask 022"),
     "marker_that_a_recipe_does_not_wait_for": Small("race", OUTER % "", {"in/Makefile": INNER.replace("all: x", "all: dirs x").replace("x: dirs ;", "x: ;")}, "umask 022"),
     "marker_with_a_text": Small("race", OUTER % "", {"in/Makefile": INNER.replace("\t$(NOECHO) $(TOUCH) $(D)", "\techo > $(D)")}, "umask 022"),
+    "marker_in_a_folder_that_is_listed": Small("race", OUTER % "all: f\nf: mk ; ls -a b > f\nmk: ; mkdir -p b; touch mk\n", {"in/Makefile": INNER.replace("echo x > ../b/x; ", "")}),
     "marker_that_is_read": Small("race", OUTER % "all: f\nf: ; cat b/.exists > f\n", {"in/Makefile": INNER}, "umask 022"),
     "mode_that_a_make_above_has_set": Small("safe", ABOVE % 755, {"in/Makefile": MODES}),
     "mode_that_a_make_above_has_not_set": Small("race", ABOVE % 700, {"in/Makefile": MODES}),

@@ -10,6 +10,7 @@ from test_small import Small, test_of
 KNOWN: Dict[str, str] = {
     "for f in *.c; do echo $f; done": "*.c",
     "for f in *.c\ndo\n  echo $f\ndone": "*.c",
+    "x=a && \\\ny=$x && \\\n  for f in b*\\\n.c; do \\\n echo \"$f\\\n$x\"; done": "b*.c",
     "for i in a.h b*.h; do cp $i \"out/$i\"; done": "b*.h",
     "x=\"*.c *.h\"; for f in $x a; do echo $f; done": "*.c *.h",
     "for f in *.c; do b=`basename $f .c`; echo \"$b\"; done": "*.c",
@@ -32,15 +33,16 @@ UNKNOWN = (
     "false && x=a; ls $x*", "x=a | y; ls $x*", "(x=a); ls $x*", "IFS=:; for f in *.c; do echo $f; done", "for f in; do :; done; ls *.c $f", "cat `pwd` *.h", "x=a; unset x; ls $x *.c",
     "for f in $y; do ls $f*; done", "echo 'a", "ls *.c $x", "printf -v x '*'; ls $x",
 )
-INFO = ("restore=: && backupdir=\".am$$$$\" && am__cwd=`pwd` && CDPATH=\"$${ZSH_VERSION+.}:\" && cd . && rm -rf $$backupdir && mkdir $$backupdir && if (sh ./info --version) >/dev/null 2>&1; then"
-        " for f in $@ $@-[0-9] $@-[0-9][0-9]; do if test -f $$f; then mv $$f $$backupdir; restore=mv; else :; fi; done; else :; fi && cd \"$$am__cwd\";"
-        " if sh ./info $@; then rc=0; cd .; else rc=$$?; cd . && $$restore $$backupdir/* `echo \"./$@\" | sed 's|[^/]*$$||'`; fi; rm -rf $$backupdir; exit $$rc\n")
+INFO = ("restore=: && backupdir=\".am$$$$\" && \\\nam__cwd=`pwd` && CDPATH=\"$${ZSH_VERSION+.}:\" && cd . && \\\n rm -rf $$backupdir && mkdir $$backupdir && if (sh ./info --version) >/dev/null 2>&1; then \\\n"
+        " for f in $@ $@-[0-9] $@-[0-9][0-9]; do if test -f $$f; then mv $$f $$backupdir; restore=mv; else :; fi; \\\n done; else :; fi && cd \"$$am__cwd\";"
+        " if sh ./info $@; then rc=0; cd .; else \\\n rc=$$?; cd . && $$restore $$backupdir/* `echo \"./$@\" | sed 's|[^/]*$$||'`; fi; rm -rf $$backupdir; exit $$rc\n")
 FILES = {"info": "test \"$1\" = --version || echo x > $1\n", "h/1.h": ""}
 
 SHELLS: Dict[str, Small] = {
     "rules_of_automake_for_info": Small("safe", "all: a.info b.info a.1\na.info b.info: ; " + INFO + "a.1: ; touch a.1\n", FILES),
     "rules_of_automake_that_find_a_file": Small("race", "all: a.info b\na.info: ; " + INFO + "b: ; touch a.info-1\n", FILES),
     "rules_of_automake_that_fail": Small("safe", "all: a.info b\na.info: ; -" + INFO.replace("sh ./info $@;", "false;") + "b: ; touch b\n", FILES),
+    "folder_behind_a_link": Small("race", "all: a b\na: ; d=l; echo $$d/*.h *.q > a\nb: ; touch h/b.h b\n", FILES, "ln -s h l"),
     "names_that_a_program_prints": Small("race", "all: a b\na: ; echo `echo 'h/*' | sed -n p` h/*.h > a\nb: ; touch h/b.o b\n", FILES),
     "loop_over_other_names": Small("safe", "all: a b\na: ; for f in h/*.h; do cp $$f a; done\nb: ; touch h/b.o b\n", FILES),
     "loop_over_these_names": Small("race", "all: a b\na: ; for f in h/*.h; do echo $$f; done > a\nb: ; touch h/2.h b\n", FILES),
