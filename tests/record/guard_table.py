@@ -96,7 +96,7 @@ NAMES: List[Guard] = [
     Guard("failed looks are reads", "build.py", 'elif kind in "RSNPK" and path in writers:', 'elif kind in "RSPK" and path in writers:', small("absent_file"), YES),
     Guard("removals are writes", "build.py", 'CHANGES = "WCD"', 'CHANGES = "WC"', small("removed_file"), YES),
     Guard("listings see what is created", "build.py", "task.reads.add(join(folder, name))", "pass", small("pattern_of_eval"), YES),
-    Guard("patterns of computed text are *", "shelltext.py", 'cut or "$" in text or', "cut or", small("pattern_in_a_variable"), YES),
+    Guard("patterns of computed text are *", "shelltext.py", 'cut or "$" in text or', "cut or", "test_shellvalues.Makefiles.test_loop_over_names_of_the_environment", YES),
     Guard("patterns of eval are *", "shelltext.py", r' or re.search(r"\beval\b", text)', "", small("pattern_of_eval"), YES,
           ("shelltext.py", 'OPTIONS.search(" ".join(argv)) or TAKES_IN.search(text)', "False")),
     Guard("lists of make: a search", "memory.py", "for pattern in builder.make.globs if asked is None or path in asked else ():", "for pattern in builder.make.globs:", small("search_that_lists_a_folder"), FALSE_RACE),
