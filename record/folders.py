@@ -194,11 +194,8 @@ def add_folder(builder: "Builder", path: str, folder: Folder) -> None:
         if at in folder.absent or not any(builder.build.is_before(m, at) for m in makers):
             seen(builder, path, at, makers)
     for at in makers:
-        look = folder.looks.get(at)
-        if look is not None and look < folder.first_made[at] and not excused(builder, at, path):
+        if shows_first(builder, path, folder, at, makers):
             seen(builder, path, at, makers - {at})
-        elif folder.first_used.get(at, 1 << 60) < folder.first_asked.get(at, 0) and not any(builder.build.is_before(m, at) for m in makers - {at}):
-            seen(builder, path, at, makers - {at})  # it makes the folder too late for itself
     everyone = makers | folder.users | folder.absent | folder.scripts | set(folder.looks) | folder.tried
     for at in folder.gone:
         mark(builder, path + "/@gone", "that the folder %s is there" % path, everyone - {at}, {at})
@@ -208,6 +205,14 @@ def add_folder(builder: "Builder", path: str, folder: Folder) -> None:
                 for kind, name, _ in events:
                     if kind in "CD" and os.path.dirname(name.rstrip("/")) == path:
                         mark(builder, name.rstrip("/"), "", {at}, {who})
+
+
+def shows_first(builder: "Builder", path: str, folder: Folder, at: int, makers: Set[int]) -> bool:
+    """Whether a maker shows whether the folder was there: it looked first, or made the folder too late for itself."""
+    look = folder.looks.get(at)
+    if look is not None and look < folder.first_made[at] and not excused(builder, at, path):
+        return True
+    return folder.first_used.get(at, 1 << 60) < folder.first_asked.get(at, 0) and not any(builder.build.is_before(m, at) for m in makers - {at})
 
 
 def makes_itself(builder: "Builder", at: int, path: str) -> bool:

@@ -134,10 +134,8 @@ class Imported:
     idle: List[str]  # targets of makes that had nothing to do
 
 
-def import_record(spool: Path, names: Names, kept: Kept, real: str, folder: str, record: Record) -> Imported:
-    """Of a trace and make's words: the builds, the holes, and what was taken for granted."""
-    assumed = Assumptions()
-    replay = replay_trace(spool, names, real, folder, names.tops)
+def settle_all(replay: Calls, spool: Path, assumed: Assumptions) -> Owners:
+    """Puts what is meant in the place of what known programs did; who did what."""
     for example in settle(replay.all):
         assumed.add("bytecode", example)
     settle_modules(replay.all)
@@ -148,6 +146,14 @@ def import_record(spool: Path, names: Names, kept: Kept, real: str, folder: str,
         assumed.add("makers", name)
     owners = Owners(replay.all, logs)
     credit_makes(owners, markers)
+    return owners
+
+
+def import_record(spool: Path, names: Names, kept: Kept, real: str, folder: str, record: Record) -> Imported:
+    """Of a trace and make's words: the builds, the holes, and what was taken for granted."""
+    assumed = Assumptions()
+    replay = replay_trace(spool, names, real, folder, names.tops)
+    owners = settle_all(replay, spool, assumed)
     if owners.makes:
         assumed.add("serial", "")
     record.holes += replay.holes + owners.holes

@@ -65,7 +65,7 @@ PROJECT_GUARDS: List[Guard] = [
     Guard("markers: ages", "exists.py", "    return not any(target not in base.phony and", "    return not any(False and", project("marker_that_is_older_than_a_file"), YES),
     Guard("markers: who waits for the rule", "exists.py", "all(waits(one, job.target, name) for", "all(True for", project("marker_that_a_recipe_does_not_wait_for"), YES),
     Guard("markers: who reads them", "exists.py", '    is_touch = name == "perl"', '    is_touch = True or name == "perl"', project("marker_that_is_read"), YES),
-    Guard("folders: made behind their use", "folders.py", "elif folder.first_used.get(at, 1 << 60) < folder.first_asked.get(at, 0) and", "elif False and", project("folder_made_behind_its_use"), YES),
+    Guard("folders: made behind their use", "folders.py", "return folder.first_used.get(at, 1 << 60) < folder.first_asked.get(at, 0) and", "return False and", project("folder_made_behind_its_use"), YES),
     Guard("folders: asked for behind their use", "folders.py", 'if kind in "MTEKSsN":', 'if kind in "MTE":', project("folder_asked_for_behind_its_use"), YES),
     Guard("Python: folders that may be there", "python.py", "        settle_made(life, own, read_at(life, sources))\n", "", makedirs("that_may_be_there"), FALSE_RACE),
     Guard("Python: folders that may not be there", "makedirs.py", 'forms.is_quiet and has(call, "exist_ok")', "forms.is_quiet", makedirs("of_which_one_part_may_not_be_there"), YES),
