@@ -23,7 +23,7 @@ TEXTS = {
     "listings": "programs that list a folder do not depend on the order in which its names were made, which some file systems show",
     "outside": "names outside of the project changed; what was there before is taken from the disk after the build",
     "flags": "a makefile or a recipe names MAKEFLAGS or PATH, which hold the recorder's words, and does the same without them",
-    "makers": "scripts that make folders for themselves (install-sh, mkinstalldirs, libtool, cmake, ExtUtils of Perl) ask no more than that it is there; libtool compares no ages",
+    "makers": "scripts that make folders for themselves (install-sh, mkinstalldirs, libtool, cmake, ExtUtils of Perl) ask no more than that it is there; libtool compares no ages, and lists folders for outputs of the same library",
     "bytecode": "what Python keeps in __pycache__ does what its source does, whichever recipe wrote it; its bytes may differ",
     "progress": "what CMake counts in CMakeFiles/Progress changes the percentages that it prints, and nothing else; nobody else looks there",
     "outlives": "a process lived on, and may have changed files, when its recipe had ended",

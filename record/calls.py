@@ -4,7 +4,7 @@ import os
 import re
 from typing import Callable, Dict, List, Tuple
 
-from record import shelltext
+from record import listed, shelltext
 from record.arguments import TEXT_END, opening, spelled
 from record.lives import Life
 from record.loader import interpreter_words
@@ -103,6 +103,8 @@ class Calls(Moves):
         traits = life.traits()
         if traits.looks_at_links:
             self.put(life, "h", found.path)
+        if traits.is_tool and not life.is_query:
+            return
         if life.is_query or traits.is_interpreter and not (traits.makes_folders and shelltext.makes(life.argv, found.path)) or self.ages(life):
             is_folder = found.inode is not None and found.inode.kind == "d"
             if not is_folder or not self.is_own(life, path, found) or shelltext.names_here(life.argv):
@@ -144,7 +146,7 @@ class Calls(Moves):
         life.is_ninja = argv == words[1:] and bool(shelltext.NINJA.match(os.path.basename(found.path)))
         if life.is_ninja:
             life.starts.append((self.place, life.folder))
-        life.argv, life.cut = argv, is_cut(call.args)
+        life.argv, life.cut, life.begun = argv, is_cut(call.args), self.place
         life.ran.append(argv)
         if life.is_wrapper:
             return
@@ -283,8 +285,8 @@ class Calls(Moves):
         elif where[0] == "/proc":
             self.watchers.append(" ".join(life.argv)[:100])
         else:
-            for pattern in shelltext.patterns(life.argv, life.cut):
-                self.put(life, "L", where[0] + "\0" + ("*" if self.is_open_shell or life.taken else pattern))
+            for pattern in listed.patterns(life, where[0], self.is_open_shell):
+                self.put(life, "L", where[0] + "\0" + pattern)
             if not shelltext.sorts_names(life.argv):
                 self.put(life, "l", where[0])
 
@@ -310,7 +312,9 @@ class Calls(Moves):
             self.put(life, "T" if quiet else "E", found.path)
         if ok or call.error == "EEXIST":
             mode = MODE.search(call.args)
-            self.put(life, "o", "%s\0%o" % (found.path, int(mode.group(1), 8) & ~life.mask if mode else -1))
+            given = "%o" % (int(mode.group(1), 8) & ~life.mask if mode else -1)
+            self.put(life, "o", found.path + "\0" + given)
+            self.names.modes.setdefault(found.path, set()).add(given)
         else:
             self.look(life, path, False, False, base=base)
             if found.missing:

@@ -33,6 +33,8 @@ class Folder:
     looks: Dict[int, int] = field(default_factory=dict)  # task: its first look at the folder by its own name
     absent: Set[int] = field(default_factory=set)
     users: Set[int] = field(default_factory=set)
+    first_used: Dict[int, int] = field(default_factory=dict)  # task: when it first used a name below, other than one that is there
+    first_asked: Dict[int, int] = field(default_factory=dict)  # task: when it first made the folder, or asked for it
     scripts: Set[int] = field(default_factory=set)  # tasks with a script that makes it where it is not there
     first_made: Dict[int, int] = field(default_factory=dict)
     created: Set[int] = field(default_factory=set)
@@ -81,24 +83,24 @@ def parents(path: str) -> List[str]:
     return found
 
 
-def parents_of_all(paths: Set[str]) -> Set[str]:
-    """The folders above some paths."""
-    found: Set[str] = set()
-    for path in paths:
+def parents_of_all(paths: Dict[str, int]) -> Dict[str, int]:
+    """The folders above some paths, with the first place of what is below."""
+    found: Dict[str, int] = {}
+    for path, place in sorted(paths.items(), key=lambda one: one[1]):
         while path not in ("/", ""):
             path = dirname(path)
             if path in found:
                 break
-            found.add(path)
+            found[path] = place
     return found
 
 
 def gather(builder: "Builder") -> Dict[str, Folder]:
     """All folders that recipes make or remove, with who uses them."""
     table = {p: Folder() for p in builder.made | builder.tried}
-    renamed = {p for p in builder.build.writers if p in builder.made}
+    renamed, never = {p for p in builder.build.writers if p in builder.made}, 1 << 60
     for at, events in each(builder) if table else ():
-        touched: Set[str] = set()
+        touched: Dict[str, int] = {}
         for kind, path, place in events:
             path, _, more = path.partition("\0")
             folder = table.get(path)
@@ -107,10 +109,11 @@ def gather(builder: "Builder") -> Dict[str, Folder]:
             elif folder is not None and not path.endswith("/"):
                 note(folder, at, kind, place)
             if kind in "RSWCDMTEXUL" and not path.endswith("/"):
-                touched.add(dirname(path))
-        for above in parents_of_all(touched) | touched:
+                touched[path] = min(place if kind not in "RS" else never, touched.get(path, never))
+        for above, place in parents_of_all(touched).items():
             if above in table:
                 table[above].users.add(at)
+                table[above].first_used[at] = min(place, table[above].first_used.get(at, never))
     for path in renamed:
         table[path].created |= set()
     return table
@@ -162,6 +165,8 @@ def note(folder: Folder, at: int, kind: str, place: int) -> None:
         folder.first_made[at] = min(place, folder.first_made.get(at, place))
     if kind in "SsN":
         folder.looks[at] = min(place, folder.looks.get(at, place))
+    if kind in "MTEKSsN":
+        folder.first_asked[at] = min(place, folder.first_asked.get(at, place))
 
 
 def add_folders(builder: "Builder") -> None:
@@ -201,8 +206,7 @@ def add_folder(builder: "Builder", path: str, folder: Folder) -> None:
         if at in folder.absent or not any(builder.build.is_before(m, at) for m in makers):
             seen(builder, path, at, makers)
     for at in makers:
-        look = folder.looks.get(at)
-        if look is not None and look < folder.first_made[at] and not excused(builder, at, path):
+        if shows_first(builder, path, folder, at, makers):
             seen(builder, path, at, makers - {at})
     everyone = makers | folder.users | folder.absent | folder.scripts | set(folder.looks) | folder.tried
     for at in folder.gone:
@@ -213,6 +217,14 @@ def add_folder(builder: "Builder", path: str, folder: Folder) -> None:
                 for kind, name, _ in events:
                     if kind in "CD" and os.path.dirname(name.rstrip("/")) == path:
                         mark(builder, name.rstrip("/"), "", {at}, {who})
+
+
+def shows_first(builder: "Builder", path: str, folder: Folder, at: int, makers: Set[int]) -> bool:
+    """Whether a maker shows whether the folder was there: it looked first, or made the folder too late for itself."""
+    look = folder.looks.get(at)
+    if look is not None and look < folder.first_made[at] and not excused(builder, at, path):
+        return True
+    return folder.first_used.get(at, 1 << 60) < folder.first_asked.get(at, 0) and not any(builder.build.is_before(m, at) for m in makers - {at})
 
 
 def makes_itself(builder: "Builder", at: int, path: str) -> bool:
@@ -314,5 +326,6 @@ def changed_modes(builder: "Builder", table: Events) -> Set[str]:
     for kind, text in ((k, p) for _, events in table for k, p, _ in events if k == "m"):
         path, _, mode = text.partition("\0")
         given.setdefault(path, set()).add(mode)
-    made = gather(builder) if given else {}
-    return {path for path, modes in given.items() if path not in made or builder.before.get(path) == "d" or len(modes) > 1 or set(made[path].modes) != modes}
+    made, known = gather(builder) if given else {}, builder.names.modes
+    first = {path: known.get(path, set()).union(made[path].modes if path in made else ()) for path in given}  # also those that a make above has made
+    return {path for path, modes in given.items() if builder.before.get(path) == "d" or len(modes) > 1 or first[path] != modes}

@@ -1,11 +1,15 @@
 """The patterns of `$(wildcard ..)` in makefiles: which names a listing of a folder by make can be about."""
 
 import re
-from typing import Dict, Iterator, List, Optional, Set
+from typing import Dict, Iterable, Iterator, List, Optional, Set
 
 from record.shelltext import loose
 
 CALL = re.compile(r"\$([({])wildcard[ \t]+")
+CALLS = re.compile(r"\$([({])call[ \t]+")
+AUTOMATIC = re.compile(r"\$(?:[@<^+*?|%]|\([@<^+*?|%][DF]?\)|\{[@<^+*?|%][DF]?\})")  # names of targets and prerequisites
+ARGUMENT = re.compile(r"\$(?:\d|\(\d+\)|\{\d+\})")
+ASSIGNED = re.compile(r"(?m)^[ \t]*([\w.-]+)[ \t]*(?:\?|::?:?)?=((?:[^\n]*\\\n)*[^\n]*)")
 REFERENCE = re.compile(r"\$(?:\(([\w.-]+)(?::[^$(){}*?\[]*)?\)|\{([\w.-]+)(?::[^$(){}*?\[]*)?\}|(\w))")
 MAGIC = re.compile(r"[*?\[]")
 # A line of a makefile that is a rule, up to its recipe, and one that includes makefiles: make looks for the names in them.
@@ -22,10 +26,12 @@ QUIET = re.compile(r"\$[({](?:dir|notdir|basename|suffix|addprefix|addsuffix|joi
 class Macros:
     """What makefiles and the data base of make say of macros."""
 
-    def __init__(self, text: str, values: Dict[str, str]) -> None:
+    def __init__(self, text: str, values: Dict[str, str], names: Iterable[str] = ("*",)) -> None:
         self.text, self.values = text, values
+        self.target = UNKNOWN if any(MAGIC.search(name) for name in names) else NAMED  # what stands for a target's name
         self.is_open = "eval" in text
         self.plain: Dict[str, bool] = {}
+        self.are_plain: Optional[bool] = None  # whether no argument of a function is a pattern
 
     def fixed(self, name: str) -> Optional[str]:
         """The one value that a macro has all along: no two assignments, no loop of its name, and no other macro in it."""
@@ -54,6 +60,16 @@ class Macros:
             self.plain[name] = all(self.is_plain(text) for text in [*self.assigned(name), self.values.get(name, "")])
         return self.plain[name]
 
+    def has_plain_arguments(self) -> bool:
+        """Whether no argument of `call` holds a pattern, of all functions that hand one to `wildcard`."""
+        if self.are_plain is None:
+            held = {found.group(1): found.group(2) for found in ASSIGNED.finditer(self.text) if uses_arguments(found.group(2))}
+            calls = [found.partition(",") for found in arguments(self.text, CALLS) if found is not None]
+            is_known = uses_arguments(self.text) == sum(map(uses_arguments, held.values())) and len(re.findall(r"\$[({]call\b", self.text)) == len(calls)
+            is_known = is_known and not any(found.group(1) in held or found.group(2) in held or found.group(3) in held for found in REFERENCE.finditer(self.text))
+            self.are_plain = is_known and all("$" not in name and (name.strip() not in held or self.is_plain(words)) for name, _, words in calls)
+        return self.are_plain
+
     def is_plain(self, text: str) -> bool:
         """Whether what a text comes to holds no pattern. What `wildcard` gives are names of files."""
         for call in set(arguments(text)):
@@ -65,12 +81,12 @@ class Macros:
         return not MAGIC.search(rest) and "$" not in rest.replace("$$", "") and all(self.has_no_pattern(name) for name in names)
 
 
-def patterns(texts: List[str], values: Dict[str, str]) -> Set[str]:
+def patterns(texts: List[str], values: Dict[str, str], names: Iterable[str] = ("*",)) -> Set[str]:
     """The patterns of one part of a path that makefiles look for; `*` where they cannot be known.
 
-    `values` has macros with the text that make had for them at its end.
+    `values` has macros with the text that make had for them at its end, and `names` are all targets that it considered.
     """
-    macros = Macros("\n".join(texts), values)
+    macros = Macros("\n".join(texts), values, names)
     found: Set[str] = set()
     calls = list(arguments(macros.text))
     for words in calls:
@@ -80,9 +96,9 @@ def patterns(texts: List[str], values: Dict[str, str]) -> Set[str]:
     return found
 
 
-def listed(texts: List[str], values: Dict[str, str]) -> Set[str]:
+def listed(texts: List[str], values: Dict[str, str], names: Iterable[str] = ("*",)) -> Set[str]:
     """The patterns in rules and in lines that include makefiles; `*` where a macro in them may hold any."""
-    macros = Macros("\n".join(texts), values)
+    macros = Macros("\n".join(texts), values, names)
     found: Set[str] = set()
     for text in [*RULE.findall(macros.text), *INCLUDE.findall(macros.text)]:
         if not macros.is_plain(text):
@@ -90,9 +106,14 @@ def listed(texts: List[str], values: Dict[str, str]) -> Set[str]:
     return found
 
 
-def arguments(text: str) -> Iterator[Optional[str]]:
+def uses_arguments(text: str) -> int:
+    """How many calls of `wildcard` have an argument of a function among their words."""
+    return sum(1 for words in arguments(text) if words is None or ARGUMENT.search(words))
+
+
+def arguments(text: str, begins: "re.Pattern[str]" = CALL) -> Iterator[Optional[str]]:
     """What stands in each call of `wildcard`, or nothing where it has no end."""
-    for call in CALL.finditer(text):
+    for call in begins.finditer(text):
         depth, at = 1, call.end()
         while depth and at < len(text):
             depth += (text[at] == call.group(1)) - (text[at] == BRACKETS[call.group(1)])
@@ -108,10 +129,10 @@ def parts(words: Optional[str], macros: Macros) -> Set[str]:
     def value(found: "re.Match[str]") -> str:
         name = found.group(1) or found.group(2) or found.group(3)
         fixed = macros.fixed(name) if ":" not in found.group(0) else None
-        return fixed if fixed is not None else NAMED if macros.has_no_pattern(name) else UNKNOWN
+        return fixed if fixed is not None else NAMED if macros.has_no_pattern(name) or name.isdigit() and macros.has_plain_arguments() else UNKNOWN
 
     found: Set[str] = set()
-    for word in REFERENCE.sub(value, words).split():
+    for word in REFERENCE.sub(value, AUTOMATIC.sub(macros.target, words)).split():
         if any(mark in word for mark in (UNKNOWN, "$", "(", "{")):
             found.add("*")
         else:

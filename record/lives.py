@@ -60,6 +60,7 @@ class Life:
     handle: Tuple[int, str] = (-1, "")  # the descriptor that it got last, and what stands behind it, where that only stands for a name
     taken: Tuple[str, ...] = ()  # files that a shell read which its text does not name as its input
     known: Optional[Traits] = None
+    begun: int = 0  # where the program began that runs now
 
     def traits(self) -> Traits:
         """What the words say of its looks."""

@@ -20,15 +20,18 @@ from record.assumptions import Assumptions
 from record.again import JOBS, TRIES, by_name, hints, tops_of, undo, with_jobs
 from record.build import Builder
 from record.calls import Calls
+from record.exists import credit_makes, settle_exists
 from record.folder import Record, is_record, rewrite, write_record
 from record.footprints import write_footprints
 from record.fresh import CannotClean, cold_copy, fresh_folder
 from record.granted import add_granted, idle_targets
 from record.graph import Build
 from record.judge import find_race, judge
+from record.jvm import settle_machines
 from record.lives import Life
 from record.missing import knows_missing, write_missing
 from record.missing_report import Question, missing_text
+from record.modules import settle_modules
 from record.names import Names
 from record.ninja_import import beside, import_ninjas
 from record.ninja_import import versions as ninja_versions
@@ -145,20 +148,33 @@ class Imported:
     idle: List[str]  # targets of makes that had nothing to do
 
 
+def settle_all(replay: Calls, spool: Path, assumed: Assumptions) -> Owners:
+    """Puts what is meant in the place of what known programs did; who did what."""
+    for example in settle(replay.all, replay.tops):
+        assumed.add("bytecode", example)
+    settle_modules(replay.all)
+    settle_machines(replay.all)
+    logs = list(read_logs(spool))
+    markers = settle_exists(replay.all, logs)
+    for name in sorted(markers.paths):
+        assumed.add("makers", name)
+    owners = Owners(replay.all, logs)
+    credit_makes(owners, markers)
+    return owners
+
+
 def import_record(spool: Path, names: Names, kept: Kept, real: str, folder: str, record: Record) -> Imported:
     """Of a trace and make's words: the builds, the holes, and what was taken for granted."""
     assumed = Assumptions()
     replay = replay_trace(spool, names, real, folder, names.tops)
-    for example in settle(replay.all, names.tops):
-        assumed.add("bytecode", example)
-    owners = Owners(replay.all, read_logs(spool))
+    owners = settle_all(replay, spool, assumed)
     if owners.makes:
         assumed.add("serial", "")
     record.holes += replay.holes + owners.holes
     record.holes += ["nobody knows who started a process: " + one for one in replay.strays()]
     record.holes += ["a make ran past the recorder: " + p for p in replay.past]
     for path in sorted(spool.glob("*.past")):
-        record.holes += ["a make that prints its own words (-d, -p, --debug) ran past the recorder: " + t for t in path.read_text(errors="replace").splitlines()]
+        record.holes += ["a make that prints its own words (-d, -p, --debug), or has nowhere to print them, ran past the recorder: " + t for t in path.read_text(errors="replace").splitlines()]
     for kind, found in (("sockets", replay.sockets), ("processes", replay.watchers), ("read-times", replay.askers), ("locks", replay.locks),
                         ("hard-links", replay.hard_links), ("ages", replay.rewritten())):
         for example in found:

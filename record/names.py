@@ -74,6 +74,7 @@ class Names:
         self.ends: Dict[str, Found] = {}  # by spelling, where it ends in a link: what was there; they hold as long
         self.before: Dict[str, str] = {}
         self.tops: List[str] = []
+        self.modes: Dict[str, Set[str]] = {}  # folders that were made: with which modes
 
     def walk(self, top: str) -> None:
         """Takes in the tree below a real path, as it is now."""

@@ -145,7 +145,8 @@ class Owners:
             except OSError:
                 if not make.never_read(name):
                     return ["*"], []
-        return sorted(patterns(texts, make.words.values())), sorted(listed(texts, make.words.values()))
+        names = [name for one in make.words.rounds for name in one.nodes]
+        return sorted(patterns(texts, make.words.values(), names)), sorted(listed(texts, make.words.values(), names))
 
     def match_jobs(self, make: Make) -> None:
         """The k-th process of a number that make started is its k-th job of that number."""

@@ -1,4 +1,4 @@
-"""What Python does by itself where it imports: it lists the folders of its modules, and keeps byte code in `__pycache__`.
+"""What Python does by itself: it lists the folders of its modules, keeps byte code in `__pycache__`, and makes folders.
 
 Byte code counts as its source. A list of a folder in which a program finds modules is about modules and folders alone, where no text
 of the program lists folders.
@@ -6,11 +6,12 @@ of the program lists folders.
 
 import os
 import re
-from typing import Iterator, List, Sequence, Set
+from typing import Dict, Iterator, List, Sequence, Set
 
 from record import shelltext
 from record.lives import Life
 from record.looked import BYTE_CODE
+from record.makedirs import settle_made
 
 PYTHON = re.compile(r"(?:.*/)?python[\d.]*$")
 CACHE = "__pycache__"
@@ -23,11 +24,8 @@ MODULES = ("*.py", "*.pyc", "*.so", "*.pth", "*/")  # what an import, or the sta
 
 
 def is_python(life: Life) -> bool:
-    """Whether a life ends as Python, and began as no other program than a shell that finds no names by patterns."""
-    if not life.ran or not life.ran[-1] or not PYTHON.match(life.ran[-1][0]):
-        return False
-    texts = [shelltext.shell_text(argv) or "*" for argv in life.ran[:-1] if not argv or not PYTHON.match(argv[0])]
-    return not any(re.search(r"[*?\[$`]", text) for text in texts)
+    """Whether a life ends as Python. What it did as another program, such as a script that finds Python, stays as it is."""
+    return bool(life.ran and life.ran[-1] and PYTHON.match(life.ran[-1][0]))
 
 
 def settle(lives: List[Life], tops: Sequence[str] = ()) -> Iterator[str]:
@@ -37,8 +35,11 @@ def settle(lives: List[Life], tops: Sequence[str] = ()) -> Iterator[str]:
     others = {cache_of(path) for life in lives if not is_python(life) for _, path in life.events if CACHE in path}
     for life in known:
         names = [path for _, path in life.events if CACHE in path and cache_of(path) not in others and not is_of_system(path, tops)]
-        settle_lists(life)
+        sources = sources_of(life)
+        own = own_sources(life, sources)
+        settle_lists(life, sources, own)
         settle_code(life, others)
+        settle_made(life, own, read_at(life, sources))
         if names:
             yield "%s: %s" % (" ".join(life.argv)[:60], names[0])
 
@@ -59,7 +60,7 @@ def settle_code(life: Life, others: Set[str]) -> None:
         match = BYTE_CODE.match(path)
         source = match.group(1) + match.group(2) + ".py" if match is not None else ""
         is_cache = os.path.basename(path) == CACHE
-        if cache_of(path) in others:
+        if cache_of(path) in others or place <= life.begun:
             continue
         if kind in "RSNA" and ({("S", source), ("R", source)} & life.events.keys() or is_cache) or kind == "P" and is_cache:
             del life.events[kind, path]
@@ -69,19 +70,49 @@ def settle_code(life: Life, others: Set[str]) -> None:
             life.events.setdefault(("T", path), place)
 
 
-def settle_lists(life: Life) -> None:
-    """Lists of folders in which it finds modules."""
-    lists = [path for kind, path in life.events if kind == "L" and path.endswith("\0*")]
+def sources_of(life: Life) -> Dict[str, int]:
+    """The modules that it reads, except those that come with Python itself, with when it did; none where its script is not among them."""
     library = library_of(life)
-    events = (event for one in life.threads or (life,) for event in one.events)
-    read = [BYTE_CODE.sub(r"\1\2.py", path) for kind, path in events if kind == "R" and not is_of_python(path, library)]
-    sources = [path for path in read if path.endswith(TEXTS)]
-    if not lists or script_of(life) not in (os.path.basename(path) for path in sources) or any(lists_folders(path) for path in sources):
+    found: Dict[str, int] = {}
+    events = (event for one in life.threads or (life,) for event in one.events.items())
+    for (kind, path), place in events:
+        source = BYTE_CODE.sub(r"\1\2.py", path)
+        if kind == "R" and source.endswith(TEXTS) and not is_of_python(source, library):
+            found[source] = min(place, found.get(source, place))
+    return found if script_of(life) in map(os.path.basename, found) else {}
+
+
+def read_at(life: Life, sources: Dict[str, int]) -> int:
+    """When it read its script."""
+    return min((place for path, place in sources.items() if os.path.basename(path) == script_of(life)), default=life.begun)
+
+
+def own_sources(life: Life, sources: Dict[str, int]) -> List[str]:
+    """The script and the modules that it may use: what a site starts with each Python, and no text names, does nothing any more."""
+    begun = read_at(life, sources)
+    texts = [shelltext.contents(path) for path, place in sources.items() if place >= begun]
+    is_whole = all(len(text) < shelltext.LARGE for text in texts)
+    return [path for path, place in sources.items() if place >= begun or not is_whole or is_named(path, " ".join(texts))]
+
+
+def is_named(path: str, texts: str) -> bool:
+    """Whether a text may use a module: one that is in no package folder, or whose package it names."""
+    match = PACKAGES.search(path)
+    package = path[match.end():].split("/")[0].split(".")[0] if match is not None else ""
+    return not package or re.search(r"\b%s\b" % re.escape(package), texts) is not None
+
+
+def settle_lists(life: Life, sources: Dict[str, int], own: List[str]) -> None:
+    """Lists of folders in which it finds modules."""
+    begun = read_at(life, sources)
+    lists = {path: place for (kind, path), place in life.events.items() if kind == "L" and path.endswith("\0*") and place > life.begun}
+    if not lists or not sources or any(lists_folders(path) for path in own):
         return
-    for path in lists:
+    is_all = not any(lists_folders(path) for path in sources if path not in own)
+    for path, place in lists.items():
         folder = path.partition("\0")[0]
-        if any(os.path.dirname(source) == folder for source in sources):
-            place = life.events.pop(("L", path))
+        if (place > begun or is_all) and any(os.path.dirname(source) == folder for source in sources):
+            del life.events["L", path]
             for pattern in MODULES:
                 life.events.setdefault(("L", folder + "\0" + pattern), place)
 

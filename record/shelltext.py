@@ -21,6 +21,7 @@ PROGRESS = ("cmake_progress_start", "cmake_progress_report", "cmake_echo_color")
 SORTERS = ("make", "gmake", "rm", "chmod", "chown", "rmdir", "git")  # a folder that `cp` or `mv` copies gets its names in that order
 MAKERS = ("install-sh", "mkinstalldirs", "libtool")
 EXTUTILS = re.compile(r"-MExtUtils::Command -e mkpath$|-MExtUtils::Install -e pm_to_blib\(")  # what Perl's makefiles make folders by
+TOOLS = re.compile(r"/usr/(?:local/)?bin/(?:makeinfo|texi2any|pod2man|pod2text|help2man)$")  # scripts of the system that compare no ages
 INTERPRETERS = re.compile(r"(python|perl|ruby|node|lua|tclsh|php)[\d.]*$")
 TAKES_IN = re.compile(r"(^|[;&|({\n`!]\s*|\b(then|do|else|elif|if|while|until|time|command|builtin)\s+|\b\w+=\S*\s+)(\.|source|eval)\s")  # text of another file
 OPTIONS = re.compile(r"\b(shopt|compgen|GLOBIGNORE)\b|\s[-+]O\s")  # of bash, by which patterns say something else, or nothing
@@ -31,6 +32,7 @@ READ_TIMES = re.compile(r"(?:\btest|\[)\s[^;&|\n]*-N\s|\bfind\b[^;|\n]*\s-(?:ane
                         r"|\bls\s([^;|&\n]*?\s)?(?:-\w*u|--time=(?:a|u))")
 QUALIFIED = re.compile(r"[\w*?\])/>]\(")  # a pattern of zsh that may ask for ages, as `*(om)` does
 KEPT = 4096  # how many files are remembered
+LARGE = 1 << 18  # how much of a script is read
 MAKES = ("make", "gmake", "remake")
 PASSING = ("env", "nice", "ionice", "setsid", "timeout", "flock", "time", "stdbuf")  # they leave errors to who runs in their place
 GLOB_WORD = re.compile(r"[^\s;|&<>()'\"`=]*[*?\[][^\s;|&<>()'\"`]*")
@@ -273,7 +275,7 @@ def script_compares(path: str, folder: str, depth: int = 0) -> bool:
     """Whether the text of a script compares ages, or that of a script that it takes in; so may one that cannot be read."""
     try:
         with open(path, errors="replace") as file:
-            text = file.read(1 << 18)
+            text = file.read(LARGE)
     except OSError:
         return True
     taken = [name.strip("'\"") for name in TAKEN.findall(text)]
@@ -313,7 +315,7 @@ def contents(path: str) -> str:
     """The text of a script; nothing where it is gone."""
     try:
         with open(path, errors="replace") as file:
-            return file.read(1 << 18)
+            return file.read(LARGE)
     except OSError:
         return ""
 
@@ -389,6 +391,7 @@ class Traits:
         self.makes_folders = maker_at(argv) >= 0
         self.looks_at_links = looks_at_links(argv)
         self.is_interpreter = is_interpreter(argv)
+        self.is_tool = self.is_interpreter and TOOLS.match("".join(argv[1:2])) is not None
         self.is_ageless = is_ageless(argv)
         self.asks_size = asks_size(argv)
         self.is_shell = base_name(argv) in SHELLS

@@ -301,6 +301,15 @@ def is_one_file(first, second):
         return False
 
 
+def is_closed(number):
+    """Whether a descriptor is closed."""
+    try:
+        os.fstat(number)
+    except OSError:
+        return True
+    return False
+
+
 def head_of(args, flags, below, slots, where, errors):
     """The first lines of a log: the words of make, and where its output goes."""
     lines = (("ARGS", " ".join(args)), ("FLAGS", flags), ("BELOW", "%d" % below), ("JOBS", slots), ("OUTPUT", where), ("ERRORS", errors))
@@ -359,9 +368,9 @@ def main():
         words = without_words(os.environ["MFLAGS"][1:])
         os.environ["MFLAGS"] = "-" + words if words and not words.startswith("-") else words
     query = asked(args, flags)
-    if query:
+    if query or is_closed(1):
         if not query & set("vhnqt"):
-            note_past(spool, args)
+            note_past(spool, args + ["(its standard output is closed)"] * (not query))
         as_usual()
         os.execv(real, [name] + args)
     raw = run_logged(spool, name, real, args, flags, below, slots)

@@ -36,9 +36,25 @@ class Globs(unittest.TestCase):
         self.assertEqual({"*"}, patterns(["S := $(wildcard $(D)/x)\nD := x\nD += y\n"], {"D": "$(lines)*"}))
 
     def test_what_cannot_be_known(self) -> None:
-        for text in ("S := $(wildcard $(D*)/x)\n", "S := $(wildcard $(1))\n", "S := $(wildcard $(shell ls))\n",
+        for text in ("S := $(wildcard $(D*)/x)\n", "S := $(wildcard $(shell ls))\n",
                      "F := wildcard\nS := $($(F) x)\n", "S := $(wildcard x\n"):
             self.assertEqual({"*"}, patterns([text], {}), text)
+
+    def test_names_of_targets(self) -> None:
+        for word in ("$@", "$(@D)", "${<F}", "$^"):
+            text = "a: ; $(if $(wildcard %s),,mkdir a)\n" % word
+            self.assertEqual(set(), patterns([text], {}, ["a", "b/c"]), word)
+            self.assertEqual({"*"}, patterns([text], {}, ["a", "b[1]"]), word)
+        self.assertEqual({"*.c"}, patterns(["a: ; cc $(wildcard $(@D)/*.c)\n"], {}, ["a"]))
+
+    def test_arguments_of_functions(self) -> None:
+        both = "F = $(if $(wildcard $1),install $1)\nP = a b\n"
+        self.assertEqual(set(), patterns([both + "x: ; $(call F,$(P) c)\n"], {"P": "a b"}))
+        self.assertEqual(set(), patterns(["S := $(wildcard $(1))\n"], {}))
+        self.assertEqual({"*.c"}, patterns(["F = $(wildcard $1/*.c)\nx: ; $(call F,src)\n"], {}))
+        for text in ("x: ; $(call F,*.c)\n", "x: ; $(call F,$(shell ls))\n", "x: ; $(call $(Z),*.c)\n", "G = $(F)\nx: ; $(call G,*.c)\n", "x: ; $(foreach f,*.c,$(call F,$f))\n",
+                     "define G\n$(wildcard $1)\nendef\n", "x: ; $(call F,*.c\n", "G = $(call F,$1)\nx: ; $(call G,*.c)\n"):
+            self.assertEqual({"*"}, patterns([both + text], {"P": "a b"}), text)
 
     def test_macros_of_a_data_base(self) -> None:
         base = read_base(["# Variables", "", "# makefile (from 'Makefile', line 1)", "D := src lib", "# makefile (from 'Makefile', line 2)",

@@ -7,11 +7,17 @@ from typing import Dict
 
 import support
 from record.lives import Life
-from record.python import is_of_python, settle, settle_lists
+from record.python import is_of_python, own_sources, settle, settle_lists, sources_of
 
 HELPER = {"t/lib.py": "def text():\n    return 'x'\n"}
 SCRIPT = "import sys, lib\nopen(sys.argv[1], 'w').write(lib.text())\n"
 TWO = "all: t/x.c t/y.c\nt/x.c: ; python3 -S t/gen.py t/x.c\nt/y.c: ; python3 -S t/gen.py t/y.c\n"
+
+
+def settled(life: Life) -> None:
+    """Puts what is meant in the place of its lists."""
+    sources = sources_of(life)
+    settle_lists(life, sources, own_sources(life, sources))
 
 
 class Python(unittest.TestCase):
@@ -54,14 +60,26 @@ class Python(unittest.TestCase):
             listed = ("L", "%s\0*" % project.folder)
             life = Life(1, argv=["python3", "gen.py"], ran=[["python3", "gen.py"]], events={("R", str(project.folder / "gen.py")): 1, listed: 2})
             life.join_threads(Life(2, events={("R", str(project.folder / "more.py")): 1}))
-            settle_lists(life)
+            settled(life)
             self.assertIn(listed, life.events)
 
     def test_lists_of_imports_are_about_modules(self) -> None:
         with support.Project({"gen.py": "x = 1\n"}) as project:
             life = Life(1, argv=["python3", "gen.py"], ran=[["python3", "gen.py"]], events={("R", str(project.folder / "gen.py")): 1, ("L", "%s\0*" % project.folder): 2})
-            settle_lists(life)
+            settled(life)
             self.assertEqual({"*.py", "*.pyc", "*.so", "*.pth", "*/"}, {path.partition("\0")[2] for kind, path in life.events if kind == "L"})
+
+    def test_that_a_script_begins(self) -> None:
+        for line, status in (("for f in /etc/pas*; do :; done", 0), ("echo t/*.c > /dev/null", 1)):
+            files = {"py": "#!/bin/sh\n%s\nexec python3 -S \"$@\"\n" % line, **HELPER}
+            self.of(TWO.replace("python3 -S", "sh ./py"), SCRIPT, status, files=files)
+
+    def test_module_that_a_site_starts(self) -> None:
+        """A module that runs before the script counts where a text names it."""
+        files = {"lib/site-packages/sitecustomize.py": "import some\n", "lib/site-packages/some.py": "import os\ndef names(d):\n    return os.listdir(d)\n", **HELPER}
+        makefile = TWO.replace("python3 -S", "PYTHONDONTWRITEBYTECODE=1 PYTHONPATH=lib/site-packages python3")
+        self.of(makefile, SCRIPT, 0, files=files)
+        self.of(makefile, SCRIPT + "import some\nsome.names('t')\n", 1, files=files)
 
     def test_module_that_a_recipe_makes(self) -> None:
         self.of("all: t/x.c t/more.py\nt/x.c: ; python3 -S t/gen.py t/x.c\nt/more.py: ; echo > $@\n", "try:\n    import more\nexcept ImportError:\n    pass\n" + SCRIPT, 1)

@@ -1,0 +1,198 @@
+"""Compilers that list folders to find modules there: OCaml's, and those of Java.
+
+They look for modules whose names they have read: in their words, in sources, in modules that they compiled before. So a list is about
+these names alone. A file that is gone, or that was changed after it was read, may have had any name.
+"""
+
+import glob
+import os
+import re
+from dataclasses import dataclass, field
+from functools import lru_cache
+from typing import Dict, Iterable, Iterator, List, Set
+
+from record.lives import Life
+
+OCAML = re.compile(r"ocaml(?:c|opt|dep|cp|optp|mktop)(?:\.opt|\.byte)?$")
+JAVA = re.compile(r"java(?:c|doc)$")
+SYSTEM = re.compile(r"/(?:usr|lib\w*|etc|proc|sys|dev)/|.*/(?:lib/modules|lib/ct\.sym|lib/security/[^/]*|conf/[^/]*|hsperfdata_[^/]*/\d+)$")  # what names no module of a project
+MODULES = (".cmi", ".cmx")
+LIBRARIES = (".cma", ".cmxa")
+COMPILED, COMPRESSED = (".cmi", ".cmx", ".cmo"), b"\x84\x95\xa6\xbd"
+LINKED = (".cmo", ".cma", ".cmx", ".cmxa", ".cmxs", ".o", ".a", ".so")
+OCAML_PARTS = re.compile(rb"""\"(?:\\.|[^"\\])*\"|'(?:\\[^\n]{1,4}?|[^'\\\n])'|\{([a-z_]*)\|.*?\|\1\}|\(\*|\*\)""", re.S)
+JAVA_PARTS = re.compile(rb"""\"{3}(?:\\.|[^\\])*?\"{3}|\"(?:\\.|[^"\\\n])*\"|'(?:\\.|[^'\\\n])+'|//[^\n]*|/\*.*?\*/""", re.S)
+SOURCES = (".ml", ".mli", ".mll", ".mly", ".java")
+GIVEN = ("-d", "-s", "-h")  # words before folders that must be there, for older versions
+OWN = ("module-info", "package-info")  # what Java looks for in any case
+LARGE = 1 << 24
+KEPT = 4096
+
+
+@dataclass
+class Disk:
+    """What all processes changed: the names in each folder that came or went, the folders that were made, and when each file was last written."""
+
+    names: Dict[str, Set[str]] = field(default_factory=dict)
+    written: Dict[str, int] = field(default_factory=dict)
+    made: Set[str] = field(default_factory=set)  # folders
+
+    @staticmethod
+    def of(lives: Iterable[Life]) -> "Disk":
+        """That of a build."""
+        disk = Disk()
+        for life in lives:
+            for kind, path in life.events:
+                if kind in "MT":
+                    disk.made.add(path)
+                if kind in "CDMTX":
+                    folder, name = os.path.split(path.rstrip("/"))
+                    disk.names.setdefault(folder, set()).add(name)
+            for path, place in life.changed.items():
+                disk.written[path] = max(place, disk.written.get(path, 0))
+        return disk
+
+
+def settle_modules(lives: List[Life]) -> None:
+    """Puts the names that a compiler may look for in the place of its lists."""
+    found = [life for life in lives if kind_of(life)]
+    disk = Disk.of(lives) if found else Disk()
+    for life in found:
+        parts = list(parts_of(life))
+        texts = read_by(parts, disk)
+        if all(os.path.isfile(text) for text in texts):
+            listed = {path.partition("\0")[0] for part in parts for kind, path in part.events if kind == "L"}
+            for part in parts:
+                settle_lists(life, part, texts, disk)
+                if kind_of(life) == "java":
+                    settle_packages(life, part, texts, disk, listed)
+
+
+def settle_lists(life: Life, part: Life, texts: List[str], disk: Disk) -> None:
+    """Lists of whole folders."""
+    for (kind, path), place in list(part.events.items()):
+        if kind == "L" and path.endswith("\0*") and place > life.begun:
+            del part.events["L", path]
+            look_for(life, part, path.partition("\0")[0], place, texts, disk)
+
+
+def look_for(life: Life, part: Life, folder: str, place: int, texts: List[str], disk: Disk) -> None:
+    """A compiler looks for modules in a folder."""
+    for name in sorted(disk.names.get(folder, ())):
+        if may_ask(life, name, texts):
+            part.events.setdefault(("L", folder + "\0" + glob.escape(name)), place)
+
+
+def settle_packages(life: Life, part: Life, texts: List[str], disk: Disk, listed: Set[str]) -> None:
+    """Folders of packages: Java's compilers ask for one before they list it, for all that they find listed there, and make one where it
+    is not there and they write into it."""
+    filled = {os.path.dirname(path) for kind, path in part.events if kind in "WC"}
+    given = {os.path.normpath(os.path.join(life.folder, value)) for word, value in zip(life.argv, life.argv[1:]) if word in GIVEN}
+    for (kind, path), place in list(part.events.items()):
+        if kind in "SaA" and os.path.dirname(path) in listed and not may_ask(life, os.path.basename(path), texts):
+            del part.events[kind, path]
+        elif path in disk.made and path not in given and place > life.begun and kind in "SNPMEaA":
+            del part.events[kind, path]
+            if kind in "ME" or path in filled:
+                part.events[("T", path)] = min(place, part.events.get(("T", path), place))
+            if kind in "SN":
+                look_for(life, part, path, place, texts, disk)
+
+
+def program_of(life: Life) -> str:
+    """The name of the program that a process runs, as bytecode too."""
+    words = [os.path.basename(word) for word in (life.ran[-1] if life.ran else [])[:2]]
+    return words[1] if words[:1] == ["ocamlrun"] and len(words) > 1 else "".join(words[:1])
+
+
+def kind_of(life: Life) -> str:
+    """Which compiler a process runs, if any."""
+    if life.cut:
+        return ""
+    return "ocaml" if OCAML.match(program_of(life)) else "java" if JAVA.match(program_of(life)) else ""
+
+
+def parts_of(life: Life) -> Iterator[Life]:
+    """A process, its threads, and those that it started and that run no other program."""
+    todo = [life]
+    while todo:
+        one = todo.pop()
+        yield one
+        todo.extend(child for child in one.children if not child.ran)
+
+
+def read_by(parts: List[Life], disk: Disk) -> List[str]:
+    """The files that a compiler read and has not made itself, where they are as they were then; else a name that no file has."""
+    own = {path for part in parts for kind, path in part.events if kind == "C"}
+    links = {path for part in parts for kind, path in part.events if kind == "R" and os.path.islink(path)}
+    found = {path: place for part in parts for (kind, path), place in part.events.items() if kind == "R" and path not in own | links and not SYSTEM.match(path)}
+    is_same = all(disk.written.get(path, 0) <= place for path, place in found.items())
+    return sorted(found) if is_same else [""]
+
+
+def may_ask(life: Life, name: str, texts: List[str]) -> bool:
+    """Whether a compiler may look for a name: it stands in its words, or in what it has read."""
+    return (asks_java if kind_of(life) == "java" else asks_ocaml)(life, name, texts)
+
+
+def asks_java(life: Life, name: str, texts: List[str]) -> bool:
+    """The same of Java's: a class is looked for by its name, or by that of the class around it."""
+    stem = name.split(".")[0].split("$")[0] or name
+    has_docs = kind_of(life) == "java" and any("doc" in word for word in life.ran[-1])  # then comments name classes too
+    return stem in OWN or is_word(stem, " ".join(life.argv[1:]).encode("utf-8", "surrogateescape")) or any(holds(text, stem, not has_docs) for text in texts)
+
+
+def asks_ocaml(life: Life, name: str, texts: List[str]) -> bool:
+    """The same of OCaml's: a module is looked for by its name with a large letter, and what is linked by words and by libraries."""
+    stem, suffix = name.split(".")[0] or name, os.path.splitext(name)[1]
+    module = stem[:1].upper() + stem[1:]
+    spelled = {stem, module, stem[:1].lower() + stem[1:], *([stem[3:]] if stem.startswith(("lib", "dll")) else [])}
+    words = life.argv[1:]
+    if name in map(os.path.basename, words):
+        return True
+    program = program_of(life).replace(".opt", "")
+    if suffix in LINKED and suffix not in MODULES:
+        linked = {os.path.splitext(os.path.basename(word))[0] for word in words if word.endswith(LINKED)} | {word[2:] for word in words if word.startswith("-l")}
+        return not linked.isdisjoint(spelled) or any(holds(text, one, False) for text in texts if text.endswith(LIBRARIES) for one in spelled)
+    wanted = SOURCES if "dep" in program else MODULES if "opt" in program else MODULES[:1]
+    return suffix in wanted and (any(is_word(one, " ".join(words).encode("utf-8", "surrogateescape")) for one in spelled) or any(holds(text, module, True) for text in texts))
+
+
+def is_word(name: str, text: bytes) -> bool:
+    """Whether a name stands in a text, and is no part of a longer one."""
+    return re.search(rb"(?<![\w'$])%s(?![\w'])" % re.escape(name.encode("utf-8", "surrogateescape")), text) is not None
+
+
+@lru_cache(KEPT)
+def contents(path: str, is_bare: bool) -> bytes:
+    """The bytes of a file, those of a source without its comments if these say nothing."""
+    with open(path, "rb") as file:
+        text = file.read(LARGE + 1)
+    if not is_bare or not path.endswith(SOURCES) or b"\\u" in text:
+        return text
+    return JAVA_PARTS.sub(b" ", text) if path.endswith(".java") else without_comments(text)
+
+
+def without_comments(text: bytes) -> bytes:
+    """A source of OCaml without its texts and its comments, which may stand in one another."""
+    kept, depth, begun = [], 0, 0
+    for part in OCAML_PARTS.finditer(text):
+        kept += [text[begun:part.start()]] if depth == 0 else []
+        depth = max(0, depth + (part.group() == b"(*") - (part.group() == b"*)"))
+        begun = part.end()
+    return b" ".join(kept + ([text[begun:]] if depth == 0 else []))
+
+
+@lru_cache(1 << 16)
+def holds(path: str, name: str, is_bare: bool) -> bool:
+    """Whether a file holds a name; one that is large, or cannot be read, may."""
+    try:
+        text = contents(path, is_bare)
+    except OSError:
+        return True
+    word = name.encode("utf-8", "surrogateescape")
+    if len(text) > LARGE or word not in text:
+        return len(text) > LARGE or COMPRESSED in text
+    if path.endswith(COMPILED):  # a text stands behind its length
+        return COMPRESSED in text or len(word) > 31 or bytes([32 + len(word)]) + word in text
+    return not path.endswith(SOURCES) or is_word(name, text)

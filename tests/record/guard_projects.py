@@ -1,0 +1,76 @@
+"""The guards of what real projects showed; guard_table.py says what each part of one is."""
+
+from typing import List
+
+from guard_table import FALSE_RACE, UNSAID, YES, Guard
+
+
+def project(name: str) -> str:
+    """The test of a makefile of test_projects.py."""
+    return "test_projects.Makefiles.test_" + name
+
+
+def makedirs(name: str) -> str:
+    """A test of a Python program that makes folders."""
+    return "test_projects.Makedirs.test_" + name
+
+
+def compilers(name: str) -> str:
+    """A test of compilers that list folders."""
+    return "test_compilers." + name
+
+
+def shells(name: str) -> str:
+    """A test of the texts of shells."""
+    return "test_shellvalues." + name
+
+
+PROJECT_GUARDS: List[Guard] = [
+    Guard("texts: macros that they set", "listed.py", " or patterns_in(life, where)", "", shells("Makefiles.test_rules_of_automake_for_info"), FALSE_RACE),
+    Guard("texts: folders of patterns", "shellvalues.py", 'if not one.folder or not is_sure or fnmatchcase(where, "*/" + one.folder)', "if True", shells("Makefiles.test_rules_of_automake_for_info"), FALSE_RACE),
+    Guard("texts: macros of the environment", "shellvalues.py", "        if not any(is_set(one, word) for one in settings):\n            return None\n", "", shells("Makefiles.test_loop_over_names_of_the_environment"), YES, ("shellvalues.py", "        if texts is None:\n            raise Unread\n", "")),
+    Guard("texts: what programs print", "shellvalues.py", "found[1] and not found[1].isdisjoint(programs_of(life))", "False", shells("Makefiles.test_names_that_a_program_prints"), YES),
+    Guard("texts: where a macro surely has a value", "shellvalues.py", "return word.blocks[:len(blocks)] == blocks and", "return", shells("Texts.test_unknown")),
+    Guard("texts: assignments that may be passed over", "shellwords.py", 'operator == "&&" and is_sure and is_start', 'operator == "&&"', shells("Texts.test_unknown")),
+    Guard("texts: words that hide something", "shellwords.py", "            elif plain in HIDES and not keeps(plain, tokens[at:]):\n                raise Unread\n", "", shells("Texts.test_unknown")),
+    Guard("texts: folders behind links", "shellvalues.py", "not one.folder or not is_sure or", "not one.folder or", shells("Makefiles.test_folder_behind_a_link"), YES),
+    Guard("classes: folders that must be there", "modules.py", "and path not in given and", "and", compilers("Compilers.test_folder_that_must_be_there")),
+    Guard("markers: folders that are listed", "exists.py", "if os.path.dirname(path) not in listed and", "if", project("marker_in_a_folder_that_is_listed"), YES),
+    Guard("texts: quoted signs", "shellvalues.py", "return [quoted(piece.text) if piece.quoted else piece.text]", "return [piece.text]", shells("Texts.test_known")),
+    Guard("modules: names that were read", "modules.py", "        if may_ask(life, name, texts):", "        if False:", compilers("Compilers.test_modules_of_ocaml")),
+    Guard("modules: large letters", "modules.py", "    module = stem[:1].upper() + stem[1:]\n", "    module = stem\n", compilers("Compilers.test_modules_of_ocaml")),
+    Guard("modules: words of the compiler", "modules.py", "return not linked.isdisjoint(spelled) or", "return", compilers("Compilers.test_modules_of_ocaml")),
+    Guard("modules: files that are gone", "modules.py", "        if all(os.path.isfile(text) for text in texts):\n", "        if True:\n", compilers("Compilers.test_texts_that_are_gone")),
+    Guard("modules: files that are changed", "modules.py", "return sorted(found) if is_same else", "return sorted(found) if True else", compilers("Compilers.test_texts_that_are_gone")),
+    Guard("modules: compiled ones", "modules.py", "COMPRESSED in text or len(word) > 31 or", "False and", compilers("Compilers.test_modules_that_are_compiled")),
+    Guard("modules: compressed ones", "modules.py", "return len(text) > LARGE or COMPRESSED in text", "return len(text) > LARGE", compilers("Compilers.test_modules_that_are_compiled")),
+    Guard("modules: compilers alone", "modules.py", 'return "ocaml" if OCAML.match(program_of(life)) else', 'return "ocaml" if True else', compilers("Compilers.test_other_programs")),
+    Guard("classes: folders that are absent", "modules.py", '            if kind in "SN":\n', "            if False:\n", compilers("Compilers.test_classes")),
+    Guard("classes: comments that count", "modules.py", 'any("doc" in word for word in life.ran[-1])', "False", compilers("Compilers.test_classes_that_comments_name")),
+    Guard("machines: who looks at them", "jvm.py", "    if any(KEPT.match(path) for life in lives if id(life) not in known", "    if any(False for life in lives if id(life) not in known", compilers("Machines.test_that_others_look_at")),
+    Guard("machines: who shows them", "jvm.py", "    if any(os.path.basename(argv[0]) in READERS", "    if any(False", compilers("Machines.test_that_others_look_at")),
+    Guard("tools: of the system alone", "shelltext.py", 'TOOLS.match("".join(argv[1:2])) is not None', "True", compilers("Tools.test_scripts")),
+    Guard("tools: compare no ages", "calls.py", "        if traits.is_tool and not life.is_query:\n", "        if False:\n", compilers("Tools.test_looks")),
+    Guard("libtool: words that are patterns", "listed.py", "        found.update(shelltext.loose(part)", "        set(shelltext.loose(part)", compilers("Libtool.test_link")),
+    Guard("libtool: its own script alone", "listed.py", '    if "ltmain.sh" not in', '    if "" not in', compilers("Libtool.test_other_modes_and_scripts")),
+    Guard("libtool: its modes", "listed.py", 'LIBTOOL or not {"--mode=link", "--mode=compile"} & {*life.argv}:', "LIBTOOL:", compilers("Libtool.test_other_modes_and_scripts")),
+    Guard("wildcard: targets that are patterns", "globs.py", "UNKNOWN if any(MAGIC.search(name) for name in names) else NAMED", "NAMED", "test_globs.Globs.test_names_of_targets"),
+    Guard("wildcard: arguments", "globs.py", "macros.has_no_pattern(name) or name.isdigit() and macros.has_plain_arguments()", "macros.has_no_pattern(name)", "test_globs.Globs.test_arguments_of_functions"),
+    Guard("wildcard: arguments by way of other macros", "globs.py", "            is_known = is_known and not any(found.group(1) in held", "            is_known = is_known and not any(False", "test_globs.Globs.test_arguments_of_functions"),
+    Guard("wildcard: arguments in lines", "globs.py", "is_known = uses_arguments(self.text) == sum(map(uses_arguments, held.values())) and", "is_known =", "test_globs.Globs.test_arguments_of_functions"),
+    Guard("wrapper: makes with nowhere to print", "wrapper.py", "if query or is_closed(1):", "if query:", project("make_with_its_output_closed"), UNSAID),
+    Guard("markers: of Perl", "exists.py", "        life.acts = [act for act in life.acts if act.path not in found]\n", "", project("marker_of_two_makes"), FALSE_RACE, ("exists.py", "return not {(\"R\", path)", "return False and not {(\"R\", path)")),
+    Guard("markers: makes that would make the folder", "main.py", "    credit_makes(owners, markers)\n", "", project("marker_of_two_makes"), FALSE_RACE),
+    Guard("markers: modes of folders that a make above has made", "folders.py", "known.get(path, set()).union(made[path].modes if path in made else ())", "set(made[path].modes if path in made else ())", project("mode_that_a_make_above_has_set"), FALSE_RACE),
+    Guard("markers: ages", "exists.py", "    return not any(target not in base.phony and", "    return not any(False and", project("marker_that_is_older_than_a_file"), YES),
+    Guard("markers: who waits for the rule", "exists.py", "all(waits(one, job.target, name) for", "all(True for", project("marker_that_a_recipe_does_not_wait_for"), YES),
+    Guard("markers: who reads them", "exists.py", '    is_touch = name == "perl"', '    is_touch = True or name == "perl"', project("marker_that_is_read"), YES),
+    Guard("folders: made behind their use", "folders.py", "return folder.first_used.get(at, 1 << 60) < folder.first_asked.get(at, 0) and", "return False and", project("folder_made_behind_its_use"), YES),
+    Guard("folders: asked for behind their use", "folders.py", 'if kind in "MTEKSsN":', 'if kind in "MTE":', project("folder_asked_for_behind_its_use"), YES),
+    Guard("Python: folders that may be there", "python.py", "        settle_made(life, own, read_at(life, sources))\n", "", makedirs("that_may_be_there"), FALSE_RACE),
+    Guard("Python: folders that may not be there", "makedirs.py", 'forms.is_quiet and has(call, "exist_ok")', "forms.is_quiet", makedirs("of_which_one_part_may_not_be_there"), YES),
+    Guard("Python: folders: other looks", "makedirs.py", "forms.looks or token.string in LOOKS", "forms.looks", makedirs("that_the_program_looks_for_first"), YES),
+    Guard("Python: folders: search paths", "makedirs.py", ' or [one.string for one in tokens[at:at + 3]] == ["sys", ".", "path"]', "", makedirs("in_which_modules_are_looked_for"), YES),
+    Guard("Python: folders: looks before the script", "python.py", "settle_made(life, own, read_at(life, sources))", "settle_made(life, own, life.begun)", makedirs("in_which_modules_are_looked_for"), YES),
+    Guard("Python: folders: texts that nobody has read", "makedirs.py", "forms.is_quiet and token.string not in OTHERS", "forms.is_quiet", makedirs("texts")),
+]

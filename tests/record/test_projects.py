@@ -1,0 +1,101 @@
+"""Small trees that have the shape of real projects: what their makefiles, scripts and generators do with folders and lists."""
+
+import os
+import sys
+import unittest
+from typing import Dict
+
+import support
+from record.makedirs import forms_of
+from test_small import Small, test_of
+
+PAIR = "all: x y\nx: ; mkdir -p out; touch x\ny: ; %s; touch y\n"
+
+# A makefile of Perl, and one below it: both have a rule for `b/.exists`.
+PERL = "NOECHO = @\nMKPATH = mkdir -p\nCHMOD = chmod\nTOUCH = touch\nPERM_DIR = 755\nDFSEP = /\n"
+MARKER = "$(D)$(DFSEP).exists :: Makefile\n\t$(NOECHO) $(MKPATH) $(D)\n\t$(NOECHO) $(CHMOD) $(PERM_DIR) $(D)\n\t$(NOECHO) $(TOUCH) $(D)$(DFSEP).exists\n"
+OUTER = PERL + "D = b\n.PHONY: all dirs sub\nall: dirs sub\ndirs: $(D)$(DFSEP).exists\n%s" + MARKER + "sub: ; $(MAKE) -C in\n"
+INNER = PERL + "D = ../b\n.PHONY: all dirs\nall: x\ndirs: $(D)$(DFSEP).exists\nx: dirs ; echo x > ../b/x; touch x\n" + MARKER
+
+ABOVE = "all: sub\nsub: mk ; $(MAKE) -C in\nmk: ; umask 022; mkdir -m %d b; touch mk\n"
+MODES = "all: a c\na: ; chmod 755 ../b; touch a\nc: ; ls -d ../b > c\n"
+
+PROJECTS: Dict[str, Small] = {
+    # `.exists` files of Perl's makefiles
+    "marker_of_two_makes": Small("safe", OUTER % "", {"in/Makefile": INNER}, "umask 022"),
+    "marker_that_is_older_than_a_file": Small("race", OUTER % "all: f\nf: $(D)$(DFSEP).exists ; touch f\n", {"in/Makefile": INNER}, "umask 022"),
+    "marker_that_a_recipe_does_not_wait_for": Small("race", OUTER % "", {"in/Makefile": INNER.replace("all: x", "all: dirs x").replace("x: dirs ;", "x: ;")}, "umask 022"),
+    "marker_with_a_text": Small("race", OUTER % "", {"in/Makefile": INNER.replace("\t$(NOECHO) $(TOUCH) $(D)", "\techo > $(D)")}, "umask 022"),
+    "marker_in_a_folder_that_is_listed": Small("race", OUTER % "all: f\nf: mk ; ls -a b > f\nmk: ; mkdir -p b; touch mk\n", {"in/Makefile": INNER.replace("echo x > ../b/x; ", "")}),
+    "marker_that_is_read": Small("race", OUTER % "all: f\nf: ; cat b/.exists > f\n", {"in/Makefile": INNER}, "umask 022"),
+    "mode_that_a_make_above_has_set": Small("safe", ABOVE % 755, {"in/Makefile": MODES}),
+    "mode_that_a_make_above_has_not_set": Small("race", ABOVE % 700, {"in/Makefile": MODES}),
+    # a make that has nowhere to print
+    "make_with_its_output_closed": Small("no verdict", "all: sub\nsub: ; $(MAKE) -f in.mk >&-\n", {"in.mk": "a: ; @touch a\n"}, says="in.mk (its standard output is closed)"),
+    "make_with_its_errors_closed": Small("safe", "all: sub\nsub: ; $(MAKE) -f in.mk 2>&-\n", {"in.mk": "a: ; @touch a\n"}),
+    # folders that a recipe makes, and uses before that
+    "folder_made_before_its_use": Small("safe", PAIR % "mkdir -p out; touch out/y"),
+    "folder_made_behind_its_use": Small("race", PAIR % "touch out/y; mkdir -p out"),
+    "folder_asked_for_behind_its_use": Small("race", PAIR % "touch out/y; test -d out || mkdir -p out"),
+    "folder_made_twice": Small("safe", PAIR % "mkdir -p out; touch out/y; mkdir -p out"),
+    "folder_made_behind_its_use_and_waited_for": Small("safe", PAIR.replace("y: ;", "y: x ;") % "touch out/y; mkdir -p out"),
+}
+
+MAKER = "import os, sys\nout = sys.argv[1]\n%s\nopen(out, 'w').write('x')\n"
+TWO = "all: out/a/x.c out/a/y.c\nout/a/x.c out/a/y.c: ; %s t/gen.py $@\n"
+QUIET = "os.makedirs(os.path.dirname(out), exist_ok=True)"
+
+
+class Makedirs(unittest.TestCase):
+    """Folders that Python programs make."""
+
+    def of(self, script: str, status: int, command: str = "python3 -S", files: Dict[str, str] = {}) -> None:
+        """The verdict on two recipes that run one script."""
+        env = {**os.environ, "PATH": os.path.dirname(os.path.realpath(sys.executable)) + os.pathsep + os.environ["PATH"]}
+        with support.Project({"Makefile": TWO % command, "t/gen.py": script, **files}) as project:
+            outcome = project.run(["--race", support.race_program(), "--", "make"], env)
+            self.assertEqual(status, outcome.status, outcome.text())
+
+    def test_that_may_be_there(self) -> None:
+        self.of(MAKER % QUIET, 0)
+        self.of("from pathlib import Path\n" + MAKER % "Path(out).parent.mkdir(parents=True, exist_ok=True)", 0)
+
+    def test_that_a_module_makes(self) -> None:
+        self.of("import own\n" + MAKER % "own.make(os.path.dirname(out))", 0, files={"t/own.py": "import os\ndef make(d):\n    os.makedirs(d, 0o755, exist_ok=True)\n"})
+
+    def test_that_the_program_looks_for_first(self) -> None:
+        self.of(MAKER % ("d = os.path.dirname(out)\nif not os.path.isdir(d): print('new')\n" + QUIET), 1)
+
+    def test_that_may_not_be_there(self) -> None:
+        self.of(MAKER % ("try: os.makedirs(os.path.dirname(out))\nexcept OSError: open(out + '.log', 'w')\n" + QUIET), 1)
+
+    def test_of_which_one_part_may_not_be_there(self) -> None:
+        self.of(MAKER % ("try: os.mkdir('out')\nexcept OSError: open(out[6] + '.log', 'w')\n" + QUIET), 1)
+
+    def test_that_is_used_first(self) -> None:
+        self.of(MAKER % ("try: open(out + '.new', 'w')\nexcept OSError: pass\n" + QUIET), 1)
+
+    def test_in_which_modules_are_looked_for(self) -> None:
+        script = "try: import more\nexcept ImportError: pass\n" + MAKER % QUIET
+        self.of(script, 1, "PYTHONPATH=out python3 -S")
+        self.of("import sys\nsys.path.insert(0, 'out')\n" + script, 1)
+
+    def test_texts(self) -> None:
+        for text in ("os.makedirs(d, exist_ok=True)", "os.makedirs(os.path.join(d, e), 0o755, exist_ok = True)", "from os import makedirs\nmakedirs(d, exist_ok=True)", "x = 1  # mkdir"):
+            self.assertTrue(forms_of(text).is_quiet, text)
+        for text in ("os.makedirs(d)", "os.makedirs(d, exist_ok=False)", "os.makedirs(f(exist_ok=True))", "make = os.makedirs", "os.system('mkdir d')", "exec(text)", "os.makedirs(d,"):
+            self.assertFalse(forms_of(text).is_quiet, text)
+        self.assertFalse(forms_of("Path(d).mkdir(exist_ok=True)").is_deep)
+        self.assertTrue(forms_of("import sys\nsys.path.append(d)").looks)
+
+
+class Makefiles(unittest.TestCase):
+    """One test for each makefile of the table."""
+
+
+for key, one in PROJECTS.items():
+    setattr(Makefiles, "test_" + key, test_of(key, one))
+
+
+if __name__ == "__main__":
+    unittest.main()

@@ -1,0 +1,88 @@
+"""The patterns of names that a shell's text asks for, by way of macros that it sets."""
+
+import unittest
+from typing import Dict, Optional, Set
+
+import support
+from record.shellvalues import patterns_of
+from test_small import Small, test_of
+
+KNOWN: Dict[str, str] = {
+    "for f in *.c; do echo $f; done": "*.c",
+    "for f in *.c\ndo\n  echo $f\ndone": "*.c",
+    "x=a && \\\ny=$x && \\\n  for f in b*\\\n.c; do \\\n echo \"$f\\\n$x\"; done": "b*.c",
+    "for i in a.h b*.h; do cp $i \"out/$i\"; done": "b*.h",
+    "x=\"*.c *.h\"; for f in $x a; do echo $f; done": "*.c *.h",
+    "for f in *.c; do b=`basename $f .c`; echo \"$b\"; done": "*.c",
+    "for f in *.c; do (cd sub && echo $f); done": "*.c",
+    "for f in '*.c' d; do echo $f; done": "*.c",
+    "for f in [a-z]*.txt; do sed \"s/x/y/\" < $f > $f.new && mv $f.new $f || exit 1; done": "?*.txt ?*.txt.new",
+    "for f in a*; do for g in b*; do echo \"$f-$g\"x; done; done": "a* b*",
+    "x=a && y=$x && ls $y*": "a*",
+    "x=`ls *.q` && ls \"$x\" *.c": "*.c *.q",
+    "cat `echo \"a\" | sed \"s/a/b/\"` *.h": "*.h",
+    "set -e; d=out; printf '%s' $d/*.h # $z": "*.h",
+    "echo 'a*'b? $$": "a?b?",
+    "d='a b'; ls \"$d\"*": "a?b*",
+    "echo \"$x\"; awk '{print $1}' *.txt; exit $?": "*.txt",
+}
+UNKNOWN = (
+    "for f in $list; do echo $f; done; echo *.x", "for f in *.c; do b=`basename $f .c`; echo $b*; done", "echo $1 *.c", "if test x; then d=out; fi; ls $d/*.h", "eval ls *.c $x",
+    "x=a; read x; echo $x*.c", "for f in x y; do :; done; echo $f*.q", "echo ${x:-a} *.c", "cat <<E\n$x *.c\nE", "x=b; f() { echo $x; }; f *.c", "set -- *; echo $x",
+    "test -n \"$x\" || x=y; echo $x/*", "echo $(ls *.c) *.h", "x=`ls`; echo $x *.h", "for f in a*; do for g in b*; do :; done; done; echo $g", "while read l; do echo $l; done; ls *.c",
+    "false && x=a; ls $x*", "x=a | y; ls $x*", "(x=a); ls $x*", "IFS=:; for f in *.c; do echo $f; done", "for f in; do :; done; ls *.c $f", "cat `pwd` *.h", "x=a; unset x; ls $x *.c",
+    "for f in $y; do ls $f*; done", "echo 'a", "ls *.c $x", "printf -v x '*'; ls $x",
+)
+INFO = ("restore=: && backupdir=\".am$$$$\" && \\\nam__cwd=`pwd` && CDPATH=\"$${ZSH_VERSION+.}:\" && cd . && \\\n rm -rf $$backupdir && mkdir $$backupdir && if (sh ./info --version) >/dev/null 2>&1; then \\\n"
+        " for f in $@ $@-[0-9] $@-[0-9][0-9]; do if test -f $$f; then mv $$f $$backupdir; restore=mv; else :; fi; \\\n done; else :; fi && cd \"$$am__cwd\";"
+        " if sh ./info $@; then rc=0; cd .; else \\\n rc=$$?; cd . && $$restore $$backupdir/* `echo \"./$@\" | sed 's|[^/]*$$||'`; fi; rm -rf $$backupdir; exit $$rc\n")
+FILES = {"info": "test \"$1\" = --version || echo x > $1\n", "h/1.h": ""}
+
+SHELLS: Dict[str, Small] = {
+    "rules_of_automake_for_info": Small("safe", "all: a.info b.info a.1\na.info b.info: ; " + INFO + "a.1: ; touch a.1\n", FILES),
+    "rules_of_automake_that_find_a_file": Small("race", "all: a.info b\na.info: ; " + INFO + "b: ; touch a.info-1\n", FILES),
+    "rules_of_automake_that_fail": Small("safe", "all: a.info b\na.info: ; -" + INFO.replace("sh ./info $@;", "false;") + "b: ; touch b\n", FILES),
+    "folder_behind_a_link": Small("race", "all: a b\na: ; d=l; echo $$d/*.h *.q > a\nb: ; touch h/b.h b\n", FILES, "ln -s h l"),
+    "names_that_a_program_prints": Small("race", "all: a b\na: ; echo `echo 'h/*' | sed -n p` h/*.h > a\nb: ; touch h/b.o b\n", FILES),
+    "loop_over_other_names": Small("safe", "all: a b\na: ; for f in h/*.h; do cp $$f a; done\nb: ; touch h/b.o b\n", FILES),
+    "loop_over_these_names": Small("race", "all: a b\na: ; for f in h/*.h; do echo $$f; done > a\nb: ; touch h/2.h b\n", FILES),
+    "loop_over_names_of_the_environment": Small("race", "export x = h/*\nall: a b\na: ; for f in h/*.h; do echo $$f $$x; done > a\nb: ; touch h/b.o b\n", FILES),
+}
+
+
+class Texts(unittest.TestCase):
+    """Texts of shells."""
+
+    @staticmethod
+    def parts(text: str) -> Optional[Set[str]]:
+        """The patterns of a text."""
+        found = patterns_of(text)
+        return None if found is None else {one.part for one in found[0]}
+
+    def test_known(self) -> None:
+        for text, wanted in KNOWN.items():
+            self.assertEqual(set(wanted.split()), self.parts(text), text)
+
+    def test_unknown(self) -> None:
+        for text in UNKNOWN:
+            self.assertIsNone(self.parts(text), text)
+
+    def test_folders(self) -> None:
+        found = patterns_of("d=out && ls $d/*.c ../*.h ./*.x s*/y*")
+        self.assertEqual({("out", "*.c"), ("", "*.h"), ("", "*.x"), ("", "s*"), ("s*", "y*")}, {tuple(one) for one in found[0]} if found else None)
+
+    def test_programs_that_have_not_run(self) -> None:
+        found = patterns_of("cat `echo a | sed s/a/b/` *.h")
+        self.assertEqual({"sed"}, found and {*found[1]})
+
+
+class Makefiles(unittest.TestCase):
+    """One test for each makefile of the table."""
+
+
+for key, small in SHELLS.items():
+    setattr(Makefiles, "test_" + key, test_of(key, small))
+
+
+if __name__ == "__main__":
+    unittest.main()
