@@ -328,4 +328,4 @@ def changed_modes(builder: "Builder", table: Events) -> Set[str]:
         given.setdefault(path, set()).add(mode)
     made, known = gather(builder) if given else {}, builder.names.modes
     first = {path: known.get(path, set()).union(made[path].modes if path in made else ()) for path in given}  # also those that a make above has made
-    return {path for path, modes in given.items() if builder.before.get(path) == "d" or len(modes) > 1 or first[path] != modes}
+    return {path for path, modes in given.items() if builder.names.before.get(path) == "d" or len(modes) > 1 or first[path] != modes}

@@ -10,6 +10,7 @@ from record.main import replay_trace
 from record.names import Names
 from record.owners import Make
 from record.past import Past
+from record.skips import sift
 from record.words import Words
 from test_replay import TOP, events_of, lives_of, played
 from test_small import COMMANDS, Small, test_of
@@ -115,6 +116,7 @@ class Traces(unittest.TestCase):
                 os.symlink(target, top + "/l")
                 names = Names()
                 names.walk(top)
+                sift(project.folder / "trace", [top], project.folder / "sifted")
                 replay = replay_trace(project.folder, names, "/bin/make", top, [top])
                 self.assertEqual(wanted, any(("N", "/usr/race-test") in life.events for life in replay.all), target)
 
