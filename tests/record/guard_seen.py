@@ -35,7 +35,7 @@ SEEN_GUARDS: List[Guard] = [
     Guard("Python: byte code that others read", "python.py", "cache_of(path) in others or ", "", python("byte_code_that_another_program_reads"), YES),
     Guard("Python: scripts that list", "python.py", " or any(lists_folders(path) for path in own)", "", python("script_that_lists_the_folder"), YES),
     Guard("Python: packages that list", "python.py", " and not PACKAGES.search(path)", "", python("what_comes_with_python")),
-    Guard("Python: modules that list", "python.py", r'BYTE_CODE.sub(r"\1\2.py", path)', "path", python("module_that_lists_the_folder"), YES),
+    Guard("Python: modules that list", "python.py", r'BYTE_CODE.sub(r"\1\2.py", path)', 'path.replace(".pyc", "")', python("module_that_lists_the_folder"), YES),
     Guard("Python: lists of a script that begins it", "python.py", 'path.endswith("\\0*") and place > life.begun', 'path.endswith("\\0*")', python("that_a_script_begins"), YES),
     Guard("Python: scripts that begin it", "python.py", "return bool(life.ran and life.ran[-1] and", "return bool(len(life.ran) == 1 and", python("that_a_script_begins"), FALSE_RACE),
     Guard("Python: what a site starts", "python.py", " or is_named(path, \" \".join(texts))", "", python("module_that_a_site_starts"), YES),
