@@ -6,6 +6,7 @@ ghost use Rattle.mk_sched.specs.Serialising.{IsWholeRun};
 ghost use Rattle.mk_sched.specs.Steps.{past_of};
 ghost use Rattle.mk_sched.specs.Stored.{store_of};
 ghost use Rattle.mk_sched.specs.Stores.{AgreesWith};
+ghost use Rattle.mk_race.specs.Stages.{AreListed};
 
 use mk_decide::decision::{Verdict, decide};
 use mk_jobs::jobs::Jobs;
@@ -156,8 +157,7 @@ fn serial_list(alloc: Global, jobs: &Jobs, listing: &Listing, log: &Log) -> Opti
 
 /// Whether the run of the log is put in serial order, and leaves the same there.
 fn is_put_in_order(alloc: Global, prepared: &Prepared, log: Log) -> bool
-    requires { (n : ℕ) → n < node_count prepared.now.jobs
-        → is_listed prepared.now.jobs n ≡ has same_name prepared.now.listing (name_of prepared.now.jobs n) }
+    requires { AreListed prepared.now }
 {
     let Prepared { listing, jobs, .. } = prepared;
     match serial_list(alloc, jobs, listing, &log) {
@@ -171,8 +171,7 @@ fn is_put_in_order(alloc: Global, prepared: &Prepared, log: Log) -> bool
 
 /// Whether the run of the log is put in serial order on these jobs.
 fn is_log_put_in_order(alloc: Global, prepared: &Prepared) -> bool
-    requires { (n : ℕ) → n < node_count prepared.now.jobs
-        → is_listed prepared.now.jobs n ≡ has same_name prepared.now.listing (name_of prepared.now.jobs n) }
+    requires { AreListed prepared.now }
 {
     match read_log(alloc, LOG, &prepared.jobs, &prepared.root) {
         Ok(log) => is_put_in_order(alloc, prepared, log),
