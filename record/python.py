@@ -32,6 +32,9 @@ def settle(lives: List[Life], tops: Sequence[str] = ()) -> Iterator[str]:
     """Puts what is meant in the place of what each Python did by itself; the words of those that had byte code in the project. Where
     another program looks into a folder of byte code, all stays as it is."""
     known = [life for life in lives if is_python(life)]
+    written: Dict[str, int] = {}
+    for path, place in ((path, place) for life in lives for path, place in life.changed.items() if path.endswith(".py")) if known else ():
+        written[path] = max(place, written.get(path, 0))
     others = {cache_of(path) for life in lives if not is_python(life) for _, path in life.events if CACHE in path}
     for life in known:
         names = [path for _, path in life.events if CACHE in path and cache_of(path) not in others and not is_of_system(path, tops)]
@@ -39,7 +42,7 @@ def settle(lives: List[Life], tops: Sequence[str] = ()) -> Iterator[str]:
         own = own_sources(life, sources)
         settle_lists(life, sources, own)
         settle_code(life, others)
-        settle_made(life, own, read_at(life, sources))
+        settle_made(life, own if sources else sorted(modules_of(life)), read_at(life, sources), written)
         if names:
             yield "%s: %s" % (" ".join(life.argv)[:60], names[0])
 
@@ -71,7 +74,13 @@ def settle_code(life: Life, others: Set[str]) -> None:
 
 
 def sources_of(life: Life) -> Dict[str, int]:
-    """The modules that it reads, except those that come with Python itself, with when it did; none where its script is not among them."""
+    """The modules that it reads; none where its script is not among them."""
+    found = modules_of(life)
+    return found if script_of(life) in map(os.path.basename, found) else {}
+
+
+def modules_of(life: Life) -> Dict[str, int]:
+    """The modules that it reads, except those that come with Python itself, with when it did."""
     library = library_of(life)
     found: Dict[str, int] = {}
     events = (event for one in life.threads or (life,) for event in one.events.items())
@@ -79,7 +88,7 @@ def sources_of(life: Life) -> Dict[str, int]:
         source = BYTE_CODE.sub(r"\1\2.py", path)
         if kind == "R" and source.endswith(TEXTS) and not is_of_python(source, library):
             found[source] = min(place, found.get(source, place))
-    return found if script_of(life) in map(os.path.basename, found) else {}
+    return found
 
 
 def read_at(life: Life, sources: Dict[str, int]) -> int:
