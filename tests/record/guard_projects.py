@@ -15,6 +15,11 @@ def makedirs(name: str) -> str:
     return "test_projects.Makedirs.test_" + name
 
 
+def hidden(name: str) -> str:
+    """The test of a makefile of test_hidden.py."""
+    return "test_hidden.Makefiles.test_" + name
+
+
 def compilers(name: str) -> str:
     """A test of compilers that list folders."""
     return "test_compilers." + name
@@ -75,10 +80,15 @@ PROJECT_GUARDS: List[Guard] = [
     Guard("libtool: words that are patterns", "listed.py", "        found.update(shelltext.loose(part)", "        set(shelltext.loose(part)", compilers("Libtool.test_link")),
     Guard("libtool: its own script alone", "listed.py", '    if "ltmain.sh" not in', '    if "" not in', compilers("Libtool.test_other_modes_and_scripts")),
     Guard("libtool: its modes", "listed.py", 'LIBTOOL or not {"--mode=link", "--mode=compile"} & {*life.argv}:', "LIBTOOL:", compilers("Libtool.test_other_modes_and_scripts")),
-    Guard("wildcard: targets that are patterns", "globs.py", "UNKNOWN if any(MAGIC.search(name) for name in names) else NAMED", "NAMED", "test_globs.Globs.test_names_of_targets"),
+    Guard("wildcard: targets that are patterns", "globs.py", "or any(MAGIC.search(name) for name in names) else NAMED", "else NAMED", "test_globs.Globs.test_names_of_targets"),
     Guard("wildcard: arguments", "globs.py", "macros.has_no_pattern(name) or name.isdigit() and macros.has_plain_arguments()", "macros.has_no_pattern(name)", "test_globs.Globs.test_arguments_of_functions"),
     Guard("wildcard: arguments by way of other macros", "globs.py", "            is_known = is_known and not any(found.group(1) in held", "            is_known = is_known and not any(False", "test_globs.Globs.test_arguments_of_functions"),
     Guard("wildcard: arguments in lines", "globs.py", "is_known = uses_arguments(self.text) == sum(map(uses_arguments, held.values())) and", "is_known =", "test_globs.Globs.test_arguments_of_functions"),
+    Guard("wildcard: targets that a loop names", "globs.py", "UNKNOWN if self.is_bound_otherwise or", "UNKNOWN if", "test_globs.Globs.test_arguments_that_have_a_value_otherwise"),
+    Guard("wildcard: arguments that a loop names", "globs.py", "is_known and not self.is_bound_otherwise and not self.is_open", "is_known and not self.is_open", "test_globs.Globs.test_arguments_that_have_a_value_otherwise"),
+    Guard("wildcard: arguments that a text may set", "globs.py", "is_known and not self.is_bound_otherwise and not self.is_open", "is_known and not self.is_bound_otherwise", "test_globs.Globs.test_arguments_that_have_a_value_otherwise"),
+    Guard("wildcard: functions that macros name", "globs.py", "is_plain_call and name.strip()", "name.strip()", "test_globs.Globs.test_arguments_that_have_a_value_otherwise"),
+    Guard("wildcard: folders of targets that a loop names", "memory.py", ' or BOUND.search("\\n".join(texts)):', ":", hidden("pattern_of_a_loop_over_targets"), YES),
     Guard("wrapper: makes with nowhere to print", "wrapper.py", "if query or is_closed(1):", "if query:", project("make_with_its_output_closed"), UNSAID),
     Guard("markers: of Perl", "exists.py", "        life.acts = [act for act in life.acts if act.path not in found]\n", "", project("marker_of_two_makes"), FALSE_RACE, ("exists.py", "return not {(\"R\", path)", "return False and not {(\"R\", path)")),
     Guard("markers: makes that would make the folder", "main.py", "    credit_makes(owners, markers)\n", "", project("marker_of_two_makes"), FALSE_RACE),
