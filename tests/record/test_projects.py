@@ -28,6 +28,7 @@ PROJECTS: Dict[str, Small] = {
     "marker_with_a_text": Small("race", OUTER % "", {"in/Makefile": INNER.replace("\t$(NOECHO) $(TOUCH) $(D)", "\techo > $(D)")}, "umask 022"),
     "marker_in_a_folder_that_is_listed": Small("race", OUTER % "all: f\nf: mk ; ls -a b > f\nmk: ; mkdir -p b; touch mk\n", {"in/Makefile": INNER.replace("echo x > ../b/x; ", "")}),
     "marker_that_is_read": Small("race", OUTER % "all: f\nf: ; cat b/.exists > f\n", {"in/Makefile": INNER}, "umask 022"),
+    "marker_that_make_itself_looks_for": Small("race", PERL + "D = b\n.PHONY: all dirs\nall: dirs f\ndirs: $(D)$(DFSEP).exists\nf: ; echo $(if $(wildcard b/.exists),yes) > f\n" + MARKER, {"b/k": ""}),
     "mode_that_a_make_above_has_set": Small("safe", ABOVE % 755, {"in/Makefile": MODES}),
     "mode_that_a_make_above_has_not_set": Small("race", ABOVE % 700, {"in/Makefile": MODES}),
     # a make that has nowhere to print
