@@ -191,7 +191,7 @@ class Tools(unittest.TestCase):
 class Libtool(unittest.TestCase):
     """What libtool lists a folder for."""
 
-    def of(self, words: str, text: str = "# ltmain.sh\n") -> List[str]:
+    def of(self, words: str, text: str = "# generalized library-building support services\n# ltmain.sh\n") -> List[str]:
         """The patterns of a list by `sh ./libtool` with these words."""
         with tempfile.TemporaryDirectory(prefix="race-test-") as room:
             Path(room, "libtool").write_text(text)
@@ -205,7 +205,8 @@ class Libtool(unittest.TestCase):
 
     def test_other_modes_and_scripts(self) -> None:
         self.assertEqual(["*"], self.of("--mode=clean rm -f a.lo"))
-        self.assertEqual(["*"], self.of("--mode=link cc -o liba.la a.lo", "echo *\n"))
+        for text in ("echo *\n", "echo * # as ltmain.sh does\n", "# library-building support\necho *\n"):
+            self.assertEqual(["*"], self.of("--mode=link cc -o liba.la a.lo", text))
 
 
 if __name__ == "__main__":
