@@ -232,7 +232,13 @@ def masks(builder: "Builder", at: int, path: str) -> Set[int]:
     """The bits without which the processes of a task make names: those that make a folder, else those that ask for it, else all."""
     lives = [life for work in builder.build.tasks[at].works for life in work.lives]
     makers, lookers = ([life for life in lives if any((kind, path) in life.events for kind in kinds)] for kinds in ("KMTE", "SN"))
-    return {life.mask for life in makers or lookers or lives}
+    return {bits(life) for life in makers or lookers or lives}
+
+
+def bits(life: Life) -> int:
+    """The bits without which a process makes names; programs such as `install` take no bits away, and set the mode themselves."""
+    is_own = shelltext.base_name(life.argv) in shelltext.SHELLS or shelltext.is_interpreter(life.argv)
+    return life.mask if life.mask or is_own or life.parent is None else life.parent.mask
 
 
 def shows_first(builder: "Builder", path: str, folder: Folder, at: int, makers: Set[int]) -> bool:

@@ -49,7 +49,7 @@ def patterns_in(life: Life, where: str) -> List[str]:
     found = patterns_of(text)
     if found is None or found[1] and not found[1].isdisjoint(programs_of(life)):
         return []
-    is_sure = not any(kind == "R" and not SYSTEM.match(path) and os.path.islink(path) for kind, path in life.events)
+    is_sure = not any(kind == "R" and not SYSTEM.match(path) and (os.path.islink(path) or not os.path.lexists(path)) for kind, path in life.events)
     return sorted({one.part for one in found[0] if not one.folder or not is_sure or fnmatchcase(where, "*/" + one.folder)})
 
 

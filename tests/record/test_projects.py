@@ -32,6 +32,8 @@ PROJECTS: Dict[str, Small] = {
     "mode_that_a_make_above_has_set": Small("safe", ABOVE % 755, {"in/Makefile": MODES}),
     "mode_that_a_make_above_has_not_set": Small("race", ABOVE % 700, {"in/Makefile": MODES}),
     "mode_of_a_folder_that_is_found": Small("race", PAIR % "umask 077; test -d out || mkdir -p out"),
+    "mode_of_a_folder_that_is_found_by_no_bits": Small("race", "all: x y\nx: ; umask 022; install -d out; touch x\ny: ; umask 0; test -d out || mkdir -p out; touch y\n"),
+    "mode_of_a_folder_that_is_installed": Small("safe", "all: x y\nx: ; umask 022; install -d out; touch x\ny: ; umask 022; test -d out || mkdir -p out; touch y\n"),
     "mode_of_a_folder_that_is_found_by_the_same_bits": Small("safe", PAIR % "(umask 077; touch k); test -d out || mkdir -p out"),
     # a make that has nowhere to print
     "make_with_its_output_closed": Small("no verdict", "all: sub\nsub: ; $(MAKE) -f in.mk >&-\n", {"in.mk": "a: ; @touch a\n"}, says="in.mk (its standard output is closed)"),
