@@ -17,7 +17,7 @@ from record.lives import Life
 MAKERS = {"mkdir", "makedirs"}
 # What makes folders in another way, or runs a text that nobody has read.
 OTHERS = {"copytree", "copy_tree", "mkpath", "unpack_archive", "extract", "extractall", "exec", "eval", "execfile", "__import__", "importlib", "import_module",
-          "runpy", "pkgutil", "syscall", "ctypes", "cffi", "mkdir_p", "ensuredirs", "renames", "getattr", "__dict__", "make_archive", "mailbox", "venv", "trace",
+          "runpy", "pkgutil", "syscall", "ctypes", "cffi", "mkdir_p", "ensuredirs", "renames", "__dict__", "make_archive", "mailbox", "venv", "trace",
          "move", "mkdtemp", "TemporaryDirectory", "lib2to3", "distutils", "setuptools", "compileall", "zipapp", "timeit"}
 LOOKS = {"exists", "lexists", "isdir", "is_dir", "isfile", "is_file", "islink", "is_symlink", "ismount", "is_mount", "stat", "lstat", "access", "statvfs",
          "listdir", "scandir", "glob", "iglob", "rglob", "walk", "fwalk", "iterdir", "resolve", "realpath", "samefile", "readlink", "getmtime", "getctime",
@@ -25,6 +25,7 @@ LOOKS = {"exists", "lexists", "isdir", "is_dir", "isfile", "is_file", "islink", 
 # Errors that say that a folder is not there: to catch one is a look.
 ERRORS = {"OSError", "IOError", "EnvironmentError", "FileNotFoundError", "NotADirectoryError", "PermissionError"}
 SHORT = re.compile(r"-[bBdEiIOPqsSuvx]*c")
+MODULES = {"os", "posix", "shutil", "pathlib", "Path", "sys"}
 KEPT = 1024
 
 
@@ -55,11 +56,16 @@ def forms_of(text: str) -> Forms:
             forms.is_quiet = forms.is_quiet and has(call, "exist_ok")
             forms.is_deep = forms.is_deep and (token.string == "makedirs" or has(call, "parents"))
         elif token.type == tokenize.NAME:
-            forms.is_quiet = forms.is_quiet and token.string not in OTHERS
+            forms.is_quiet = forms.is_quiet and token.string not in OTHERS and not is_hidden([one.string for one in tokens[at:at + 3]])
             forms.looks = forms.looks or token.string in LOOKS or catches(token.string, tokens[at + 1].string) or [one.string for one in tokens[at:at + 3]] == ["sys", ".", "path"]
         elif not (token.type in (tokenize.OP, tokenize.NUMBER)):
             forms.is_quiet = forms.is_quiet and not any(word in token.string for word in MAKERS)
     return forms
+
+
+def is_hidden(words: List[str]) -> bool:
+    """Whether a function of a module that makes folders is asked for by a computed name."""
+    return words[:2] == ["getattr", "("] and words[2:] != [] and words[2] in MODULES
 
 
 def catches(word: str, behind: str) -> bool:

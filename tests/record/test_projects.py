@@ -86,7 +86,7 @@ class Makedirs(unittest.TestCase):
         self.of("import sys\nsys.path.insert(0, 'out')\n" + script, 1)
 
     def test_texts(self) -> None:
-        for text in ("os.makedirs(d, exist_ok=True)", "os.makedirs(os.path.join(d, e), 0o755, exist_ok = True)", "from os import makedirs\nmakedirs(d, exist_ok=True)", "x = 1  # mkdir"):
+        for text in ("os.makedirs(d, exist_ok=True)", "os.makedirs(os.path.join(d, e), 0o755, exist_ok = True)", "from os import makedirs\nmakedirs(d, exist_ok=True)", "x = 1  # mkdir", "getattr(x, y)"):
             self.assertTrue(forms_of(text).is_quiet, text)
         for text in ("os.makedirs(d)", "os.makedirs(d, exist_ok=False)", "os.makedirs(f(exist_ok=True))", "make = os.makedirs", "os.system('mkdir d')", "exec(text)", "os.makedirs(d,",
                      "from os import mkdir as m\nm(d)", "os.makedirs(d, exist_ok=True if x else False)", "getattr(os, 'mk' + 'dir')(d)", "shutil.make_archive(d, 'tar')"):
