@@ -12,11 +12,14 @@ from typing import Dict, Iterable, List, Optional, Set, Tuple
 from record.database import Base
 from record.lives import Life
 from record.owners import Owners, Work
+from record.shelltext import contents
 from record.words import Round, Words
 
 NAME = ".exists"
 TOUCHES = ["-MExtUtils::Command", "-e", "touch", "--"]
 LINE = re.compile(r"\s*\$\(NOECHO\) \$\((?:MKPATH|CHMOD|TOUCH)\) (?:\$\(PERM_DIR\) )?\$\(\w+\)(?:\$\(DFSEP\)\.exists)?\s*")
+
+LOOKS = re.compile(r"\$[({](?:wildcard|realpath)\s")  # functions by which make looks at any file
 
 
 @dataclass
@@ -75,12 +78,18 @@ def waits(one: Round, target: str, name: str) -> bool:
 
 
 def is_marker(life: Life, path: str) -> bool:
-    """Whether a process does no more with such a file than to touch it, or is a make that looks at it."""
+    """Whether a process does no more with such a file than to touch it, or is a make that looks at it, by no function."""
     if life.is_make:
-        return not {("R", path), ("W", path), ("D", path)} & life.events.keys()
+        is_read = {("R", path), ("W", path), ("D", path)} & life.events.keys()
+        return not is_read and not any(asks(contents(one)) for kind, one in life.events if kind == "R")
     name = os.path.basename("".join(life.argv[:1]))
     is_touch = name == "perl" and life.argv[1:5] == TOUCHES or name == "touch" and len(life.argv) == 2
     return is_touch and ("D", path) not in life.events
+
+
+def asks(text: str) -> bool:
+    """Whether a makefile looks at files by functions; make's own program is read too, and is none."""
+    return "\0" not in text and LOOKS.search(text) is not None
 
 
 def is_plain(base: Base, path: str) -> bool:

@@ -197,9 +197,7 @@ def add_folder(builder: "Builder", path: str, folder: Folder) -> None:
     existed = builder.before.get(path) == "d"
     if existed and not folder.gone:
         makers = set()
-    for mode, some in folder.modes.items() if makers else ():
-        for at in some:
-            apart(builder, path + "/@mode", "the mode of the folder " + path, at, set().union(*folder.modes.values()) - some)
+    part_modes(builder, path, folder, makers)
     for at in folder.strict & makers:
         mark(builder, path + "/@make", "who makes the folder %s first" % path, makers - {at}, {at})
     for at in (folder.users | folder.absent) - makers:
@@ -217,6 +215,30 @@ def add_folder(builder: "Builder", path: str, folder: Folder) -> None:
                 for kind, name, _ in events:
                     if kind in "CD" and os.path.dirname(name.rstrip("/")) == path:
                         mark(builder, name.rstrip("/"), "", {at}, {who})
+
+
+def part_modes(builder: "Builder", path: str, folder: Folder, makers: Set[int]) -> None:
+    """Tasks that make a folder with other modes, or would do so where it is not there."""
+    name, meaning = path + "/@mode", "the mode of the folder " + path
+    for some in folder.modes.values() if makers else ():
+        for at in some:
+            apart(builder, name, meaning, at, set().union(*folder.modes.values()) - some)
+    for at in makers.difference(*folder.modes.values()):  # these found it, and would have made it by their own bits
+        own = masks(builder, at, path)
+        apart(builder, name, meaning, at, {other for other in makers if own and masks(builder, other, path) not in (set(), own)})
+
+
+def masks(builder: "Builder", at: int, path: str) -> Set[int]:
+    """The bits without which the processes of a task make names: those that make a folder, else those that ask for it, else all."""
+    lives = [life for work in builder.build.tasks[at].works for life in work.lives]
+    makers, lookers = ([life for life in lives if any((kind, path) in life.events for kind in kinds)] for kinds in ("KMTE", "SN"))
+    return {bits(life) for life in makers or lookers or lives}
+
+
+def bits(life: Life) -> int:
+    """The bits without which a process makes names; programs such as `install` take no bits away, and set the mode themselves."""
+    is_own = shelltext.base_name(life.argv) in shelltext.SHELLS or shelltext.is_interpreter(life.argv)
+    return life.mask if life.mask or is_own or life.parent is None else life.parent.mask
 
 
 def shows_first(builder: "Builder", path: str, folder: Folder, at: int, makers: Set[int]) -> bool:

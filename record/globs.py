@@ -12,6 +12,10 @@ ARGUMENT = re.compile(r"\$(?:\d|\(\d+\)|\{\d+\})")
 ASSIGNED = re.compile(r"(?m)^[ \t]*([\w.-]+)[ \t]*(?:\?|::?:?)?=((?:[^\n]*\\\n)*[^\n]*)")
 REFERENCE = re.compile(r"\$(?:\(([\w.-]+)(?::[^$(){}*?\[]*)?\)|\{([\w.-]+)(?::[^$(){}*?\[]*)?\}|(\w))")
 MAGIC = re.compile(r"[*?\[]")
+# What gives a value to a name of a target or to an argument: a loop over such a name, or one that is computed, and an assignment.
+BOUND = re.compile(r"\$[({](?:foreach|let)[ \t]+(?:[^,\n]*[^\w.,\s-]|(?:[^,\n]*\s)?\d)[^,\n]*,"
+                   r"|(?m:^)(?!\t)(?:[^\n;#=]*:)?[ \t]*(?:(?:override|export|private|define)[ \t]+)*(?:\d+|[@<^+*?|%])[ \t]*(?:[+?!]|::?:?)?(?:=|\n)")
+NAMED_BY_MACRO = re.compile(r"\$[({][^(){}\s,:]*\$(?!\$)")
 # A line of a makefile that is a rule, up to its recipe, and one that includes makefiles: make looks for the names in them.
 RULE = re.compile(r"(?m)^(?!\t)((?:[^\n=#:;]*\\\n)*[^\n=#;]*?:(?![:=])(?:[^\n;#=]*\\\n)*[^\n;#]*)")
 INCLUDE = re.compile(r"(?m)^ *[-s]?include[ \t]+((?:[^\n#]*\\\n)*[^\n#]*)")
@@ -28,7 +32,8 @@ class Macros:
 
     def __init__(self, text: str, values: Dict[str, str], names: Iterable[str] = ("*",)) -> None:
         self.text, self.values = text, values
-        self.target = UNKNOWN if any(MAGIC.search(name) for name in names) else NAMED  # what stands for a target's name
+        self.is_bound_otherwise = BOUND.search(text) is not None
+        self.target = UNKNOWN if self.is_bound_otherwise or any(MAGIC.search(name) for name in names) else NAMED  # what stands for a target's name
         self.is_open = "eval" in text
         self.plain: Dict[str, bool] = {}
         self.are_plain: Optional[bool] = None  # whether no argument of a function is a pattern
@@ -67,7 +72,9 @@ class Macros:
             calls = [found.partition(",") for found in arguments(self.text, CALLS) if found is not None]
             is_known = uses_arguments(self.text) == sum(map(uses_arguments, held.values())) and len(re.findall(r"\$[({]call\b", self.text)) == len(calls)
             is_known = is_known and not any(found.group(1) in held or found.group(2) in held or found.group(3) in held for found in REFERENCE.finditer(self.text))
-            self.are_plain = is_known and all("$" not in name and (name.strip() not in held or self.is_plain(words)) for name, _, words in calls)
+            is_known = is_known and not self.is_bound_otherwise and not self.is_open
+            is_plain_call = NAMED_BY_MACRO.search(self.text) is None  # else another function may hand its arguments on
+            self.are_plain = is_known and all("$" not in name and (is_plain_call and name.strip() not in held or self.is_plain(words)) for name, _, words in calls)
         return self.are_plain
 
     def is_plain(self, text: str) -> bool:

@@ -3,14 +3,12 @@
 Only tools that show running machines read there. Where one of these ran, or another program looked there, all stays as it is.
 """
 
-import glob
 import os
 import re
-from functools import lru_cache
 from typing import Iterable, List
 
 from record.lives import Life
-from record.modules import parts_of
+from record.modules import is_machine, parts_of
 
 KEPT = re.compile(r"/tmp/hsperfdata_[^/]+(?:/|\0|$)")
 READERS = {"jps", "jcmd", "jstat", "jstatd", "jstack", "jinfo", "jmap", "jhsdb", "jconsole", "jvisualvm"}
@@ -32,9 +30,3 @@ def settle_machines(lives: List[Life]) -> None:
 def machine_of(life: Life) -> Iterable[Life]:
     """A process with its threads, if it is such a machine."""
     return parts_of(life) if life.program and is_machine(os.path.dirname(os.path.dirname(os.path.realpath(life.program)))) else ()
-
-
-@lru_cache(None)
-def is_machine(folder: str) -> bool:
-    """Whether the folder above a program's has such a machine."""
-    return any(glob.glob(os.path.join(glob.escape(folder), place, "server/libjvm.so")) for place in ("lib", "lib/*", "jre/lib/*"))

@@ -8,7 +8,7 @@ from record import shelltext
 from record.lives import Life
 from record.shellvalues import patterns_in
 
-LIBTOOL = "libtool"
+LIBTOOL, BEGINS, LARGE = "libtool", "library-building support", 4096  # what each of its scripts says of itself, near the beginning
 ODD = "*[!-A-Za-z0-9._+]*"  # names with a sign that is in no usual one
 
 
@@ -25,7 +25,8 @@ def libtool_patterns(life: Life) -> List[str]:
     script = shelltext.script_of(life.argv)
     if os.path.basename(script) != LIBTOOL or not {"--mode=link", "--mode=compile"} & {*life.argv}:
         return []
-    if "ltmain.sh" not in shelltext.contents(os.path.join(life.folder, script)):
+    text = shelltext.contents(os.path.join(life.folder, script))
+    if "ltmain.sh" not in text or BEGINS not in text[:LARGE]:
         return []
     found: Set[str] = {ODD}
     releases = [value for word, value in zip(life.argv, life.argv[1:]) if word == "-release"]

@@ -6,20 +6,26 @@ say it: each of their calls that make a folder has this form.
 
 import io
 import os
+import re
 import tokenize
 from dataclasses import dataclass
 from functools import lru_cache
-from typing import Iterable, Iterator, List, Optional
+from typing import Dict, Iterable, Iterator, List, Optional
 
 from record.lives import Life
 
 MAKERS = {"mkdir", "makedirs"}
 # What makes folders in another way, or runs a text that nobody has read.
 OTHERS = {"copytree", "copy_tree", "mkpath", "unpack_archive", "extract", "extractall", "exec", "eval", "execfile", "__import__", "importlib", "import_module",
-          "runpy", "pkgutil", "syscall", "ctypes", "cffi", "mkdir_p", "ensuredirs", "renames"}
+          "runpy", "pkgutil", "syscall", "ctypes", "cffi", "mkdir_p", "ensuredirs", "renames", "__dict__", "make_archive", "mailbox", "venv", "trace",
+         "move", "mkdtemp", "TemporaryDirectory", "lib2to3", "distutils", "setuptools", "compileall", "zipapp", "timeit"}
 LOOKS = {"exists", "lexists", "isdir", "is_dir", "isfile", "is_file", "islink", "is_symlink", "ismount", "is_mount", "stat", "lstat", "access", "statvfs",
          "listdir", "scandir", "glob", "iglob", "rglob", "walk", "fwalk", "iterdir", "resolve", "realpath", "samefile", "readlink", "getmtime", "getctime",
-         "getatime", "getsize", "path_hooks", "addsitedir"}
+         "getatime", "getsize", "path_hooks", "addsitedir", "chdir", "fchdir", "cwd", "utime", "chmod", "suppress"}
+# Errors that say that a folder is not there: to catch one is a look.
+ERRORS = {"OSError", "IOError", "EnvironmentError", "FileNotFoundError", "NotADirectoryError", "PermissionError"}
+SHORT = re.compile(r"-[bBdEiIOPqsSuvx]*c")
+MODULES = {"os", "posix", "shutil", "pathlib", "Path", "sys"}
 KEPT = 1024
 
 
@@ -45,16 +51,31 @@ def forms_of(text: str) -> Forms:
         if is_first and token.type == tokenize.NAME:
             in_import = token.string in ("from", "import")
         is_first = token.type in (tokenize.NEWLINE, tokenize.INDENT, tokenize.DEDENT) or token.string == ";" or is_first and token.type != tokenize.NAME
-        if token.type == tokenize.NAME and token.string in MAKERS and not in_import:
+        if token.type == tokenize.NAME and token.string in MAKERS and not (in_import and is_plain(tokens[at + 1].string)):
             call = words_of(tokens[at + 1:])
             forms.is_quiet = forms.is_quiet and has(call, "exist_ok")
             forms.is_deep = forms.is_deep and (token.string == "makedirs" or has(call, "parents"))
         elif token.type == tokenize.NAME:
-            forms.is_quiet = forms.is_quiet and token.string not in OTHERS
-            forms.looks = forms.looks or token.string in LOOKS or [one.string for one in tokens[at:at + 3]] == ["sys", ".", "path"]
+            forms.is_quiet = forms.is_quiet and token.string not in OTHERS and not is_hidden([one.string for one in tokens[at:at + 3]])
+            forms.looks = forms.looks or token.string in LOOKS or catches(token.string, tokens[at + 1].string) or [one.string for one in tokens[at:at + 3]] == ["sys", ".", "path"]
         elif not (token.type in (tokenize.OP, tokenize.NUMBER)):
             forms.is_quiet = forms.is_quiet and not any(word in token.string for word in MAKERS)
     return forms
+
+
+def is_hidden(words: List[str]) -> bool:
+    """Whether a function of a module that makes folders is asked for by a computed name."""
+    return words[:2] == ["getattr", "("] and words[2:] != [] and words[2] in MODULES
+
+
+def catches(word: str, behind: str) -> bool:
+    """Whether an `except` may catch that a folder is not there."""
+    return word == "except" and (behind in ERRORS or not behind.endswith("Error"))
+
+
+def is_plain(behind: str) -> bool:
+    """Whether a text takes a name in as it is: no `as` stands behind it."""
+    return behind != "as"
 
 
 def words_of(tokens: List[tokenize.TokenInfo]) -> List[str]:
@@ -74,8 +95,8 @@ def words_of(tokens: List[tokenize.TokenInfo]) -> List[str]:
 
 
 def has(call: List[str], word: str) -> bool:
-    """Whether a call has `word=True` among its words."""
-    return any(call[at:at + 3] == [word, "=", "True"] for at in range(len(call)))
+    """Whether a call has `word=True` among its words, and nothing that depends on more."""
+    return any(call[at:at + 3] == [word, "=", "True"] and call[at + 3:at + 4] in ([","], [")"]) for at in range(len(call)))
 
 
 @lru_cache(KEPT)
@@ -93,7 +114,7 @@ def text_of(life: Life) -> Optional[str]:
     for at, word in enumerate(life.argv[1:], 1):
         if not word.startswith("-") or word in ("-", "--"):
             return None
-        if not word.startswith("--") and word.endswith("c"):
+        if SHORT.fullmatch(word):
             return "".join(life.argv[at + 1:at + 2])
     return None
 
@@ -106,19 +127,21 @@ def all_forms(life: Life, sources: Iterable[str]) -> Forms:
     return Forms(bool(found) and not life.cut and all(one.is_quiet for one in found), all(one.is_deep for one in found), looks)
 
 
-def settle_made(life: Life, sources: List[str], begun: int) -> None:
+def settle_made(life: Life, sources: List[str], begun: int, written: Dict[str, int]) -> None:
     """Says of folders that such a program makes, or finds made, that it made them quietly. Before it has read its script, it looks
-    for modules."""
+    for modules. `written`: when its texts were last written; one that was written later may have said something else."""
+    if any(written.get(path, 0) > begun for path in sources):
+        return
     made = {path: place for (kind, path), place in sorted(life.events.items(), key=lambda event: -event[1]) if kind in "ME" and place > begun}
     forms = all_forms(life, sources) if made else Forms(False)
     for path, place in made.items() if forms.is_quiet else ():
-        seen = [life.events[kind, path] for kind in "SNA" if (kind, path) in life.events]
+        seen = [life.events[kind, path] for kind in ("SNAP" if forms.looks else "SNA") if (kind, path) in life.events]
         if seen and min(seen) < (place if forms.looks else begun):
             continue
         for kind in "ME":
             life.events.pop((kind, path), None)
         life.events.setdefault(("T", path), place)
-        for folder in (path, *above(path)) if forms.is_deep else (path,):
+        for folder in (path, *above(path, life.folder)) if forms.is_deep else (path,):
             ask(life, folder, place, begun, forms.looks)
 
 
@@ -133,8 +156,9 @@ def ask(life: Life, folder: str, place: int, begun: int, looks: bool) -> None:
     life.events.setdefault(("K", folder), min(first, place))
 
 
-def above(path: str) -> Iterator[str]:
-    """The folders above one."""
-    while path not in ("/", ""):
-        path = os.path.dirname(path)
+def above(path: str, folder: str) -> Iterator[str]:
+    """The folders above one; not those in which the program is, which must be there before it begins."""
+    path = os.path.dirname(path)
+    while not (folder + "/").startswith(path.rstrip("/") + "/"):
         yield path
+        path = os.path.dirname(path)

@@ -4,7 +4,7 @@ import os
 import re
 from typing import TYPE_CHECKING, Dict, Iterator, List, Optional, Set
 
-from record.globs import MAGIC, arguments
+from record.globs import BOUND, MAGIC, arguments
 from record.graph import Node
 from record.macros import ANY, Macros
 from record.names import Names
@@ -72,7 +72,7 @@ def words_asked(known: Macros, node: Node) -> Optional[List[str]]:
     reached = known.reached(text)
     texts = [text, *map(known.text_of, reached)]
     calls = [call for one in texts for call in arguments(one)]
-    if ANY in reached or sum(one.count("wildcard") for one in texts) > len(calls) or None in calls:
+    if ANY in reached or sum(one.count("wildcard") for one in texts) > len(calls) or None in calls or BOUND.search("\n".join(texts)):
         return None
     words = [word for call in calls for word in filled(call or "", node.name, base.values).split()]
     if words and (base.scoped or known.changed) or any("$" in word or MAGIC.search(os.path.dirname(word)) for word in words):

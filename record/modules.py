@@ -14,15 +14,22 @@ from typing import Dict, Iterable, Iterator, List, Set
 from record.lives import Life
 
 OCAML = re.compile(r"ocaml(?:c|opt|dep|cp|optp|mktop)(?:\.opt|\.byte)?$")
-JAVA = re.compile(r"java(?:c|doc)$")
+JAVA = re.compile(r"javac$")  # javadoc takes in all that it finds in a package
+# Words by which javac lists folders for more than names that it knows, or runs other programs in itself.
+OPEN = re.compile(r"--?(?:processor.*|Xplugin.*|Xbootclasspath.*|p|module-path.*|module-source-path.*|upgrade-module-path.*|m|module(?:=.*)?|add-modules.*|extdirs|endorseddirs|Djava\..*"
+                  r"|J-(?:javaagent|agent|D).*|proc:(?:full|only))$")
+SERVICE = "META-INF/services/javax.annotation.processing.Processor"
+PACKED = (".jar", ".zip", ".jmod")
 SYSTEM = re.compile(r"/(?:usr|lib\w*|etc|proc|sys|dev)/|.*/(?:lib/modules|lib/ct\.sym|lib/security/[^/]*|conf/[^/]*|hsperfdata_[^/]*/\d+)$")  # what names no module of a project
 MODULES = (".cmi", ".cmx")
 LIBRARIES = (".cma", ".cmxa")
 COMPILED, COMPRESSED = (".cmi", ".cmx", ".cmo"), b"\x84\x95\xa6\xbd"
 LINKED = (".cmo", ".cma", ".cmx", ".cmxa", ".cmxs", ".o", ".a", ".so")
-OCAML_PARTS = re.compile(rb"""\"(?:\\.|[^"\\])*\"|'(?:\\[^\n]{1,4}?|[^'\\\n])'|\{([a-z_]*)\|.*?\|\1\}|\(\*|\*\)""", re.S)
+OCAML_PARTS = re.compile(rb"""(?P<name>[A-Za-z_][\w']*)|\"(?:\\.|[^"\\])*\"|'(?:\\[^\n]{1,4}?|[^'\\\n])'|\{(?P<mark>[a-z_]*)\|.*?\|(?P=mark)\}|\(\*|\*\)""", re.S)
 JAVA_PARTS = re.compile(rb"""\"{3}(?:\\.|[^\\])*?\"{3}|\"(?:\\.|[^"\\\n])*\"|'(?:\\.|[^'\\\n])+'|//[^\n]*|/\*.*?\*/""", re.S)
+LETTER = re.compile(rb"\\u+00([4-7][0-9a-fA-F])")  # a letter as Java may spell it
 SOURCES = (".ml", ".mli", ".mll", ".mly", ".java")
+KINDS = (*SOURCES, *LINKED, *MODULES)  # other files may hold words for the compiler (`-args`)
 GIVEN = ("-d", "-s", "-h")  # words before folders that must be there, for older versions
 OWN = ("module-info", "package-info")  # what Java looks for in any case
 LARGE = 1 << 24
@@ -36,6 +43,7 @@ class Disk:
     names: Dict[str, Set[str]] = field(default_factory=dict)
     written: Dict[str, int] = field(default_factory=dict)
     made: Set[str] = field(default_factory=set)  # folders
+    writers: Dict[str, Set[int]] = field(default_factory=dict)  # by file: the processes that wrote it
 
     @staticmethod
     def of(lives: Iterable[Life]) -> "Disk":
@@ -50,6 +58,7 @@ class Disk:
                     disk.names.setdefault(folder, set()).add(name)
             for path, place in life.changed.items():
                 disk.written[path] = max(place, disk.written.get(path, 0))
+                disk.writers.setdefault(path, set()).add(id(life))
         return disk
 
 
@@ -60,7 +69,7 @@ def settle_modules(lives: List[Life]) -> None:
     for life in found:
         parts = list(parts_of(life))
         texts = read_by(parts, disk)
-        if all(os.path.isfile(text) for text in texts):
+        if all(os.path.isfile(text) for text in texts) and not (kind_of(life) == "java" and is_open(life, parts)):
             listed = {path.partition("\0")[0] for part in parts for kind, path in part.events if kind == "L"}
             for part in parts:
                 settle_lists(life, part, texts, disk)
@@ -79,8 +88,37 @@ def settle_lists(life: Life, part: Life, texts: List[str], disk: Disk) -> None:
 def look_for(life: Life, part: Life, folder: str, place: int, texts: List[str], disk: Disk) -> None:
     """A compiler looks for modules in a folder."""
     for name in sorted(disk.names.get(folder, ())):
-        if may_ask(life, name, texts):
+        if may_ask(life, name, texts) or kind_of(life) == "java" and (name.lower().endswith(PACKED) or fills(folder, texts, disk)):
             part.events.setdefault(("L", folder + "\0" + glob.escape(name)), place)
+
+
+def fills(folder: str, texts: List[str], disk: Disk) -> bool:
+    """Whether any class in a folder may count, as where a text asks for a whole package: it must not be without classes."""
+    try:
+        others = {*os.listdir(folder)} - disk.names.get(folder, set())
+    except OSError:
+        others = set()
+    if any(name.endswith((".java", ".class")) for name in others):
+        return False
+    last = re.escape(os.path.basename(folder)).encode("utf-8", "surrogateescape")
+    asked = re.compile(rb"\b%s\s*\.\s*\*|\b(?:exports|opens)\s[^;]*\b%s\b" % (last, last))
+    return any(asked.search(contents(text, True)) for text in texts if text.endswith(".java"))
+
+
+def is_open(life: Life, parts: List[Life]) -> bool:
+    """Whether javac may do more than its sources say: by its words, those in files that they name, or by processors of annotations."""
+    words = list(life.argv[1:])
+    for word in life.argv[1:]:
+        if word.startswith("@") and not os.path.isfile(os.path.join(life.folder, word[1:])):
+            return True
+        if word.startswith("@"):
+            words += contents(os.path.join(life.folder, word[1:]), False).decode("utf-8", "replace").replace('"', " ").replace("'", " ").split()
+    if any(OPEN.match(word) for word in words):
+        return True
+    read = {path for part in parts for kind, path in part.events if kind == "R"}
+    home = os.path.dirname(os.path.dirname(os.path.realpath(life.program or "/")))
+    packed = [path for path in read if path.lower().endswith(PACKED) and not path.startswith(home + "/")]
+    return "-proc:none" not in words and (any(path.endswith(SERVICE) for path in read) or any(holds(path, SERVICE, False) for path in packed))
 
 
 def settle_packages(life: Life, part: Life, texts: List[str], disk: Disk, listed: Set[str]) -> None:
@@ -109,7 +147,26 @@ def kind_of(life: Life) -> str:
     """Which compiler a process runs, if any."""
     if life.cut:
         return ""
-    return "ocaml" if OCAML.match(program_of(life)) else "java" if JAVA.match(program_of(life)) else ""
+    found = "ocaml" if OCAML.match(program_of(life)) else "java" if JAVA.match(program_of(life)) else ""
+    return found if not found or not life.program or is_compiler(os.path.realpath(life.program), found) else ""
+
+
+@lru_cache(None)
+def is_compiler(path: str, kind: str) -> bool:
+    """Whether a program is the compiler of its name: Java's has a machine beside it, and OCaml's was made by OCaml."""
+    if kind == "java":
+        return is_machine(os.path.dirname(os.path.dirname(path)))
+    try:
+        with open(path, "rb") as file:
+            return b"caml" in file.read()
+    except OSError:
+        return False
+
+
+@lru_cache(None)
+def is_machine(folder: str) -> bool:
+    """Whether the folder above a program's has a machine of Java."""
+    return any(glob.glob(os.path.join(glob.escape(folder), place, "server/libjvm.so")) for place in ("lib", "lib/*", "jre/lib/*"))
 
 
 def parts_of(life: Life) -> Iterator[Life]:
@@ -123,7 +180,8 @@ def parts_of(life: Life) -> Iterator[Life]:
 
 def read_by(parts: List[Life], disk: Disk) -> List[str]:
     """The files that a compiler read and has not made itself, where they are as they were then; else a name that no file has."""
-    own = {path for part in parts for kind, path in part.events if kind == "C"}
+    known = {id(part) for part in parts}
+    own = {path for part in parts for kind, path in part.events if kind == "C" and disk.writers.get(path, known) <= known}
     links = {path for part in parts for kind, path in part.events if kind == "R" and os.path.islink(path)}
     found = {path: place for part in parts for (kind, path), place in part.events.items() if kind == "R" and path not in own | links and not SYSTEM.match(path)}
     is_same = all(disk.written.get(path, 0) <= place for path, place in found.items())
@@ -138,7 +196,7 @@ def may_ask(life: Life, name: str, texts: List[str]) -> bool:
 def asks_java(life: Life, name: str, texts: List[str]) -> bool:
     """The same of Java's: a class is looked for by its name, or by that of the class around it."""
     stem = name.split(".")[0].split("$")[0] or name
-    has_docs = kind_of(life) == "java" and any("doc" in word for word in life.ran[-1])  # then comments name classes too
+    has_docs = any("doc" in word for word in life.ran[-1])  # then comments name classes too
     return stem in OWN or is_word(stem, " ".join(life.argv[1:]).encode("utf-8", "surrogateescape")) or any(holds(text, stem, not has_docs) for text in texts)
 
 
@@ -153,9 +211,9 @@ def asks_ocaml(life: Life, name: str, texts: List[str]) -> bool:
     program = program_of(life).replace(".opt", "")
     if suffix in LINKED and suffix not in MODULES:
         linked = {os.path.splitext(os.path.basename(word))[0] for word in words if word.endswith(LINKED)} | {word[2:] for word in words if word.startswith("-l")}
-        return not linked.isdisjoint(spelled) or any(holds(text, one, False) for text in texts if text.endswith(LIBRARIES) for one in spelled)
+        return not linked.isdisjoint(spelled) or any(holds(text, one, False) for text in texts if text.endswith(LIBRARIES) or not text.endswith(KINDS) for one in spelled)
     wanted = SOURCES if "dep" in program else MODULES if "opt" in program else MODULES[:1]
-    return suffix in wanted and (any(is_word(one, " ".join(words).encode("utf-8", "surrogateescape")) for one in spelled) or any(holds(text, module, True) for text in texts))
+    return suffix in wanted and (any(holds(text, one, False) for text in texts if not text.endswith(KINDS) for one in spelled) or any(is_word(one, " ".join(words).encode("utf-8", "surrogateescape")) for one in spelled) or any(holds(text, module, True) for text in texts))
 
 
 def is_word(name: str, text: bytes) -> bool:
@@ -168,6 +226,8 @@ def contents(path: str, is_bare: bool) -> bytes:
     """The bytes of a file, those of a source without its comments if these say nothing."""
     with open(path, "rb") as file:
         text = file.read(LARGE + 1)
+    if path.endswith(".java"):
+        text = LETTER.sub(lambda found: bytes([int(found.group(1), 16)]), text)
     if not is_bare or not path.endswith(SOURCES) or b"\\u" in text:
         return text
     return JAVA_PARTS.sub(b" ", text) if path.endswith(".java") else without_comments(text)
@@ -176,7 +236,7 @@ def contents(path: str, is_bare: bool) -> bytes:
 def without_comments(text: bytes) -> bytes:
     """A source of OCaml without its texts and its comments, which may stand in one another."""
     kept, depth, begun = [], 0, 0
-    for part in OCAML_PARTS.finditer(text):
+    for part in (one for one in OCAML_PARTS.finditer(text) if not one.group("name")):  # a quote may stand in a name
         kept += [text[begun:part.start()]] if depth == 0 else []
         depth = max(0, depth + (part.group() == b"(*") - (part.group() == b"*)"))
         begun = part.end()

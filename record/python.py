@@ -16,7 +16,8 @@ from record.makedirs import settle_made
 PYTHON = re.compile(r"(?:.*/)?python[\d.]*$")
 CACHE = "__pycache__"
 LISTS = re.compile(r"listdir|scandir|glob|walk|iterdir|\bPath\b|pathlib|\bexec\b|\beval\b|__import__|importlib|pkgutil|runpy|copytree|rmtree|archive|zip|tarfile"
-                   r"|filecmp|mailbox|tabnanny|modulefinder|pydoc|lib2to3|addsitedir|logging.handlers|compileall|unittest|pytest|setuptools|distutils|pkg_resources|metadata|ctypes|\bstat\b|getmtime")
+                   r"|filecmp|mailbox|tabnanny|modulefinder|pydoc|lib2to3|addsitedir|logging.handlers|compileall|unittest|pytest|setuptools|distutils|pkg_resources|metadata|ctypes|\bstat\b|getmtime"
+                   r"|pickle|marshal|shelve|timeit|doctest|zoneinfo|codeop|Interactive|\bvars\b|__dict__|__builtins__|getattr\(\s*(?:os|posix|sys)\b")
 SYSTEM = re.compile(r"/etc/|(?:/usr)?/lib(?:32|64)?/(?!python)")
 PACKAGES = re.compile(r"/(?:site|dist)-packages/(?!_distutils_hack/|apport_python_hook\.)")  # the exceptions are what setuptools and Ubuntu run at each start
 TEXTS = (".py", ".pyc", ".so", ".zip", ".egg", ".whl", ".pyz")  # how the names of files end that modules may come from
@@ -32,14 +33,17 @@ def settle(lives: List[Life], tops: Sequence[str] = ()) -> Iterator[str]:
     """Puts what is meant in the place of what each Python did by itself; the words of those that had byte code in the project. Where
     another program looks into a folder of byte code, all stays as it is."""
     known = [life for life in lives if is_python(life)]
+    written: Dict[str, int] = {}
+    for path, place in ((path, place) for life in lives for path, place in life.changed.items() if path.endswith(".py")) if known else ():
+        written[path] = max(place, written.get(path, 0))
     others = {cache_of(path) for life in lives if not is_python(life) for _, path in life.events if CACHE in path}
     for life in known:
         names = [path for _, path in life.events if CACHE in path and cache_of(path) not in others and not is_of_system(path, tops)]
         sources = sources_of(life)
         own = own_sources(life, sources)
-        settle_lists(life, sources, own)
+        settle_lists(life, sources, own, written)
         settle_code(life, others)
-        settle_made(life, own, read_at(life, sources))
+        settle_made(life, own if sources else sorted(modules_of(life)), read_at(life, sources), written)
         if names:
             yield "%s: %s" % (" ".join(life.argv)[:60], names[0])
 
@@ -71,7 +75,13 @@ def settle_code(life: Life, others: Set[str]) -> None:
 
 
 def sources_of(life: Life) -> Dict[str, int]:
-    """The modules that it reads, except those that come with Python itself, with when it did; none where its script is not among them."""
+    """The modules that it reads; none where its script is not among them."""
+    found = modules_of(life)
+    return found if script_of(life) in map(os.path.basename, found) else {}
+
+
+def modules_of(life: Life) -> Dict[str, int]:
+    """The modules that it reads, except those that come with Python itself, with when it did."""
     library = library_of(life)
     found: Dict[str, int] = {}
     events = (event for one in life.threads or (life,) for event in one.events.items())
@@ -79,7 +89,7 @@ def sources_of(life: Life) -> Dict[str, int]:
         source = BYTE_CODE.sub(r"\1\2.py", path)
         if kind == "R" and source.endswith(TEXTS) and not is_of_python(source, library):
             found[source] = min(place, found.get(source, place))
-    return found if script_of(life) in map(os.path.basename, found) else {}
+    return found
 
 
 def read_at(life: Life, sources: Dict[str, int]) -> int:
@@ -102,11 +112,11 @@ def is_named(path: str, texts: str) -> bool:
     return not package or re.search(r"\b%s\b" % re.escape(package), texts) is not None
 
 
-def settle_lists(life: Life, sources: Dict[str, int], own: List[str]) -> None:
-    """Lists of folders in which it finds modules."""
+def settle_lists(life: Life, sources: Dict[str, int], own: List[str], written: Dict[str, int]) -> None:
+    """Lists of folders in which it finds modules. A text that was written later may have listed folders."""
     begun = read_at(life, sources)
     lists = {path: place for (kind, path), place in life.events.items() if kind == "L" and path.endswith("\0*") and place > life.begun}
-    if not lists or not sources or any(lists_folders(path) for path in own):
+    if not lists or not sources or any(lists_folders(path) or written.get(path, 0) > begun for path in own):
         return
     is_all = not any(lists_folders(path) for path in sources if path not in own)
     for path, place in lists.items():

@@ -11,13 +11,14 @@ from typing import FrozenSet, Iterable, Iterator, List, NamedTuple, Optional, Se
 
 from record import shelltext
 from record.lives import Life
-from record.shellwords import Cutter, Piece, Reader, Script, Setting, Unread, Word
+from record.shellwords import HIDES, RESERVED, Cutter, Piece, Reader, Script, Setting, Unread, Word
 
 MAGIC = re.compile(r"[*?\[]")
 SYSTEM = re.compile(r"/(?:bin|sbin|lib\w*|usr|etc|dev|proc)(?:/|$)")
 ANY, ONE, BLANK = "\x01", "\x03", "\x04"  # some text without a pattern, one sign that is none, a blank that does not cut a word
 LIMIT, DEPTH, KEPT = 64, 6, 1024
-PLAIN = {"echo", "printf", "test", "[", "cd", "pwd", "true", "false", ":", "read", "type", "command", "kill", "umask", "ulimit", "wait", "times"}  # no programs
+PLAIN = {"echo", "printf", "test", "[", "cd", "pwd", "true", "false", ":", "read", "type", "command", "kill", "umask", "ulimit", "wait", "times", "dirs", "jobs", "fc",
+         "history", "caller", "bind", "help", "pushd", "popd", "fg", "bg", "complete", "compopt", "chdir", "exit", "return"}  # no programs
 
 
 class Asked(NamedTuple):
@@ -33,6 +34,8 @@ def patterns_of(text: str) -> Optional[Tuple[FrozenSet[Asked], FrozenSet[str]]]:
     try:
         script = Reader(text).script
         values = Values(script)
+        if any(hides(values.expanded(word)) for word in script.starts):
+            return None
         return frozenset(one for word in script.words for field in values.expanded(word) for one in parts_of(field)), frozenset(values.barred)
     except (Unread, RecursionError):
         return None
@@ -46,7 +49,7 @@ def patterns_in(life: Life, where: str) -> List[str]:
     found = patterns_of(text)
     if found is None or found[1] and not found[1].isdisjoint(programs_of(life)):
         return []
-    is_sure = not any(kind == "R" and not SYSTEM.match(path) and os.path.islink(path) for kind, path in life.events)
+    is_sure = not any(kind == "R" and not SYSTEM.match(path) and (os.path.islink(path) or not os.path.lexists(path)) for kind, path in life.events)
     return sorted({one.part for one in found[0] if not one.folder or not is_sure or fnmatchcase(where, "*/" + one.folder)})
 
 
@@ -56,18 +59,25 @@ def programs_of(life: Life) -> Set[str]:
     names: Set[str] = set()
     while todo:
         one = todo.pop()
-        names.update(map(shelltext.base_name, one.ran))
+        names.update(os.path.basename(word) for argv in one.ran for word in argv[:3])  # a script stands behind its interpreter
         todo.extend(one.children)
     return names
 
 
+def hides(fields: List[str]) -> bool:
+    """Whether the name of a command that is quoted, or stands in a macro, may be one that sets macros."""
+    return bool(fields) and (fields[0] in HIDES | RESERVED or ANY in fields[0].rpartition("/")[2] or ONE in fields[0])
+
+
 def parts_of(field: str) -> Iterator[Asked]:
-    """The parts of a path that are patterns, with what stands before them."""
+    """The parts of a path that are patterns, with what stands before them. What braces or a tilde stand for may hold more parts."""
+    if re.search(r"[{}]", field):
+        yield Asked("", "*")
     before: List[str] = []
     for part in field.split("/"):
         pattern = "*" if re.search(r"[{}]", part) else shelltext.loose(part.replace(ONE, "?").replace(ANY, "*"))
         if MAGIC.search(part):
-            yield Asked("" if field.startswith("/") or ".." in before else "/".join(one for one in before if one != "."), pattern)
+            yield Asked("" if field.startswith(("/", "~")) or ".." in before else "/".join(one for one in before if one not in (".", "")), pattern)
         before.append(pattern)
 
 
@@ -167,7 +177,7 @@ def quoted(text: str) -> str:
 def cut(texts: List[str]) -> List[str]:
     """The words of a loop: each pattern, and the names that it may find."""
     words = [word.replace(BLANK, " ") for one in texts for word in one.split()]
-    return words + [re.sub(r"[?\[\]]", ONE, word.replace("*", ANY)) for word in words if MAGIC.search(word)]
+    return words + [shelltext.loose(word).replace("?", ONE).replace("*", ANY) for word in words if re.search(r"[*?\[{]", word)]
 
 
 def last_program(text: str) -> str:
@@ -175,6 +185,6 @@ def last_program(text: str) -> str:
     tokens = Cutter(text).tokens()
     last = max((at for at, (operator, _) in enumerate(tokens) if operator), default=-1) + 1
     name = Word(tokens[last][1]).plain() if last < len(tokens) else ""
-    if any(operator not in ("", "|") for operator, _ in tokens) or name in PLAIN or not re.fullmatch(r"[\w.+-]+", name):
+    if any(operator not in ("", "|") for operator, _ in tokens) or name in PLAIN | HIDES | RESERVED or not re.fullmatch(r"[\w.+-]+", name):
         raise Unread
     return name

@@ -14,7 +14,11 @@ RESERVED = {"if", "then", "else", "elif", "fi", "do", "done", "while", "until", 
 # What sets macros in another way, or runs a text that is not to be seen here.
 HIDES = {"eval", ".", "source", "set", "shift", "read", "getopts", "unset", "export", "readonly", "local", "declare", "typeset", "printf", "mapfile", "readarray",
          "let", "trap", "alias", "shopt", "case", "select", "function", "coproc", "[[", "enable", "hash"}
+RUN = {"!", "command", "builtin", "exec", "time"}
 CLOSES = {"fi", "done", "}"}
+OWN = {"PWD", "OLDPWD", "_", "RANDOM", "SECONDS", "LINENO", "PPID", "REPLY", "OPTARG", "OPTIND", "IFS"}  # a shell sets these itself
+BASH = re.compile(r"[A-Za-z_]\w*(?:\+=|\[)|[^/]*\{[^/]*,")  # bash sets a macro by more than `=`, and braces may give the name of a command
+ENDS = (";", "\n", "&&", "||", ")", "(")  # what stands behind an assignment that lasts
 KEEPS = re.compile(r"[-+][ehuvx]+")
 
 
@@ -60,6 +64,7 @@ class Script:
     """A text: the words that a shell expands, and what it sets macros to."""
 
     words: List[Word] = field(default_factory=list)
+    starts: List[Word] = field(default_factory=list)  # those of them that are names of commands
     settings: Dict[str, List[Setting]] = field(default_factory=dict)
 
 
@@ -191,8 +196,7 @@ class Reader:
     def read(self, text: str, outer: Tuple[int, ...]) -> None:
         """One text, which stands in some blocks."""
         blocks, is_start, is_sure, is_target, loop = list(outer), True, True, False, ""
-        tokens = Cutter(text).tokens()
-        at = 0
+        tokens, at, has_assigned = Cutter(text).tokens(), 0, False
         while at < len(tokens):
             operator, pieces = tokens[at]
             behind = tokens[at + 1][0] if at + 1 < len(tokens) else "\n"
@@ -202,31 +206,32 @@ class Reader:
                 is_target = True
                 continue
             if operator:
-                if operator == "(" and not is_start:
-                    raise Unread
-                if operator in "()":
-                    blocks = blocks + [self.count] if operator == "(" else blocks[:-1]
+                blocks = self.bracket(operator, blocks, not is_start or has_assigned or behind == "(")
                 is_sure = operator in (";", "\n", "(", "&") or operator == "&&" and is_sure and is_start
-                is_start = True
+                is_start, has_assigned = True, False
                 continue
             word = self.word(pieces, blocks)
             plain = word.plain()
             if is_target or not is_start:
                 self.script.words.append(word)
                 is_target = False
+            elif plain.isdigit() and behind[0:1] in ("<", ">"):
+                continue  # the number of a descriptor
             elif plain == "for":
                 at = self.loop(tokens, at, blocks)
             elif plain in RESERVED:
                 blocks = self.block(plain, blocks)
-                is_sure = True if plain not in ("!", "command", "builtin", "exec", "time") else is_sure
+                is_sure = self.still(is_sure, tokens[at:at + 1]) if plain in RUN else True
             elif pieces[0].kind == "text" and not pieces[0].quoted and ASSIGNS.match(pieces[0].text):
-                self.assign(word, is_sure and behind not in ("|", "&", ""))
-            elif plain in HIDES and not keeps(plain, tokens[at:]):
+                self.assign(word, is_sure and behind in ENDS)
+                has_assigned = True
+            elif plain in HIDES and not keeps(plain, tokens[at:]) or BASH.match(pieces[0].text):
                 raise Unread
             else:
                 is_start = is_sure = False
                 at = self.skip_status(plain, tokens, at)
                 self.script.words.append(word)
+                self.script.starts += [] if plain else [word]
 
     def word(self, pieces: List[Piece], blocks: List[int]) -> Word:
         """A word at this place; the commands in it are read too."""
@@ -235,6 +240,19 @@ class Reader:
             if piece.kind == "command":
                 self.read(piece.text, (*blocks, place, -1))
         return Word(pieces, place, tuple(blocks))
+
+    def bracket(self, operator: str, blocks: List[int], is_other: bool) -> List[int]:
+        """The blocks behind a bracket, which begins or ends one; `is_other`: one that opens here would begin something else."""
+        if operator == "(" and is_other:
+            raise Unread
+        return blocks + [self.count] if operator == "(" else blocks[:-1] if operator == ")" else blocks
+
+    @staticmethod
+    def still(is_sure: bool, behind: List[Tuple[str, List[Piece]]]) -> bool:
+        """Whether what stands behind `command` and the like is sure; an option there, or a quoted name, may run anything."""
+        if behind and not behind[0][0] and Word(behind[0][1]).plain()[:1] in ("-", ""):
+            raise Unread
+        return is_sure
 
     def block(self, plain: str, blocks: List[int]) -> List[int]:
         """The blocks behind a word that begins or ends one."""
@@ -269,7 +287,7 @@ class Reader:
     def assign(self, word: Word, is_sure: bool) -> None:
         """`NAME=VALUE`."""
         name, _, rest = word.pieces[0].text.partition("=")
-        if name == "IFS" or name.endswith("OPTS"):
+        if name in OWN or name.endswith("OPTS"):
             raise Unread
         value = Word([Piece("text", rest, False), *word.pieces[1:]], word.place, word.blocks)
         self.script.settings.setdefault(name, []).append(Setting([value], word.place, word.blocks, is_sure))

@@ -9,7 +9,7 @@ import support  # noqa: F401
 from record.jvm import settle_machines
 from record.listed import patterns
 from record.lives import Life
-from record.modules import contents, holds, settle_modules, without_comments
+from record.modules import contents, holds, is_compiler, settle_modules, without_comments
 from record.shelltext import Traits
 from test_replay import TOP, events_of, lives_of, played
 
@@ -100,11 +100,54 @@ class Compilers(unittest.TestCase):
 
     def test_classes_that_comments_name(self) -> None:
         files = {"A.java": "/** {@link B} */ class A { }"}
-        for words, is_asked in (("javac A.java", False), ("javac -Xdoclint A.java", True), ("javadoc A.java", True)):
+        for words, is_asked in (("javac A.java", False), ("javac -Xdoclint A.java", True)):
             found = self.left(words, files, [("L", "o\0*"), ("R", "A.java")], ["o/B.class"])
             self.assertEqual(is_asked, ("L", "o\0B.class") in found, words)
 
+    def java(self, words: str, files: Dict[str, str], made: str, listed: str = "p") -> bool:
+        """Whether javac may ask for a file that another process makes in a folder that it lists, or for any."""
+        found = self.left(words, files, [("L", listed + "\0*"), *(("R", name) for name in files)], [made])
+        return ("L", listed + "\0*") in found or ("L", listed + "\0" + Path(made).name) in found
+
+    def test_words_by_which_javac_finds_more(self) -> None:
+        for words in ("-p mods A.java", "--module-source-path=p -m m", "-processorpath q A.java", "-proc:only A.java", "@words", "@gone", "-J-javaagent:x A.java", "-Xplugin:x A.java"):
+            self.assertTrue(self.java("javac " + words, {"A.java": "class A { }", "words": "-g '-extdirs' q"}, "p/B.class"), words)
+        self.assertTrue(self.java("javadoc -d p q", {"A.java": "class A { }"}, "p/B.class"))
+        self.assertFalse(self.java("javac -g -J-Xmx9m @few", {"A.java": "class A { }", "few": "A.java"}, "p/B.class"))
+
+    def test_processors_of_annotations(self) -> None:
+        service = "META-INF/services/javax.annotation.processing.Processor"
+        for files in ({"A.java": "", "x.jar": "PK " + service}, {"A.java": "", "q/" + service: "Own"}):
+            self.assertTrue(self.java("javac A.java", files, "p/B.class"))
+            self.assertFalse(self.java("javac -proc:none A.java", files, "p/B.class"))
+
+    def test_packages_and_jars(self) -> None:
+        self.assertTrue(self.java("javac -cp p/* A.java", {"A.java": ""}, "p/b.jar"))
+        self.assertTrue(self.java("javac A.java", {"A.java": "import p . *;"}, "p/B.class"))
+        self.assertTrue(self.java("javac A.java", {"A.java": "module m { exports p; }"}, "p/B.class"))
+        self.assertFalse(self.java("javac A.java", {"A.java": "import r.*;"}, "p/B.class"))
+        self.assertTrue(self.java("javac A.java", {"A.java": "class A { \\u0042 b; }"}, "p/B.class"))
+        Path(self.top, "p").mkdir()
+        Path(self.top, "p/C.java").touch()
+        self.assertFalse(self.java("javac A.java", {"A.java": "import p.*;"}, "p/B.class"))
+
+    def test_words_of_ocaml_in_a_file(self) -> None:
+        found = self.left("ocamlc -args f", {"f": "bee.cmo"}, [("L", "x\0*"), ("R", "f")], ["x/bee.cmo", "x/other.cmo"])
+        self.assertEqual({("L", "x\0bee.cmo"), ("R", "f")}, found)
+
+    def test_texts_that_another_program_makes(self) -> None:
+        events = [("L", ".\0*"), ("C", "pp.ml"), ("R", "pp.ml")]
+        self.assertNotIn(("L", ".\0b.cmi"), self.left("ocamlc -c a.ml", {"pp.ml": "open B"}, events, ["./b.cmi"]))
+        self.assertIn(("L", ".\0*"), self.left("ocamlc -c a.ml", {"pp.ml": "open B"}, events, ["./b.cmi", "pp.ml"]))
+
+    def test_program_of_that_name(self) -> None:
+        for kind, text, is_one in (("ocaml", "no compiler", False), ("ocaml", "caml_main", True), ("java", "", False)):
+            path = Path(self.top, "%s%d" % (kind, len(text)))
+            path.write_text(text)
+            self.assertEqual(is_one, is_compiler(str(path), kind))
+
     def test_comments_of_ocaml(self) -> None:
+        self.assertEqual(b"let g = f' , B".split(), without_comments(b"let g = f' '\"', B").split())
         self.assertEqual(b"A B C".split(), without_comments(b"A (* \"*)\" x (* y *) '\"' *) B {q|(*|q} '\\'' C").split())
 
 
@@ -148,7 +191,7 @@ class Tools(unittest.TestCase):
 class Libtool(unittest.TestCase):
     """What libtool lists a folder for."""
 
-    def of(self, words: str, text: str = "# ltmain.sh\n") -> List[str]:
+    def of(self, words: str, text: str = "# generalized library-building support services\n# ltmain.sh\n") -> List[str]:
         """The patterns of a list by `sh ./libtool` with these words."""
         with tempfile.TemporaryDirectory(prefix="race-test-") as room:
             Path(room, "libtool").write_text(text)
@@ -162,7 +205,8 @@ class Libtool(unittest.TestCase):
 
     def test_other_modes_and_scripts(self) -> None:
         self.assertEqual(["*"], self.of("--mode=clean rm -f a.lo"))
-        self.assertEqual(["*"], self.of("--mode=link cc -o liba.la a.lo", "echo *\n"))
+        for text in ("echo *\n", "echo * # as ltmain.sh does\n", "# library-building support\necho *\n"):
+            self.assertEqual(["*"], self.of("--mode=link cc -o liba.la a.lo", text))
 
 
 if __name__ == "__main__":

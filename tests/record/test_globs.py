@@ -56,6 +56,14 @@ class Globs(unittest.TestCase):
                      "define G\n$(wildcard $1)\nendef\n", "x: ; $(call F,*.c\n", "G = $(call F,$1)\nx: ; $(call G,*.c)\n"):
             self.assertEqual({"*"}, patterns([both + text], {"P": "a b"}), text)
 
+    def test_arguments_that_have_a_value_otherwise(self) -> None:
+        for text in ("x: ; $(foreach 1,*.c,$($(N)))\n", "x: ; $(foreach $(V),*.c,$($(N)))\n", "x: ; $(let a 1,b *.c,$($(N)))\n", "1 = *.c\n", "x: override 1 := *.c\n", "define 1\n*.c\nendef\n",
+                     "x: ; $(eval 1 := *.c)$($(N))\n", "G = $($(N))\nx: ; $(call G,*.c)\n"):
+            self.assertEqual({"*"}, patterns(["F = $(wildcard $1)\n" + text], {"N": "F"}, ["x"]), text)
+        self.assertEqual({"*"}, patterns(["F = $(wildcard $@)\nx: ; $(foreach @,*.c,$(F))\n"], {}, ["x"]))
+        for text in ("x: ; $(foreach f,a b,$(call F,c))\n", "Q = 1\nx: a1 ; test 1 = 1\n"):
+            self.assertEqual(set(), patterns(["F = $(wildcard $1)\nP = a b\n" + text], {"P": "a b"}, ["x"]), text)
+
     def test_macros_of_a_data_base(self) -> None:
         base = read_base(["# Variables", "", "# makefile (from 'Makefile', line 1)", "D := src lib", "# makefile (from 'Makefile', line 2)",
                           "E = $(D)/x", "# environment", "A.B-c = x=y",

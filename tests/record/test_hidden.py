@@ -31,6 +31,7 @@ HIDDEN: Dict[str, Small] = {
     "search_path_of_a_make_inside": Small("race", INNER % "echo a > v/x.c", {"w/x.c": "b", "v/k": "k", "in.mk": "VPATH = v w\nout: x.c ; cp $< out\n"}),
     "search_path_of_other_names_inside": Small("safe", INNER % "echo a > v/x.c", {"w/x.c": "b", "v/k": "k", "in.mk": "vpath %.h v\nvpath %.c w\nout: x.c ; cp $< out\n"}),
     "search_path_that_is_not_needed_inside": Small("safe", INNER % "echo a > v/x.c", {"x.c": "b", "v/k": "k", "in.mk": "VPATH = v\nout: x.c ; cp $< out\n"}),
+    "pattern_of_a_loop_over_targets": Small("race", "F = $(wildcard $@)\nall: a b\na: ; touch d/n.c a\nb: ; echo $(foreach @,d/*.c,$(F)) > b\n", {"d/m.c": ""}),
     "pattern_of_a_rule_in_a_make_inside": Small("race", INNER % "echo n > d/n.c", {"d/k.c": "k", "in.mk": "out: d/*.c ; cat $^ > out\n"}),
     "pattern_of_a_rule_by_a_macro_inside": Small("race", INNER % "echo n > d/n.c", {"d/k.c": "k", "in.mk": "C = d/*.c\nout: $(C) ; cat $^ > out\n"}),
     "pattern_of_other_names_inside": Small("safe", INNER % "echo n > d/n.h", {"d/k.c": "k", "in.mk": "C = d/*.c\nO := out\n$(O): d/*.c | d ; cat $^ > out\n"}),

@@ -28,8 +28,13 @@ PROJECTS: Dict[str, Small] = {
     "marker_with_a_text": Small("race", OUTER % "", {"in/Makefile": INNER.replace("\t$(NOECHO) $(TOUCH) $(D)", "\techo > $(D)")}, "umask 022"),
     "marker_in_a_folder_that_is_listed": Small("race", OUTER % "all: f\nf: mk ; ls -a b > f\nmk: ; mkdir -p b; touch mk\n", {"in/Makefile": INNER.replace("echo x > ../b/x; ", "")}),
     "marker_that_is_read": Small("race", OUTER % "all: f\nf: ; cat b/.exists > f\n", {"in/Makefile": INNER}, "umask 022"),
+    "marker_that_make_itself_looks_for": Small("race", PERL + "D = b\n.PHONY: all dirs\nall: dirs f\ndirs: $(D)$(DFSEP).exists\nf: ; echo $(if $(wildcard b/.exists),yes) > f\n" + MARKER, {"b/k": ""}),
     "mode_that_a_make_above_has_set": Small("safe", ABOVE % 755, {"in/Makefile": MODES}),
     "mode_that_a_make_above_has_not_set": Small("race", ABOVE % 700, {"in/Makefile": MODES}),
+    "mode_of_a_folder_that_is_found": Small("race", PAIR % "umask 077; test -d out || mkdir -p out"),
+    "mode_of_a_folder_that_is_found_by_no_bits": Small("race", "all: x y\nx: ; umask 022; install -d out; touch x\ny: ; umask 0; test -d out || mkdir -p out; touch y\n"),
+    "mode_of_a_folder_that_is_installed": Small("safe", "all: x y\nx: ; umask 022; install -d out; touch x\ny: ; umask 022; test -d out || mkdir -p out; touch y\n"),
+    "mode_of_a_folder_that_is_found_by_the_same_bits": Small("safe", PAIR % "(umask 077; touch k); test -d out || mkdir -p out"),
     # a make that has nowhere to print
     "make_with_its_output_closed": Small("no verdict", "all: sub\nsub: ; $(MAKE) -f in.mk >&-\n", {"in.mk": "a: ; @touch a\n"}, says="in.mk (its standard output is closed)"),
     "make_with_its_errors_closed": Small("safe", "all: sub\nsub: ; $(MAKE) -f in.mk 2>&-\n", {"in.mk": "a: ; @touch a\n"}),
@@ -70,7 +75,7 @@ class Makedirs(unittest.TestCase):
         self.of(MAKER % ("try: os.makedirs(os.path.dirname(out))\nexcept OSError: open(out + '.log', 'w')\n" + QUIET), 1)
 
     def test_of_which_one_part_may_not_be_there(self) -> None:
-        self.of(MAKER % ("try: os.mkdir('out')\nexcept OSError: open(out[6] + '.log', 'w')\n" + QUIET), 1)
+        self.of(MAKER % ("try: os.mkdir('out')\nexcept FileExistsError: open(out[6] + '.log', 'w')\n" + QUIET), 1)
 
     def test_that_is_used_first(self) -> None:
         self.of(MAKER % ("try: open(out + '.new', 'w')\nexcept OSError: pass\n" + QUIET), 1)
@@ -81,12 +86,32 @@ class Makedirs(unittest.TestCase):
         self.of("import sys\nsys.path.insert(0, 'out')\n" + script, 1)
 
     def test_texts(self) -> None:
-        for text in ("os.makedirs(d, exist_ok=True)", "os.makedirs(os.path.join(d, e), 0o755, exist_ok = True)", "from os import makedirs\nmakedirs(d, exist_ok=True)", "x = 1  # mkdir"):
+        for text in ("os.makedirs(d, exist_ok=True)", "os.makedirs(os.path.join(d, e), 0o755, exist_ok = True)", "from os import makedirs\nmakedirs(d, exist_ok=True)", "x = 1  # mkdir", "getattr(x, y)"):
             self.assertTrue(forms_of(text).is_quiet, text)
-        for text in ("os.makedirs(d)", "os.makedirs(d, exist_ok=False)", "os.makedirs(f(exist_ok=True))", "make = os.makedirs", "os.system('mkdir d')", "exec(text)", "os.makedirs(d,"):
+        for text in ("os.makedirs(d)", "os.makedirs(d, exist_ok=False)", "os.makedirs(f(exist_ok=True))", "make = os.makedirs", "os.system('mkdir d')", "exec(text)", "os.makedirs(d,",
+                     "from os import mkdir as m\nm(d)", "os.makedirs(d, exist_ok=True if x else False)", "getattr(os, 'mk' + 'dir')(d)", "shutil.make_archive(d, 'tar')"):
             self.assertFalse(forms_of(text).is_quiet, text)
         self.assertFalse(forms_of("Path(d).mkdir(exist_ok=True)").is_deep)
-        self.assertTrue(forms_of("import sys\nsys.path.append(d)").looks)
+        for text in ("import sys\nsys.path.append(d)", "os.chdir(d)", "try: open(d)\nexcept: pass", "try: open(d)\nexcept OSError: pass"):
+            self.assertTrue(forms_of(text).looks, text)
+        self.assertFalse(forms_of("try: x()\nexcept KeyError: pass").looks)
+
+    def test_that_the_text_of_the_words_makes(self) -> None:
+        script = "import os, sys\ntry: os.mkdir('out')\nexcept FileExistsError: open(sys.argv[1], 'w').write('second')\n"
+        makefile = "export PYTHONPATH = t\nall: x y\nx y: ; python3 -S -c 'import sys; sys.path.pop(0); import own' ../$@\n"
+        with support.Project({"Makefile": makefile, "t/own.py": script}) as project:
+            self.assertEqual(1, project.record().status)
+
+    def test_below_another_folder(self) -> None:
+        makefile = "all: x y\nx: ; mkdir -p out; touch x\ny: ; cd out && python3 -S ../t/make.py; touch y\n"
+        with support.Project({"Makefile": makefile, "t/make.py": "import os\nos.makedirs('new', exist_ok=True)\n"}) as project:
+            self.assertEqual(1, project.record().status)
+
+    def test_by_a_text_that_is_changed(self) -> None:
+        script = "import os\ntry: os.mkdir('out')\nexcept FileExistsError: print('second')\n"
+        makefile = "all: x y\nx y: ; python3 -S t/$@.py > $@; echo > t/$@.py\n"
+        with support.Project({"Makefile": makefile, "t/x.py": script, "t/y.py": script}) as project:
+            self.assertEqual(1, project.record().status)
 
 
 class Makefiles(unittest.TestCase):

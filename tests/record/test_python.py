@@ -7,7 +7,7 @@ from typing import Dict
 
 import support
 from record.lives import Life
-from record.python import is_of_python, own_sources, settle, settle_lists, sources_of
+from record.python import is_of_python, lists_folders, own_sources, settle, settle_lists, sources_of
 
 HELPER = {"t/lib.py": "def text():\n    return 'x'\n"}
 SCRIPT = "import sys, lib\nopen(sys.argv[1], 'w').write(lib.text())\n"
@@ -17,7 +17,7 @@ TWO = "all: t/x.c t/y.c\nt/x.c: ; python3 -S t/gen.py t/x.c\nt/y.c: ; python3 -S
 def settled(life: Life) -> None:
     """Puts what is meant in the place of its lists."""
     sources = sources_of(life)
-    settle_lists(life, sources, own_sources(life, sources))
+    settle_lists(life, sources, own_sources(life, sources), {})
 
 
 class Python(unittest.TestCase):
@@ -37,6 +37,15 @@ class Python(unittest.TestCase):
 
     def test_script_that_lists_the_folder(self) -> None:
         self.of(TWO, "import os\n" + SCRIPT + "os.listdir(os.path.dirname(os.path.abspath(__file__)))\n", 1)
+
+    def test_script_that_listed_the_folder(self) -> None:
+        listing = "import os\n" + SCRIPT + "os.listdir(os.path.dirname(os.path.abspath(__file__)))\n"
+        self.of(TWO + "all: z\nz: t/x.c t/y.c ; echo > t/gen.py; touch z\n", listing, 1)
+
+    def test_script_that_hides_what_it_lists(self) -> None:
+        for text, is_one in (("getattr(os, 'list' + 'dir')('.')", True), ("os.__dict__[n]('.')", True), ("getattr(self, name)", False), ("code = re.compile('x')", False)):
+            with support.Project({"x.py": text}) as project:
+                self.assertEqual(is_one, lists_folders(str(project.folder / "x.py")), text)
 
     def test_module_that_lists_the_folder(self) -> None:
         files = {"t/lib.py": "import os\ndef text():\n    return '%d' % len(os.listdir(os.path.dirname(os.path.abspath(__file__))))\n"}

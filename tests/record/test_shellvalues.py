@@ -32,6 +32,11 @@ UNKNOWN = (
     "test -n \"$x\" || x=y; echo $x/*", "echo $(ls *.c) *.h", "x=`ls`; echo $x *.h", "for f in a*; do for g in b*; do :; done; done; echo $g", "while read l; do echo $l; done; ls *.c",
     "false && x=a; ls $x*", "x=a | y; ls $x*", "(x=a); ls $x*", "IFS=:; for f in *.c; do echo $f; done", "for f in; do :; done; ls *.c $f", "cat `pwd` *.h", "x=a; unset x; ls $x *.c",
     "for f in $y; do ls $f*; done", "echo 'a", "ls *.c $x", "printf -v x '*'; ls $x",
+    # what sets macros under another spelling
+    "d=a; \\eval 'd=b'; ls $d*", "d=a; e=eval; $e 'd=b'; ls $d*", "d=a; \"read\" d; ls $d*", "d=a; \"$e\" d=b; ls $d*", "d=a; command -p eval d=b; ls $d*",
+    "d=a; 2>f read d; ls $d*", "d=a >f cmd; ls $d*", "d=a; d+=b; ls $d*", "d[0]=a; ls $d*", "d=(a); ls $d*", "d=a; {eval,d=b}; ls $d*", "d=1; ((d++)); ls $d*", "PWD=a; ls $PWD*",
+    # what prints names, and is no program of its own
+    "cat `exec cat x` *.h", "cat `builtin echo x` *.h", "cat `dirs` *.h",
 )
 INFO = ("restore=: && backupdir=\".am$$$$\" && \\\nam__cwd=`pwd` && CDPATH=\"$${ZSH_VERSION+.}:\" && cd . && \\\n rm -rf $$backupdir && mkdir $$backupdir && if (sh ./info --version) >/dev/null 2>&1; then \\\n"
         " for f in $@ $@-[0-9] $@-[0-9][0-9]; do if test -f $$f; then mv $$f $$backupdir; restore=mv; else :; fi; \\\n done; else :; fi && cd \"$$am__cwd\";"
@@ -43,7 +48,12 @@ SHELLS: Dict[str, Small] = {
     "rules_of_automake_that_find_a_file": Small("race", "all: a.info b\na.info: ; " + INFO + "b: ; touch a.info-1\n", FILES),
     "rules_of_automake_that_fail": Small("safe", "all: a.info b\na.info: ; -" + INFO.replace("sh ./info $@;", "false;") + "b: ; touch b\n", FILES),
     "folder_behind_a_link": Small("race", "all: a b\na: ; d=l; echo $$d/*.h *.q > a\nb: ; touch h/b.h b\n", FILES, "ln -s h l"),
+    "folder_behind_a_link_that_is_gone": Small("race", "all: a b c\na: l ; d=l; echo $$d/*.h *.q > a\nb: ; touch h/b.h b\nc: a ; rm l; touch c\nl: ; ln -s h l\n", FILES),
     "names_that_a_program_prints": Small("race", "all: a b\na: ; echo `echo 'h/*' | sed -n p` h/*.h > a\nb: ; touch h/b.o b\n", FILES),
+    "names_that_a_script_prints": Small("race", "export PATH := .:$(PATH)\nall: a b\na: ; cat *.q `list.sh` > a\nb: ; touch h/b.h b\n",
+                                        {**FILES, "list.sh": "#!/bin/sh\necho 'h/*'\n", "x.q": ""}, "chmod +x list.sh"),
+    "loop_over_folders_of_a_pattern": Small("race", "all: a b\na: ; for d in [gh]en; do cat \"$$d\"/*.h *.q; done > a\nb: ; touch hen/b.h b\n", {"hen/1.h": "", "x.q": ""}),
+    "folder_with_two_slashes": Small("race", "all: a b\na: ; d=h/; cat $$d/*.h *.q > a\nb: ; touch h/b.h b\n", {**FILES, "x.q": ""}),
     "loop_over_other_names": Small("safe", "all: a b\na: ; for f in h/*.h; do cp $$f a; done\nb: ; touch h/b.o b\n", FILES),
     "loop_over_these_names": Small("race", "all: a b\na: ; for f in h/*.h; do echo $$f; done > a\nb: ; touch h/2.h b\n", FILES),
     "loop_over_names_of_the_environment": Small("race", "export x = h/*\nall: a b\na: ; for f in h/*.h; do echo $$f $$x; done > a\nb: ; touch h/b.o b\n", FILES),
@@ -70,6 +80,11 @@ class Texts(unittest.TestCase):
     def test_folders(self) -> None:
         found = patterns_of("d=out && ls $d/*.c ../*.h ./*.x s*/y*")
         self.assertEqual({("out", "*.c"), ("", "*.h"), ("", "*.x"), ("", "s*"), ("s*", "y*")}, {tuple(one) for one in found[0]} if found else None)
+
+    def test_folders_of_other_spellings(self) -> None:
+        for text, wanted in (("d=out/; ls $d/*.c", ("out", "*.c")), ("d=x; ls ~/a/*.c", ("", "*.c")), ("d=x; ls {a/b,c}*.c", ("", "*"))):
+            found = patterns_of(text)
+            self.assertIn(wanted, {tuple(one) for one in found[0]} if found else set(), text)
 
     def test_programs_that_have_not_run(self) -> None:
         found = patterns_of("cat `echo a | sed s/a/b/` *.h")
