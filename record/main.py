@@ -13,6 +13,7 @@ import threading
 import time
 from concurrent.futures import ThreadPoolExecutor
 from dataclasses import dataclass
+from itertools import chain
 from pathlib import Path
 from typing import Dict, List, Optional, Tuple
 
@@ -150,9 +151,8 @@ class Imported:
 
 def settle_all(replay: Calls, spool: Path, assumed: Assumptions) -> Owners:
     """Puts what is meant in the place of what known programs did; who did what."""
-    for example in settle(replay.all, replay.tops):
-        assumed.add("bytecode", example)
-    settle_modules(replay.all)
+    for kind, example in chain(settle(replay.all, replay.tops), settle_modules(replay.all)):
+        assumed.add(kind, example)
     settle_machines(replay.all)
     logs = list(read_logs(spool))
     markers = settle_exists(replay.all, logs)

@@ -127,11 +127,12 @@ def all_forms(life: Life, sources: Iterable[str]) -> Forms:
     return Forms(bool(found) and not life.cut and all(one.is_quiet for one in found), all(one.is_deep for one in found), looks)
 
 
-def settle_made(life: Life, sources: List[str], begun: int, written: Dict[str, int]) -> None:
+def settle_made(life: Life, sources: List[str], begun: int, written: Dict[str, int]) -> bool:
     """Says of folders that such a program makes, or finds made, that it made them quietly. Before it has read its script, it looks
-    for modules. `written`: when its texts were last written; one that was written later may have said something else."""
+    for modules. `written`: when its texts were last written; one that was written later may have said something else. Whether there
+    are such folders."""
     if any(written.get(path, 0) > begun for path in sources):
-        return
+        return False
     made = {path: place for (kind, path), place in sorted(life.events.items(), key=lambda event: -event[1]) if kind in "ME" and place > begun}
     forms = all_forms(life, sources) if made else Forms(False)
     for path, place in made.items() if forms.is_quiet else ():
@@ -143,6 +144,7 @@ def settle_made(life: Life, sources: List[str], begun: int, written: Dict[str, i
         life.events.setdefault(("T", path), place)
         for folder in (path, *above(path, life.folder)) if forms.is_deep else (path,):
             ask(life, folder, place, begun, forms.looks)
+    return bool(made) and forms.is_quiet
 
 
 def ask(life: Life, folder: str, place: int, begun: int, looks: bool) -> None:

@@ -9,7 +9,7 @@ import os
 import re
 from dataclasses import dataclass, field
 from functools import lru_cache
-from typing import Dict, Iterable, Iterator, List, Set
+from typing import Dict, Iterable, Iterator, List, Set, Tuple
 
 from record.lives import Life
 
@@ -62,8 +62,13 @@ class Disk:
         return disk
 
 
-def settle_modules(lives: List[Life]) -> None:
-    """Puts the names that a compiler may look for in the place of its lists."""
+def whole_lists(parts: Iterable[Life]) -> Set[str]:
+    """The folders of which some processes ask for all names."""
+    return {path for part in parts for kind, path in part.events if kind == "L" and path.endswith("\0*")}
+
+
+def settle_modules(lives: List[Life]) -> Iterator[Tuple[str, str]]:
+    """Puts the names that a compiler may look for in the place of its lists; what that assumes, with the words of the compiler."""
     found = [life for life in lives if kind_of(life)]
     disk = Disk.of(lives) if found else Disk()
     for life in found:
@@ -71,10 +76,13 @@ def settle_modules(lives: List[Life]) -> None:
         texts = read_by(parts, disk)
         if all(os.path.isfile(text) for text in texts) and not (kind_of(life) == "java" and is_open(life, parts)):
             listed = {path.partition("\0")[0] for part in parts for kind, path in part.events if kind == "L"}
+            lists = whole_lists(parts)
             for part in parts:
                 settle_lists(life, part, texts, disk)
                 if kind_of(life) == "java":
                     settle_packages(life, part, texts, disk, listed)
+            if lists - whole_lists(parts):
+                yield "compilers", " ".join(life.argv)[:100]
 
 
 def settle_lists(life: Life, part: Life, texts: List[str], disk: Disk) -> None:

@@ -6,7 +6,7 @@ of the program lists folders.
 
 import os
 import re
-from typing import Dict, Iterator, List, Sequence, Set
+from typing import Dict, Iterator, List, Sequence, Set, Tuple
 
 from record import shelltext
 from record.lives import Life
@@ -29,9 +29,9 @@ def is_python(life: Life) -> bool:
     return bool(life.ran and life.ran[-1] and PYTHON.match(life.ran[-1][0]))
 
 
-def settle(lives: List[Life], tops: Sequence[str] = ()) -> Iterator[str]:
-    """Puts what is meant in the place of what each Python did by itself; the words of those that had byte code in the project. Where
-    another program looks into a folder of byte code, all stays as it is."""
+def settle(lives: List[Life], tops: Sequence[str] = ()) -> Iterator[Tuple[str, str]]:
+    """Puts what is meant in the place of what each Python did by itself; what that assumes, with its words. Where another program looks
+    into a folder of byte code, all of that stays as it is."""
     known = [life for life in lives if is_python(life)]
     written: Dict[str, int] = {}
     for path, place in ((path, place) for life in lives for path, place in life.changed.items() if path.endswith(".py")) if known else ():
@@ -43,9 +43,11 @@ def settle(lives: List[Life], tops: Sequence[str] = ()) -> Iterator[str]:
         own = own_sources(life, sources)
         settle_lists(life, sources, own, written)
         settle_code(life, others)
-        settle_made(life, own if sources else sorted(modules_of(life)), read_at(life, sources), written)
+        is_quiet = settle_made(life, own if sources else sorted(modules_of(life)), read_at(life, sources), written)
         if names:
-            yield "%s: %s" % (" ".join(life.argv)[:60], names[0])
+            yield "bytecode", "%s: %s" % (" ".join(life.argv)[:60], names[0])
+        if is_quiet:
+            yield "makers", " ".join(life.argv)[:100]
 
 
 def is_of_system(path: str, tops: Sequence[str]) -> bool:

@@ -104,7 +104,7 @@ PROJECT_GUARDS: List[Guard] = [
     Guard("markers: who reads them", "exists.py", '    is_touch = name == "perl"', '    is_touch = True or name == "perl"', project("marker_that_is_read"), YES),
     Guard("folders: made behind their use", "folders.py", "return folder.first_used.get(at, 1 << 60) < folder.first_asked.get(at, 0) and", "return False and", project("folder_made_behind_its_use"), YES),
     Guard("folders: asked for behind their use", "folders.py", 'if kind in "MTEKSsN":', 'if kind in "MTE":', project("folder_asked_for_behind_its_use"), YES),
-    Guard("Python: folders that may be there", "python.py", "        settle_made(life, own if sources else sorted(modules_of(life)), read_at(life, sources), written)\n", "", makedirs("that_may_be_there"), FALSE_RACE),
+    Guard("Python: folders that may be there", "python.py", "is_quiet = settle_made(life, own if sources else sorted(modules_of(life)), read_at(life, sources), written)", "is_quiet = False", makedirs("that_may_be_there"), FALSE_RACE),
     Guard("Python: folders that may not be there", "makedirs.py", 'forms.is_quiet and has(call, "exist_ok")', "forms.is_quiet", makedirs("of_which_one_part_may_not_be_there"), YES),
     Guard("Python: folders: other looks", "makedirs.py", "forms.looks or token.string in LOOKS", "forms.looks", makedirs("that_the_program_looks_for_first"), YES),
     Guard("Python: folders: search paths", "makedirs.py", ' or [one.string for one in tokens[at:at + 3]] == ["sys", ".", "path"]', "", makedirs("in_which_modules_are_looked_for"), YES),
@@ -116,5 +116,5 @@ PROJECT_GUARDS: List[Guard] = [
     Guard("Python: folders: errors that are looks", "makedirs.py", " or catches(token.string, tokens[at + 1].string)", "", makedirs("texts")),
     Guard("Python: folders: modules of a text", "python.py", "own if sources else sorted(modules_of(life))", "own", makedirs("that_the_text_of_the_words_makes"), YES),
     Guard("Python: folders: that it is in", "makedirs.py", "above(path, life.folder)) if", "above(path, '/')) if", makedirs("below_another_folder"), YES),
-    Guard("Python: folders: texts that are changed", "makedirs.py", "    if any(written.get(path, 0) > begun for path in sources):\n        return\n", "", makedirs("by_a_text_that_is_changed"), YES),
+    Guard("Python: folders: texts that are changed", "makedirs.py", "    if any(written.get(path, 0) > begun for path in sources):\n        return False\n", "", makedirs("by_a_text_that_is_changed"), YES),
 ]

@@ -31,7 +31,7 @@ SEEN_GUARDS: List[Guard] = [
     Guard("Python: modules that threads take in", "python.py", "for one in life.threads or (life,) for event in one.events.items()", "for event in life.events.items()",
           "test_python.Python.test_module_that_a_thread_takes_in"),
     Guard("Python: byte code of the system", "python.py", " and not is_of_system(path, tops)", "", "test_python.Python.test_byte_code_of_the_system_is_no_assumption"),
-    Guard("Python: byte code and modules", "main.py", "for example in settle(replay.all, replay.tops):", "for example in ():", python("modules_and_byte_code"), FALSE_RACE),
+    Guard("Python: byte code and modules", "main.py", "chain(settle(replay.all, replay.tops), ", "chain(", python("modules_and_byte_code"), FALSE_RACE),
     Guard("Python: byte code that others read", "python.py", "cache_of(path) in others or ", "", python("byte_code_that_another_program_reads"), YES),
     Guard("Python: scripts that list", "python.py", " or any(lists_folders(path) or written.get(path, 0) > begun for path in own)", "", python("script_that_lists_the_folder"), YES),
     Guard("Python: scripts that are changed later", "python.py", "lists_folders(path) or written.get(path, 0) > begun for", "lists_folders(path) for", python("script_that_listed_the_folder"), YES),

@@ -42,13 +42,14 @@ class Compilers(unittest.TestCase):
             path.write_text(text)
         compiler = self.life(words, events, 100)
         other = self.life("cc", [("M" if name.endswith("/") else "C", name.rstrip("/")) for name in made], 300)
-        settle_modules([compiler, other])
+        self.assumed = [kind for kind, _ in settle_modules([compiler, other])]
         return {(kind, path[len(self.top) + 1:]) for kind, path in compiler.events}
 
     def ocaml(self, text: str, made: str, words: str = "ocamlc -c a.ml") -> bool:
         """Whether a compiler of OCaml may ask for a file that another process makes."""
         found = self.left(words, {"a.ml": text}, [("L", ".\0*"), ("R", "a.ml")], ["./" + made])
         self.assertNotIn(("L", ".\0*"), found)
+        self.assertEqual(["compilers"], self.assumed)
         return ("L", ".\0" + made) in found
 
     def test_modules_of_ocaml(self) -> None:
