@@ -4,6 +4,7 @@ Quiet makers, which do not show who was first, do not conflict; each user needs 
 folder that is not there yet, and a removal conflict with all that nothing orders.
 """
 
+import fnmatch
 import os
 import re
 from dataclasses import dataclass, field
@@ -292,11 +293,16 @@ def add_listed(builder: "Builder") -> None:
                 continue
             where, pattern = path.split("\0")
             for name, folder in table.items():
-                if os.path.dirname(name) == where and shelltext.matches(os.path.basename(name), pattern):
+                if os.path.dirname(name) == where and matches(os.path.basename(name), pattern):
                     makers = (folder.strict | folder.quiet) if builder.before.get(name) != "d" else set()
                     makers = makers | folder.gone
                     if at not in makers and (folder.gone - {at} or not any(builder.build.is_before(m, at) for m in makers)):
                         seen(builder, name, at, makers)
+
+
+def matches(name: str, pattern: str) -> bool:
+    """Whether a pattern can match the name of a folder. `*/` is what Python asks for where it imports."""
+    return name != "__pycache__" if pattern == "*/" else fnmatch.fnmatchcase(name, pattern)
 
 
 def add_times(builder: "Builder") -> None:

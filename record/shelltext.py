@@ -1,7 +1,6 @@
 """What the words of a process say: folders made for oneself, patterns of names, ages that are compared."""
 
 import filecmp
-import fnmatch
 import os
 import re
 from functools import lru_cache
@@ -397,8 +396,3 @@ class Traits:
         self.is_shell = base_name(argv) in SHELLS
         self.shows_progress = shows_progress(argv)
         self.ages: Optional[bool] = None  # whether it compares ages, as far as that was asked
-
-
-def matches(name: str, pattern: str) -> bool:
-    """Whether a pattern can match the name of a folder. `*/` is what Python asks for where it imports."""
-    return name != "__pycache__" if pattern == "*/" else fnmatch.fnmatchcase(name, pattern)
