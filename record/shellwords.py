@@ -17,7 +17,8 @@ HIDES = {"eval", ".", "source", "set", "shift", "read", "getopts", "unset", "exp
 RUN = {"!", "command", "builtin", "exec", "time"}
 CLOSES = {"fi", "done", "}"}
 OWN = {"PWD", "OLDPWD", "_", "RANDOM", "SECONDS", "LINENO", "PPID", "REPLY", "OPTARG", "OPTIND", "IFS"}  # a shell sets these itself
-BASH = re.compile(r"[A-Za-z_]\w*(?:\+=|\[)|[^/]*\{[^/]*,")  # bash sets a macro by more than `=`, and braces may give the name of a command
+# Bash sets a macro by more than `=`; braces, and a pattern that fits a file, may give the name of a command.
+BASH = re.compile(r"[A-Za-z_]\w*(?:\+=|\[)|[^/]*\{[^/]*,|[^/]*(?:[*?]|\[.)")
 ENDS = (";", "\n", "&&", "||", ")", "(")  # what stands behind an assignment that lasts
 KEEPS = re.compile(r"[-+][ehuvx]+")
 

@@ -34,7 +34,7 @@ UNKNOWN = (
     "for f in $y; do ls $f*; done", "echo 'a", "ls *.c $x", "printf -v x '*'; ls $x",
     # what sets macros under another spelling
     "d=a; \\eval 'd=b'; ls $d*", "d=a; e=eval; $e 'd=b'; ls $d*", "d=a; \"read\" d; ls $d*", "d=a; \"$e\" d=b; ls $d*", "d=a; command -p eval d=b; ls $d*",
-    "d=a; 2>f read d; ls $d*", "d=a >f cmd; ls $d*", "d=a; d+=b; ls $d*", "d[0]=a; ls $d*", "d=(a); ls $d*", "d=a; {eval,d=b}; ls $d*", "d=1; ((d++)); ls $d*", "PWD=a; ls $PWD*",
+    "d=a; 2>f read d; ls $d*", "d=a >f cmd; ls $d*", "d=a; d+=b; ls $d*", "d[0]=a; ls $d*", "d=(a); ls $d*", "d=a; {eval,d=b}; ls $d*", "d=a; e* d=b; ls $d*", "d=a; [e]val d=b; ls $d*", "d=1; ((d++)); ls $d*", "PWD=a; ls $PWD*",
     # what prints names, and is no program of its own
     "cat `exec cat x` *.h", "cat `builtin echo x` *.h", "cat `dirs` *.h",
 )
