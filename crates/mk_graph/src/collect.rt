@@ -106,7 +106,7 @@ fn collect_by(
         ((names : List Name) × AreNodes same_name (needs book.now listing.now) goals.now names ×
         (limit < length names))) }
 {
-    let mut names = Numbering::new(alloc);
+    let mut names = Numbering::of_set(book.empty_set(alloc));
     let starts = names.put_all(alloc, goals)?;
     let mut entries = none_read(alloc, book.rule_count())?;
     let mut sources = Vec::new(alloc);

@@ -1,5 +1,5 @@
 //! The book of rules: what the makefiles say of each name.
-ghost use Rattle.std.specs.Prelude.{◌≡◌, ◌<◌, true, length, map, slice_get, take, find, position, Some, IfOk, IfErr};
+ghost use Rattle.std.specs.Prelude.{◌≡◌, ◌<◌, [], true, length, map, slice_get, take, find, position, Some, IfOk, IfErr};
 ghost use Rattle.std.specs.List.{All};
 ghost use Rattle.std.specs.Option.{option_copied, option_map};
 ghost use Rattle.mk_name.specs.Names.{same_name};
@@ -8,13 +8,14 @@ ghost use Rattle.mk_name.specs.declared.fault.Halt.TheVariants.{Memory};
 ghost use Rattle.mk_rules.specs.Book.{book_of, default_goal, has_inference, has_recipe, is_phony, is_target, may_be_goal, places_of, prerequisites_of, recipe_place, second_recipe, second_target, targets_of};
 
 use crate::entries::{has_default, inference, phony, suffixes, target_rules, wait_uses};
-use crate::hasher::{NameHasher, NameSet};
+use crate::hasher::hasher_of;
 use crate::index::note_entry;
 use crate::names::{into_names, join};
 use crate::rule::Rule;
 use indexmap::IndexSet;
 use mk_name::fault::{Halt, Source};
 use mk_name::name::Name;
+use mk_table::hasher::{NameHasher, NameSet};
 use std::alloc::{AllocError, Global};
 use std::marker::Model;
 
@@ -92,7 +93,7 @@ impl Rulebook {
     pub fn new(alloc: Global, entries: Vec<Rule>) -> Result<Rulebook, AllocError>
         ensures { IfOk result (λ book. book ≡ book_of entries.items) }
     {
-        let hasher = NameHasher::of_entries(&entries);
+        let hasher = hasher_of(&entries);
         let specials = Specials::of_entries(alloc, hasher, &entries)?;
         let rules = target_rules(alloc, &specials.suffixes, entries)?;
         Rulebook::of_rules(alloc, hasher, rules, specials)
@@ -126,6 +127,14 @@ impl Rulebook {
             places,
             specials,
         })
+    }
+
+    /// An empty set for names of this book. Its hasher is that of the book's own tables, whose key is the digest of all names
+    /// of the entries.
+    pub fn empty_set(&self, alloc: Global) -> NameSet
+        ensures { result.keys ≡ [] }
+    {
+        IndexSet::with_hasher(alloc, *self.targets.hasher())
     }
 
     /// The places of the target rules that name it as a target, rising; none for a name that is no
@@ -217,7 +226,7 @@ impl Rulebook {
         ensures joined { IfOk result (λ names. names.items ≡ prerequisites_of self.now.rules name.now) }
         ensures only_memory { IfErr result (λ halt. halt ≡ Memory) }
     {
-        let mut joined = IndexSet::with_hasher(alloc, *self.targets.hasher());
+        let mut joined = self.empty_set(alloc);
         for place in self.rules_of(name) {
             join(alloc, &mut joined, self.rule_prerequisites(*place))?;
         }

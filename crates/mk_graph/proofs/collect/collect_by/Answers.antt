@@ -8,7 +8,7 @@ use Rattle.mk_graph.proofs.collect.collect_by.Goals as goal
 
 pub all-init : goal.all-init
 all-init c =
-    (collected_none c.args.book.now c.args.listing.now c.args.goals.now c.new-names.result c.put_all.new.self c.in_ok-entries.entries.items c.new-sources.result.items c.in_ok-starts.starts.items c.new-names.ensures c.in_ok-starts.ensures.kept c.in_ok-starts.ensures.stand (c.in_ok-entries.ensures ∙ ap (λ n. replicate n None) c.rule_count.ensures) c.new-sources.ensures.items, omega arith)
+    (collected_none c.args.book.now c.args.listing.now c.args.goals.now c.of_set-names.result c.put_all.new.self c.in_ok-entries.entries.items c.new-sources.result.items c.in_ok-starts.starts.items (c.of_set-names.ensures ∙ c.empty_set.ensures) c.in_ok-starts.ensures.kept c.in_ok-starts.ensures.stand (c.in_ok-entries.ensures ∙ ap (λ n. replicate n None) c.rule_count.ensures) c.new-sources.ensures.items, omega arith)
 
 pub all-preserved : goal.all-preserved
 all-preserved c =
