@@ -5,7 +5,7 @@ ghost use Rattle.std.specs.Option.{option_copied, option_map};
 ghost use Rattle.mk_name.specs.Names.{same_name};
 ghost use Rattle.mk_rules.specs.Special.{is_suffix};
 ghost use Rattle.mk_name.specs.declared.fault.Halt.TheVariants.{Memory};
-ghost use Rattle.mk_rules.specs.Book.{book_of, default_goal, has_inference, has_recipe, is_phony, is_target, may_be_goal, places_of, prerequisites_of, recipe_place, second_recipe, second_target, targets_of};
+ghost use Rattle.mk_rules.specs.Book.{book_of, commands_at, default_goal, has_inference, has_recipe, is_phony, is_target, may_be_goal, places_of, prerequisites_of, recipe_place, second_recipe, second_target, targets_of};
 
 use crate::entries::{has_default, inference, phony, suffixes, target_rules, wait_uses};
 use crate::hasher::hasher_of;
@@ -177,11 +177,12 @@ impl Rulebook {
         self.targets.get_index(number)
     }
 
-    /// The place of the first target rule that gives the target commands.
-    pub fn recipe_place(&self, name: &Name) -> Option<usize>
-        ensures { result ≡ recipe_place self.now.rules name.now }
+    /// The first of some places at which the target rule has commands.
+    pub fn recipe_among(&self, places: &[usize]) -> Option<usize>
+        requires { All (λ place. place < length self.now.rules) places.now }
+        ensures { result ≡ find (commands_at self.now.rules) places.now }
     {
-        for place in self.rules_of(name) {
+        for place in places {
             if self.rules[*place].has_commands() {
                 return Some(*place);
             }
@@ -189,11 +190,11 @@ impl Rulebook {
         None
     }
 
-    /// Whether a target rule of the name has commands.
-    pub fn has_recipe(&self, name: &Name) -> bool
-        ensures { result ≡ has_recipe self.now.rules name.now }
+    /// The place of the first target rule that gives the target commands.
+    pub fn recipe_place(&self, name: &Name) -> Option<usize>
+        ensures { result ≡ recipe_place self.now.rules name.now }
     {
-        self.recipe_place(name).is_some()
+        self.recipe_among(self.rules_of(name))
     }
 
     /// The prerequisites of the rule at a place, as its line gives them, without `.WAIT`.
