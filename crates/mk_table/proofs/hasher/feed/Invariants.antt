@@ -1,7 +1,7 @@
 use Rattle.std.proofs.Common.{ℕ, List, ◌++◌, take}
 use Rattle.sha2.specs.Hashers.{Holds256}
-use Rattle.mk_rules.specs.Hashing.{key_text}
-use Rattle.mk_rules.proofs.hasher.feed.Given as goal
+use Rattle.mk_table.specs.Hashing.{key_text}
+use Rattle.mk_table.proofs.hasher.feed.Given as goal
 
 -- the names so far are fed
 abbrev pub invariant-loop-name : goal.invariant-loop-name
