@@ -98,7 +98,7 @@ PROJECT_GUARDS: List[Guard] = [
     Guard("markers: looks of functions", "exists.py", 'not is_read and not any(asks(contents(one)) for kind, one in life.events if kind == "R")', "not is_read", project("marker_that_make_itself_looks_for"), YES),
     Guard("folders: programs that take no bits away", "folders.py", "return life.mask if life.mask or is_own or", "return life.mask if True or", project("mode_of_a_folder_that_is_installed"), FALSE_RACE),
     Guard("folders: shells that take no bits away", "folders.py", "return life.mask if life.mask or is_own or", "return life.mask if life.mask or", project("mode_of_a_folder_that_is_found_by_no_bits"), YES),
-    Guard("folders: modes of those that find them", "folders.py", "if own and masks(builder, other, path)", "if False and masks(builder, other, path)", project("mode_of_a_folder_that_is_found"), YES),
+    Guard("folders: modes of those that find them", "folders.py", "if bits and own[at] not in (NO_BITS, bits)", "if False", project("mode_of_a_folder_that_is_found"), YES),
     Guard("markers: ages", "exists.py", "    return not any(target not in base.phony and", "    return not any(False and", project("marker_that_is_older_than_a_file"), YES),
     Guard("markers: who waits for the rule", "exists.py", "all(waits(one, job.target, name) for", "all(True for", project("marker_that_a_recipe_does_not_wait_for"), YES),
     Guard("markers: who reads them", "exists.py", '    is_touch = name == "perl"', '    is_touch = True or name == "perl"', project("marker_that_is_read"), YES),

@@ -126,7 +126,7 @@ FOLDERS: List[Guard] = [
     Guard("folders: who looked before it made", "folders.py", "if look is not None and look < folder.first_made[at]", "if False", small("folder_looked_at_first"), YES),
     Guard("folders: removed", "folders.py", "    for at in folder.gone:\n", "    for at in ():\n", small("folder_removed"), YES),
     Guard("folders: not removed, as it holds something", "folders.py", "    for at in folder.gone | folder.tried:\n", "    for at in folder.gone:\n", small("folder_that_cannot_be_removed"), YES),
-    Guard("folders: listed when made", "folders.py", "    add_listed(builder)\n    add_times", "    add_times", case("glob-made-folder"), YES),
+    Guard("folders: listed when made", "folders.py", "    add_listed(builder, makers)\n    add_times", "    add_times", case("glob-made-folder"), YES),
     Guard("folders: times", "folders.py", "    add_times(builder)\n    add_modes", "    add_modes", case("folder-time"), LOST_RACE),
     Guard("folders: modes", "folders.py", "    add_modes(builder)\n\n\ndef add_folder(", "\n\ndef add_folder(", case("folder-mode"), YES),
     Guard("folders: how many are in it", "folders.py", 'if kind == "h" and path in counted:', "if False:", small("folder_links_counted"), YES),
