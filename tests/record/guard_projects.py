@@ -93,7 +93,7 @@ PROJECT_GUARDS: List[Guard] = [
     Guard("wildcard: folders of targets that a loop names", "memory.py", ' or BOUND.search("\\n".join(texts)):', ":", hidden("pattern_of_a_loop_over_targets"), YES),
     Guard("wrapper: makes with nowhere to print", "wrapper.py", "if query or is_closed(1):", "if query:", project("make_with_its_output_closed"), UNSAID),
     Guard("markers: of Perl", "exists.py", "        life.acts = [act for act in life.acts if act.path not in found]\n", "", project("marker_of_two_makes"), FALSE_RACE, ("exists.py", "return not is_read and", "return False and")),
-    Guard("markers: makes that would make the folder", "main.py", "    credit_makes(owners, markers)\n", "", project("marker_of_two_makes"), FALSE_RACE),
+    Guard("markers: makes that would make the folder", "importing.py", "    credit_makes(owners, markers)\n", "", project("marker_of_two_makes"), FALSE_RACE),
     Guard("markers: modes of folders that a make above has made", "folders.py", "known.get(path, set()).union(made[path].modes if path in made else ())", "set(made[path].modes if path in made else ())", project("mode_that_a_make_above_has_set"), FALSE_RACE),
     Guard("markers: looks of functions", "exists.py", 'not is_read and not any(asks(contents(one)) for kind, one in life.events if kind == "R")', "not is_read", project("marker_that_make_itself_looks_for"), YES),
     Guard("folders: programs that take no bits away", "folders.py", "return life.mask if life.mask or is_own or", "return life.mask if True or", project("mode_of_a_folder_that_is_installed"), FALSE_RACE),
