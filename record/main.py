@@ -1,6 +1,7 @@
 """`race-record -- make [GOALS]` or `-- ninja`: one recorded build, and the verdict of `race` on it."""
 
 import argparse
+import marshal
 import os
 import re
 import shutil
@@ -12,6 +13,7 @@ import threading
 import time
 from concurrent.futures import ThreadPoolExecutor
 from importlib import import_module
+from importlib.util import find_spec
 from pathlib import Path
 from typing import Dict, List, Optional, Tuple
 
@@ -25,7 +27,6 @@ from record.report import Judged, colours, read_json, report
 from record.skips import sift
 from record.wrapper import note_output
 
-HERE = Path(__file__).resolve().parent
 CALLS = ("%file,fchdir,getdents64,getdents,clone,clone3,fork,vfork,fchmod,fchown,ftruncate,fsetxattr,fremovexattr,connect,bind,flock,"
          "shmget,semget,msgget,mq_open,?add_key,?request_key,umask,setns,open_by_handle_at,io_uring_setup,?fchown32,?ftruncate64")
 STRACE = ["strace", "-f", "-q", "-y", "--seccomp-bpf", "-s", "131072", "-e", "signal=hup,int,quit,abrt,kill,segv,pipe,term,xfsz", "-e", "trace=" + CALLS]
@@ -35,6 +36,16 @@ EXAMPLE = """examples:
   race-record --missing -- make        also: which files recipes read and make does not know of
 statuses: 0 safe, with --missing also nothing missing, 1 races or missing inputs,
           2 no verdict on one of the two, 3 usage or a tool that is missing"""
+WRAPPER = ("record.options", "record.wrapper")
+PROGRAM = """#!%s -ISB
+import marshal, sys
+with open(%r, "rb") as file:
+    for name, code in marshal.load(file):
+        sys.modules[name] = module = type(sys)(name)
+        exec(code, module.__dict__)
+module.main()
+"""
+ASKED = min(4, os.cpu_count() or 1)  # how many builds `race` is asked about at once
 WARM = "WARM: what was up to date did not run; record a clean tree (--fresh, make clean), or say --warm if builds start from this one"
 
 
@@ -63,14 +74,15 @@ def versions() -> Dict[str, str]:
 
 
 def prepare_spool(spool: Path, real: str) -> None:
-    """The wrapper under the names of make."""
+    """The wrapper under the names of make. It is compiled once: a build may start many."""
     (spool / "bin").mkdir(parents=True)
     (spool / "real").write_text(real)
     (spool / "outputs").mkdir()
     for stream in (1, 2):
         note_output(str(spool), stream, "")
-    wrapper = re.sub(r"(?m)^from record\.options import .*\n", "", (HERE / "wrapper.py").read_text())
-    text = "#!%s -ISB\n" % sys.executable + (HERE / "options.py").read_text() + wrapper
+    codes = [(name, find_spec(name).loader.get_code(name)) for name in WRAPPER]  # type: ignore[union-attr]
+    (spool / "wrapper").write_bytes(marshal.dumps(codes))
+    text = PROGRAM % (sys.executable, str(spool / "wrapper"))
     for name in ("make", "gmake"):
         if shutil.which(name):
             path = spool / "bin" / name
@@ -129,13 +141,17 @@ def stop(text: str) -> int:
     return 3
 
 
+def judge_build(folder: Path, race: str) -> Judged:
+    """Asks `race` about one build of a record."""
+    about = read_json(folder / "build.json")
+    return Judged(folder.name, about, judge(race, folder / "tasks", about["folder"]))
+
+
 def judge_record(out: Path, race: str) -> Tuple[int, List[Judged]]:
-    """Asks `race` about each build of a record; the worst status."""
+    """Asks `race` about each build of a record, several at once; the worst status."""
     record = read_json(out / "record.json")
-    judged = []
-    for number in record["builds"]:
-        about = read_json(out / "builds" / number / "build.json")
-        judged.append(Judged(number, about, judge(race, out / "builds" / number / "tasks", about["folder"])))
+    with ThreadPoolExecutor(ASKED) as pool:
+        judged = list(pool.map(lambda number: judge_build(out / "builds" / number, race), record["builds"]))
     if record["holes"] or any(j.verdict.status not in (0, 1) for j in judged):
         return 2, judged
     return (1 if any(j.verdict.races for j in judged) else 0), judged
@@ -161,7 +177,7 @@ def attempt(options: argparse.Namespace, words: List[str], tools: Dict[str, str]
         from record.importing import complete  # it was loaded while the build ran
         found = complete(record, spool, names, kept, real, out, options)
         if options.keep_trace:
-            shutil.copytree(spool, out / "trace", ignore=shutil.ignore_patterns("bin", "real", "outputs", "again", "*.start", "stop.mk", "sifted*"))
+            shutil.copytree(spool, out / "trace", ignore=shutil.ignore_patterns("bin", "wrapper", "real", "outputs", "again", "*.start", "stop.mk", "sifted*"))
         if status != 1 or not any(stage.jobs for ninja in found.ninjas for stage in ninja.stages):
             return record, False
         record.hints = hints(found.ninjas, names)

@@ -74,7 +74,7 @@ PROJECT_GUARDS: List[Guard] = [
     Guard("modules: names with quotes", "modules.py", "(?P<name>[A-Za-z_][\\w']*)|", "(?P<name>\\x00)|", compilers("Compilers.test_comments_of_ocaml")),
     Guard("classes: folders that are absent", "modules.py", '            if kind in "SN":\n', "            if False:\n", compilers("Compilers.test_classes")),
     Guard("classes: comments that count", "modules.py", 'any("doc" in word for word in life.ran[-1])', "False", compilers("Compilers.test_classes_that_comments_name")),
-    Guard("machines: who looks at them", "jvm.py", "    if any(KEPT.match(path) for life in lives if id(life) not in known", "    if any(False for life in lives if id(life) not in known", compilers("Machines.test_that_others_look_at")),
+    Guard("machines: who looks at them", "jvm.py", "    if any(path.startswith(PLACE) and KEPT.match(path) for life in lives if id(life) not in known", "    if any(False for life in lives if id(life) not in known", compilers("Machines.test_that_others_look_at")),
     Guard("machines: who shows them", "jvm.py", "    if any(os.path.basename(argv[0]) in READERS", "    if any(False", compilers("Machines.test_that_others_look_at")),
     Guard("tools: of the system alone", "shelltext.py", 'TOOLS.match("".join(argv[1:2])) is not None', "True", compilers("Tools.test_scripts")),
     Guard("tools: compare no ages", "calls.py", "        if traits.is_tool and not life.is_query:\n", "        if False:\n", compilers("Tools.test_looks")),
