@@ -280,11 +280,12 @@ def serve(splitter, child, reading):
     os.set_blocking(reading, False)
     ended = False
     while True:
+        if not ended:
+            ended = watch in [fd for fd, _ in poller.poll()]
         try:
             packet = os.read(reading, 65536)
         except BlockingIOError:
             if not ended:
-                ended = watch in [fd for fd, _ in poller.poll()]
                 continue
             splitter.end()
             os.set_blocking(reading, True)
