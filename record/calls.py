@@ -6,6 +6,7 @@ from typing import Callable, Dict, List, Tuple
 
 from record import listed, shelltext
 from record.arguments import TEXT_END, opening, spelled
+from record.copies import is_other_make
 from record.lives import Life
 from record.loader import interpreter_words
 from record.moves import Moves
@@ -157,7 +158,7 @@ class Calls(Moves):
             self.begin_make(life, was_wrapper, was_make, forked)
         else:
             life.is_make = life.is_make and life.number >= 0 and was_make
-            if shelltext.is_other_make(found.path, self.real):
+            if is_other_make(found.path, self.real):
                 self.past.append(" ".join(life.argv)[:200])
         self.look(life, words[0], True, True, "R")
         self.look_at_interpreters(life, words[0])
@@ -267,6 +268,8 @@ class Calls(Moves):
         self.put_links(life, found)
         self.put_look(life, found, True, "S" if is_folder else "R")
         traits = life.traits()
+        if traits.looks_at_links:
+            self.put(life, "h", found.path)
         if is_folder or life.is_query:
             return
         if life.is_make:
@@ -325,6 +328,11 @@ class Calls(Moves):
     def on_umask(self, life: Life, call: Call, ok: bool) -> None:
         life.set_mask(int(call.args, 8))
 
+    def on_unshare(self, life: Life, call: Call, ok: bool) -> None:
+        """A thread that asks for a folder of its own, or for what includes that."""
+        if ok and re.search(r"CLONE_(?:FS|NEWNS|NEWUSER)\b", call.args):
+            life.leave_threads()
+
     def on_mknod(self, life: Life, call: Call, ok: bool) -> None:
         base, path = self.base_and_path(life, call)
         if ok:
@@ -348,6 +356,7 @@ class Calls(Moves):
         if found.folder is not None:
             self.names.take(found.folder, found.name)
         self.put(life, "X" if folder else "D", found.path)
+        self.hard_links += others[:1]
         for other in others:
             self.put(life, "H", other)
 

@@ -44,8 +44,18 @@ class Folder:
 
 def excused(builder: "Builder", at: int, folder: str) -> bool:
     """Whether a recipe makes a folder in a quiet form, which does not show who was first."""
-    works = builder.build.tasks[at].works
-    return is_ignored(builder, at, folder) or any(shelltext.is_excused(argv, folder) and not keeps_errors(life, argv) for work in works for life in work.lives for argv in life.ran)
+    lives = [life for work in builder.build.tasks[at].works for life in work.lives]
+    if is_ignored(builder, at, folder):
+        return True
+    return any(shelltext.is_excused(argv, folder) and not keeps_errors(life, argv) for life in lives for argv in life.ran) and all(is_of_form(life, folder) for life in lives)
+
+
+def is_of_form(life: Life, folder: str) -> bool:
+    """Whether a process does not make a folder, or a shell starts it whose text makes that in a quiet form."""
+    if not life.events.keys() & {("M", folder), ("E", folder)}:
+        return True
+    starter = next((up for up in life.up() if up is not life and up.ran), life)
+    return any(shelltext.is_excused(argv, folder) for argv in starter.ran)
 
 
 def is_ignored(builder: "Builder", at: int, folder: str) -> bool:

@@ -1,0 +1,115 @@
+"""Small makefiles that rest on what make does by itself between the lines of a recipe, on the language that it speaks, on names and files that
+are known in another way than most, and on targets outside of the project."""
+
+import os
+import unittest
+from typing import Dict
+
+import support
+from test_output import Output
+from test_small import Small, test_of
+
+TOOLS = {"t": "echo new > $1\n", "bin2/tool": "#!/bin/sh\necho old > $1\n", "bin/k": ""}
+SETUP = "sed -i '1i#!/bin/sh' t; chmod +x t bin2/tool"
+LATER = "all: u gen\ngen: ; cp t bin/tool; touch gen\n"
+LINKED = "all: a u\na: ; ln x y; touch a\nu: ; %s > u; touch u\n"
+OWN_FOLDER = """#define _GNU_SOURCE
+#include <sched.h>
+#include <pthread.h>
+#include <stdio.h>
+#include <unistd.h>
+void *other(void *none) { unshare(CLONE_FS); return chdir("d") ? none : 0; }
+int main(void) { pthread_t one; pthread_create(&one, 0, other, 0); pthread_join(one, 0); return %s("x", "y"); }
+"""
+LISTS = "printf 'all: ; echo $$(wildcard d/%s.c) >> u\\n' > t.mk; $(MAKE) -f t.mk"
+
+HUNTED: Dict[str, Small] = {
+    # programs that make itself looks for before a line of a recipe
+    "program_of_a_later_line": Small("race", "export PATH := $(CURDIR)/bin:$(CURDIR)/bin2:$(PATH)\n" + LATER + "u:\n\ttrue\n\ttool u\n", TOOLS, SETUP),
+    "program_of_a_later_line_that_comes_first": Small("safe", "export PATH := $(CURDIR)/bin:$(CURDIR)/bin2:$(PATH)\n" + LATER + "u: gen\n\ttrue\n\ttool u\n", TOOLS, SETUP),
+    "program_that_is_not_there": Small("race", "export PATH := $(CURDIR)/bin:$(PATH)\n" + LATER + "u:\n\ttrue\n\t-tool u\n", TOOLS, SETUP),
+    "program_that_is_a_target": Small("race", "export PATH := bin:bin2:$(PATH)\nall: u bin/tool\nbin/tool: ; cp t bin/tool\nu: p ; tool u\np: ; touch p\n", TOOLS, SETUP),
+    "program_that_is_a_target_by_a_macro": Small("race", "X = bin\nu: export PATH := $(X):bin2:$(PATH)\nall: u bin/tool\nbin/tool: ; cp t bin/tool\nu: p ; tool u\np: ; touch p\n", TOOLS, SETUP),
+    "target_that_is_no_program": Small("safe", "export PATH := bin:$(PATH)\nall: g u bin/k\ng: ; touch g\nbin/k: ; touch bin/k\nu: g ; cp g u\n", TOOLS, "rm bin/k"),
+    "program_that_the_next_recipe_does_not_need": Small("safe", "export PATH := $(CURDIR)/bin:$(PATH)\n" + LATER + "all: w\nw: ; touch w\nu: gen\n\ttrue\n\ttool u\n", TOOLS, SETUP),
+    # makefiles that need not be there
+    "target_that_is_given_up_for_a_makefile": Small("no verdict", "-include x.d\nall: ; touch all\nx.d: p q ; touch x.d\np: r none ; touch p\nr q: ; touch $@\n", says="did not run: p"),
+    "target_without_a_rule_for_a_makefile": Small("safe", "-include x.d\nall: ; touch all\nx.d: q none s ; touch x.d\nq s: ; touch $@\n"),
+    # makefiles that are written again
+    "makefile_that_is_written_again": Small("race", "all: u gen\ngen: ; touch d/n.c gen\nu: ; " + LISTS % "*" + "; " + LISTS % "k" + "\n", {"d/k.c": ""}),
+    "makefile_that_is_written_once": Small("safe", "all: u gen\ngen: ; touch d/n.c gen\nu: ; " + LISTS % "k" + "\n", {"d/k.c": ""}),
+    # who makes a folder first
+    "folder_that_a_text_makes_twice": Small("race", "all: a b\na b: ; mkdir d 2> /dev/null && echo first > $@ || echo second > $@; mkdir d 2> /dev/null || true\n"),
+    "folder_that_a_script_makes_too": Small("race", "all: a b\na b: ; sh mk.sh $@; mkdir d 2> /dev/null || true\n", {"mk.sh": "mkdir d 2> /dev/null && echo first > $1 || echo second > $1\n"}),
+    "folder_that_is_told": Small("race", "all: a b\na b: ; mkdir -p --verb d > $@\n"),
+    "folder_that_an_install_tells": Small("race", "all: a b\na b: ; install -d --verb d > $@\n"),
+    # how many names a file has
+    "names_that_gzip_counts": Small("race", LINKED % "gzip -k x || echo refused", {"x": "x"}),
+    "names_that_ls_shows_by_a_long_word": Small("race", LINKED % "ls --format=long x", {"x": "x"}),
+    "names_that_a_script_counts": Small("safe", LINKED % "python3 n.py", {"x": "x", "n.py": "import os\nprint(os.lstat('x').st_nlink)\n"}, says="do not count the names of a file"),
+    "names_that_a_script_counts_less": Small("safe", "all: a u\na: ; rm y; touch a\nu: ; python3 n.py > u\n", {"x": "x", "n.py": "import os\nprint(os.lstat('x').st_nlink)\n"}, "ln x y", says="do not count the names of a file"),
+    # threads with a folder of their own
+    "thread_in_a_folder_of_its_own": Small("race", "all: u a\na: ; ./o; touch a\nu: ; cat y > u || true\n", {"x": "x", "d/x": "x", "o.c": OWN_FOLDER % "rename"}, "cc -pthread -o o o.c"),
+}
+
+
+class Makefiles(unittest.TestCase):
+    """A test for each makefile."""
+
+
+for key, one in HUNTED.items():
+    setattr(Makefiles, "test_" + key, test_of(key, one))
+
+
+class Beyond(unittest.TestCase):
+    """Targets outside of the project that were there before."""
+
+    def status(self, makefile: str, setup: str, *words: str) -> int:
+        """The status of a recording."""
+        with support.Project({"Makefile": makefile}) as project:
+            project.sh(setup)
+            return project.record(words or ("make",)).status
+
+    def test_target_that_is_there(self) -> None:
+        makefile = "all: ../x fin\n../x: ; touch ../x\nfin: ; touch fin\n"
+        self.assertEqual([2, 0], [self.status(makefile, setup) for setup in ("touch ../x", "true")])
+
+    def test_make_that_has_nothing_to_do(self) -> None:
+        words = ("sh", "-c", "cd ../other && make")
+        setup = "mkdir ../other; printf 'x: ; touch x\\n' > ../other/Makefile"
+        self.assertEqual([2, 0], [self.status("", setup + more, *words) for more in ("; touch ../other/x", "")])
+
+    def test_statement_of_ninja(self) -> None:
+        manifest = "rule t\n  command = touch $out\nbuild ../x: t\nbuild fin: t\n"
+        setup = "printf '%s' > build.ninja; " % manifest.replace("\n", "\\n")
+        self.assertEqual([2, 0], [self.status("", setup + more, "ninja") for more in ("ninja ../x", "true")])
+
+
+class Language(unittest.TestCase):
+    """Make that would speak another language than English."""
+
+    def test_german(self) -> None:
+        with support.Project({"Makefile": "all: a b\na: ; @echo a > a\nb: ; @cat a > b\n"}) as project:
+            env = dict(os.environ, RACE=support.race_program(), LC_ALL="de_DE.UTF-8", LANGUAGE="de", LOCPATH=str(project.folder / "loc"))
+            project.sh("mkdir loc; localedef -i de_DE -f UTF-8 loc/de_DE.UTF-8 2> /dev/null || true")
+            outcome = project.run(["--", "make"], env)
+        self.assertEqual(1, outcome.status, outcome.text()[-1500:])
+        self.assertIn("language", [one["kind"] for one in (outcome.record or {})["assumptions"]])
+        self.assertTrue(outcome.stdout.startswith(b"RACE"), outcome.text()[:300])
+
+
+class Said(Output):
+    """What a build prints where a line of a recipe names a program that is not there."""
+
+    def test_first_line(self) -> None:
+        self.assertEqual(0, self.both("all: u v\nu v:\n\t-@no-such-tool\n\t@echo $@ > $@; echo said $@\n"))
+
+    def test_last_line(self) -> None:
+        self.assertEqual(0, self.both("all: u v\nu v:\n\t@echo $@ > $@; echo said $@\n\t-@no-such-tool\n"))
+
+    def test_all_lines(self) -> None:
+        self.assertEqual(0, self.both("all: u v\nu:\n\t-no-such-tool\n\t-no-such-tool\nv: ; @echo $@ > $@; echo said $@\n"))
+
+
+if __name__ == "__main__":
+    unittest.main()
