@@ -69,6 +69,8 @@ class Calls(Moves):
         found = self.found(life, unescape(path.group(1)), True) if path is not None else None
         if found is not None and call.name == "bind" and ok:
             self.write(life, found, True)
+        elif found is not None and call.name == "bind":
+            self.put_absent(life, found, "N" if call.error in ("ENOENT", "ENOTDIR") else "R")
         elif found is not None:
             self.put_look(life, found, call.error not in ("ENOENT", "ENOTDIR"), "R")
 
@@ -225,7 +227,10 @@ class Calls(Moves):
                 return  # a pipe, a terminal or the like
             base, path = "", call.opened
         changes = changes or call.name == "creat"
-        if "O_TMPFILE" in flags or not path:
+        if not path:
+            return
+        if "O_TMPFILE" in flags:  # a file without a name, in a folder that must be there
+            self.look(life, path, ok, follow, base=base)
             return
         if not ok:
             found = self.look(life, path, call.error in ("EEXIST", "EISDIR", "ENXIO", "EACCES", "ENOTEMPTY"), follow, base=base)
@@ -335,10 +340,11 @@ class Calls(Moves):
 
     def on_mknod(self, life: Life, call: Call, ok: bool) -> None:
         base, path = self.base_and_path(life, call)
+        found = self.found(life, path, False, base)
         if ok:
-            self.write(life, self.found(life, path, False, base), True)
+            self.write(life, found, True)
         else:
-            self.look(life, path, call.error == "EEXIST", False, base=base)
+            self.put_absent(life, found, "S" if call.error == "EEXIST" else "N")
 
     on_mknodat = on_mknod
 

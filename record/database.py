@@ -57,7 +57,7 @@ class _Files:
             self.recipe(text)
         elif text == "":
             self.name, self.is_recipe = "", False
-        elif text.startswith("#"):
+        elif text.startswith("#") and text[1:2] in ("", " "):
             self.remark(text)
         elif not self.name and not text.startswith("\t"):
             self.target(text)

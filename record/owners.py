@@ -9,6 +9,7 @@ from functools import cached_property
 from pathlib import Path
 from typing import TYPE_CHECKING, Dict, Iterable, List, Optional, Set, Tuple
 
+from record.database import Base
 from record.globs import listed, patterns
 from record.lives import Act, Key, Life
 from record.options import asks_jobs
@@ -297,9 +298,10 @@ class Owners:
         for place, events, ran in pieces:
             at = bisect.bisect_right(births, place)
             before = make.words.rounds[table[at - 1][1]].jobs[table[at - 1][2] - 1] if at else None
-            if before is not None and (place < self.lasts[id(before)] or not before.is_ended):  # make starts a line of a recipe
-                take_piece(make.work[id(before)], ran, events)
-            if before is None or place > self.lasts[id(before)]:
+            last = self.lasts.get(id(before), 0)
+            if before is not None and (place < last or not before.is_ended):  # make starts a line of a recipe
+                take_piece(make.work.setdefault(id(before), Work()), ran, events)
+            if place > last:
                 owners = self.owners_at(make, rounds, table, at)
                 for number, target in {o for o in owners if looks.get(o[1], -1) < place} or owners:
                     take_piece(make.acts.setdefault((number, target), Work()), ran, events)
@@ -341,6 +343,6 @@ class Owners:
                 continue
             if before is None and at < len(table) and number != table[at][1] and one.jobs:
                 continue
-            recipes = one.base.recipes if one.base else {}
-            owners.update((number, t) for t in one.due.get(done, ()) if t in recipes)
+            base = one.base or Base()
+            owners.update((number, t) for t in one.due.get(done, ()) if t in base.recipes or t not in base.prerequisites)  # a name like `x:` may not be read
         return owners

@@ -6,9 +6,14 @@ import unittest
 from typing import Dict
 
 import support
+from record.options import speak_english
+from record.shelltext import takes_in
+from record.system import OF_SYSTEM
+from record.words import read_words
 from test_output import Output
 from test_small import Small, test_of
 
+ABSENT = "all: u a\nu: ; %s 2> /dev/null || echo no > u; touch u\na: ; mkdir d; touch a\n"
 TOOLS = {"t": "echo new > $1\n", "bin2/tool": "#!/bin/sh\necho old > $1\n", "bin/k": ""}
 SETUP = "sed -i '1i#!/bin/sh' t; chmod +x t bin2/tool"
 LATER = "all: u gen\ngen: ; cp t bin/tool; touch gen\n"
@@ -29,8 +34,8 @@ HUNTED: Dict[str, Small] = {
     "program_of_a_later_line_that_comes_first": Small("safe", "export PATH := $(CURDIR)/bin:$(CURDIR)/bin2:$(PATH)\n" + LATER + "u: gen\n\ttrue\n\ttool u\n", TOOLS, SETUP),
     "program_that_is_not_there": Small("race", "export PATH := $(CURDIR)/bin:$(PATH)\n" + LATER + "u:\n\ttrue\n\t-tool u\n", TOOLS, SETUP),
     "program_that_is_a_target": Small("race", "export PATH := bin:bin2:$(PATH)\nall: u bin/tool\nbin/tool: ; cp t bin/tool\nu: p ; tool u\np: ; touch p\n", TOOLS, SETUP),
-    "program_that_is_a_target_by_a_macro": Small("race", "X = bin\nu: export PATH := $(X):bin2:$(PATH)\nall: u bin/tool\nbin/tool: ; cp t bin/tool\nu: p ; tool u\np: ; touch p\n", TOOLS, SETUP),
-    "target_that_is_no_program": Small("safe", "export PATH := bin:$(PATH)\nall: g u bin/k\ng: ; touch g\nbin/k: ; touch bin/k\nu: g ; cp g u\n", TOOLS, "rm bin/k"),
+    "program_that_is_a_target_by_a_macro": Small("race", "X = bin\nu: export PATH = $(X):bin2:/usr/bin:/bin\nall: u bin/tool\nbin/tool: ; cp t bin/tool\nu: p ; tool u\np: ; touch p\n", TOOLS, SETUP),
+    "target_that_is_no_program": Small("safe", "export PATH := bin:$(PATH)\nall: bin/k g\ng: ; touch g\nbin/k: ; touch bin/k\n", TOOLS, "rm bin/k"),
     "program_that_the_next_recipe_does_not_need": Small("safe", "export PATH := $(CURDIR)/bin:$(PATH)\n" + LATER + "all: w\nw: ; touch w\nu: gen\n\ttrue\n\ttool u\n", TOOLS, SETUP),
     # makefiles that need not be there
     "target_that_is_given_up_for_a_makefile": Small("no verdict", "-include x.d\nall: ; touch all\nx.d: p q ; touch x.d\np: r none ; touch p\nr q: ; touch $@\n", says="did not run: p"),
@@ -48,6 +53,18 @@ HUNTED: Dict[str, Small] = {
     "names_that_ls_shows_by_a_long_word": Small("race", LINKED % "ls --format=long x", {"x": "x"}),
     "names_that_a_script_counts": Small("safe", LINKED % "python3 n.py", {"x": "x", "n.py": "import os\nprint(os.lstat('x').st_nlink)\n"}, says="do not count the names of a file"),
     "names_that_a_script_counts_less": Small("safe", "all: a u\na: ; rm y; touch a\nu: ; python3 n.py > u\n", {"x": "x", "n.py": "import os\nprint(os.lstat('x').st_nlink)\n"}, "ln x y", says="do not count the names of a file"),
+    # names that cannot be made, as their folder is not there, or is full
+    "link_in_a_folder_that_is_absent": Small("race", ABSENT % "ln x d/y", {"x": "x"}),
+    "symbolic_link_in_a_folder_that_is_absent": Small("race", ABSENT % "ln -s x d/y"),
+    "pipe_in_a_folder_that_is_absent": Small("race", ABSENT % "mkfifo d/y"),
+    "socket_in_a_folder_that_is_absent": Small("race", ABSENT % "python3 t/s.py", {"t/s.py": "import socket\nsocket.socket(socket.AF_UNIX).bind('d/y')\n"}),
+    "file_without_a_name_in_a_folder_that_is_absent": Small("race", ABSENT % "python3 t/t.py", {"t/t.py": "import os\nos.open('d', os.O_TMPFILE | os.O_WRONLY)\n"}),
+    "folder_that_is_moved_over_a_full_one": Small("race", "all: a u\na: ; touch e/x a\nu: ; mv -T d e 2> /dev/null || echo no > u; touch u\n", setup="mkdir d e"),
+    "folder_that_is_closed": Small("race", "all: a u\na: ; chmod 600 d; touch a\nu: ; cat d/x > u\n", {"d/x": "x"}),
+    "folder_that_is_not_closed": Small("safe", "all: a u\na: ; chmod 700 d; touch a\nu: ; cat d/x > u\n", {"d/x": "x"}),
+    # names that a data base of make shows in an odd way
+    "name_that_begins_like_a_remark": Small("race", "all: u \\#x v\nv: ; touch v\n\\#x: ; $(file >x,w)\nu: p ; cat x > u || true\np: v ; touch p\n"),
+    "name_that_ends_in_a_colon": Small("race", "all: u x\\: v\nv: ; touch v\nx\\:: ; $(file >x,w)\nu: p ; cat x > u || true\np: v ; touch p\n"),
     # threads with a folder of their own
     "thread_in_a_folder_of_its_own": Small("race", "all: u a\na: ; ./o; touch a\nu: ; cat y > u || true\n", {"x": "x", "d/x": "x", "o.c": OWN_FOLDER % "rename"}, "cc -pthread -o o o.c"),
 }
@@ -85,6 +102,18 @@ class Beyond(unittest.TestCase):
         self.assertEqual([2, 0], [self.status("", setup + more, "ninja") for more in ("ninja ../x", "true")])
 
 
+class System(unittest.TestCase):
+    """What comes with the system, and what is of a project below `/usr` or the like."""
+
+    def test_names(self) -> None:
+        system = ["/usr/bin/x", "/usr/local/lib/x", "/lib64/x", "/usr/share/x", "/etc/x", "/dev/null", "/usr/include"]
+        project = ["/usr/src/app/x", "/usr/local/src/x", "/usr/app", "/library/x", "/dev/shm/p/x", "/home/usr/bin/x"]
+        self.assertEqual(system, [name for name in system + project if OF_SYSTEM.match(name)])
+
+    def test_file_that_a_shell_takes_in(self) -> None:
+        self.assertEqual([True, False], [takes_in(["bash", "-c", "true"], name) for name in ("/usr/src/app/env.sh", "/usr/share/env.sh")])
+
+
 class Language(unittest.TestCase):
     """Make that would speak another language than English."""
 
@@ -96,6 +125,25 @@ class Language(unittest.TestCase):
         self.assertEqual(1, outcome.status, outcome.text()[-1500:])
         self.assertIn("language", [one["kind"] for one in (outcome.record or {})["assumptions"]])
         self.assertTrue(outcome.stdout.startswith(b"RACE"), outcome.text()[:300])
+
+
+    def test_environment(self) -> None:
+        for spoken, plain in (({"LANG": "de_DE.UTF-8"}, {}), ({"LANG": "en_US.UTF-8", "LANGUAGE": "de"}, {"LANG": "C.UTF-8"}), ({"LC_MESSAGES": "fr_FR"}, {"LANG": "en_US"})):
+            self.assertEqual([True, False], [speak_english(spoken), speak_english(plain)])
+            self.assertEqual(["C", None], [spoken.get("LC_MESSAGES"), plain.get("LC_MESSAGES")])
+        self.assertFalse(speak_english({"LC_ALL": "C", "LANG": "de_DE.UTF-8"}))
+        environment = {"LC_ALL": "sv_SE.UTF-8"}
+        self.assertTrue(speak_english(environment))
+        self.assertEqual((None, "sv_SE.UTF-8", "C"), tuple(environment.get(name) for name in ("LC_ALL", "LC_COLLATE", "LC_MESSAGES")))
+
+    def test_make_that_is_not_understood(self) -> None:
+        self.assertIn("nothing that the recorder knows", " ".join(read_words(7, 0, ["ARGS all\n", "Makefiles werden gelesen ...\n", "EXIT 0\n"]).holes))
+
+    def test_names_in_another_encoding(self) -> None:
+        with support.Project({"Makefile": "all: \u00fc b\n\u00fc: ; touch \u00fc\nb: ; touch b\n", "\u00fc": ""}) as project:
+            project.sh("mkdir loc; localedef -i de_DE -f ISO-8859-1 loc/de_DE.ISO-8859-1 2> /dev/null || true")
+            env = dict(os.environ, RACE=support.race_program(), LC_ALL="de_DE.ISO-8859-1", LOCPATH=str(project.folder / "loc"))
+            self.assertEqual(2, project.run(["--", "make"], env).status)
 
 
 class Said(Output):
