@@ -165,7 +165,7 @@ GRAPH: List[Guard] = [
     Guard("double colons: users wait for the first rule", "graph.py", "if node is None or len(rules) < 2:", "if True:", case("double-colon-user"), YES),
     Guard("double colons: one rule after the other", "graph.py", "                    part.prerequisites[parts[at - 1].label] = None\n", "                    pass\n", case("double-colon-row"), FALSE_RACE),
     Guard("double colons: the age that make saw first", "ages.py", "if not own or build.tasks[a].node.name != own}", "if True}", small("double_colon_ages"), FALSE_RACE),
-    Guard("double colons: what a later rule needs", "graph.py", "            self.hold_back(parts)\n", "", small("double_colon_holds_back"), FALSE_RACE),
+    Guard("double colons: what a later rule needs", "graph.py", "                self.hold_back(parts)\n", "                pass\n", small("double_colon_holds_back"), FALSE_RACE),
     Guard("grouped targets wait for the one that runs", "graph.py", "                    member.prerequisites[name] = None\n", "                    pass\n", case("two-outputs-grouped"), FALSE_RACE),
     Guard("searches: a folder not listed before", "considered.py", ">= self.builder.first_birth():\n            return True", ">= self.builder.first_birth():\n            return False", small("search_sees_a_name_that_goes"), YES),
     Guard("searches: a folder listed before", "considered.py", "if self.builder.listed.get(os.path.dirname(path), (0, 1 << 60))[1] >= self.builder.first_birth():", "if True:", small("search_in_an_early_listing"), FALSE_RACE),

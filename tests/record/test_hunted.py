@@ -13,6 +13,7 @@ from record.words import read_words
 from test_output import Output
 from test_small import Small, test_of
 
+COLONS = "all: u\ndc:: ; echo 1 >> dc\n%sdc:: ; echo 2 >> dc\nu: dc ; cat dc > u\nx: ; touch x\n"
 ABSENT = "all: u a\nu: ; %s 2> /dev/null || echo no > u; touch u\na: ; mkdir d; touch a\n"
 TOOLS = {"t": "echo new > $1\n", "bin2/tool": "#!/bin/sh\necho old > $1\n", "bin/k": ""}
 SETUP = "sed -i '1i#!/bin/sh' t; chmod +x t bin2/tool"
@@ -65,6 +66,11 @@ HUNTED: Dict[str, Small] = {
     # names that a data base of make shows in an odd way
     "name_that_begins_like_a_remark": Small("race", "all: u \\#x v\nv: ; touch v\n\\#x: ; $(file >x,w)\nu: p ; cat x > u || true\np: v ; touch p\n"),
     "name_that_ends_in_a_colon": Small("race", "all: u x\\: v\nv: ; touch v\nx\\:: ; $(file >x,w)\nu: p ; cat x > u || true\np: v ; touch p\n"),
+    # rules of one double-colon target, of which some have no recipe
+    "rule_without_a_recipe": Small("race", COLONS % "dc:: x\n"),
+    "rule_with_an_empty_recipe": Small("race", COLONS % "dc:: x ;\n"),
+    "rule_whose_recipe_starts_nothing": Small("race", COLONS % "dc:: x ; $(file >y,w)\n"),
+    "first_rule_without_a_recipe": Small("safe", "all: u\ndc:: x\ndc:: ; echo 1 > dc\nu: dc ; cat dc > u\nx: ; touch x\n"),
     # threads with a folder of their own
     "thread_in_a_folder_of_its_own": Small("race", "all: u a\na: ; ./o; touch a\nu: ; cat y > u || true\n", {"x": "x", "d/x": "x", "o.c": OWN_FOLDER % "rename"}, "cc -pthread -o o o.c"),
 }
