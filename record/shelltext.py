@@ -35,7 +35,8 @@ QUALIFIED = re.compile(r"[\w*?\])/>]\(")  # a pattern of zsh that may ask for ag
 KEPT = 4096  # how many files are remembered
 LARGE = 1 << 18  # how much of a script is read
 PASSING = ("env", "nice", "ionice", "setsid", "timeout", "flock", "time", "stdbuf")  # they leave errors to who runs in their place
-GLOB_WORD = re.compile(r"[^\s;|&<>()'\"`=]*[*?\[][^\s;|&<>()'\"`]*")
+WORD = re.compile(r"[^\s;|&<>()'\"`]+")  # a text without a word may be long: each sign is looked at once
+MAGIC = re.compile(r"[*?\[]")
 TIME_OF_STAT = re.compile(r"%[-+ 0#'\d.]*[WXYZwxyz]|\s(-\w*t|--t)")
 FORMAT_OF_STAT = re.compile(r"\s(-\w*c|--f|--p)")
 # The words by which a program shows or compares ages, by its name.
@@ -132,8 +133,12 @@ def glob_words(text: str) -> List[str]:
     """The words of a shell's text with patterns, as loose patterns. A word that goes on behind a quote, or behind a backslash and a blank,
     may hold any text there."""
     found = []
-    for match in GLOB_WORD.finditer(text):
-        word, before, behind = match.group(), text[:match.start()], text[match.end():]
+    for match in WORD.finditer(text):
+        sign = MAGIC.search(match.group())
+        if sign is None:
+            continue
+        start = match.start() + match.group().rfind("=", 0, sign.start()) + 1  # behind an assignment
+        word, before, behind = text[start:match.end()], text[max(0, start - 2):start], text[match.end():match.end() + 1]
         bare = word.rstrip("\\")
         begins = "*" if before[-1:] in ("'", '"', "=") or before[-2:-1] == "\\" else ""
         ends = "*" if behind[:1] in ("'", '"') or bare != word else ""

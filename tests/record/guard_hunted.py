@@ -46,6 +46,7 @@ HUNTED_GUARDS: List[Guard] = [
     Guard("double colons: rules without a recipe", "graph.py", "is_known = not jobs or len(jobs) == len(own)", "is_known, own = True, parts", "test_graph.Nodes.test_double_colons_without_a_recipe"),
     Guard("double colons: who waits for the first job", "graph.py", "        if jobs and parts[0] is not first:", "        if False:", hunted("first_rule_without_a_recipe"), FALSE_RACE),
     Guard("double colons: what an unknown rule needs", "graph.py", "            if is_known:\n", "            if True:\n", "test_graph.Nodes.test_double_colons_of_which_not_every_rule_ran"),
+    Guard("texts: long words without a pattern", "shelltext.py", """WORD = re.compile(r"[^\\s;|&<>()'\\"`]+")""", """WORD = re.compile(r"[^\\s;|&<>()'\\"`]*[*?\\[][^\\s;|&<>()'\\"`]*")""", "test_hunted.Texts.test_long_word"),
     Guard("threads: with a folder of their own", "calls.py", "            life.leave_threads()\n", "            pass\n", hunted("thread_in_a_folder_of_its_own"), YES),
     Guard("system: projects below it", "shelltext.py", "    if not text or OF_SYSTEM.match(path):", '    if not text or path.startswith("/usr/"):', "test_hunted.System.test_file_that_a_shell_takes_in"),
     Guard("warm: targets outside of the project", "warm.py", "            beyond.update(node.path for node in nodes if", "            beyond.update(node.path for node in () if", "test_hunted.Beyond.test_target_that_is_there"),

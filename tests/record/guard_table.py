@@ -119,7 +119,7 @@ FOLDERS: List[Guard] = [
     Guard("folders: quiet makers do not", "calls.py", "quiet = shelltext.is_quiet_mkdir(life.argv)\n", "quiet = False\n", case("folder-mkdir-p"), FALSE_RACE),
     Guard("folders: mkdir -v is not quiet", "shelltext.py", "return not loud and any(w == \"--parents\"", "return any(w == \"--parents\"", case("folder-mkdir-v"), YES),
     Guard("folders: mkdir || true", "folders.py", "        if excused(builder, at, path):\n            folder.strict.discard(at)", "        if False:\n            folder.strict.discard(at)", small("folder_made_or_true"), FALSE_RACE),
-    Guard("folders: lines that may fail", "folders.py", "return is_ignored(builder, at, folder) or any(", "return any(", small("folder_made_by_a_line_that_may_fail"), FALSE_RACE),
+    Guard("folders: lines that may fail", "folders.py", "    if is_ignored(builder, at, folder):\n        return True\n", "", small("folder_made_by_a_line_that_may_fail"), FALSE_RACE),
     Guard("folders: lines that may not fail", "folders.py", "for line in heeded)", "for line in ())", small("folder_made_by_a_line_that_may_not_fail"), YES),
     Guard("folders: test -d || mkdir", "folders.py", "(at in folder.scripts or excused(builder, at, path))", "at in folder.scripts", small("folder_tested_or_made"), FALSE_RACE),
     Guard("folders: a user needs a maker", "folders.py", "            seen(builder, path, at, makers)\n    for at in makers:", "            pass\n    for at in makers:", case("folder-forgotten"), YES),
@@ -179,7 +179,7 @@ AGES: List[Guard] = [
     Guard("ages: of folders, by what is in them", "ages.py", " | builder.timers.get(name, set())", "", small("age_of_a_folder"), YES),
 ]
 OWNERS: List[Guard] = [
-    Guard("acts of make belong to somebody", "owners.py", "            owners = self.owners_at(make, rounds, table, births, place)\n", "            owners = set()\n", case("file-function"), YES),
+    Guard("acts of make belong to somebody", "owners.py", "                owners = self.owners_at(make, rounds, table, at)\n", "                owners = set()\n", case("file-function"), YES),
     Guard("acts: to what had to be made since the last job", "owners.py", "            owners.update((number, t) for t in one.due", "            set().update((number, t) for t in one.due", case("shell-function-stranger"), YES),
     Guard("acts: not to what make looks at later", "owners.py", "{o for o in owners if looks.get(o[1], -1) < place} or owners", "owners", small("act_before_the_next_target"), FALSE_RACE),
     Guard("acts: not the removal of intermediate files", "owners.py", "self.removed_last(make) | ", "", small("intermediate_file_that_make_removes"), FALSE_RACE),
@@ -279,7 +279,7 @@ UNFILED: List[Guard] = [
     Guard("interpreters are read", "calls.py", 'self.look(life, words[0], True, True, "R")\n        self.look_at_interpreters(life, words[0])', 'self.look(life, words[0], True, True, "R")', small("interpreter_that_a_recipe_makes"), YES),
     Guard("interpreters: make", "calls.py", "if found.path == self.real:  # the kernel", "if False:  # the kernel", small("script_of_make_in_a_recipe"), LOST_HOLE),
     Guard("interpreters that are not there", "calls.py", "                self.look_at_interpreters(life, program)\n", "", small("interpreter_that_is_not_there_yet"), YES),
-    Guard("folders: modes of those in which one is made", "folders.py", 'os.path.dirname(path.rstrip("/")) in modes', "os.path.dirname(path) in modes", small("folder_of_another_mode_in_which_one_is_made"), YES),
+    Guard("folders: modes of those in which one is made", "folders.py", 'elif os.path.dirname(path.rstrip("/")) in (', "elif os.path.dirname(path) in (", small("folder_of_another_mode_in_which_one_is_made"), YES),
     Guard("folders: modes that makers have not", "folders.py", "first[path] != modes}", "False}", small("folder_of_the_mode_that_only_one_gives_it"), YES),
     Guard("folders: modes that makers have", "folders.py", "first[path] != modes}", "True}", small("folder_of_the_mode_that_it_is_given"), FALSE_RACE),
     Guard("folders: those above the one that is made", "shelltext.py", 'if "made" not in form.groupdict() else', "if True else", small("folder_tested_or_made_below"), FALSE_RACE),

@@ -2,12 +2,13 @@
 are known in another way than most, and on targets outside of the project."""
 
 import os
+import time
 import unittest
 from typing import Dict
 
 import support
 from record.options import speak_english
-from record.shelltext import takes_in
+from record.shelltext import glob_words, takes_in
 from record.system import OF_SYSTEM
 from record.words import read_words
 from test_output import Output
@@ -118,6 +119,18 @@ class System(unittest.TestCase):
 
     def test_file_that_a_shell_takes_in(self) -> None:
         self.assertEqual([True, False], [takes_in(["bash", "-c", "true"], name) for name in ("/usr/src/app/env.sh", "/usr/share/env.sh")])
+
+
+class Texts(unittest.TestCase):
+    """Texts of shells."""
+
+    def test_long_word(self) -> None:
+        began = time.process_time()
+        self.assertEqual(["*.c"], glob_words("ls *.c; echo " + "x" * 20000))
+        self.assertLess(time.process_time() - began, 1)
+
+    def test_word_behind_an_assignment(self) -> None:
+        self.assertEqual(["*d/?*", "x?=*"], glob_words("a=d/?* x?=*"))
 
 
 class Language(unittest.TestCase):
