@@ -10,6 +10,7 @@ from record.copies import is_other_make
 from record.lives import Life
 from record.loader import interpreter_words
 from record.moves import Moves
+from record.processes import Processes
 from record.names import Found, Inode
 from record.replay import DEVICES
 from record.strace import MAKES_PROCESS, Call, first_text, folders, is_cut, texts, unescape
@@ -36,7 +37,7 @@ TIMED = re.compile(r"\s(-\w*w|--(wait|timeout))")  # `flock -w SECONDS`
 ANY_PORT = re.compile(r"_port=htons\(0\)")
 
 
-class Calls(Moves):
+class Calls(Processes):
     """The calls, one method each."""
 
     def call(self, life: Life, call: Call) -> None:
@@ -52,15 +53,6 @@ class Calls(Moves):
         elif name in SHARING and ok:
             self.sockets.append(" ".join(life.argv)[:100])
 
-    def on_fork(self, life: Life, call: Call, ok: bool) -> None:
-        """A process, or a thread, has started."""
-        if life.pid in self.begun:
-            self.begun.remove(life.pid)
-        if ok and call.result > 0:
-            self.child(life, call.result, "CLONE_FS" in call.args)
-
-    on_vfork = on_clone = on_clone3 = on_fork
-
     def on_bind(self, life: Life, call: Call, ok: bool) -> None:
         """A socket with a name is a file, which whoever talks to it opens."""
         path = SOCKET.search(call.args)
@@ -75,10 +67,6 @@ class Calls(Moves):
             self.put_look(life, found, call.error not in ("ENOENT", "ENOTDIR"), "R")
 
     on_connect = on_bind
-
-    def on_core(self, life: Life, call: Call, ok: bool) -> None:
-        """The kernel keeps the memory of a process that a signal ends, in a file of whose name the trace says nothing."""
-        self.holes.append("a process left its memory in a file that nobody saw (core dumped): " + " ".join(life.argv)[:100])
 
     def on_flock(self, life: Life, call: Call, ok: bool) -> None:
         """Who waits for a lock does the same whoever has it; who does not wait sees whether another has it."""
@@ -330,14 +318,6 @@ class Calls(Moves):
 
     on_mkdirat = on_mkdir
 
-    def on_umask(self, life: Life, call: Call, ok: bool) -> None:
-        life.set_mask(int(call.args, 8))
-
-    def on_unshare(self, life: Life, call: Call, ok: bool) -> None:
-        """A thread that asks for a folder of its own, or for what includes that."""
-        if ok and re.search(r"CLONE_(?:FS|NEWNS|NEWUSER)\b", call.args):
-            life.leave_threads()
-
     def on_mknod(self, life: Life, call: Call, ok: bool) -> None:
         base, path = self.base_and_path(life, call)
         found = self.found(life, path, False, base)
@@ -392,5 +372,5 @@ Handler = Callable[[Calls, Life, Call, bool], None]
 HANDLERS: Dict[str, Handler] = {
     **dict.fromkeys(CHANGES, Calls.on_change),
     **dict.fromkeys(LOOKS, Calls.on_look),
-    **{name[len("on_"):]: handler for kind in (Moves, Calls) for name, handler in vars(kind).items() if name.startswith("on_")},
+    **{name[len("on_"):]: handler for kind in (Moves, Processes, Calls) for name, handler in vars(kind).items() if name.startswith("on_")},
 }

@@ -287,7 +287,7 @@ UNFILED: List[Guard] = [
     Guard("folders: ExtUtils of Perl, those above", "replay.py", "(found.path, *shelltext.above(life.argv, found.path))", "(found.path,)", small("folders_made_by_mkpath"), FALSE_RACE),
     Guard("folders: ExtUtils of Perl, those that it fills", "shelltext.py", ' or any("/" + os.path.normpath(name) + "/" in folder for name in filled)', "", small("folders_made_by_pm_to_blib"), FALSE_RACE),
     Guard("folders: modes of several makers", "calls.py", 'self.put(life, "o", ', 'str(', small("folder_of_two_modes"), YES),
-    Guard("folders: masks", "calls.py", "life.set_mask(int(call.args, 8))", "pass", small("folder_of_two_masks"), YES),
+    Guard("folders: masks", "processes.py", "life.set_mask(int(call.args, 8))", "pass", small("folder_of_two_masks"), YES),
     Guard("ages: that are set", "calls.py", 'self.put(life, "c", found.path + "\\0")', "pass", small("age_that_cp_takes_over"), YES),
     Guard("ages: of what is moved", "moves.py", '        self.put(life, "c", new.path + "\\0" + old.path)\n        if "RENAME_EXCHANGE"', '        if "RENAME_EXCHANGE"', small("age_of_a_file_that_is_moved"), YES),
     Guard("ages: of a second name", "moves.py", '        self.put(life, "c", new.path + "\\0" + old.path)\n        for other', '        for other', small("age_of_a_second_name"), YES),

@@ -28,6 +28,14 @@ OWN_FOLDER = """#define _GNU_SOURCE
 void *other(void *none) { unshare(CLONE_FS); return chdir("d") ? none : 0; }
 int main(void) { pthread_t one; pthread_create(&one, 0, other, 0); pthread_join(one, 0); return %s("x", "y"); }
 """
+UNSEEN = """#define _GNU_SOURCE
+#include <sched.h>
+#include <signal.h>
+#include <sys/syscall.h>
+#include <sys/wait.h>
+#include <unistd.h>
+int main(void) { return syscall(SYS_clone, CLONE_UNTRACED | SIGCHLD, 0, 0, 0, 0) ? wait(0) < 0 : 0; }
+"""
 LISTS = "printf 'all: ; echo $$(wildcard d/%s.c) >> u\\n' > t.mk; $(MAKE) -f t.mk"
 
 HUNTED: Dict[str, Small] = {
@@ -72,6 +80,9 @@ HUNTED: Dict[str, Small] = {
     "rule_with_an_empty_recipe": Small("race", COLONS % "dc:: x ;\n"),
     "rule_whose_recipe_starts_nothing": Small("race", COLONS % "dc:: x ; $(file >y,w)\n"),
     "first_rule_without_a_recipe": Small("safe", "all: u\ndc:: x\ndc:: ; echo 1 > dc\nu: dc ; cat dc > u\nx: ; touch x\n"),
+    # processes that the trace does not show
+    "program_that_traces_another": Small("no verdict", "all: ; strace -o t true || true; touch all\n", says="a program traces another one (a debugger)"),
+    "process_that_runs_unseen": Small("no verdict", "all: ; ./o; touch all\n", {"o.c": UNSEEN}, "cc -o o o.c", says="a process runs unseen (CLONE_UNTRACED"),
     # threads with a folder of their own
     "thread_in_a_folder_of_its_own": Small("race", "all: u a\na: ; ./o; touch a\nu: ; cat y > u || true\n", {"x": "x", "d/x": "x", "o.c": OWN_FOLDER % "rename"}, "cc -pthread -o o o.c"),
 }
