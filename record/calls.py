@@ -141,6 +141,7 @@ class Calls(Processes):
         life.ran.append(argv)
         if life.is_wrapper:
             return
+        self.note_rights(life, found.path)
         self.is_open_shell = self.is_open_shell or shelltext.sets_options(argv, life.folder)
         if shelltext.asks_reads(argv, life.folder):
             self.askers.append(" ".join(argv)[:100])

@@ -49,6 +49,7 @@ HUNTED_GUARDS: List[Guard] = [
     Guard("texts: long words without a pattern", "shelltext.py", """WORD = re.compile(r"[^\\s;|&<>()'\\"`]+")""", """WORD = re.compile(r"[^\\s;|&<>()'\\"`]*[*?\\[][^\\s;|&<>()'\\"`]*")""", "test_hunted.Texts.test_long_word"),
     Guard("holes: programs that trace others", "processes.py", 'if call.error == "EPERM":', "if False:", hunted("program_that_traces_another"), LOST_HOLE),
     Guard("holes: processes that run unseen", "processes.py", 'if ok and "CLONE_UNTRACED" in call.args:', "if False:", hunted("process_that_runs_unseen")),
+    Guard("rights: not of root", "processes.py", "return user != 0 and bool(", "return bool(", "test_hunted.Rights.test_who_lends_them"),
     Guard("threads: with a folder of their own", "processes.py", "            life.leave_threads()\n", "            pass\n", hunted("thread_in_a_folder_of_its_own"), YES),
     Guard("system: projects below it", "shelltext.py", "    if not text or OF_SYSTEM.match(path):", '    if not text or path.startswith("/usr/"):', "test_hunted.System.test_file_that_a_shell_takes_in"),
     Guard("warm: targets outside of the project", "warm.py", "            beyond.update(node.path for node in nodes if", "            beyond.update(node.path for node in () if", "test_hunted.Beyond.test_target_that_is_there"),

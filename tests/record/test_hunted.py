@@ -8,6 +8,7 @@ from typing import Dict
 
 import support
 from record.options import speak_english
+from record.processes import lends_rights
 from record.shelltext import glob_words, takes_in
 from record.system import OF_SYSTEM
 from record.words import read_words
@@ -142,6 +143,17 @@ class Texts(unittest.TestCase):
 
     def test_word_behind_an_assignment(self) -> None:
         self.assertEqual(["*d/?*", "x?=*"], glob_words("a=d/?* x?=*"))
+
+
+class Rights(unittest.TestCase):
+    """Programs with the rights of their owner."""
+
+    def test_who_lends_them(self) -> None:
+        with support.Project({"p": "", "q": "", "g": ""}) as project:
+            project.sh("chmod 4755 p; chmod 755 q; chmod 2755 g")
+            own = os.stat(project.folder / "p").st_uid
+            found = [[lends_rights(str(project.folder / name), user) for name in ("p", "q", "g", "none")] for user in (own + 1, 0)]
+        self.assertEqual([[True, False, True, False], [False] * 4], found)
 
 
 class Language(unittest.TestCase):
