@@ -335,7 +335,7 @@ def add_modes(builder: "Builder") -> None:
     """The mode of a folder, and how many folders are in it."""
     table = each(builder)
     modes = changed_modes(builder, table)
-    closed = {path for path, given in modes.items() if not all(int(mode, 8) & SEARCH for mode in given)}
+    closed = {path for path, given in modes.items() if not all(mode and int(mode, 8) & SEARCH for mode in given)}
     links = {p for _, events in table for k, p, _ in events if k == "h"}
     for at, events in table:
         for kind, path, _ in events:
