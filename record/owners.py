@@ -64,11 +64,20 @@ class Make:
             found.setdefault(act.path, set()).add(act.kind)
         return found
 
+    @cached_property
+    def reads(self) -> Dict[str, List[int]]:
+        """By path: when it read that by itself."""
+        found: Dict[str, List[int]] = {}
+        for act in self.life.acts:
+            if act.kind == "R":
+                found.setdefault(act.path, []).append(act.place)
+        return found
+
     def is_stale(self, name: str, written: Dict[str, Tuple[int, int]]) -> bool:
         """Whether the build has written a makefile before it read that, and after it. `written`: when each file was first and last written."""
         path = os.path.normpath(os.path.join(self.folder, name))
         first, last = written.get(path, (0, 0))
-        return any(first < act.place < last for act in self.life.acts if act.kind == "R" and act.path == path)
+        return any(first < place < last for place in self.reads.get(path, ()))
 
     def never_read(self, name: str) -> bool:
         """Whether it looked for a makefile, as for `-include`, and found none: that one says nothing."""

@@ -28,7 +28,7 @@ HUNTED_GUARDS: List[Guard] = [
     Guard("output: a first line that starts nothing", "wrapper.py", "(?:Putting|Live) child", "Putting child", "test_hunted.Said.test_first_line"),
     Guard("output: a last line that starts nothing", "wrapper.py", "return not self.is_last(packet)", "return True", "test_hunted.Said.test_last_line"),
     Guard("makefiles: written again", "owners.py", "        if make.stale:\n", "        if False:\n", hunted("makefile_that_is_written_again"), YES),
-    Guard("makefiles: not those written before", "owners.py", "any(first < act.place < last", "any(first < act.place", hunted("makefile_that_is_written_once"), FALSE_RACE),
+    Guard("makefiles: not those written before", "owners.py", "any(first < place < last", "any(first < place", hunted("makefile_that_is_written_once"), FALSE_RACE),
     Guard("folders: in another way too", "folders.py", " and all(is_of_form(life, folder) for life in lives)", "", hunted("folder_that_a_script_makes_too"), YES),
     Guard("folders: twice in a text", "shelltext.py", """, r"\\bmkdir\\s+(?!-p\\b|--p)[^;&|\\n]*?"))""", ",))", hunted("folder_that_a_text_makes_twice"), YES),
     Guard("folders: a word that is cut", "shelltext.py", 'w.startswith("--v")', 'w == "--verbose"', hunted("folder_that_is_told"), YES),
