@@ -118,7 +118,7 @@ class Beyond(unittest.TestCase):
     def test_statement_of_ninja(self) -> None:
         manifest = "rule t\n  command = touch $out\nbuild ../x: t\nbuild fin: t\n"
         setup = "printf '%s' > build.ninja; " % manifest.replace("\n", "\\n")
-        self.assertEqual([2, 0], [self.status("", setup + more, "ninja") for more in ("ninja ../x", "true")])
+        self.assertEqual([2, 0], [self.status("", setup + more, "ninja") for more in ("ninja ../x > log", "true")])
 
 
 class System(unittest.TestCase):
