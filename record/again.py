@@ -79,8 +79,9 @@ def words_of_cmake(words: List[str]) -> Optional[List[str]]:
 
 def folders_of(words: List[str]) -> List[str]:
     """The folders that a command names to work in."""
-    named = [words[at + 1] for at, word in enumerate(words[:-1]) if word in ("-C", "--build")]
+    named = [words[at + 1] for at, word in enumerate(words[:-1]) if word in ("-C", "--build", "--directory")]
     named += [word[2:] for word in words if word.startswith("-C") and len(word) > 2]
+    named += [word.partition("=")[2] for word in words if word.startswith("--directory=")]
     return [name for name in named if os.path.isdir(name)]
 
 

@@ -21,6 +21,7 @@ class Colons:
 
     prerequisites: List[str]
     order_only: List[str]
+    is_empty: bool = True  # it has no recipe, or one that starts nothing
 
 
 @dataclass
@@ -63,7 +64,7 @@ class _Files:
             self.recipe(text)
         elif text == "":
             self.name, self.is_recipe = "", False
-        elif text.startswith("#"):
+        elif text.startswith("#") and text[1:2] in ("", " "):
             self.remark(text)
         elif not self.name and not text.startswith("\t"):
             self.target(text)
@@ -71,6 +72,8 @@ class _Files:
     def recipe(self, text: str) -> None:
         """A line of a recipe. Each begins with a tab, or what `.RECIPEPREFIX` says; behind a backslash it goes on as it stands."""
         if self.name and text.strip():
+            if self.name in self.base.double and text.strip().lstrip("@+-").strip() not in ("", ":"):  # make starts nothing for these
+                self.base.double[self.name][-1].is_empty = False
             self.base.recipes.setdefault(self.name, []).append(text if self.goes_on else text[1:])
         self.goes_on = (len(text) - len(text.rstrip("\\"))) % 2 == 1
 

@@ -21,6 +21,7 @@ if TYPE_CHECKING:
 
 Events = List[Tuple[int, List[Tuple[str, str, int]]]]
 NO_BITS: FrozenSet[int] = frozenset()  # of a task without processes
+SEARCH = 0o100  # without this bit of a folder nobody but root finds what is in it
 dirname = lru_cache(1 << 14)(os.path.dirname)  # recipes have most of their paths in common
 
 
@@ -52,8 +53,18 @@ class Makers(NamedTuple):
 
 def excused(builder: "Builder", at: int, folder: str) -> bool:
     """Whether a recipe makes a folder in a quiet form, which does not show who was first."""
-    works = builder.build.tasks[at].works
-    return is_ignored(builder, at, folder) or any(shelltext.is_excused(argv, folder) and not keeps_errors(life, argv) for work in works for life in work.lives for argv in life.ran)
+    lives = [life for work in builder.build.tasks[at].works for life in work.lives]
+    if is_ignored(builder, at, folder):
+        return True
+    return any(shelltext.is_excused(argv, folder) and not keeps_errors(life, argv) for life in lives for argv in life.ran) and all(is_of_form(life, folder) for life in lives)
+
+
+def is_of_form(life: Life, folder: str) -> bool:
+    """Whether a process does not make a folder, or a shell starts it whose text makes that in a quiet form."""
+    if not life.events.keys() & {("M", folder), ("E", folder)}:
+        return True
+    starter = next((up for up in life.up() if up is not life and up.ran), life)
+    return any(shelltext.is_excused(argv, folder) for argv in starter.ran)
 
 
 def is_ignored(builder: "Builder", at: int, folder: str) -> bool:
@@ -331,6 +342,7 @@ def add_modes(builder: "Builder") -> None:
     """The mode of a folder, and how many folders are in it."""
     table = each(builder)
     modes = changed_modes(builder, table)
+    closed = {path for path, given in modes.items() if not all(mode and int(mode, 8) & SEARCH for mode in given)}
     links = {p for _, events in table for k, p, _ in events if k == "h"}
     for at, events in table:
         for kind, path, _ in events:
@@ -339,7 +351,7 @@ def add_modes(builder: "Builder") -> None:
                 mark(builder, path + "/@mode", "the mode of the folder " + path, set(), {at})
             elif path in modes and kind in "SUL":
                 mark(builder, path + "/@mode", "", {at}, set())
-            elif kind in "WCD" and os.path.dirname(path.rstrip("/")) in modes:
+            elif os.path.dirname(path.rstrip("/")) in (modes if kind in "WCD" else closed if kind in "RSN" else ()):
                 mark(builder, os.path.dirname(path.rstrip("/")) + "/@mode", "", {at}, set())
     counted: Dict[str, Set[int]] = {}
     for at, events in table:
@@ -355,12 +367,12 @@ def add_modes(builder: "Builder") -> None:
                 apart(builder, path + "/@links", "how many names %s has" % path, at, counted[path] - {at})
 
 
-def changed_modes(builder: "Builder", table: Events) -> Set[str]:
-    """The folders whose mode a recipe changes: to give one the mode that it was made with is no change."""
+def changed_modes(builder: "Builder", table: Events) -> Dict[str, Set[str]]:
+    """The folders whose mode a recipe changes, with the modes that it gives: to give one the mode that it was made with is no change."""
     given: Dict[str, Set[str]] = {}
     for kind, text in ((k, p) for _, events in table for k, p, _ in events if k == "m"):
         path, _, mode = text.partition("\0")
         given.setdefault(path, set()).add(mode)
     made, known = gather(builder) if given else {}, builder.names.modes
     first = {path: known.get(path, set()).union(made[path].modes if path in made else ()) for path in given}  # also those that a make above has made
-    return {path for path, modes in given.items() if builder.names.before.get(path) == "d" or len(modes) > 1 or first[path] != modes}
+    return {path: modes for path, modes in given.items() if builder.names.before.get(path) == "d" or len(modes) > 1 or first[path] != modes}

@@ -28,7 +28,7 @@ from record.skips import sift
 from record.wrapper import note_output
 
 CALLS = ("%file,fchdir,getdents64,getdents,clone,clone3,fork,vfork,fchmod,fchown,ftruncate,fsetxattr,fremovexattr,connect,bind,flock,"
-         "shmget,semget,msgget,mq_open,?add_key,?request_key,umask,setns,open_by_handle_at,io_uring_setup,?fchown32,?ftruncate64")
+         "shmget,semget,msgget,mq_open,?add_key,?request_key,umask,unshare,ptrace,setns,open_by_handle_at,io_uring_setup,?fchown32,?ftruncate64")
 STRACE = ["strace", "-f", "-q", "-y", "--seccomp-bpf", "-s", "131072", "-e", "signal=hup,int,quit,abrt,kill,segv,pipe,term,xfsz", "-e", "trace=" + CALLS]
 EXAMPLE = """examples:
   race-record -- make -C src all       one serial build, then the verdict
@@ -37,7 +37,7 @@ EXAMPLE = """examples:
 statuses: 0 safe, with --missing also nothing missing, 1 races or missing inputs,
           2 no verdict on one of the two, 3 usage or a tool that is missing"""
 WRAPPER = ("record.options", "record.wrapper")
-PROGRAM = """#!%s -ISB
+PROGRAM = """#!%s -ISBXutf8
 import marshal, sys
 with open(%r, "rb") as file:
     for name, code in marshal.load(file):

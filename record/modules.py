@@ -12,6 +12,7 @@ from functools import lru_cache
 from typing import Dict, Iterable, Iterator, List, Set, Tuple
 
 from record.lives import Life
+from record.system import OF_SYSTEM
 
 OCAML = re.compile(r"ocaml(?:c|opt|dep|cp|optp|mktop)(?:\.opt|\.byte)?$")
 JAVA = re.compile(r"javac$")  # javadoc takes in all that it finds in a package
@@ -20,7 +21,7 @@ OPEN = re.compile(r"--?(?:processor.*|Xplugin.*|Xbootclasspath.*|p|module-path.*
                   r"|J-(?:javaagent|agent|D).*|proc:(?:full|only))$")
 SERVICE = "META-INF/services/javax.annotation.processing.Processor"
 PACKED = (".jar", ".zip", ".jmod")
-SYSTEM = re.compile(r"/(?:usr|lib\w*|etc|proc|sys|dev)/|.*/(?:lib/modules|lib/ct\.sym|lib/security/[^/]*|conf/[^/]*|hsperfdata_[^/]*/\d+)$")  # what names no module of a project
+OF_COMPILER = re.compile(r".*/(?:lib/modules|lib/ct\.sym|lib/security/[^/]*|conf/[^/]*|hsperfdata_[^/]*/\d+)$")  # what names no module of a project
 MODULES = (".cmi", ".cmx")
 LIBRARIES = (".cma", ".cmxa")
 COMPILED, COMPRESSED = (".cmi", ".cmx", ".cmo"), b"\x84\x95\xa6\xbd"
@@ -191,7 +192,7 @@ def read_by(parts: List[Life], disk: Disk) -> List[str]:
     known = {id(part) for part in parts}
     own = {path for part in parts for kind, path in part.events if kind == "C" and disk.writers.get(path, known) <= known}
     links = {path for part in parts for kind, path in part.events if kind == "R" and os.path.islink(path)}
-    found = {path: place for part in parts for (kind, path), place in part.events.items() if kind == "R" and path not in own | links and not SYSTEM.match(path)}
+    found = {path: place for part in parts for (kind, path), place in part.events.items() if kind == "R" and path not in own | links and not (OF_SYSTEM.match(path) or OF_COMPILER.match(path))}
     is_same = all(disk.written.get(path, 0) <= place for path, place in found.items())
     return sorted(found) if is_same else [""]
 

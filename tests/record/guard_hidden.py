@@ -31,7 +31,7 @@ HIDDEN_GUARDS: List[Guard] = [
     Guard("makes inside: ages of folders behind a bar", "inner.py", "if name not in base.order_only.get(target, ()) and name", "if name", hidden("age_of_a_folder_behind_a_bar_inside"), FALSE_RACE),
     Guard("makes inside: ages of folders for new targets", "inner.py", "target not in base.phony and not is_new:", "target not in base.phony:", hidden("age_of_a_folder_for_a_new_target_inside"), FALSE_RACE),
     Guard("holes: recipes that failed for a makefile", "words.py", "    words.holes += failures(words)\n", "", hidden("failure_for_a_makefile_that_need_not_be_there"), LOST_HOLE),
-    Guard("holes: not makefiles that failed", "words.py", "if name in ran & needed:", "if name in ran:", hidden("failure_of_a_makefile_that_need_not_be_there"), "0 != 2"),
+    Guard("holes: not makefiles that failed", "words.py", "if name in needed and not", "if not", hidden("failure_of_a_makefile_that_need_not_be_there"), "0 != 2"),
     Guard("loaders are read", "calls.py", "interpreter_words(path) if self.is_inside(path) else ", "", hidden("loader_that_a_recipe_makes"), YES),
     Guard("sockets: without a file", "calls.py", "(ok or path is None)", "ok", hidden("socket_without_a_file_that_nobody_opened"), UNSAID),
     Guard("strays: in no process", "replay.py", 'for life in self.all[1:] if not life.adopted]', "for life in ()]", trace("process_that_nobody_started")),

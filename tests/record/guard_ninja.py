@@ -27,7 +27,7 @@ def changed(name: str) -> str:
 
 WARM: List[Guard] = [
     Guard("ninja, warm: no yes", "main.py", "if ended == 0 and record.warm and not (options.warm or record.stands_alone):", "if False:", ninja("warm"), LOST_HOLE),
-    Guard("ninja, warm: outputs that were there", "warm.py", "        found.update(targets_of(ninja, names))\n", "        pass\n", ninja("warm"), LOST_HOLE),
+    Guard("ninja, warm: outputs that were there", "warm.py", "        found.update(targets_of(ninja, names, set()))\n", "        pass\n", ninja("warm"), LOST_HOLE),
     Guard("ninja, warm: all below the goals", "ninja_runs.py", "numbers = manifest.below(goals) if", "numbers = set() if", ninja("warm"), LOST_HOLE),
     Guard("ninja, warm: said with --warm", "importing.py", 'found.assumed.add("up-to-date", name)', "pass", ninja("warm-accepted"), UNSAID),
     Guard("ninja, said: statements that nothing asked for", "unasked.py", "            there.update(((ninja.folder", "            {}.update(((ninja.folder", ninja("part"), UNSAID),
