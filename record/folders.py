@@ -118,18 +118,19 @@ def parents_of_all(paths: Dict[str, int]) -> Dict[str, int]:
 def gather(builder: "Builder") -> Dict[str, Folder]:
     """All folders that recipes make or remove, with who uses them."""
     table = {p: Folder() for p in builder.made | builder.tried}
-    renamed, never = {p for p in builder.build.writers if p in builder.made}, 1 << 60
+    renamed, never, more = {p for p in builder.build.writers if p in builder.made}, 1 << 60, ""
     for at, events in each(builder) if table else ():
         touched: Dict[str, int] = {}
         for kind, path, place in events:
-            path, _, more = path.partition("\0")
+            if "\0" in path:
+                path, _, more = path.partition("\0")
             folder = table.get(path)
             if folder is not None and kind == "o":
                 folder.modes.setdefault(more, set()).add(at)
             elif folder is not None and not path.endswith("/"):
                 note(folder, at, kind, place)
             if kind in "RSWCDMTEXUL" and not path.endswith("/"):
-                touched[path] = min(place if kind not in "RS" else never, touched.get(path, never))
+                touched[path] = min(never if kind in "RS" else place, touched.get(path, never))
         for above, place in parents_of_all(touched).items():
             if above in table:
                 table[above].users.add(at)
@@ -344,7 +345,7 @@ def add_modes(builder: "Builder") -> None:
     modes = changed_modes(builder, table)
     closed = {path for path, given in modes.items() if not all(mode and int(mode, 8) & SEARCH for mode in given)}
     links = {p for _, events in table for k, p, _ in events if k == "h"}
-    for at, events in table:
+    for at, events in table if modes else ():
         for kind, path, _ in events:
             path = path.partition("\0")[0]
             if kind == "m" and path in modes:
@@ -354,14 +355,14 @@ def add_modes(builder: "Builder") -> None:
             elif os.path.dirname(path.rstrip("/")) in (modes if kind in "WCD" else closed if kind in "RSN" else ()):
                 mark(builder, os.path.dirname(path.rstrip("/")) + "/@mode", "", {at}, set())
     counted: Dict[str, Set[int]] = {}
-    for at, events in table:
+    for at, events in table if links else ():
         for kind, path, _ in events:
             if kind not in "HX" and not (kind == "C" and path.endswith("/")):
                 continue
             where = path if kind == "H" else os.path.dirname(path.rstrip("/"))
             if where in links:
                 counted.setdefault(where, set()).add(at)
-    for at, events in table:
+    for at, events in table if counted else ():
         for kind, path, _ in events:
             if kind == "h" and path in counted:
                 apart(builder, path + "/@links", "how many names %s has" % path, at, counted[path] - {at})

@@ -246,12 +246,12 @@ class Owners:
             make = self.of_life.get(id(one))
             if make is not None and make not in work.makes:
                 work.makes.append(make)
-            for (kind, path), place in one.events.items():
-                if kind == "Q":
+            for key, place in one.events.items():
+                if key[0] == "Q":
                     for pattern in [*make.globs, *make.listed_first] if make is not None else ["*"]:
-                        work.add("L", path + "\0" + pattern, place)
-                else:
-                    work.add(kind, path, place)
+                        work.add("L", key[1] + "\0" + pattern, place)
+                elif work.events.get(key, place + 1) > place:
+                    work.events[key] = place
 
     def collect(self, make: Make) -> None:
         """The work of all jobs of a make, and of make itself."""
