@@ -2,6 +2,7 @@
 
 import re
 from dataclasses import dataclass, field
+from functools import cached_property
 from typing import Dict, List, Set, Tuple
 
 TARGET = re.compile(r"^(.*?)(::?)(?: (.*))?$")
@@ -43,6 +44,11 @@ class Base:
     bodies: Dict[str, List[str]] = field(default_factory=dict)  # by macro: its lines, and its values for single targets and patterns
     scoped: Set[str] = field(default_factory=set)  # targets with macros of their own
     serial: bool = False
+
+    @cached_property
+    def tails(self) -> List[Tuple[int, str, str]]:
+        """The targets of patterns, each with its place and with what stands behind its `%`. Asked when all is read."""
+        return [(at, target, target.partition("%")[2]) for at, (targets, _) in enumerate(self.patterns) for target in targets]
 
 
 class _Files:

@@ -4,12 +4,14 @@ import json
 import shutil
 from dataclasses import asdict, dataclass, field
 from pathlib import Path
-from typing import Any, Dict, List, Optional
+from typing import TYPE_CHECKING, Any, Dict, List, Optional
 
 from record import VERSION
-from record.assumptions import Assumptions
-from record.build import Build
 from record.tasks import labels_of, lines_of, relative, shown
+
+if TYPE_CHECKING:
+    from record.assumptions import Assumptions
+    from record.graph import Build
 
 
 @dataclass
@@ -41,7 +43,7 @@ class Record:
         return json.dumps(found, indent=1, ensure_ascii=True) + "\n"
 
 
-def write_build(folder: Path, build: Build) -> None:
+def write_build(folder: Path, build: "Build") -> None:
     """One round: its tasks, and what its labels and names stand for."""
     folder.mkdir(parents=True)
     labels = labels_of(build.tasks)
@@ -65,7 +67,7 @@ def write_build(folder: Path, build: Build) -> None:
     (folder / "build.json").write_text(json.dumps(text, indent=1, ensure_ascii=False) + "\n", encoding="utf-8")
 
 
-def write_record(folder: Path, record: Record, builds: List[Build], assumed: Assumptions) -> None:
+def write_record(folder: Path, record: Record, builds: "List[Build]", assumed: "Assumptions") -> None:
     """The whole record; an older one at the same place goes."""
     if folder.exists():
         shutil.rmtree(folder)

@@ -9,7 +9,7 @@ import os
 import re
 from dataclasses import dataclass, field
 from functools import lru_cache
-from typing import TYPE_CHECKING, Dict, List, Set, Tuple
+from typing import TYPE_CHECKING, Dict, FrozenSet, List, NamedTuple, Set, Tuple
 
 from record import shelltext
 from record.lives import Life
@@ -21,6 +21,7 @@ if TYPE_CHECKING:
 
 Events = List[Tuple[int, List[Tuple[str, str, int]]]]
 SEARCH = 0o100  # without this bit of a folder nobody but root finds what is in it
+NO_BITS: FrozenSet[int] = frozenset()  # of a task without processes
 dirname = lru_cache(1 << 14)(os.path.dirname)  # recipes have most of their paths in common
 
 
@@ -41,6 +42,13 @@ class Folder:
     first_made: Dict[int, int] = field(default_factory=dict)
     created: Set[int] = field(default_factory=set)
     modes: Dict[str, Set[int]] = field(default_factory=dict)  # by mode: tasks that make it so
+
+
+class Makers(NamedTuple):
+    """Who makes a folder, and who removes it."""
+
+    made: Set[int]
+    gone: Set[int]
 
 
 def excused(builder: "Builder", at: int, folder: str) -> bool:
@@ -183,9 +191,11 @@ def note(folder: Folder, at: int, kind: str, place: int) -> None:
 
 def add_folders(builder: "Builder") -> None:
     """Adds what folders ask for to the tasks."""
-    for path, folder in gather(builder).items():
+    table = gather(builder)
+    makers = {path: Makers(folder.strict | folder.quiet, {*folder.gone}) for path, folder in table.items()}
+    for path, folder in table.items():
         add_folder(builder, path, folder)
-    add_listed(builder)
+    add_listed(builder, makers)
     add_times(builder)
     add_modes(builder)
 
@@ -235,16 +245,18 @@ def part_modes(builder: "Builder", path: str, folder: Folder, makers: Set[int]) 
     for some in folder.modes.values() if makers else ():
         for at in some:
             apart(builder, name, meaning, at, set().union(*folder.modes.values()) - some)
-    for at in makers.difference(*folder.modes.values()):  # these found it, and would have made it by their own bits
-        own = masks(builder, at, path)
-        apart(builder, name, meaning, at, {other for other in makers if own and masks(builder, other, path) not in (set(), own)})
+    found = makers.difference(*folder.modes.values())  # these would have made it by their own bits
+    own = {at: masks(builder, at, path) for at in (makers if found else ())}
+    others = {bits: {at for at in own if bits and own[at] not in (NO_BITS, bits)} for bits in set(own.values())}
+    for at in found:
+        apart(builder, name, meaning, at, others[own[at]])
 
 
-def masks(builder: "Builder", at: int, path: str) -> Set[int]:
+def masks(builder: "Builder", at: int, path: str) -> FrozenSet[int]:
     """The bits without which the processes of a task make names: those that make a folder, else those that ask for it, else all."""
     lives = [life for work in builder.build.tasks[at].works for life in work.lives]
     makers, lookers = ([life for life in lives if any((kind, path) in life.events for kind in kinds)] for kinds in ("KMTE", "SN"))
-    return {bits(life) for life in makers or lookers or lives}
+    return frozenset(bits(life) for life in makers or lookers or lives)
 
 
 def bits(life: Life) -> int:
@@ -295,20 +307,15 @@ def mark(builder: "Builder", name: str, meaning: str, readers: Set[int], writers
         builder.build.meanings[name] = meaning
 
 
-def add_listed(builder: "Builder") -> None:
+def add_listed(builder: "Builder", table: Dict[str, Makers]) -> None:
     """A listing sees the folders that recipes make in it."""
-    table = gather(builder)
-    for at, events in each(builder):
-        for kind, path, _ in events:
-            if kind != "L":
-                continue
-            where, pattern = path.split("\0")
-            for name, folder in table.items():
-                if os.path.dirname(name) == where and matches(os.path.basename(name), pattern):
-                    makers = (folder.strict | folder.quiet) if builder.before.get(name) != "d" else set()
-                    makers = makers | folder.gone
-                    if at not in makers and (folder.gone - {at} or not any(builder.build.is_before(m, at) for m in makers)):
-                        seen(builder, name, at, makers)
+    for at, path in ((at, path) for at, events in each(builder) for kind, path, _ in events if kind == "L"):
+        where, pattern = path.split("\0")
+        for name, (made, gone) in table.items():
+            if os.path.dirname(name) == where and matches(os.path.basename(name), pattern):
+                makers = made | gone if builder.before.get(name) != "d" else gone
+                if at not in makers and (gone - {at} or not any(builder.build.is_before(m, at) for m in makers)):
+                    seen(builder, name, at, makers)
 
 
 def matches(name: str, pattern: str) -> bool:

@@ -1,6 +1,6 @@
 """Stands in front of GNU make while a build is recorded.
 
-`race-record` writes options.py and this file to SPOOL/bin/make, first on PATH, as a program of its own. It runs the real make (named
+`race-record` compiles options.py and this file for SPOOL/bin/make, first on PATH, a program of its own. It runs the real make (named
 in SPOOL/real) with words that let it say what it considers, takes make's own lines out of standard output again, into
 SPOOL/PID.make, and passes everything else on byte for byte. Queries (`make -n`, `-q`, `-t`, `-p`, `-v`, `-h`) and makes
 that were asked for debug words run untouched.
@@ -30,6 +30,7 @@ WORD_LINE = re.compile(
     rb"|Makefile " + QUOTED + rb" might loop; not remaking it\.$|Re-executing\[\d+\]:"
     rb"|Removing intermediate files\.\.\.$|Got a SIGCHLD; \d+ unreaped|(Putting|Live|Reaping winning|Reaping losing|Removing) child 0x[0-9a-f]+ "
     rb"|(Released|Obtained) token for child 0x|Need a job token; we |Jobserver (setup|client) \()")
+LOOKED = re.compile(rb" *(?:Considering target file|Pruning file) '[^\n]*'\.\n\Z")
 TOKEN = re.compile(rb"Need a job token; we |Obtained token for child 0x|Jobserver setup \(")
 RUNNING = re.compile(rb" *Recipe of '(.*)' is being run\.\n")  # make does not wait for it: with no bound on jobs it asks for no token
 MUST = re.compile(rb" *Must remake target '(.*)'\.\n")
@@ -149,6 +150,10 @@ class Splitter:
     def take(self, data):
         """What was read: one write of make or of a recipe. Where a recipe has opened /dev/stdout anew, what make writes behind its words may
         come with them."""
+        if self.next is None and not (self.job or self.unclear or self.base or self.blank) and LOOKED.match(data):  # as nearly all are
+            self.start = self.tail = self.is_said = False
+            self.log.write(data)
+            return
         first, data = self.cut(data, False)
         self.take_one(first)
         while data:
@@ -390,6 +395,3 @@ def main():
         os.kill(os.getpid(), os.WTERMSIG(raw))
     sys.exit(os.WEXITSTATUS(raw))
 
-
-if __name__ == "__main__":
-    main()
