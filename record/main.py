@@ -15,14 +15,16 @@ from concurrent.futures import ThreadPoolExecutor
 from dataclasses import dataclass
 from itertools import chain
 from pathlib import Path
-from typing import Dict, List, Optional, Tuple
+from typing import Dict, List, Optional, Set, Tuple
 
+from record import VERSION
 from record.assumptions import Assumptions
 from record.again import JOBS, TRIES, by_name, hints, tops_of, undo, with_jobs
 from record.build import Builder
 from record.calls import Calls
+from record.configured import configured
 from record.exists import credit_makes, settle_exists
-from record.folder import Record, is_record, rewrite, write_record
+from record.folder import Record, accept_warm, is_record, rewrite, write_record
 from record.footprints import write_footprints
 from record.fresh import CannotClean, cold_copy, fresh_folder
 from record.granted import add_granted, idle_targets
@@ -59,7 +61,8 @@ EXAMPLE = """examples:
   race-record --missing -- make        also: which files recipes read and make does not know of
 statuses: 0 safe, with --missing also nothing missing, 1 races or missing inputs,
           2 no verdict on one of the two, 3 usage or a tool that is missing"""
-WARM = "WARM: what was up to date did not run; record a clean tree (--fresh, make clean), or say --warm if builds start from this one"
+WARM = ("WARM: what was up to date did not run; record a clean tree (make clean, or --fresh for ninja), or, if builds start from this one, "
+        "say race-record --warm: it judges this record again, and builds nothing")
 
 
 class Missing(Exception):
@@ -147,6 +150,7 @@ class Imported:
     lives: List[Life]
     ninjas: List[Ninja]
     idle: List[str]  # targets of makes that had nothing to do
+    configured: Set[str]  # what `./configure` made, and nothing has changed
 
 
 def settle_all(replay: Calls, spool: Path, assumed: Assumptions) -> Owners:
@@ -199,7 +203,7 @@ def import_record(spool: Path, names: Names, kept: Kept, real: str, folder: str,
             builds.append(builder.run())
             record.holes += builder.holes
     builds = sorted(builds + of_ninja, key=lambda build: build.make.life.born)
-    return Imported(builds, assumed, replay.all, ninjas, idle_targets(owners, names))
+    return Imported(builds, assumed, replay.all, ninjas, idle_targets(owners, names), configured(owners.makes, replay.all, names))
 
 
 def parse(args: List[str]) -> argparse.Namespace:
@@ -209,7 +213,8 @@ def parse(args: List[str]) -> argparse.Namespace:
     parser.add_argument("-o", "--output", default=".race", metavar="DIR", help="the folder of the record (.race)")
     parser.add_argument("--race", metavar="PROGRAM", help="the program race")
     parser.add_argument("--top", action="append", default=[], metavar="DIR", help="another folder that the build works in")
-    parser.add_argument("--warm", action="store_true", help="builds start from this tree, though some of what they make is there already")
+    parser.add_argument("--warm", action="store_true", help="builds start from this tree, though some of what they make is there already; "
+                        "without a command: judge the record that is there once more, so")
     parser.add_argument("--fresh", action="store_true", help="record a clean copy in the place of the folder that ninja builds in")
     parser.add_argument("--keep-trace", action="store_true", help="keep the trace in the record")
     parser.add_argument("--footprints", action="store_true", help="keep a listing and footprints of each build, for race check --makefile")
@@ -218,7 +223,7 @@ def parse(args: List[str]) -> argparse.Namespace:
     found = parser.parse_args(args)
     if found.words[:1] == ["--"]:
         found.words = found.words[1:]
-    if not found.words:
+    if not found.words and not found.warm:
         parser.error("which command builds the project? (race-record -- make)")
     return found
 
@@ -283,7 +288,11 @@ def attempt(options: argparse.Namespace, words: List[str], tools: Dict[str, str]
 
 def finish(record: Record, found: Imported, names: Names, warm: bool) -> None:
     """What is known when all builds are: whether they were cold, and what ninja itself finds."""
-    record.warm = sorted({*warm_names(found.builds, found.ninjas, names), *found.idle})
+    there = {*warm_names(found.builds, found.ninjas, names), *found.idle}
+    record.warm = sorted(there - found.configured)
+    record.configured = sorted(there & found.configured)
+    for name in record.configured:
+        found.assumed.add("configured", name)
     record.stands_alone = bool(record.warm) and stand_alone(record.warm, found.builds, found.ninjas)
     for name in record.warm if warm or record.stands_alone else ():
         found.assumed.add("up-to-date", name)
@@ -335,6 +344,8 @@ def run(options: argparse.Namespace) -> int:
     out = Path(options.output).absolute()
     if not is_record(out):
         return stop("%s is there and is no record" % out)
+    if not options.words:
+        return judge_warm(out, race) if out.exists() else stop("there is no record in %s: which command builds the project? (race-record --warm -- make)" % out)
     if shutil.which(options.words[0]) is None:
         return stop("%s: no such command" % options.words[0])
     if out.exists():
@@ -348,8 +359,22 @@ def run(options: argparse.Namespace) -> int:
         ended = 2
         record.holes.append(WARM)
         rewrite(out, record)
+    return answer(out, race, ended, judged, options.missing)
+
+
+def judge_warm(out: Path, race: str) -> int:
+    """The verdict on a record that is there, about builds that start from its tree."""
+    record = read_json(out / "record.json")
+    if record.get("version") != VERSION:
+        return stop("%s is of another version of race-record: record again" % out)
+    accept_warm(out, record)
+    return answer(out, race, *judge_record(out, race), record.get("missing") is not None)
+
+
+def answer(out: Path, race: str, ended: int, judged: List[Judged], is_missing: bool) -> int:
+    """Prints what is known of a record; the status."""
     print("\n".join(report(read_json(out / "record.json"), judged)))
-    if not options.missing:
+    if not is_missing:
         return ended
     question = Question.of(out, race)
     print("\n" + "\n".join(missing_text(question, colours())))
