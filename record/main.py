@@ -15,14 +15,14 @@ from concurrent.futures import ThreadPoolExecutor
 from dataclasses import dataclass
 from itertools import chain
 from pathlib import Path
-from typing import Dict, List, Optional, Set, Tuple
+from typing import Dict, List, Optional, Tuple
 
 from record import VERSION
 from record.assumptions import Assumptions
 from record.again import JOBS, TRIES, by_name, hints, tops_of, undo, with_jobs
 from record.build import Builder
 from record.calls import Calls
-from record.configured import configured
+from record.configured import Configured, find_configured
 from record.exists import credit_makes, settle_exists
 from record.folder import Record, accept_warm, is_record, rewrite, write_record
 from record.footprints import write_footprints
@@ -150,7 +150,7 @@ class Imported:
     lives: List[Life]
     ninjas: List[Ninja]
     idle: List[str]  # targets of makes that had nothing to do
-    configured: Set[str]  # what `./configure` made, and nothing has changed
+    configured: Configured
 
 
 def settle_all(replay: Calls, spool: Path, assumed: Assumptions) -> Owners:
@@ -203,7 +203,7 @@ def import_record(spool: Path, names: Names, kept: Kept, real: str, folder: str,
             builds.append(builder.run())
             record.holes += builder.holes
     builds = sorted(builds + of_ninja, key=lambda build: build.make.life.born)
-    return Imported(builds, assumed, replay.all, ninjas, idle_targets(owners, names), configured(owners.makes, replay.all, names))
+    return Imported(builds, assumed, replay.all, ninjas, idle_targets(owners, names), find_configured(owners.makes, replay.all, names))
 
 
 def parse(args: List[str]) -> argparse.Namespace:
@@ -289,10 +289,11 @@ def attempt(options: argparse.Namespace, words: List[str], tools: Dict[str, str]
 def finish(record: Record, found: Imported, names: Names, warm: bool) -> None:
     """What is known when all builds are: whether they were cold, and what ninja itself finds."""
     there = {*warm_names(found.builds, found.ninjas, names), *found.idle}
-    record.warm = sorted(there - found.configured)
-    record.configured = sorted(there & found.configured)
-    for name in record.configured:
-        found.assumed.add("configured", name)
+    made, shipped = found.configured.made() & there, found.configured.shipped(there)
+    record.warm, record.configured = sorted(there - made - shipped), sorted(made | shipped)
+    for kind, paths in (("configured", made), ("shipped", shipped)):
+        for name in sorted(paths):
+            found.assumed.add(kind, name)
     record.stands_alone = bool(record.warm) and stand_alone(record.warm, found.builds, found.ninjas)
     for name in record.warm if warm or record.stands_alone else ():
         found.assumed.add("up-to-date", name)
