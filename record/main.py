@@ -59,6 +59,7 @@ EXAMPLE = """examples:
   race-record -- make -C src all       one serial build, then the verdict
   race-record -- cmake --build build   the same where ninja builds
   race-record --missing -- make        also: which files recipes read and make does not know of
+  race-record --warm                   after WARM, where what it names is part of each clean tree: judge again, without a build
 statuses: 0 safe, with --missing also nothing missing, 1 races or missing inputs,
           2 no verdict on one of the two, 3 usage or a tool that is missing"""
 WARM = ("WARM: what was up to date did not run; record a clean tree (make clean, or --fresh for ninja), or, if builds start from this one, "
@@ -214,7 +215,7 @@ def parse(args: List[str]) -> argparse.Namespace:
     parser.add_argument("--race", metavar="PROGRAM", help="the program race")
     parser.add_argument("--top", action="append", default=[], metavar="DIR", help="another folder that the build works in")
     parser.add_argument("--warm", action="store_true", help="builds start from this tree, though some of what they make is there already; "
-                        "without a command: judge the record that is there once more, so")
+                        "without a command: the same of the record that is there")
     parser.add_argument("--fresh", action="store_true", help="record a clean copy in the place of the folder that ninja builds in")
     parser.add_argument("--keep-trace", action="store_true", help="keep the trace in the record")
     parser.add_argument("--footprints", action="store_true", help="keep a listing and footprints of each build, for race check --makefile")
