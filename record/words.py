@@ -79,6 +79,7 @@ class Words:
     status: Optional[int] = None
     rounds: List[Round] = field(default_factory=list)
     jobs: Dict[int, List[Job]] = field(default_factory=dict)  # process number: its jobs, in order
+    processes: List[Tuple[int, Job]] = field(default_factory=list)  # of all jobs, in order: the number and the job
     read: List[List[str]] = field(default_factory=list)  # makefiles that each start read before it made anything
     included: List[str] = field(default_factory=list)  # makefiles that recipes include while make expands them
     holes: List[str] = field(default_factory=list)
@@ -123,11 +124,10 @@ class _Reader:
             self.round.jobs.append(job)
             self.children[pointer] = job
         owner = self.children.get(pointer)
-        if owner is not None:
-            known = self.words.jobs.setdefault(pid, [])
-            if not known or known[-1] is not owner:
-                known.append(owner)
-                owner.pids.append(pid)
+        if owner is not None and owner.pids[-1:] != [pid]:
+            owner.pids.append(pid)
+            self.words.jobs.setdefault(pid, []).append(owner)
+            self.words.processes.append((pid, owner))
 
     def considered(self, depth: int, name: str) -> None:
         assert self.round is not None

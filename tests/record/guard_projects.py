@@ -56,7 +56,14 @@ CONFIGURED_GUARDS: List[Guard] = [
     Guard("shipped: links", "configured.py", "if name in done or os.path.islink(names.find(make.folder, spelled, False).path):", "if name in done:", configured("link"), LOST_HOLE),
     Guard("shipped: second names", "configured.py", " and os.stat(path).st_nlink == 1", "", configured("link"), LOST_HOLE),
 ]
+NUMBERS: List[Guard] = [
+    Guard("numbers: that come again", "owners.py", "return first if len(first) == len(wanted) and first == [len(there) - 1 - place for place in last[::-1]] else None", "return first if len(there) == len(wanted) == len(first) else None",
+          "test_owners.Holes.test_number_of_a_process_that_is_no_job"),
+    Guard("numbers: in one way alone", "owners.py", " and first == [len(there) - 1 - place for place in last[::-1]] else None", " else None", "test_owners.Holes.test_number_that_comes_again_between_two_jobs"),
+    Guard("numbers: all of them", "owners.py", "return first if len(first) == len(wanted) and", "return first if", "test_owners.Holes.test_processes_that_are_lost_between_two"),
+]
 PROJECT_GUARDS: List[Guard] = [
+    *NUMBERS,
     *CONFIGURED_GUARDS,
     Guard("texts: macros that they set", "listed.py", " or patterns_in(life, where)", "", shells("Makefiles.test_rules_of_automake_for_info"), FALSE_RACE),
     Guard("texts: folders of patterns", "shellvalues.py", 'if not one.folder or not is_sure or fnmatchcase(where, "*/" + one.folder)', "if True", shells("Makefiles.test_rules_of_automake_for_info"), FALSE_RACE),

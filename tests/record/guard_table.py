@@ -71,7 +71,7 @@ TRACE: List[Guard] = [
     Guard("a file by its descriptor", "calls.py", 'base, path = "", call.opened', "pass", "test_replay.Footprints.test_paths_by_way_of_proc"),
     Guard("threads change their folder together", "replay.py", "        if is_thread:\n", "        if False:\n", "test_replay.Lives.test_threads_change_their_folder_together"),
     Guard("numbers: a dead process is another", "replay.py", "if life is None or life.died <= self.place:", "if life is None:", "test_replay.Lives.test_number_that_comes_again_before_the_call_returns"),
-    Guard("numbers: jobs of one number in order", "words.py", "if not known or known[-1] is not owner:", "if not known:", "test_owners.Holes.test_number_of_two_jobs"),
+    Guard("numbers: jobs of one number in order", "words.py", "if owner is not None and owner.pids[-1:] != [pid]:", "if owner is not None and pid not in self.words.jobs:", "test_owners.Holes.test_number_of_two_jobs"),
     Guard("children: what is above one that is seen first", "replay.py", "                    life.parent = parents[0] if len(parents) == 1 else None\n", "",
           "test_replay.Lives.test_script_above_a_child_that_is_seen_first"),
     Guard("children: begun before the call ends", "strace.py", "([Begun(pid)] if text.startswith(MAKES_PROCESS) else [])", "[]", "test_strace.Lines.test_creation_begins_before_it_ends"),
