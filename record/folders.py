@@ -286,14 +286,16 @@ def mark(builder: "Builder", name: str, meaning: str, readers: Set[int], writers
 
 def add_listed(builder: "Builder") -> None:
     """A listing sees the folders that recipes make in it."""
-    table = gather(builder)
+    inside: Dict[str, List[Tuple[str, Folder]]] = {}
+    for name, folder in gather(builder).items():
+        inside.setdefault(os.path.dirname(name), []).append((name, folder))
     for at, events in each(builder):
         for kind, path, _ in events:
             if kind != "L":
                 continue
             where, pattern = path.split("\0")
-            for name, folder in table.items():
-                if os.path.dirname(name) == where and matches(os.path.basename(name), pattern):
+            for name, folder in inside.get(where, ()):
+                if matches(os.path.basename(name), pattern):
                     makers = (folder.strict | folder.quiet) if builder.before.get(name) != "d" else set()
                     makers = makers | folder.gone
                     if at not in makers and (folder.gone - {at} or not any(builder.build.is_before(m, at) for m in makers)):

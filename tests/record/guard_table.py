@@ -110,7 +110,7 @@ NAMES: List[Guard] = [
     Guard("lists of make: a search", "memory.py", "for pattern in builder.make.globs if asked is None or path in asked else ():", "for pattern in builder.make.globs:", small("search_that_lists_a_folder"), FALSE_RACE),
     Guard("lists of make: makefiles that are not there", "owners.py", 'return len(self.life.starts) < 2 and "N" in kinds', 'return False and "N" in kinds', small("search_that_lists_a_folder"), FALSE_RACE),
     Guard("lists of make: exported macros", "memory.py", "open_names = exported_lists(builder.known)", "open_names = False", small("wildcard_that_a_target_exports"), YES),
-    Guard("macros: exports of a target", "macros.py", r"(?:[^\t\n#][^\n]*?:)?[ \t]*(?:(?:override|private)[ \t]+)*export", r"[ \t]*export", small("macro_that_a_target_exports"), YES),
+    Guard("macros: exports of a target", "macros.py", r"(?:[^\t\n#][^\n]*?:)??[ \t]*(?:(?:override|private)[ \t]+)*export", r"[ \t]*export", small("macro_that_a_target_exports"), YES),
     Guard("patterns keep other names out", "build.py", " and fnmatchcase(name, pattern):", ":", case("glob-other-names"), FALSE_RACE),
     Guard("scripts are of their interpreter", "calls.py", "argv = argv if life.is_wrapper else shelltext.with_interpreter(argv, found.path, self.first_words(found.path))", "pass", small("script_that_compares_ages"), YES),
 ]
@@ -200,7 +200,7 @@ OWNERS: List[Guard] = [
     Guard("said: processes that outlive their recipe", "granted.py", 'assumed.add("outlives"', '(lambda *_: None)("outlives"', small("outlives"), UNSAID),
     Guard("said: two makes at once", "granted.py", 'assumed.add("tops"', '(lambda *_: None)("tops"', small("two_builds_at_once"), UNSAID),
     Guard("said: targets that are up to date", "main.py", 'found.assumed.add("up-to-date", name)', "pass", small("up_to_date"), UNSAID),
-    Guard("said: targets of a make that has nothing to do", "main.py", ", *found.idle})", "})", small("all_up_to_date"), UNSAID),
+    Guard("said: targets of a make that has nothing to do", "main.py", ", *found.idle}\n", "}\n", small("all_up_to_date"), UNSAID),
     Guard("said: recipes that leave their target alone", "build.py", 'self.assumed.add("unwritten", node.name)', "pass", small("unwritten"), UNSAID),
     Guard("said: recipes that nothing asked for", "main.py", 'assumed.add("unasked", name)', "pass", small("unasked"), UNSAID),
     Guard("said: names outside of the project", "replay.py", "            self.outside[path.rstrip(\"/\")] = None\n", "            pass\n", small("outside"), UNSAID),
