@@ -8,13 +8,16 @@ import os
 import re
 import shutil
 from pathlib import Path
-from typing import Dict, List, Optional, Set
+from typing import TYPE_CHECKING, Dict, List, Optional, Set
 
-from record.lives import Life
 from record.names import Names
-from record.ninja_manifest import Edge, Manifest
-from record.ninja_runs import Kept, Ninja
+from record.ninja_log import Kept
 from record.shelltext import first_words
+
+if TYPE_CHECKING:
+    from record.lives import Life
+    from record.ninja_manifest import Edge, Manifest
+    from record.ninja_runs import Ninja
 
 TRIES = 3
 JOBS = 4
@@ -76,8 +79,9 @@ def words_of_cmake(words: List[str]) -> Optional[List[str]]:
 
 def folders_of(words: List[str]) -> List[str]:
     """The folders that a command names to work in."""
-    named = [words[at + 1] for at, word in enumerate(words[:-1]) if word in ("-C", "--build")]
+    named = [words[at + 1] for at, word in enumerate(words[:-1]) if word in ("-C", "--build", "--directory")]
     named += [word[2:] for word in words if word.startswith("-C") and len(word) > 2]
+    named += [word.partition("=")[2] for word in words if word.startswith("--directory=")]
     return [name for name in named if os.path.isdir(name)]
 
 
@@ -110,7 +114,7 @@ def source_of(folder: str) -> str:
         return ""
 
 
-def hints(ninjas: List[Ninja], names: Names) -> List[str]:
+def hints(ninjas: "List[Ninja]", names: Names) -> List[str]:
     """Who looks for what another statement makes, and does not wait for it: the files that were absent first."""
     found: Dict[str, int] = {}
     for ninja in ninjas:
@@ -128,7 +132,7 @@ def hints(ninjas: List[Ninja], names: Names) -> List[str]:
     return sorted(found, key=lambda text: (found[text], text))[:HINTS]
 
 
-def is_loose(manifest: Manifest, first: Edge, second: Edge, below: Dict[int, Set[int]]) -> bool:
+def is_loose(manifest: "Manifest", first: "Edge", second: "Edge", below: Dict[int, Set[int]]) -> bool:
     """Whether nothing orders two statements; `below` keeps what was worked out."""
     for edge in (first, second):
         if edge.number not in below:
@@ -136,7 +140,7 @@ def is_loose(manifest: Manifest, first: Edge, second: Edge, below: Dict[int, Set
     return first is not second and first.number not in below[second.number] and second.number not in below[first.number]
 
 
-def undo(names: Names, lives: List[Life], kept: Kept) -> List[str]:
+def undo(names: Names, lives: "List[Life]", kept: Kept) -> List[str]:
     """Takes away what a build has made, so that the tree is as it was; the names that cannot be set right again."""
     made: Set[str] = set()
     lost: Set[str] = set()

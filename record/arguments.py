@@ -2,11 +2,12 @@
 most arguments come again, word for word."""
 
 import re
-from typing import NamedTuple
+from typing import Iterable, NamedTuple
 
-from record.strace import first_text, folders, remembered
+from record.strace import MAKES_PROCESS, Call, first_text, folders, read_trace, remembered
 
 WRITING = re.compile(r"O_WRONLY|O_RDWR|O_TRUNC|O_CREAT")
+STARTS = {"execve", *MAKES_PROCESS}  # of these nobody asks for a path here
 TEXT_END = re.compile(r'^.*"(?:[^"\\]|\\.)*"', re.S)
 
 
@@ -50,3 +51,10 @@ def opening(args: str) -> Opening:
     """The path of an open, and what stands behind it."""
     flags, (base, path, folder, *_) = TEXT_END.sub("", args), spelled(args)
     return Opening(base, path, folder, flags, bool(WRITING.search(flags)), "O_NOFOLLOW" not in flags and not ("O_EXCL" in flags and "O_CREAT" in flags))
+
+
+def read_ahead(lines: Iterable[str]) -> None:
+    """Reads lines of a trace for the answers that are remembered alone: who reads them later is quicker."""
+    for event in read_trace(lines):
+        if isinstance(event, Call) and event.name not in STARTS:
+            (opening if event.name.startswith("open") else spelled)(event.args)

@@ -6,9 +6,11 @@ from typing import Callable, Dict, List, Tuple
 
 from record import listed, shelltext
 from record.arguments import TEXT_END, opening, spelled
+from record.copies import is_other_make
 from record.lives import Life
 from record.loader import interpreter_words
 from record.moves import Moves
+from record.processes import Processes
 from record.names import Found, Inode
 from record.replay import DEVICES
 from record.strace import MAKES_PROCESS, Call, first_text, folders, is_cut, texts, unescape
@@ -35,7 +37,7 @@ TIMED = re.compile(r"\s(-\w*w|--(wait|timeout))")  # `flock -w SECONDS`
 ANY_PORT = re.compile(r"_port=htons\(0\)")
 
 
-class Calls(Moves):
+class Calls(Processes):
     """The calls, one method each."""
 
     def call(self, life: Life, call: Call) -> None:
@@ -51,15 +53,6 @@ class Calls(Moves):
         elif name in SHARING and ok:
             self.sockets.append(" ".join(life.argv)[:100])
 
-    def on_fork(self, life: Life, call: Call, ok: bool) -> None:
-        """A process, or a thread, has started."""
-        if life.pid in self.begun:
-            self.begun.remove(life.pid)
-        if ok and call.result > 0:
-            self.child(life, call.result, "CLONE_FS" in call.args)
-
-    on_vfork = on_clone = on_clone3 = on_fork
-
     def on_bind(self, life: Life, call: Call, ok: bool) -> None:
         """A socket with a name is a file, which whoever talks to it opens."""
         path = SOCKET.search(call.args)
@@ -68,14 +61,12 @@ class Calls(Moves):
         found = self.found(life, unescape(path.group(1)), True) if path is not None else None
         if found is not None and call.name == "bind" and ok:
             self.write(life, found, True)
+        elif found is not None and call.name == "bind":
+            self.put_absent(life, found, "N" if call.error in ("ENOENT", "ENOTDIR") else "R")
         elif found is not None:
             self.put_look(life, found, call.error not in ("ENOENT", "ENOTDIR"), "R")
 
     on_connect = on_bind
-
-    def on_core(self, life: Life, call: Call, ok: bool) -> None:
-        """The kernel keeps the memory of a process that a signal ends, in a file of whose name the trace says nothing."""
-        self.holes.append("a process left its memory in a file that nobody saw (core dumped): " + " ".join(life.argv)[:100])
 
     def on_flock(self, life: Life, call: Call, ok: bool) -> None:
         """Who waits for a lock does the same whoever has it; who does not wait sees whether another has it."""
@@ -150,6 +141,7 @@ class Calls(Moves):
         life.ran.append(argv)
         if life.is_wrapper:
             return
+        self.note_rights(life, found.path)
         self.is_open_shell = self.is_open_shell or shelltext.sets_options(argv, life.folder)
         if shelltext.asks_reads(argv, life.folder):
             self.askers.append(" ".join(argv)[:100])
@@ -157,7 +149,7 @@ class Calls(Moves):
             self.begin_make(life, was_wrapper, was_make, forked)
         else:
             life.is_make = life.is_make and life.number >= 0 and was_make
-            if shelltext.is_other_make(found.path, self.real):
+            if is_other_make(found.path, self.real):
                 self.past.append(" ".join(life.argv)[:200])
         self.look(life, words[0], True, True, "R")
         self.look_at_interpreters(life, words[0])
@@ -224,7 +216,10 @@ class Calls(Moves):
                 return  # a pipe, a terminal or the like
             base, path = "", call.opened
         changes = changes or call.name == "creat"
-        if "O_TMPFILE" in flags or not path:
+        if not path:
+            return
+        if "O_TMPFILE" in flags:  # a file without a name, in a folder that must be there
+            self.look(life, path, ok, follow, base=base)
             return
         if not ok:
             found = self.look(life, path, call.error in ("EEXIST", "EISDIR", "ENXIO", "EACCES", "ENOTEMPTY"), follow, base=base)
@@ -267,6 +262,8 @@ class Calls(Moves):
         self.put_links(life, found)
         self.put_look(life, found, True, "S" if is_folder else "R")
         traits = life.traits()
+        if traits.looks_at_links:
+            self.put(life, "h", found.path)
         if is_folder or life.is_query:
             return
         if life.is_make:
@@ -322,15 +319,13 @@ class Calls(Moves):
 
     on_mkdirat = on_mkdir
 
-    def on_umask(self, life: Life, call: Call, ok: bool) -> None:
-        life.set_mask(int(call.args, 8))
-
     def on_mknod(self, life: Life, call: Call, ok: bool) -> None:
         base, path = self.base_and_path(life, call)
+        found = self.found(life, path, False, base)
         if ok:
-            self.write(life, self.found(life, path, False, base), True)
+            self.write(life, found, True)
         else:
-            self.look(life, path, call.error == "EEXIST", False, base=base)
+            self.put_absent(life, found, "S" if call.error == "EEXIST" else "N")
 
     on_mknodat = on_mknod
 
@@ -348,6 +343,7 @@ class Calls(Moves):
         if found.folder is not None:
             self.names.take(found.folder, found.name)
         self.put(life, "X" if folder else "D", found.path)
+        self.hard_links += others[:1]
         for other in others:
             self.put(life, "H", other)
 
@@ -377,5 +373,5 @@ Handler = Callable[[Calls, Life, Call, bool], None]
 HANDLERS: Dict[str, Handler] = {
     **dict.fromkeys(CHANGES, Calls.on_change),
     **dict.fromkeys(LOOKS, Calls.on_look),
-    **{name[len("on_"):]: handler for kind in (Moves, Calls) for name, handler in vars(kind).items() if name.startswith("on_")},
+    **{name[len("on_"):]: handler for kind in (Moves, Processes, Calls) for name, handler in vars(kind).items() if name.startswith("on_")},
 }

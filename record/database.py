@@ -2,6 +2,7 @@
 
 import re
 from dataclasses import dataclass, field
+from functools import cached_property
 from typing import Dict, List, Set, Tuple
 
 TARGET = re.compile(r"^(.*?)(::?)(?: (.*))?$")
@@ -20,6 +21,7 @@ class Colons:
 
     prerequisites: List[str]
     order_only: List[str]
+    is_empty: bool = True  # it has no recipe, or one that starts nothing
 
 
 @dataclass
@@ -43,6 +45,11 @@ class Base:
     scoped: Set[str] = field(default_factory=set)  # targets with macros of their own
     serial: bool = False
 
+    @cached_property
+    def tails(self) -> List[Tuple[int, str, str]]:
+        """The targets of patterns, each with its place and with what stands behind its `%`. Asked when all is read."""
+        return [(at, target, target.partition("%")[2]) for at, (targets, _) in enumerate(self.patterns) for target in targets]
+
 
 class _Files:
     """The part of the data base that lists targets."""
@@ -57,7 +64,7 @@ class _Files:
             self.recipe(text)
         elif text == "":
             self.name, self.is_recipe = "", False
-        elif text.startswith("#"):
+        elif text.startswith("#") and text[1:2] in ("", " "):
             self.remark(text)
         elif not self.name and not text.startswith("\t"):
             self.target(text)
@@ -65,6 +72,8 @@ class _Files:
     def recipe(self, text: str) -> None:
         """A line of a recipe. Each begins with a tab, or what `.RECIPEPREFIX` says; behind a backslash it goes on as it stands."""
         if self.name and text.strip():
+            if self.name in self.base.double and text.strip().lstrip("@+-").strip() not in ("", ":"):  # make starts nothing for these
+                self.base.double[self.name][-1].is_empty = False
             self.base.recipes.setdefault(self.name, []).append(text if self.goes_on else text[1:])
         self.goes_on = (len(text) - len(text.rstrip("\\"))) % 2 == 1
 

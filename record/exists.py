@@ -35,7 +35,7 @@ def settle_exists(lives: List[Life], logs: Iterable[Words]) -> Markers:
     users: Dict[str, List[Life]] = {}
     for life in lives:
         for _, path in life.events:
-            if os.path.basename(path) == NAME:
+            if path.endswith(NAME) and os.path.basename(path) == NAME:
                 users.setdefault(path, []).append(life)
     bases = [one.base for words in logs for one in words.rounds if one.base is not None] if users else []
     listed = {os.path.dirname(path) for path in users} & {path.partition("\0")[0] for life in lives if users for kind, path in life.events if kind == "L"}

@@ -4,12 +4,14 @@ import json
 import shutil
 from dataclasses import asdict, dataclass, field
 from pathlib import Path
-from typing import Any, Dict, List, Optional
+from typing import TYPE_CHECKING, Any, Dict, List, Optional
 
 from record import VERSION
-from record.assumptions import TEXTS, Assumptions
-from record.build import Build
 from record.tasks import labels_of, lines_of, relative, shown
+
+if TYPE_CHECKING:
+    from record.assumptions import Assumptions
+    from record.graph import Build
 
 NAMES = 12  # so many of the targets that were there before are named
 
@@ -45,7 +47,7 @@ class Record:
         return json.dumps(found, indent=1, ensure_ascii=True) + "\n"
 
 
-def write_build(folder: Path, build: Build) -> None:
+def write_build(folder: Path, build: "Build") -> None:
     """One round: its tasks, and what its labels and names stand for."""
     folder.mkdir(parents=True)
     labels = labels_of(build.tasks)
@@ -69,7 +71,7 @@ def write_build(folder: Path, build: Build) -> None:
     (folder / "build.json").write_text(json.dumps(text, indent=1, ensure_ascii=False) + "\n", encoding="utf-8")
 
 
-def write_record(folder: Path, record: Record, builds: List[Build], assumed: Assumptions) -> None:
+def write_record(folder: Path, record: Record, builds: "List[Build]", assumed: "Assumptions") -> None:
     """The whole record; an older one at the same place goes."""
     if folder.exists():
         shutil.rmtree(folder)
@@ -88,6 +90,8 @@ def rewrite(folder: Path, record: Record) -> None:
 
 def accept_warm(folder: Path, record: Dict[str, Any]) -> None:
     """Takes for granted that builds start from the tree of a record that is there."""
+    from record.assumptions import TEXTS
+
     warm = record["warm"]
     record["holes"] = [hole for hole in record["holes"] if not hole.startswith("WARM")]
     if warm["count"] and not any(one["kind"] == "up-to-date" for one in record["assumptions"]):

@@ -9,7 +9,7 @@ import os
 import re
 from dataclasses import dataclass, field
 from functools import lru_cache
-from typing import TYPE_CHECKING, Dict, List, Set, Tuple
+from typing import TYPE_CHECKING, Dict, FrozenSet, List, NamedTuple, Set, Tuple
 
 from record import shelltext
 from record.lives import Life
@@ -20,6 +20,8 @@ if TYPE_CHECKING:
 
 
 Events = List[Tuple[int, List[Tuple[str, str, int]]]]
+NO_BITS: FrozenSet[int] = frozenset()  # of a task without processes
+SEARCH = 0o100  # without this bit of a folder nobody but root finds what is in it
 dirname = lru_cache(1 << 14)(os.path.dirname)  # recipes have most of their paths in common
 
 
@@ -42,10 +44,27 @@ class Folder:
     modes: Dict[str, Set[int]] = field(default_factory=dict)  # by mode: tasks that make it so
 
 
+class Makers(NamedTuple):
+    """Who makes a folder, and who removes it."""
+
+    made: Set[int]
+    gone: Set[int]
+
+
 def excused(builder: "Builder", at: int, folder: str) -> bool:
     """Whether a recipe makes a folder in a quiet form, which does not show who was first."""
-    works = builder.build.tasks[at].works
-    return is_ignored(builder, at, folder) or any(shelltext.is_excused(argv, folder) and not keeps_errors(life, argv) for work in works for life in work.lives for argv in life.ran)
+    lives = [life for work in builder.build.tasks[at].works for life in work.lives]
+    if is_ignored(builder, at, folder):
+        return True
+    return any(shelltext.is_excused(argv, folder) and not keeps_errors(life, argv) for life in lives for argv in life.ran) and all(is_of_form(life, folder) for life in lives)
+
+
+def is_of_form(life: Life, folder: str) -> bool:
+    """Whether a process does not make a folder, or a shell starts it whose text makes that in a quiet form."""
+    if not life.events.keys() & {("M", folder), ("E", folder)}:
+        return True
+    starter = next((up for up in life.up() if up is not life and up.ran), life)
+    return any(shelltext.is_excused(argv, folder) for argv in starter.ran)
 
 
 def is_ignored(builder: "Builder", at: int, folder: str) -> bool:
@@ -172,9 +191,11 @@ def note(folder: Folder, at: int, kind: str, place: int) -> None:
 
 def add_folders(builder: "Builder") -> None:
     """Adds what folders ask for to the tasks."""
-    for path, folder in gather(builder).items():
+    table = gather(builder)
+    makers = {path: Makers(folder.strict | folder.quiet, {*folder.gone}) for path, folder in table.items()}
+    for path, folder in table.items():
         add_folder(builder, path, folder)
-    add_listed(builder)
+    add_listed(builder, makers)
     add_times(builder)
     add_modes(builder)
 
@@ -224,16 +245,18 @@ def part_modes(builder: "Builder", path: str, folder: Folder, makers: Set[int]) 
     for some in folder.modes.values() if makers else ():
         for at in some:
             apart(builder, name, meaning, at, set().union(*folder.modes.values()) - some)
-    for at in makers.difference(*folder.modes.values()):  # these found it, and would have made it by their own bits
-        own = masks(builder, at, path)
-        apart(builder, name, meaning, at, {other for other in makers if own and masks(builder, other, path) not in (set(), own)})
+    found = makers.difference(*folder.modes.values())  # these would have made it by their own bits
+    own = {at: masks(builder, at, path) for at in (makers if found else ())}
+    others = {bits: {at for at in own if bits and own[at] not in (NO_BITS, bits)} for bits in set(own.values())}
+    for at in found:
+        apart(builder, name, meaning, at, others[own[at]])
 
 
-def masks(builder: "Builder", at: int, path: str) -> Set[int]:
+def masks(builder: "Builder", at: int, path: str) -> FrozenSet[int]:
     """The bits without which the processes of a task make names: those that make a folder, else those that ask for it, else all."""
     lives = [life for work in builder.build.tasks[at].works for life in work.lives]
     makers, lookers = ([life for life in lives if any((kind, path) in life.events for kind in kinds)] for kinds in ("KMTE", "SN"))
-    return {bits(life) for life in makers or lookers or lives}
+    return frozenset(bits(life) for life in makers or lookers or lives)
 
 
 def bits(life: Life) -> int:
@@ -284,22 +307,18 @@ def mark(builder: "Builder", name: str, meaning: str, readers: Set[int], writers
         builder.build.meanings[name] = meaning
 
 
-def add_listed(builder: "Builder") -> None:
+def add_listed(builder: "Builder", table: Dict[str, Makers]) -> None:
     """A listing sees the folders that recipes make in it."""
-    inside: Dict[str, List[Tuple[str, Folder]]] = {}
-    for name, folder in gather(builder).items():
-        inside.setdefault(os.path.dirname(name), []).append((name, folder))
-    for at, events in each(builder):
-        for kind, path, _ in events:
-            if kind != "L":
-                continue
-            where, pattern = path.split("\0")
-            for name, folder in inside.get(where, ()):
-                if matches(os.path.basename(name), pattern):
-                    makers = (folder.strict | folder.quiet) if builder.before.get(name) != "d" else set()
-                    makers = makers | folder.gone
-                    if at not in makers and (folder.gone - {at} or not any(builder.build.is_before(m, at) for m in makers)):
-                        seen(builder, name, at, makers)
+    inside: Dict[str, List[str]] = {}
+    for name in table:
+        inside.setdefault(os.path.dirname(name), []).append(name)
+    for at, path in ((at, path) for at, events in each(builder) for kind, path, _ in events if kind == "L"):
+        where, pattern = path.split("\0")
+        for name in (name for name in inside.get(where, ()) if matches(os.path.basename(name), pattern)):
+            made, gone = table[name]
+            makers = made | gone if builder.before.get(name) != "d" else gone
+            if at not in makers and (gone - {at} or not any(builder.build.is_before(m, at) for m in makers)):
+                seen(builder, name, at, makers)
 
 
 def matches(name: str, pattern: str) -> bool:
@@ -326,6 +345,7 @@ def add_modes(builder: "Builder") -> None:
     """The mode of a folder, and how many folders are in it."""
     table = each(builder)
     modes = changed_modes(builder, table)
+    closed = {path for path, given in modes.items() if not all(mode and int(mode, 8) & SEARCH for mode in given)}
     links = {p for _, events in table for k, p, _ in events if k == "h"}
     for at, events in table:
         for kind, path, _ in events:
@@ -334,7 +354,7 @@ def add_modes(builder: "Builder") -> None:
                 mark(builder, path + "/@mode", "the mode of the folder " + path, set(), {at})
             elif path in modes and kind in "SUL":
                 mark(builder, path + "/@mode", "", {at}, set())
-            elif kind in "WCD" and os.path.dirname(path.rstrip("/")) in modes:
+            elif os.path.dirname(path.rstrip("/")) in (modes if kind in "WCD" else closed if kind in "RSN" else ()):
                 mark(builder, os.path.dirname(path.rstrip("/")) + "/@mode", "", {at}, set())
     counted: Dict[str, Set[int]] = {}
     for at, events in table:
@@ -350,12 +370,12 @@ def add_modes(builder: "Builder") -> None:
                 apart(builder, path + "/@links", "how many names %s has" % path, at, counted[path] - {at})
 
 
-def changed_modes(builder: "Builder", table: Events) -> Set[str]:
-    """The folders whose mode a recipe changes: to give one the mode that it was made with is no change."""
+def changed_modes(builder: "Builder", table: Events) -> Dict[str, Set[str]]:
+    """The folders whose mode a recipe changes, with the modes that it gives: to give one the mode that it was made with is no change."""
     given: Dict[str, Set[str]] = {}
     for kind, text in ((k, p) for _, events in table for k, p, _ in events if k == "m"):
         path, _, mode = text.partition("\0")
         given.setdefault(path, set()).add(mode)
     made, known = gather(builder) if given else {}, builder.names.modes
     first = {path: known.get(path, set()).union(made[path].modes if path in made else ()) for path in given}  # also those that a make above has made
-    return {path for path, modes in given.items() if builder.names.before.get(path) == "d" or len(modes) > 1 or first[path] != modes}
+    return {path: modes for path, modes in given.items() if builder.names.before.get(path) == "d" or len(modes) > 1 or first[path] != modes}

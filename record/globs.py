@@ -24,6 +24,8 @@ NAMED_BY_MACRO = re.compile(r"\$[({][^(){}\s,:]*\$(?!\$)")
 RULE = re.compile(r"(?m)^(?!\t)((?:[^\n=#:;]*\\\n)*[^\n=#;]*?:(?![:=])(?:[^\n;#=]*\\\n)*[^\n;#]*)")
 INCLUDE = re.compile(r"(?m)^ *[-s]?include[ \t]+((?:[^\n#]*\\\n)*[^\n#]*)")
 BRACKETS = {"(": ")", "{": "}"}
+PLAIN = re.compile(r"\$(?:[({]([\w.-]+)[)}]|(\w))")
+DEPTH = 8  # how often macros are put in the places of their names
 NAMED = "\x01"  # names without a pattern
 UNKNOWN = "\x02"  # anything
 # Functions whose text has no pattern where their arguments have none.
@@ -104,6 +106,13 @@ class Macros:
         names = [found.group(1) or found.group(2) or found.group(3) for found in REFERENCE.finditer(text)]
         rest = QUIET.sub("", REFERENCE.sub(NAMED, text))
         return not MAGIC.search(rest) and "$" not in rest.replace("$$", "") and all(self.has_no_pattern(name) for name in names)
+
+
+def with_values(text: str, values: Dict[str, str]) -> str:
+    """A text with the macros that have a value in their places."""
+    for _ in range(DEPTH):
+        text = PLAIN.sub(lambda found: values.get(found.group(1) or found.group(2), found.group()), text)
+    return text
 
 
 def patterns(texts: List[str], values: Dict[str, str], names: Iterable[str] = ("*",)) -> Set[str]:

@@ -11,6 +11,7 @@ from record.lives import Life
 from record.names import Names
 from record.ninja_runs import Ninja
 from record.owners import Make, Owners, Work
+from record.warm import is_beyond
 from record.words import makefiles
 
 FLAGS = re.compile(r"\bM(?:AKE)?FLAGS\b")
@@ -24,6 +25,8 @@ def add_granted(owners: Owners, assumed: Assumptions, spool: str) -> None:
         for work in works:
             interpreters(work, assumed)
         named_flags(make, works, assumed, spool)
+        if make.words.spoken:
+            assumed.add("language", "make " + make.words.args)
     at_once(owners, assumed)
     outlived(owners, assumed)
     beside(owners, assumed)
@@ -37,7 +40,7 @@ def idle_targets(owners: Owners, names: Names) -> List[str]:
         for one in make.words.rounds:
             recipes = one.base.recipes if one.base is not None and one.stage == "goals" and not one.jobs else {}
             found += [names.find(make.folder, one.vpath.get(n, n), True).path for n in one.nodes if recipes.get(n) and n not in one.must]
-    return [path for path in found if names.before.get(path) in ("f", "l")]
+    return [path for path in found if names.before.get(path) in ("f", "l") or is_beyond(path, names)]
 
 
 def interpreters(work: Work, assumed: Assumptions) -> None:

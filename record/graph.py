@@ -47,7 +47,6 @@ class Graph:
         self.round: Round = make.words.rounds[number]
         self.base: Base = self.round.base or Base()
         self.nodes: Dict[str, Node] = {}
-        self.notes: List[str] = []
         self.known_late: Optional[Set[str]] = None
         self.read_nodes()
         self.split_double_colons()
@@ -89,17 +88,21 @@ class Graph:
                 part.prerequisites = dict.fromkeys([p for p in rule.prerequisites + rule.order_only if p in self.nodes] + loose)
                 if at:
                     part.prerequisites[parts[at - 1].label] = None
-            self.share_jobs(parts, jobs, rules)
-            self.hold_back(parts)
+            own = [part for part, rule in zip(parts, rules) if not rule.is_empty]
+            is_known = not jobs or len(jobs) == len(own)
+            self.share_jobs(own if is_known else parts, jobs, node)
+            if is_known:
+                self.hold_back(parts)
 
-    def share_jobs(self, parts: List[Node], jobs: List[Job], rules: List[object]) -> None:
-        if len(jobs) == len(parts):
-            for part, job in zip(parts, jobs):
-                part.jobs = [job]
-        else:
-            parts[0].jobs = jobs
-            if jobs:
-                self.notes.append("double colons: not every rule of %s ran" % parts[0].name)
+    def share_jobs(self, parts: List[Node], jobs: List[Job], first: Node) -> None:
+        """Gives each job to a rule. Where some rules with a recipe ran nothing, the k-th job is of the k-th rule or a later one: it has waited
+        for what the k-th needs. Who needs the target waits for the first job, though that is of a later rule."""
+        for part, job in zip(parts, jobs):
+            part.jobs = [job]
+        if jobs and parts[0] is not first:
+            for node in self.nodes.values():
+                if first.label in node.prerequisites and node.name != first.name:
+                    node.prerequisites.setdefault(parts[0].label)
 
     def hold_back(self, parts: List[Node]) -> None:
         """What a later rule alone needs is looked at when the rule before it has ended."""

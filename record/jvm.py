@@ -10,7 +10,8 @@ from typing import Iterable, List
 from record.lives import Life
 from record.modules import is_machine, parts_of
 
-KEPT = re.compile(r"/tmp/hsperfdata_[^/]+(?:/|\0|$)")
+PLACE = "/tmp/hsperfdata_"
+KEPT = re.compile(PLACE + r"[^/]+(?:/|\0|$)")
 READERS = {"jps", "jcmd", "jstat", "jstatd", "jstack", "jinfo", "jmap", "jhsdb", "jconsole", "jvisualvm"}
 
 
@@ -20,7 +21,7 @@ def settle_machines(lives: List[Life]) -> None:
     known = {id(part) for part in machines}
     if any(os.path.basename(argv[0]) in READERS for life in lives for argv in life.ran if argv):
         return
-    if any(KEPT.match(path) for life in lives if id(life) not in known for _, path in life.events):
+    if any(path.startswith(PLACE) and KEPT.match(path) for life in lives if id(life) not in known for _, path in life.events):
         return
     for part in machines:
         for key in [key for key in part.events if KEPT.match(key[1])]:

@@ -73,6 +73,12 @@ class Life:
         self.threads = other.threads = self.threads or [self]
         self.threads.append(other)
 
+    def leave_threads(self) -> None:
+        """Has a folder of its own from now on."""
+        for life in self.threads:
+            life.threads = [other for other in self.threads if other is not self]
+        self.threads = []
+
     def enter(self, folder: str) -> None:
         """Changes the folder, that of all threads with it."""
         for life in self.threads or (self,):

@@ -112,7 +112,7 @@ class Macros:
         self.make, self.base = make, base
         paths = [os.path.join(make.folder, name) for name in sorted(makefiles(make.words)) if not make.never_read(name)]
         self.text = "\n".join(text_of(path) for path in paths)
-        self.is_lost = not all(os.path.exists(path) for path in paths)  # then macros of several lines may hold anything
+        self.is_lost = bool(make.stale) or not all(os.path.exists(path) for path in paths)  # then macros of several lines may hold anything
         recipes = (line for lines in base.recipes.values() for line in lines)
         self.is_used = self.is_lost and LINES in base.values.values() or any("eval" in text for text in (self.text, *base.values.values(), *recipes))
         self.named: Dict[str, Set[str]] = {}

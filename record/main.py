@@ -1,7 +1,7 @@
 """`race-record -- make [GOALS]` or `-- ninja`: one recorded build, and the verdict of `race` on it."""
 
 import argparse
-import gc
+import marshal
 import os
 import re
 import shutil
@@ -12,48 +12,24 @@ import tempfile
 import threading
 import time
 from concurrent.futures import ThreadPoolExecutor
-from dataclasses import dataclass
-from itertools import chain
+from importlib import import_module
+from importlib.util import find_spec
 from pathlib import Path
 from typing import Dict, List, Optional, Tuple
 
 from record import VERSION
-from record.assumptions import Assumptions
 from record.again import JOBS, TRIES, by_name, hints, tops_of, undo, with_jobs
-from record.build import Builder
-from record.calls import Calls
-from record.configured import Configured, find_configured
-from record.exists import credit_makes, settle_exists
-from record.folder import Record, accept_warm, is_record, rewrite, write_record
-from record.footprints import write_footprints
+from record.folder import Record, accept_warm, is_record, rewrite
 from record.fresh import CannotClean, cold_copy, fresh_folder
-from record.granted import add_granted, idle_targets
-from record.graph import Build
 from record.judge import find_race, judge
-from record.jvm import settle_machines
-from record.lives import Life
-from record.missing import knows_missing, write_missing
-from record.missing_report import Question, missing_text
-from record.modules import settle_modules
 from record.names import Names
-from record.ninja_import import beside, import_ninjas
-from record.ninja_import import versions as ninja_versions
-from record.ninja_runs import Kept, Ninja
-from record.owners import Make, Owners
-from record.past import Past, beginning
-from record.progress import watched
-from record.python import settle
+from record.ninja_log import Kept
 from record.report import Judged, colours, read_json, report
-from record.skips import SYSTEM, sift, unseen_changes
-from record.strace import read_trace
-from record.unasked import unasked
-from record.warm import stand_alone, warm_names
-from record.words import read_logs
+from record.skips import sift
 from record.wrapper import note_output
 
-HERE = Path(__file__).resolve().parent
 CALLS = ("%file,fchdir,getdents64,getdents,clone,clone3,fork,vfork,fchmod,fchown,ftruncate,fsetxattr,fremovexattr,connect,bind,flock,"
-         "shmget,semget,msgget,mq_open,?add_key,?request_key,umask,setns,open_by_handle_at,io_uring_setup,?fchown32,?ftruncate64")
+         "shmget,semget,msgget,mq_open,?add_key,?request_key,umask,unshare,ptrace,setns,open_by_handle_at,io_uring_setup,?fchown32,?ftruncate64")
 STRACE = ["strace", "-f", "-q", "-y", "--seccomp-bpf", "-s", "131072", "-e", "signal=hup,int,quit,abrt,kill,segv,pipe,term,xfsz", "-e", "trace=" + CALLS]
 EXAMPLE = """examples:
   race-record -- make -C src all       one serial build, then the verdict
@@ -62,6 +38,16 @@ EXAMPLE = """examples:
   race-record --warm                   after WARM, where what it names is part of each clean tree: judge again, without a build
 statuses: 0 safe, with --missing also nothing missing, 1 races or missing inputs,
           2 no verdict on one of the two, 3 usage or a tool that is missing"""
+WRAPPER = ("record.options", "record.wrapper")
+PROGRAM = """#!%s -ISBXutf8
+import marshal, sys
+with open(%r, "rb") as file:
+    for name, code in marshal.load(file):
+        sys.modules[name] = module = type(sys)(name)
+        exec(code, module.__dict__)
+module.main()
+"""
+ASKED = min(4, os.cpu_count() or 1)  # how many builds `race` is asked about at once
 WARM = ("WARM: what was up to date did not run; record a clean tree (make clean, or --fresh for ninja), or, if builds start from this one, "
         "say race-record --warm: it judges this record again, and builds nothing")
 
@@ -91,14 +77,15 @@ def versions() -> Dict[str, str]:
 
 
 def prepare_spool(spool: Path, real: str) -> None:
-    """The wrapper under the names of make."""
+    """The wrapper under the names of make. It is compiled once: a build may start many."""
     (spool / "bin").mkdir(parents=True)
     (spool / "real").write_text(real)
     (spool / "outputs").mkdir()
     for stream in (1, 2):
         note_output(str(spool), stream, "")
-    wrapper = re.sub(r"(?m)^from record\.options import .*\n", "", (HERE / "wrapper.py").read_text())
-    text = "#!%s -ISB\n" % sys.executable + (HERE / "options.py").read_text() + wrapper
+    codes = [(name, find_spec(name).loader.get_code(name)) for name in WRAPPER]  # type: ignore[union-attr]
+    (spool / "wrapper").write_bytes(marshal.dumps(codes))
+    text = PROGRAM % (sys.executable, str(spool / "wrapper"))
     for name in ("make", "gmake"):
         if shutil.which(name):
             path = spool / "bin" / name
@@ -107,7 +94,7 @@ def prepare_spool(spool: Path, real: str) -> None:
 
 
 def run_build(words: List[str], spool: Path, tops: List[str]) -> Tuple[int, float]:
-    """The build under strace, whose trace is sifted meanwhile; its status and seconds."""
+    """The build under strace; meanwhile its trace is sifted, and the modules are loaded that read it. Its status and seconds."""
     env = dict(os.environ)
     if "MAKELEVEL" in env:
         for name in ("MAKELEVEL", "MAKEFLAGS", "MFLAGS", "MAKE_TERMOUT", "MAKE_TERMERR"):
@@ -117,94 +104,17 @@ def run_build(words: List[str], spool: Path, tops: List[str]) -> Tuple[int, floa
     old = signal.signal(signal.SIGINT, signal.SIG_IGN)
     heard = old if old in (signal.SIG_IGN, signal.SIG_DFL) else signal.SIG_DFL
     (spool / "trace").touch()
-    with ThreadPoolExecutor(1) as pool:
+    with ThreadPoolExecutor(2) as pool:
         words = STRACE + ["-o", str(spool / "trace"), "--"] + words
         process = subprocess.Popen(words, env=env, preexec_fn=lambda: signal.signal(signal.SIGINT, heard))
         ended = threading.Event()
-        sifting = pool.submit(sift, spool / "trace", tops, spool / "sifted", ended.wait)
+        sifting, loading = pool.submit(sift, spool / "trace", tops, spool / "sifted", ended.wait), pool.submit(import_module, "record.importing")
         status, seconds = process.wait(), time.monotonic() - began
         ended.set()
         sifting.result()
+        loading.result()
     signal.signal(signal.SIGINT, old)
     return status, seconds
-
-
-def replay_trace(spool: Path, names: Names, real: str, folder: str, tops: List[str]) -> Calls:
-    """The trace, played in the name space."""
-    mask = os.umask(0)
-    os.umask(mask)
-    replay = Calls(names, str(spool), os.path.realpath(real), folder, tops, mask)
-    trace = spool / ("sifted" if (spool / "sifted").exists() and not names.leads_to(SYSTEM) else "trace")
-    with open(trace, encoding="latin-1", newline="\n") as lines:
-        for event in read_trace(watched(lines, trace.stat().st_size)):
-            replay.play(event)
-    replay.holes += unseen_changes(replay.outside) if trace.name == "sifted" else []
-    return replay
-
-
-@dataclass
-class Imported:
-    """What a trace and the words of makes come to."""
-
-    builds: List[Build]
-    assumed: Assumptions
-    lives: List[Life]
-    ninjas: List[Ninja]
-    idle: List[str]  # targets of makes that had nothing to do
-    configured: Configured
-
-
-def settle_all(replay: Calls, spool: Path, assumed: Assumptions) -> Owners:
-    """Puts what is meant in the place of what known programs did; who did what."""
-    for kind, example in chain(settle(replay.all, replay.tops), settle_modules(replay.all)):
-        assumed.add(kind, example)
-    settle_machines(replay.all)
-    logs = list(read_logs(spool))
-    markers = settle_exists(replay.all, logs)
-    for name in sorted(markers.paths):
-        assumed.add("makers", name)
-    owners = Owners(replay.all, logs)
-    credit_makes(owners, markers)
-    return owners
-
-
-def import_record(spool: Path, names: Names, kept: Kept, real: str, folder: str, record: Record) -> Imported:
-    """Of a trace and make's words: the builds, the holes, and what was taken for granted."""
-    assumed = Assumptions()
-    replay = replay_trace(spool, names, real, folder, names.tops)
-    owners = settle_all(replay, spool, assumed)
-    if owners.makes:
-        assumed.add("serial", "")
-    record.holes += replay.holes + owners.holes
-    record.holes += ["nobody knows who started a process: " + one for one in replay.strays()]
-    record.holes += ["a make ran past the recorder: " + p for p in replay.past]
-    for path in sorted(spool.glob("*.past")):
-        record.holes += ["a make that prints its own words (-d, -p, --debug), or has nowhere to print them, ran past the recorder: " + t for t in path.read_text(errors="replace").splitlines()]
-    for kind, found in (("sockets", replay.sockets), ("processes", replay.watchers), ("read-times", replay.askers), ("locks", replay.locks),
-                        ("hard-links", replay.hard_links), ("ages", replay.rewritten())):
-        for example in found:
-            assumed.add(kind, example)
-    ninjas, of_ninja, holes = import_ninjas(replay.all, owners, names, kept, assumed, record.status == 0)
-    record.holes += holes
-    if not owners.makes and not ninjas:
-        record.holes.append("no make and no ninja ran")
-    for name in unasked(owners.makes, ninjas):
-        assumed.add("unasked", name)
-    for name in replay.outside:
-        assumed.add("outside", name)
-    for argv in replay.makers:
-        assumed.add("makers", argv)
-    for path in sorted(set(replay.progress)):
-        assumed.add("progress", path)
-    add_granted(owners, assumed, str(spool))
-    builds, past = [], Past(names.before, replay.changes)
-    for place, make, number in sorted(((beginning(m, n), m, n) for m in owners.makes for n in range(len(m.words.rounds))), key=lambda found: found[0]):
-        if make.words.rounds[number].jobs or any(n == number for n, _ in make.acts):
-            builder = Builder(make, number, names, assumed, past.until(place))
-            builds.append(builder.run())
-            record.holes += builder.holes
-    builds = sorted(builds + of_ninja, key=lambda build: build.make.life.born)
-    return Imported(builds, assumed, replay.all, ninjas, idle_targets(owners, names), find_configured(owners.makes, replay.all, names))
 
 
 def parse(args: List[str]) -> argparse.Namespace:
@@ -235,13 +145,17 @@ def stop(text: str) -> int:
     return 3
 
 
+def judge_build(folder: Path, race: str) -> Judged:
+    """Asks `race` about one build of a record."""
+    about = read_json(folder / "build.json")
+    return Judged(folder.name, about, judge(race, folder / "tasks", about["folder"]))
+
+
 def judge_record(out: Path, race: str) -> Tuple[int, List[Judged]]:
-    """Asks `race` about each build of a record; the worst status."""
+    """Asks `race` about each build of a record, several at once; the worst status."""
     record = read_json(out / "record.json")
-    judged = []
-    for number in record["builds"]:
-        about = read_json(out / "builds" / number / "build.json")
-        judged.append(Judged(number, about, judge(race, out / "builds" / number / "tasks", about["folder"])))
+    with ThreadPoolExecutor(ASKED) as pool:
+        judged = list(pool.map(lambda number: judge_build(out / "builds" / number, race), record["builds"]))
     if record["holes"] or any(j.verdict.status not in (0, 1) for j in judged):
         return 2, judged
     return (1 if any(j.verdict.races for j in judged) else 0), judged
@@ -264,18 +178,10 @@ def attempt(options: argparse.Namespace, words: List[str], tools: Dict[str, str]
         record = Record(options.words, folder, status, round(seconds, 2), dict(tools))
         if status != 0:
             record.holes.append("the build ended with status %d" % status)
-        gc.disable()  # what is read is needed to the end: a search for garbage takes time and finds none
-        found = import_record(spool, names, kept, real, folder, record)
-        gc.enable()
-        finish(record, found, names, options.warm)
-        write_record(out, record, found.builds, found.assumed)
-        for number, build in zip(record.builds, found.builds if options.footprints else ()):
-            if build.tool == "make":
-                write_footprints(out / "builds" / number, build, names, str(out))
-        if options.missing:
-            record.missing = write_missing(out, record, found.builds, names, found.lives, spool)
+        from record.importing import complete  # it was loaded while the build ran
+        found = complete(record, spool, names, kept, real, out, options)
         if options.keep_trace:
-            shutil.copytree(spool, out / "trace", ignore=shutil.ignore_patterns("bin", "real", "outputs", "again", "*.start", "stop.mk", "sifted*"))
+            shutil.copytree(spool, out / "trace", ignore=shutil.ignore_patterns("bin", "wrapper", "real", "outputs", "again", "*.start", "stop.mk", "sifted*"))
         if status != 1 or not any(stage.jobs for ninja in found.ninjas for stage in ninja.stages):
             return record, False
         record.hints = hints(found.ninjas, names)
@@ -285,25 +191,6 @@ def attempt(options: argparse.Namespace, words: List[str], tools: Dict[str, str]
         return record, words != options.words and not changed
     finally:
         shutil.rmtree(room, ignore_errors=True)
-
-
-def finish(record: Record, found: Imported, names: Names, warm: bool) -> None:
-    """What is known when all builds are: whether they were cold, and what ninja itself finds."""
-    there = {*warm_names(found.builds, found.ninjas, names), *found.idle}
-    made, shipped = found.configured.made() & there, found.configured.shipped(there)
-    record.warm, record.configured = sorted(there - made - shipped), sorted(made | shipped)
-    for kind, paths in (("configured", made), ("shipped", shipped)):
-        for name in sorted(paths):
-            found.assumed.add(kind, name)
-    record.stands_alone = bool(record.warm) and stand_alone(record.warm, found.builds, found.ninjas)
-    for name in record.warm if warm or record.stands_alone else ():
-        found.assumed.add("up-to-date", name)
-    if found.ninjas:
-        record.tools["ninja"] = ninja_versions(found.ninjas)
-        record.missingdeps, beyond = beside(found.ninjas, found.builds, names)
-        for one in beyond if not record.warm and record.status == 0 else []:
-            record.holes.append("ninja -t missingdeps finds that %s reads %s, and the record has no such race" % (one.user, one.path))
-        record.notes += ["ninja -t missingdeps, of earlier builds: %s reads %s, and waits for nobody who makes it" % (m.user, m.path) for m in beyond if record.warm]
 
 
 def record_all(options: argparse.Namespace, tools: Dict[str, str], out: Path) -> Record:
@@ -337,7 +224,7 @@ def run(options: argparse.Namespace) -> int:
     race = find_race(options.race)
     if race is None:
         return stop("the program race is missing (--race PROGRAM, $RACE, or on PATH)")
-    if options.missing and not knows_missing(race):
+    if options.missing and not import_module("record.missing").knows_missing(race):
         return stop("%s does not answer `race missing --tasks`: --missing needs a later version of race" % race)
     try:
         tools = versions()
@@ -378,6 +265,7 @@ def answer(out: Path, race: str, ended: int, judged: List[Judged], is_missing: b
     print("\n".join(report(read_json(out / "record.json"), judged)))
     if not is_missing:
         return ended
+    from record.missing_report import Question, missing_text
     question = Question.of(out, race)
     print("\n" + "\n".join(missing_text(question, colours())))
     return 2 if 2 in (ended, question.status()) else max(ended, question.status())

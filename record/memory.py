@@ -4,7 +4,7 @@ import os
 import re
 from typing import TYPE_CHECKING, Dict, Iterator, List, Optional, Set
 
-from record.globs import BOUND, MAGIC, arguments
+from record.globs import BOUND, MAGIC, arguments, with_values
 from record.graph import Node
 from record.macros import ANY, Macros
 from record.names import Names
@@ -14,8 +14,6 @@ if TYPE_CHECKING:
     from record.build import Builder
 
 LIBRARIES = "lib%.so lib%.a"
-PLAIN = re.compile(r"\$(?:[({]([\w.-]+)[)}]|(\w))")
-DEPTH = 8  # how often macros are put in the places of their names
 
 
 def place_listings(builder: "Builder") -> None:
@@ -90,9 +88,7 @@ def filled(text: str, target: str, values: Dict[str, str]) -> str:
     """A text of a target's recipe, with the macros that have a value in their places."""
     text = re.sub(r"\$[({]@D[)}]", lambda _: os.path.dirname(target) or ".", text)
     text = re.sub(r"\$(?:@|[({]@[)}])", lambda _: target, text)
-    for _ in range(DEPTH):
-        text = PLAIN.sub(lambda found: values.get(found.group(1) or found.group(2), found.group()), text)
-    return text
+    return with_values(text, values)
 
 
 def libraries(builder: "Builder", node: Node) -> List[str]:

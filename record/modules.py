@@ -12,6 +12,7 @@ from functools import lru_cache
 from typing import Dict, Iterable, Iterator, List, Set, Tuple
 
 from record.lives import Life
+from record.system import OF_SYSTEM
 
 OCAML = re.compile(r"ocaml(?:c|opt|dep|cp|optp|mktop)(?:\.opt|\.byte)?$")
 JAVA = re.compile(r"javac$")  # javadoc takes in all that it finds in a package
@@ -20,7 +21,7 @@ OPEN = re.compile(r"--?(?:processor.*|Xplugin.*|Xbootclasspath.*|p|module-path.*
                   r"|J-(?:javaagent|agent|D).*|proc:(?:full|only))$")
 SERVICE = "META-INF/services/javax.annotation.processing.Processor"
 PACKED = (".jar", ".zip", ".jmod")
-SYSTEM = re.compile(r"/(?:usr|lib\w*|etc|proc|sys|dev)/|.*/(?:lib/modules|lib/ct\.sym|lib/security/[^/]*|conf/[^/]*|hsperfdata_[^/]*/\d+)$")  # what names no module of a project
+OF_COMPILER = re.compile(r".*/(?:lib/modules|lib/ct\.sym|lib/security/[^/]*|conf/[^/]*|hsperfdata_[^/]*/\d+)$")  # what names no module of a project
 MODULES = (".cmi", ".cmx")
 LIBRARIES = (".cma", ".cmxa")
 COMPILED, COMPRESSED = (".cmi", ".cmx", ".cmo"), b"\x84\x95\xa6\xbd"
@@ -200,7 +201,7 @@ def read_by(parts: List[Life], disk: Disk) -> List[str]:
 def may_name(path: str) -> bool:
     """Whether a file may name a module of a project. So do OCaml's own: a module of the project that has the name of one in the standard
     library hides that, whether or not a source names it, and what is compiled then says so."""
-    return not SYSTEM.match(path) or path.endswith(COMPILED)
+    return not (OF_SYSTEM.match(path) or OF_COMPILER.match(path)) or path.endswith(COMPILED)
 
 
 def may_ask(life: Life, name: str, texts: List[str]) -> bool:

@@ -24,9 +24,9 @@ class Moves(Replay):
         old, new = self.two(life, call)
         if not ok:
             self.put(life, "N" if old.inode is None else "S", old.path)
-            self.put(life, "N" if new.inode is None else "S", new.path)
-            if new.missing and new.missing != new.path:
-                self.put(life, "N", new.missing)
+            self.put_absent(life, new, "N" if new.inode is None else "S")
+            if call.error in ("ENOTEMPTY", "EEXIST"):
+                self.put(life, "x", new.path)  # that it holds something counts
             return
         self.put(life, "R", old.path)
         self.put(life, "c", new.path + "\0" + old.path)
@@ -68,7 +68,7 @@ class Moves(Replay):
         old, new = self.two(life, call)
         self.put(life, "R" if ok else "S" if old.inode else "N", old.path)
         if not ok:
-            self.put(life, "S" if call.error == "EEXIST" else "N", new.path)
+            self.put_absent(life, new, "S" if call.error == "EEXIST" else "N")
             return
         inode = old.inode or Inode("f")
         self.fresh.add(new.path)
@@ -89,7 +89,7 @@ class Moves(Replay):
             return
         found = self.found(life, words[1].rstrip("/"), False, where[-1] if where else life.folder)
         if not ok:
-            self.put(life, "S" if call.error == "EEXIST" else "N", found.path)
+            self.put_absent(life, found, "S" if call.error == "EEXIST" else "N")
             return
         self.fresh.add(found.path)
         self.put(life, "C", found.path)

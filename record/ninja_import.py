@@ -9,9 +9,9 @@ from record.graph import Build
 from record.lives import Life
 from record.names import Names
 from record.ninja_build import NinjaBuild, NinjaBuilder
-from record.ninja_log import Missing, ask_missing, version_of
+from record.ninja_log import Kept, Missing, ask_missing, version_of
 from record.ninja_manifest import Unreadable
-from record.ninja_runs import Kept, Ninja, Runs, removed_names
+from record.ninja_runs import Ninja, Runs, removed_names
 from record.owners import Owners
 
 

@@ -4,12 +4,11 @@ import getopt
 import os
 from collections import Counter
 from dataclasses import dataclass, field
-from pathlib import Path
 from typing import Callable, Dict, Iterator, List, Optional, Set, Tuple
 
 from record.lives import Life
 from record.names import Names
-from record.ninja_log import ends, new_outputs
+from record.ninja_log import Kept, ends, new_outputs, text_of
 from record.ninja_manifest import Edge, Manifest, Unreadable, read_dyndep, read_manifest
 from record.owners import Owners, Work
 
@@ -75,27 +74,6 @@ class Ninja:
             for edge in stage.manifest.edges:
                 if not edge.is_phony:
                     yield from ((target, asked) for asked in stage.manifest.aged(edge) for target in edge.makes())
-
-
-@dataclass
-class Kept:
-    """Manifests and logs as they were before the build, by path."""
-
-    texts: Dict[str, str] = field(default_factory=dict)
-
-    @staticmethod
-    def of(names: Names) -> "Kept":
-        """Of all that was walked."""
-        kept = Kept()
-        for path, kind in names.before.items():
-            if kind == "f" and (path.endswith(".ninja") or os.path.basename(path) in (".ninja_log", ".ninja_deps")):
-                kept.texts[path] = text_of(path)
-        return kept
-
-
-def text_of(path: str) -> str:
-    """A file's text; bytes that are none are kept."""
-    return Path(path).read_bytes().decode("utf-8", "surrogateescape")
 
 
 def options_of(argv: List[str]) -> "Optional[Tuple[Dict[str, str], List[str]]]":

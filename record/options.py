@@ -11,6 +11,19 @@ LONG_QUERIES = {"--version": "v", "--help": "h", "--just-print": "n", "--dry-run
 CLUSTER = re.compile(r"-([^-CfIoWjlOE][^CfIoWjlOE]*|)([CfIoWjlOE]?)(.*)$", re.S)
 LONG_WITH_WORD = ("--directory", "--file", "--makefile", "--include-dir", "--old-file", "--assume-old", "--what-if", "--new-file",
                   "--assume-new", "--eval")
+# What a locale settles besides the language of messages.
+CATEGORIES = ["LC_" + name for name in "CTYPE NUMERIC TIME COLLATE MONETARY PAPER NAME ADDRESS TELEPHONE MEASUREMENT IDENTIFICATION".split()]
+
+
+def speak_english(environment):
+    """Lets make print English words where it may print others; whether that changed the environment."""
+    spoken = next((environment[name] for name in ("LC_ALL", "LC_MESSAGES", "LANG") if environment.get(name)), "C")
+    if spoken in ("C", "POSIX") or re.match(r"(C|POSIX|en)\b|en_", spoken) and not environment.get("LANGUAGE"):
+        return False
+    if environment.get("LC_ALL"):
+        environment.update(dict.fromkeys(CATEGORIES, environment.pop("LC_ALL")))
+    environment["LC_MESSAGES"] = "C"
+    return True
 
 
 def letters(word):

@@ -9,9 +9,11 @@ from functools import cached_property
 from pathlib import Path
 from typing import TYPE_CHECKING, Dict, Iterable, List, Optional, Set, Tuple
 
+from record.database import Base
 from record.globs import listed, patterns
 from record.lives import Act, Key, Life
 from record.options import asks_jobs
+from record.programs import Programs
 from record.words import SEVERAL, Job, Round, Words, makefiles
 
 if TYPE_CHECKING:
@@ -51,6 +53,7 @@ class Make:
     looked: Dict[str, Dict[str, int]] = field(default_factory=dict)  # name as make spells it: the paths that it led to, and when first
     lists: List[Tuple[int, str]] = field(default_factory=list)  # each list of a folder that it read by itself, or piece of one
     first_looks: Dict[int, Dict[str, int]] = field(default_factory=dict)  # by start and target: when make first looked at it
+    stale: Set[str] = field(default_factory=set)  # makefiles that say something else by now
     pieces: List[Tuple[int, List[Tuple[str, str, int]]]] = field(default_factory=list)  # what it did by itself, where it expands prerequisites late
 
     @cached_property
@@ -60,6 +63,21 @@ class Make:
         for act in self.life.acts:
             found.setdefault(act.path, set()).add(act.kind)
         return found
+
+    @cached_property
+    def reads(self) -> Dict[str, List[int]]:
+        """By path: when it read that by itself."""
+        found: Dict[str, List[int]] = {}
+        for act in self.life.acts:
+            if act.kind == "R":
+                found.setdefault(act.path, []).append(act.place)
+        return found
+
+    def is_stale(self, name: str, written: Dict[str, Tuple[int, int]]) -> bool:
+        """Whether the build has written a makefile before it read that, and after it. `written`: when each file was first and last written."""
+        path = os.path.normpath(os.path.join(self.folder, name))
+        first, last = written.get(path, (0, 0))
+        return any(first < place < last for place in self.reads.get(path, ()))
 
     def never_read(self, name: str) -> bool:
         """Whether it looked for a makefile, as for `-include`, and found none: that one says nothing."""
@@ -102,6 +120,25 @@ def places_of(wanted: List[int], there: List[int]) -> List[int]:
     return found
 
 
+def take_piece(work: Work, ran: Work, events: List[Tuple[str, str, int]]) -> None:
+    """What make did by itself, and what it ran for that, belongs to a recipe."""
+    work.lives += ran.lives
+    work.makes += ran.makes
+    for kind, path, place in events:
+        work.add(kind, path, place)
+
+
+def written_by(lives: List[Life]) -> Dict[str, Tuple[int, int]]:
+    """When each file was first and last written."""
+    found: Dict[str, Tuple[int, int]] = {}
+    for life in lives:
+        for path, last in life.changed.items():
+            first = min(life.events.get((kind, path), last) for kind in "WCD")
+            known = found.get(path, (first, last))
+            found[path] = (min(first, known[0]), max(last, known[1]))
+    return found
+
+
 class Owners:
     """Brings the words of makes and the lives of processes together."""
 
@@ -110,8 +147,10 @@ class Owners:
         self.holes: List[str] = []
         self.makes: List[Make] = []
         self.of_life: Dict[int, Make] = {}
+        self.written = written_by(lives)
         self.jobs: Dict[int, Job] = {}  # by id of a life that make started
         self.births: Dict[int, int] = {}  # by id of a job: when its first process was born
+        self.lasts: Dict[int, int] = {}  # by id of a job: when its last process was born
         by_key = {(w.pid, w.life): w for w in words}
         for life in lives:
             if life.is_make and life.number >= 0:
@@ -131,6 +170,7 @@ class Owners:
 
     def add_make(self, life: Life, words: Words) -> None:
         make = Make(words, life, self.folder_of(life, words))
+        make.stale = {name for name in makefiles(words) if make.is_stale(name, self.written)}
         make.globs, make.listed_first = self.patterns_of(make)
         self.makes.append(make)
         self.of_life[id(life)] = make
@@ -154,6 +194,8 @@ class Owners:
     def patterns_of(make: Make) -> Tuple[List[str], List[str]]:
         """The patterns of `$(wildcard ..)` in the makefiles that were read, and those of rules."""
         texts = [make.words.args, make.words.flags]
+        if make.stale:
+            return ["*"], []
         for name in makefiles(make.words):
             try:
                 texts.append(Path(make.folder, name).read_text(errors="replace"))
@@ -176,6 +218,7 @@ class Owners:
             job = self.jobs.get(id(life))
             if job is not None:
                 self.births[id(job)] = min(life.born, self.births.get(id(job), life.born))
+                self.lasts[id(job)] = max(life.born, self.lasts.get(id(job), life.born))
         for one in make.words.rounds:
             births = [self.births.get(id(job), -1) for job in one.jobs]
             if any(b < 0 for b in births):
@@ -265,17 +308,14 @@ class Owners:
     def place_acts(self, make: Make, start: int, ready: int, end: int) -> None:
         """Gives what make did itself, after it had read, to the targets that were being made then."""
         rounds = [(n, r) for n, r in enumerate(make.words.rounds) if r.start == start]
-        table: List[Tuple[int, int, int]] = []  # birth, round, jobs of the round so far
-        for number, one in rounds:
-            for job in one.jobs:
-                table.append((self.births.get(id(job), 0), number, job.number + 1))
-        table.sort()
+        table = sorted((self.births.get(id(job), 0), number, job.number + 1) for number, one in rounds for job in one.jobs)  # the last: jobs of the round so far
         births = [t[0] for t in table]
         names = {n for _, r in rounds for n in r.nodes} | {v for _, r in rounds for v in r.vpath.values()}
         apart = self.removed_last(make) | self.read_archives(make, names)
+        programs = Programs(make)
         pieces: List[Tuple[int, List[Tuple[str, str, int]], Work]] = []
         for act in make.life.acts:
-            if ready < act.place < end and not (act.word and act.word in names) and id(act) not in apart:
+            if ready < act.place < end and (act.word not in names or programs.are_at(act.word)) and id(act) not in apart:
                 pieces.append((act.place, [(act.kind, act.path, act.place)], Work()))
         for life in make.life.children:
             if id(life) not in self.jobs and ready < life.born < end:
@@ -286,13 +326,15 @@ class Owners:
         if any(r.base is not None and ".SECONDEXPANSION" in r.base.prerequisites for _, r in rounds):
             make.pieces += [(place, events) for place, events, _ in pieces]
         for place, events, ran in pieces:
-            owners = self.owners_at(make, rounds, table, births, place)
-            for number, target in {o for o in owners if looks.get(o[1], -1) < place} or owners:
-                work = make.acts.setdefault((number, target), Work())
-                work.lives += ran.lives
-                work.makes += ran.makes
-                for kind, path, when in events:
-                    work.add(kind, path, when)
+            at = bisect.bisect_right(births, place)
+            before = make.words.rounds[table[at - 1][1]].jobs[table[at - 1][2] - 1] if at else None
+            last = self.lasts.get(id(before), 0)
+            if before is not None and (place < last or not before.is_ended):  # make starts a line of a recipe
+                take_piece(make.work.setdefault(id(before), Work()), ran, events)
+            if place > last:
+                owners = self.owners_at(make, rounds, table, at)
+                for number, target in {o for o in owners if looks.get(o[1], -1) < place} or owners:
+                    take_piece(make.acts.setdefault((number, target), Work()), ran, events)
 
     def removed_last(self, make: Make) -> Set[int]:
         """Where make removes intermediate files, once no recipe runs any more: that is beside nothing. The acts, by their ids."""
@@ -318,9 +360,8 @@ class Owners:
         return found
 
     @staticmethod
-    def owners_at(make: Make, rounds: List[Tuple[int, Round]], table: List[Tuple[int, int, int]], births: List[int], place: int) -> Set[Tuple[int, str]]:
-        """The targets that were being made at a place: those that had to be since the last job, and that of the next."""
-        at = bisect.bisect_right(births, place)
+    def owners_at(make: Make, rounds: List[Tuple[int, Round]], table: List[Tuple[int, int, int]], at: int) -> Set[Tuple[int, str]]:
+        """The targets that were being made when so many jobs had begun: those that had to be since the last job, and that of the next."""
         owners: Set[Tuple[int, str]] = set()
         before: Optional[Tuple[int, int]] = (table[at - 1][1], table[at - 1][2]) if at else None
         if at < len(table):
@@ -332,6 +373,6 @@ class Owners:
                 continue
             if before is None and at < len(table) and number != table[at][1] and one.jobs:
                 continue
-            recipes = one.base.recipes if one.base else {}
-            owners.update((number, t) for t in one.due.get(done, ()) if t in recipes)
+            base = one.base or Base()
+            owners.update((number, t) for t in one.due.get(done, ()) if t in base.recipes or t not in base.prerequisites)  # a name like `x:` may not be read
         return owners

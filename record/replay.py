@@ -201,6 +201,12 @@ class Replay:
         if not ok and found.missing and found.missing != found.path:
             self.put(life, "P", found.missing)
 
+    def put_absent(self, life: Life, found: Found, kind: str) -> None:
+        """A name that could not be made: that its folder is absent counts too."""
+        self.put(life, kind, found.path)
+        if found.missing and found.missing != found.path:
+            self.put(life, "N", found.missing)
+
     def write(self, life: Life, found: Found, created: bool) -> None:
         if found.inode is None and found.folder is not None:
             found.inode = Inode("f")

@@ -12,7 +12,7 @@ ANY = "\x01"  # what stands for the first part of a name
 def stems(target: str, name: str) -> Iterator[Tuple[str, str]]:
     """The stem by which a pattern fits a name, and the folder that is put in front of prerequisites."""
     head, _, tail = target.partition("%")
-    if not name.endswith(tail):  # as of most
+    if not name.endswith(tail):
         return
     folder, last = ("", name) if "/" in target or name.endswith(")") else os.path.split(name)
     if last.startswith(head) and last.endswith(tail) and len(last) > len(head) + len(tail):
@@ -34,7 +34,7 @@ def names_asked(base: Base, name: str, depth: int) -> Set[str]:
 def step(base: Base, name: str, is_first: bool) -> Iterable[Tuple[str, bool]]:
     """The names that one step of the search looks for, and whether it ends there, as by a rule with two colons. A rule for all names is
     not for those that another rule fits, nor for those of a further step, unless the search ends there."""
-    fits = [(at, stem, folder, target) for at, (targets, _) in enumerate(base.patterns) for target in targets for stem, folder in stems(target, name)]
+    fits = [(at, stem, folder, target) for at, target, tail in base.tails if name.endswith(tail) for stem, folder in stems(target, name)]
     is_open = is_first and all(target == "%" for _, _, _, target in fits)
     for at, stem, folder, target in fits:
         if is_open or target != "%" or at in base.terminal:

@@ -1,10 +1,11 @@
 """What the words of a process say: folders made for oneself, patterns of names, ages that are compared."""
 
-import filecmp
 import os
 import re
 from functools import lru_cache
 from typing import Iterable, List, Optional, Set, Tuple
+
+from record.system import OF_SYSTEM
 
 SHELLS = ("sh", "dash", "bash", "ksh", "zsh", "ash")
 NAMES_NEXT = re.compile(r"[-+]\w*[oO]\w*|--rcfile|--init-file")  # options of a shell whose value is the next word
@@ -18,6 +19,7 @@ AGELESS = frozenset((
 VERSIONED = re.compile(r"(?:[\w.]+-linux-gnu-)?([a-z+\[.][a-z0-9+.]*?)(?:-[\d.]+)?$")
 PROGRESS = ("cmake_progress_start", "cmake_progress_report", "cmake_echo_color")
 SORTERS = ("make", "gmake", "rm", "chmod", "chown", "rmdir", "git")  # a folder that `cp` or `mv` copies gets its names in that order
+COMPRESSORS = ("gzip", "pigz", "bzip2", "xz", "lzma", "lzip", "zstd", "compress")  # they refuse a file that has two names
 MAKERS = ("install-sh", "mkinstalldirs", "libtool")
 EXTUTILS = re.compile(r"-MExtUtils::Command -e mkpath$|-MExtUtils::Install -e pm_to_blib\(")  # what Perl's makefiles make folders by
 TOOLS = re.compile(r"/usr/(?:local/)?bin/(?:makeinfo|texi2any|pod2man|pod2text|help2man)$")  # scripts of the system that compare no ages
@@ -32,9 +34,9 @@ READ_TIMES = re.compile(r"(?:\btest|\[)\s[^;&|\n]*-N\s|\bfind\b[^;|\n]*\s-(?:ane
 QUALIFIED = re.compile(r"[\w*?\])/>]\(")  # a pattern of zsh that may ask for ages, as `*(om)` does
 KEPT = 4096  # how many files are remembered
 LARGE = 1 << 18  # how much of a script is read
-MAKES = ("make", "gmake", "remake")
 PASSING = ("env", "nice", "ionice", "setsid", "timeout", "flock", "time", "stdbuf")  # they leave errors to who runs in their place
-GLOB_WORD = re.compile(r"[^\s;|&<>()'\"`=]*[*?\[][^\s;|&<>()'\"`]*")
+WORD = re.compile(r"[^\s;|&<>()'\"`]+")  # a text without a word may be long: each sign is looked at once
+MAGIC = re.compile(r"[*?\[]")
 TIME_OF_STAT = re.compile(r"%[-+ 0#'\d.]*[WXYZwxyz]|\s(-\w*t|--t)")
 FORMAT_OF_STAT = re.compile(r"\s(-\w*c|--f|--p)")
 # The words by which a program shows or compares ages, by its name.
@@ -131,8 +133,12 @@ def glob_words(text: str) -> List[str]:
     """The words of a shell's text with patterns, as loose patterns. A word that goes on behind a quote, or behind a backslash and a blank,
     may hold any text there."""
     found = []
-    for match in GLOB_WORD.finditer(text):
-        word, before, behind = match.group(), text[:match.start()], text[match.end():]
+    for match in WORD.finditer(text):
+        sign = MAGIC.search(match.group())
+        if sign is None:
+            continue
+        start = match.start() + match.group().rfind("=", 0, sign.start()) + 1  # behind an assignment
+        word, before, behind = text[start:match.end()], text[max(0, start - 2):start], text[match.end():match.end() + 1]
         bare = word.rstrip("\\")
         begins = "*" if before[-1:] in ("'", '"', "=") or before[-2:-1] == "\\" else ""
         ends = "*" if behind[:1] in ("'", '"') or bare != word else ""
@@ -153,7 +159,7 @@ def loose(pattern: str) -> str:
 def is_quiet_mkdir(argv: List[str]) -> bool:
     """`mkdir -p` or `install -d`, which do not show whether the folder was there."""
     name, words = base_name(argv), argv[1:]
-    loud = any(w == "--verbose" or re.match(r"-[a-zA-Z]*v", w) for w in words)
+    loud = any(w.startswith("--v") or re.match(r"-[a-zA-Z]*v", w) for w in words)
     if name == "mkdir":
         return not loud and any(w == "--parents" or re.match(r"-[a-zA-Z]*p", w) for w in words)
     return name in ("install", "ginstall") and not loud and any(w == "--directory" or re.match(r"-[a-zA-Z]*[dD]", w) for w in words)
@@ -224,8 +230,8 @@ def is_excused(argv: List[str], folder: str) -> bool:
     text = shell_text(argv)
     if not any(folder.endswith("/" + s.lstrip("./")) for s in quiet_folders(text)):
         return False
-    looks = re.sub(r"\binstall\s+-d\b", "install", text)
-    return len(re.findall(r"(?:-[defrwxs]\s+|\bls\s+|\bstat\s+)\S*" + re.escape(os.path.basename(folder)) + r"(?![\w./-])", looks)) <= 1
+    looks, name = re.sub(r"\binstall\s+-d\b", "install", text), re.escape(os.path.basename(folder)) + r"(?![\w./-])"
+    return all(len(re.findall(begins + name, looks)) <= 1 for begins in (r"(?:-[defrwxs]\s+|\bls\s+|\bstat\s+)\S*", r"\bmkdir\s+(?!-p\b|--p)[^;&|\n]*?"))
 
 
 def spelled_by(form: "re.Match[str]") -> List[str]:
@@ -337,8 +343,8 @@ def looks_at_links(argv: List[str]) -> bool:
     if name == "stat":
         return "%h" in text or not re.search(r"-c|--format|--printf", text)
     if name == "ls":
-        return bool(re.search(r"\s-\w*[lnogs]", text))
-    if name in ("find", "tar", "rsync", "cpio"):
+        return bool(re.search(r"\s(-\w*[lnogs]|--(fo|fu))", text))
+    if name in ("find", "tar", "rsync", "cpio", *COMPRESSORS):
         return name != "find" or bool(re.search(r"-links|-printf|-ls|-samefile", text))
     return bool(INTERPRETERS.match(name)) and "-c" not in argv[:1] and ("stat" in text)
 
@@ -361,19 +367,9 @@ def sets_options_in(path: str) -> bool:
 def takes_in(argv: List[str], path: str) -> bool:
     """Whether a shell with a text of its own that reads a file may take it in, as by `BASH_ENV`: its text does not name it as input."""
     text = shell_text(argv)
-    if not text or path.startswith(("/usr/", "/lib", "/etc/", "/proc/", "/dev/")):
+    if not text or OF_SYSTEM.match(path):
         return False
     return not re.search(r"<\s*[^\s;|&<>()]*" + re.escape(os.path.basename(path)), text)
-
-
-@lru_cache(KEPT)
-def is_other_make(path: str, real: str) -> bool:
-    """Whether a program is a make beside the one that the recorder knows: a copy of it under another name, or another of its name."""
-    try:
-        is_named = os.path.basename(path) in MAKES and not first_words(path)
-        return is_named or os.path.getsize(path) == os.path.getsize(real) and filecmp.cmp(path, real, shallow=False)
-    except OSError:
-        return False
 
 
 def hands_on(argv: List[str]) -> bool:

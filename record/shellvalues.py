@@ -12,9 +12,9 @@ from typing import FrozenSet, Iterable, Iterator, List, NamedTuple, Optional, Se
 from record import shelltext
 from record.lives import Life
 from record.shellwords import HIDES, RESERVED, Cutter, Piece, Reader, Script, Setting, Unread, Word
+from record.system import OF_SYSTEM
 
 MAGIC = re.compile(r"[*?\[]")
-SYSTEM = re.compile(r"/(?:bin|sbin|lib\w*|usr|etc|dev|proc)(?:/|$)")
 ANY, ONE, BLANK = "\x01", "\x03", "\x04"  # some text without a pattern, one sign that is none, a blank that does not cut a word
 LIMIT, DEPTH, KEPT = 64, 6, 1024
 PLAIN = {"echo", "printf", "test", "[", "cd", "pwd", "true", "false", ":", "read", "type", "command", "kill", "umask", "ulimit", "wait", "times", "dirs", "jobs", "fc",
@@ -49,7 +49,7 @@ def patterns_in(life: Life, where: str) -> List[str]:
     found = patterns_of(text)
     if found is None or found[1] and not found[1].isdisjoint(programs_of(life)):
         return []
-    is_sure = not any(kind == "R" and not SYSTEM.match(path) and (os.path.islink(path) or not os.path.lexists(path)) for kind, path in life.events)
+    is_sure = not any(kind == "R" and not OF_SYSTEM.match(path) and (os.path.islink(path) or not os.path.lexists(path)) for kind, path in life.events)
     return sorted({one.part for one in found[0] if not one.folder or not is_sure or fnmatchcase(where, "*/" + one.folder)})
 
 

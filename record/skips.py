@@ -7,6 +7,7 @@ import re
 from pathlib import Path
 from typing import Callable, Iterable, Iterator, List, Optional, Set
 
+from record.arguments import read_ahead
 from record.strace import unescape
 
 PIECE, WAIT = 1 << 18, 0.05  # bytes of a piece; seconds until more may be there
@@ -100,8 +101,8 @@ def pieces(trace: Path, has_ended: Callable[[float], object]) -> Iterator[bytes]
 
 
 def sift(trace: Path, tops: List[str], to: Path, has_ended: Callable[[float], object] = lambda seconds: True) -> None:
-    """Writes what has to be read of a trace, also while that is written. No file is there where somebody changes a name of the system's
-    folders: then all of the trace has to be read."""
+    """Writes what has to be read of a trace, also while that is written, and then reads ahead in it. No file is there where somebody
+    changes a name of the system's folders: then all of the trace has to be read."""
     skip, part = skipping(tops), to.with_suffix(".part")
     if skip is None:
         return
@@ -111,4 +112,6 @@ def sift(trace: Path, tops: List[str], to: Path, has_ended: Callable[[float], ob
             if has_change(left, skip.changes):
                 return
             file.write(left)
+            if not has_ended(0):
+                read_ahead(left.decode("latin-1").split("\n"))
     part.rename(to)

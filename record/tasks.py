@@ -1,9 +1,10 @@
 """The text of tasks that `race` reads: one JSON object a task."""
 
 import json
-from typing import Any, Dict, Iterator, List, Mapping, Sequence, Set, Tuple
+from typing import TYPE_CHECKING, Any, Dict, Iterator, List, Mapping, Sequence, Set, Tuple
 
-from record.graph import Task
+if TYPE_CHECKING:
+    from record.graph import Task
 
 LABEL_LIMIT = 4096
 
@@ -20,7 +21,7 @@ def relative(root: str, path: str) -> str:
     return shown(path)
 
 
-def labels_of(tasks: List[Task]) -> List[str]:
+def labels_of(tasks: "List[Task]") -> List[str]:
     """A label for each task, no two the same."""
     used: Set[str] = set()
     found = []
@@ -35,7 +36,7 @@ def labels_of(tasks: List[Task]) -> List[str]:
     return found
 
 
-def lines_of(tasks: Sequence[Task], root: str, labels: List[str], more: Mapping[int, Dict[str, Any]] = {}) -> Iterator[Tuple[str, str]]:
+def lines_of(tasks: "Sequence[Task]", root: str, labels: List[str], more: Mapping[int, Dict[str, Any]] = {}) -> Iterator[Tuple[str, str]]:
     """Labels and lines of the text; long lists of prerequisites that many share stand once. `more` are keys of some tasks."""
     share: Dict[Tuple[int, ...], int] = {}
     for task in tasks:

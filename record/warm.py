@@ -20,15 +20,25 @@ def warm_names(builds: List[Build], ninjas: List[Ninja], names: Names) -> List[s
     """
     found: Set[str] = set()
     left = {path for build in builds for path in left_folders(build, builds, names)}
+    beyond: Set[str] = set()
     for build in builds:
         if build.tool == "make" and build.stage == "goals":
-            found.update(node.path for node in build.graph.nodes.values() if node.has_recipe and not node.phony and not is_new_link(build, node, names))
+            nodes = [node for node in build.graph.nodes.values() if node.has_recipe and not node.phony]
+            found.update(node.path for node in nodes if not is_new_link(build, node, names))
+            beyond.update(node.path for node in nodes if not (node.jobs or node.must) and is_beyond(node.path, names))
     for build in builds:
         if build.tool == "make" and build.stage == "makefiles":
             found.difference_update(node.path for node in build.graph.nodes.values())
     for ninja in ninjas:
-        found.update(targets_of(ninja, names))
-    return sorted({*left, *(path for path in found if names.before.get(path) in ("f", "l"))})
+        ran = {id(job.edge) for stage in ninja.stages for job in stage.jobs}
+        found.update(targets_of(ninja, names, set()))
+        beyond.update(path for path in targets_of(ninja, names, ran) if is_beyond(path, names))
+    return sorted({*left, *(path for path in found if names.before.get(path) in ("f", "l")), *beyond & found})
+
+
+def is_beyond(path: str, names: Names) -> bool:
+    """Whether a file is there outside of the project: the tree before the build does not say so."""
+    return not any(is_below(path, top) for top in names.tops) and os.path.isfile(path)
 
 
 def left_folders(build: Build, builds: List[Build], names: Names) -> Iterator[str]:
@@ -60,9 +70,9 @@ def is_new_link(build: Build, node: Node, names: Names) -> bool:
     return os.path.islink(own) and own not in names.before
 
 
-def targets_of(ninja: Ninja, names: Names) -> Set[str]:
-    """Outputs of the statements with commands below a ninja's goals; of all where a goal is not known."""
-    edges = [edge for edge in ninja.wanted() if not edge.is_phony and not edge.is_generator]
+def targets_of(ninja: Ninja, names: Names, but: Set[int]) -> Set[str]:
+    """Outputs of the statements with commands below a ninja's goals, except some by their ids; of all where a goal is not known."""
+    edges = [edge for edge in ninja.wanted() if not edge.is_phony and not edge.is_generator and id(edge) not in but]
     return {names.find(ninja.folder, path, True).path for edge in edges for path in edge.makes()}
 
 

@@ -14,7 +14,7 @@ CONSIDERED = re.compile(r"^( *)(Considering target file|Pruning file) '(.*)'\.$|
 VPATH = re.compile(r"^ *No need to remake target '(.*)'; using VPATH name '(.*)'\.$")
 FINISHED = re.compile(r"^ *Finished prerequisites of target file '(.*)'\.$")
 MUST = re.compile(r"^ *Must remake target '(.*)'\.$")
-FAILED = re.compile(r"^ *Failed to remake target file '(.*)'\.$")
+FAILED = re.compile(r"^ *(?:Failed to remake|Giving up on) target file '(.*)'\.$")
 RUNNING = re.compile(r" *Recipe of '")  # make says so where it does not wait for a recipe
 SEVERAL = "a makefile or GNUMAKEFLAGS asks for several jobs, and so they ran; say -j1: make "
 READING = re.compile(r"^Reading makefile '(.*)'((?: \([^)]*\))*)\.\.\.$")
@@ -28,6 +28,7 @@ class Job:
     number: int
     pids: List[int] = field(default_factory=list)
     is_said: bool = False  # it printed something, or make did so for it, and somebody keeps that
+    is_ended: bool = False  # make has said so; it does not where the last line names a program that is not there, and may fail
 
 
 @dataclass
@@ -62,6 +63,16 @@ class Round:
             found.setdefault(count, []).append(target)
         return found
 
+    def below(self, name: str) -> Set[str]:
+        """A target, and all that it needs, by way of others too."""
+        found, todo = {name}, [name]
+        while todo:
+            node = self.nodes.get(todo.pop())
+            fresh = set(node.prerequisites) - found if node is not None else set()
+            found |= fresh
+            todo.extend(fresh)
+        return found
+
 
 @dataclass
 class Words:
@@ -75,6 +86,7 @@ class Words:
     slots: str = ""  # how many jobs its own words ask for: digits, or `all`
     output: str = ""  # where its output goes, if that is not the build's own: `file` or `pipe`
     errors: str = ""  # the same of standard error, where that is not with its output
+    spoken: bool = False  # it would have spoken another language than English
     version: str = ""
     status: Optional[int] = None
     rounds: List[Round] = field(default_factory=list)
@@ -119,15 +131,18 @@ class _Reader:
     def child(self, what: str, pointer: str, name: str, pid: int) -> None:
         if self.round is None:
             return
-        if what == "Putting child":
-            job = Job(name, len(self.round.jobs))
-            self.round.jobs.append(job)
-            self.children[pointer] = job
         owner = self.children.get(pointer)
-        if owner is not None and owner.pids[-1:] != [pid]:
-            owner.pids.append(pid)
-            self.words.jobs.setdefault(pid, []).append(owner)
-            self.words.processes.append((pid, owner))
+        if what == "Putting child" or what == "Live child" and (owner is None or owner.target != name):  # the first line that ran was not the first
+            owner = self.children[pointer] = Job(name, len(self.round.jobs))
+            self.round.jobs.append(owner)
+        if what == "Removing child":
+            self.children.pop(pointer, None)
+        if owner is not None:
+            if owner.pids[-1:] != [pid]:
+                owner.pids.append(pid)
+                self.words.jobs.setdefault(pid, []).append(owner)
+                self.words.processes.append((pid, owner))
+            owner.is_ended = what == "Removing child"
 
     def considered(self, depth: int, name: str) -> None:
         assert self.round is not None
@@ -173,6 +188,8 @@ class _Reader:
             words.output = text[7:]
         elif text.startswith("ERRORS "):
             words.errors = text[7:]
+        elif text.startswith("SPOKEN "):
+            words.spoken = text == "SPOKEN 1"
         elif text.startswith("SAID ") and text[5:] in self.children:
             self.children[text[5:]].is_said = True
         elif text.startswith("Need a job token; ") or RUNNING.match(text):
@@ -226,12 +243,12 @@ def take_base(words: Words, lines: List[str]) -> None:
 
 
 def failures(words: Words) -> Iterator[str]:
-    """Recipes that failed, and make went on, since no makefile has to be there that needs them. Of what such a makefile needs besides, one
-    job runs nothing more, and several run it."""
+    """Recipes that failed, or targets that were given up when recipes had run for them, and make went on, since no makefile has to be there
+    that needs them. Of what such a makefile needs besides, one job runs nothing more, and several run it."""
     for one in words.rounds:
         ran, needed = {job.target for job in one.jobs}, {name for node in one.nodes.values() for name in node.prerequisites}
         for name in one.failed if one.stage == "makefiles" else ():
-            if name in ran & needed:
+            if name in needed and not ran.isdisjoint(one.below(name)):
                 yield "a recipe failed for a makefile that need not be there, and what stands behind it did not run: %s" % name
 
 
@@ -254,6 +271,8 @@ def read_words(pid: int, life: int, lines: Iterable[str]) -> Words:
     if base:
         take_base(words, base)
     words.holes += failures(words)
+    if not words.read:
+        words.holes.append("a make says nothing that the recorder knows, as in another language: make " + words.args)
     if bases != len(words.read):
         words.holes.append("a make that began %d times printed %d data bases: make %s" % (len(words.read), bases, words.args))
     return words

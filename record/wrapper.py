@@ -1,6 +1,6 @@
 """Stands in front of GNU make while a build is recorded.
 
-`race-record` writes options.py and this file to SPOOL/bin/make, first on PATH, as a program of its own. It runs the real make (named
+`race-record` compiles options.py and this file for SPOOL/bin/make, first on PATH, a program of its own. It runs the real make (named
 in SPOOL/real) with words that let it say what it considers, takes make's own lines out of standard output again, into
 SPOOL/PID.make, and passes everything else on byte for byte. Queries (`make -n`, `-q`, `-t`, `-p`, `-v`, `-h`) and makes
 that were asked for debug words run untouched.
@@ -13,7 +13,7 @@ import signal
 import stat
 import sys
 
-from record.options import WORDS, asked, asks_jobs, jobs_of_call, plain_args, without_words
+from record.options import WORDS, asked, asks_jobs, jobs_of_call, plain_args, speak_english, without_words
 
 VERSION_LINE = re.compile(rb"# (GNU Make \d|Built for |Copyright \(C\)|License |This is free software|There is NO WARR)")
 QUOTED = rb"'[^\n]*'"
@@ -30,10 +30,11 @@ WORD_LINE = re.compile(
     rb"|Makefile " + QUOTED + rb" might loop; not remaking it\.$|Re-executing\[\d+\]:"
     rb"|Removing intermediate files\.\.\.$|Got a SIGCHLD; \d+ unreaped|(Putting|Live|Reaping winning|Reaping losing|Removing) child 0x[0-9a-f]+ "
     rb"|(Released|Obtained) token for child 0x|Need a job token; we |Jobserver (setup|client) \()")
+LOOKED = re.compile(rb" *(?:Considering target file|Pruning file) '[^\n]*'\.\n\Z")
 TOKEN = re.compile(rb"Need a job token; we |Obtained token for child 0x|Jobserver setup \(")
 RUNNING = re.compile(rb" *Recipe of '(.*)' is being run\.\n")  # make does not wait for it: with no bound on jobs it asks for no token
 MUST = re.compile(rb" *Must remake target '(.*)'\.\n")
-STARTED = re.compile(rb"Putting child (0x[0-9a-f]+) \((.*)\) PID ")
+STARTED = re.compile(rb"(?:Putting|Live) child (0x[0-9a-f]+) \((.*)\) PID ")  # no line is put where the first names a program that is not there
 REMADE = re.compile(rb" *(?:Successfully remade|Failed to remake) target file '(.*)'\.\n")
 OF_JOB = re.compile(rb"(Live|Reaping winning|Reaping losing|Removing) child (0x[0-9a-f]+) |Got a SIGCHLD; \d+ unreaped")
 INCLUDED = re.compile(rb"Reading makefile " + QUOTED + rb"( \([^)]*\))+\.\.\.\n")
@@ -80,6 +81,7 @@ class Splitter:
         self.next = None  # the target that make is about to remake
         self.job = b""  # the recipe that runs, by make's number for it
         self.target = b""  # its target
+        self.is_between = False  # one of its lines has ended, and make has not started the next
         self.unclear = []  # what looks like the data base, and may be the first words of a recipe
         self.several = False  # make runs several recipes at once, against the recorder's words: there is no verdict
         self.says = says  # the log says which recipes print something
@@ -102,7 +104,7 @@ class Splitter:
 
     def begin(self, job):
         """Make has started a recipe."""
-        self.job, self.target, self.next, self.has_said = job, self.next, None, False
+        self.job, self.target, self.next, self.has_said, self.is_between = job, self.next, None, False, False
 
     def is_of_recipe(self, packet):
         """Whether a write comes while a recipe runs, and is not one of make's lines about it."""
@@ -115,10 +117,19 @@ class Splitter:
             return self.is_early(packet)
         about = OF_JOB.match(packet)
         if about is None or about.group(2) not in (None, self.job):
-            return True
+            return not self.is_last(packet)
+        self.is_between = about.group(1) != b"Live"
         if about.group(1) == b"Removing":
             self.job = b""
         return False
+
+    def is_last(self, packet):
+        """Whether make goes on without a line about the end of the recipe: its last line names a program that is not there, and may fail."""
+        remade = REMADE.match(packet) if self.is_between else None
+        if remade is None or remade.group(1) != self.target:
+            return False
+        self.job = b""
+        return True
 
     def is_early(self, packet):
         """The same where no recipe runs for all that make has said: its first words may come before make's line about it.
@@ -139,6 +150,10 @@ class Splitter:
     def take(self, data):
         """What was read: one write of make or of a recipe. Where a recipe has opened /dev/stdout anew, what make writes behind its words may
         come with them."""
+        if self.next is None and not (self.job or self.unclear or self.base or self.blank) and LOOKED.match(data):  # as nearly all are
+            self.start = self.tail = self.is_said = False
+            self.log.write(data)
+            return
         first, data = self.cut(data, False)
         self.take_one(first)
         while data:
@@ -310,9 +325,9 @@ def is_closed(number):
     return False
 
 
-def head_of(args, flags, below, slots, where, errors):
-    """The first lines of a log: the words of make, and where its output goes."""
-    lines = (("ARGS", " ".join(args)), ("FLAGS", flags), ("BELOW", "%d" % below), ("JOBS", slots), ("OUTPUT", where), ("ERRORS", errors))
+def head_of(args, flags, below, slots, where, errors, spoken):
+    """The first lines of a log: the words of make, where its output goes, and whether it speaks English for the recorder alone."""
+    lines = (("ARGS", " ".join(args)), ("FLAGS", flags), ("BELOW", "%d" % below), ("JOBS", slots), ("OUTPUT", where), ("ERRORS", errors), ("SPOKEN", "%d" % spoken))
     return "".join("%s %s\n" % (key, text.replace("\n", " ")) for key, text in lines).encode("utf-8", "surrogateescape")
 
 
@@ -324,7 +339,7 @@ def as_usual():
 
 def run_logged(spool, name, real, args, flags, below, slots):
     """Runs make with the recorder's words and keeps what it says; gives its raw status."""
-    extra = WORDS + (["-j1"] if asks_jobs(args, flags) else [])
+    extra, spoken = WORDS + (["-j1"] if asks_jobs(args, flags) else []), speak_english(os.environ)
     where, errors = goes_to(spool, 1), "" if is_one_file(1, 2) else goes_to(spool, 2)
     split = args.index("--") if "--" in args else len(args)
     reading, writing = os.pipe2(os.O_DIRECT | os.O_CLOEXEC)
@@ -340,10 +355,10 @@ def run_logged(spool, name, real, args, flags, below, slots):
     signal.signal(signal.SIGTERM, lambda *_: os.kill(child, signal.SIGTERM))
     with open_log(spool, child) as log:
         note_start(log.name, real, name, args)
-        log.write(head_of(args, flags, below, slots, where, errors))
+        log.write(head_of(args, flags, below, slots, where, errors, spoken))
         try:
             raw = serve(Splitter(log, 1, where != ""), child, reading)
-        except BrokenPipeError:
+        except OSError:  # nobody reads it, or the device is full: make finds that out by itself
             os.close(reading)
             raw = os.waitpid(child, 0)[1]
         log.write(b"EXIT %d\n" % raw)
@@ -375,10 +390,8 @@ def main():
         os.execv(real, [name] + args)
     raw = run_logged(spool, name, real, args, flags, below, slots)
     if os.WIFSIGNALED(raw):
-        signal.signal(os.WTERMSIG(raw), signal.SIG_DFL)
+        if os.WTERMSIG(raw) != signal.SIGKILL:
+            signal.signal(os.WTERMSIG(raw), signal.SIG_DFL)
         os.kill(os.getpid(), os.WTERMSIG(raw))
     sys.exit(os.WEXITSTATUS(raw))
 
-
-if __name__ == "__main__":
-    main()

@@ -20,7 +20,8 @@ from fuzz_projects import Project
 HERE = Path(__file__).resolve().parent
 sys.path.insert(0, str(HERE.parent.parent))
 
-import record.main  # noqa: E402,F401  (once, for all recordings of this process)
+import record.importing  # noqa: E402,F401  (once, for all recordings of this process)
+import record.main  # noqa: E402,F401
 from record.assumptions import TEXTS  # noqa: E402
 
 RECORDER = HERE.parent.parent / "record" / "race-record"

@@ -27,9 +27,9 @@ def changed(name: str) -> str:
 
 WARM: List[Guard] = [
     Guard("ninja, warm: no yes", "main.py", "if ended == 0 and record.warm and not (options.warm or record.stands_alone):", "if False:", ninja("warm"), LOST_HOLE),
-    Guard("ninja, warm: outputs that were there", "warm.py", "        found.update(targets_of(ninja, names))\n", "        pass\n", ninja("warm"), LOST_HOLE),
+    Guard("ninja, warm: outputs that were there", "warm.py", "        found.update(targets_of(ninja, names, set()))\n", "        pass\n", ninja("warm"), LOST_HOLE),
     Guard("ninja, warm: all below the goals", "ninja_runs.py", "numbers = manifest.below(goals) if", "numbers = set() if", ninja("warm"), LOST_HOLE),
-    Guard("ninja, warm: said with --warm", "main.py", 'found.assumed.add("up-to-date", name)', "pass", ninja("warm-accepted"), UNSAID),
+    Guard("ninja, warm: said with --warm", "importing.py", 'found.assumed.add("up-to-date", name)', "pass", ninja("warm-accepted"), UNSAID),
     Guard("ninja, said: statements that nothing asked for", "unasked.py", "            there.update(((ninja.folder", "            {}.update(((ninja.folder", ninja("part"), UNSAID),
     Guard("ninja, warm: a header that the log knows is no input", "ninja_build.py", AFTER, BY_LOG, ninja("warm-by-log-of-headers"), LOST_RACE),
     Guard("ninja, fresh: logs of earlier builds go", "fresh.py", "Path(logs, name).unlink(missing_ok=True)", "pass", "test_ninja.Fresh.test_logs_go"),
@@ -55,8 +55,8 @@ HOLES: List[Guard] = [
     Guard("ninja, holes: the order of the trace", "ninja_build.py", "if lives and lives[0].born < ready:", "if False:", runs("order_of_the_trace")),
     Guard("ninja, holes: a folder of no statement", "ninja_build.py", 'self.holes.append("ninja made the folder', 'str("ninja made the folder', runs("folder_that_no_statement_needs")),
     Guard("ninja, holes: a cycle", "ninja_build.py", 'self.holes.append("build statements of', 'str("build statements of', runs("statements_in_a_ring")),
-    Guard("ninja, holes: what missingdeps finds", "main.py", "for one in beyond if not record.warm and record.status == 0 else []:", "for one in []:", ninja("dep-file-that-lies"), LOST_HOLE),
-    Guard("ninja, missingdeps: of an earlier build", "main.py", "for m in beyond if record.warm]", "for m in ()]", ninja("warm-beside-missingdeps"), UNSAID),
+    Guard("ninja, holes: what missingdeps finds", "importing.py", "for one in beyond if not record.warm and record.status == 0 else []:", "for one in []:", ninja("dep-file-that-lies"), LOST_HOLE),
+    Guard("ninja, missingdeps: of an earlier build", "importing.py", "for m in beyond if record.warm]", "for m in ()]", ninja("warm-beside-missingdeps"), UNSAID),
 ]
 ATTRIBUTION: List[Guard] = [
     Guard("ninja, who: processes of a command", "ninja_runs.py", "            self.owners.take(job.work, job.life)\n", "            pass\n", ninja("forgotten"), YES),

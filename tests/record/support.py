@@ -22,7 +22,8 @@ SECONDS = 600  # (a machine may be busy with proofs)
 
 sys.path.insert(0, str(TOP))
 
-import record.main  # noqa: E402,F401  (once, for all recordings of this process)
+import record.importing  # noqa: E402,F401  (once, for all recordings of this process)
+import record.main  # noqa: E402,F401
 
 
 def race_program() -> str:

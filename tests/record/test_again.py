@@ -12,7 +12,8 @@ from record.names import Names
 from record.ninja_fix import fix_text, owner_of, pool_text
 from record.ninja_log import Missing, ends, new_outputs, read_missing
 from record.ninja_manifest import Manifest, read_manifest
-from record.ninja_runs import Kept, options_of
+from record.ninja_log import Kept
+from record.ninja_runs import options_of
 
 HEAD = "# ninja log v5\n"
 

@@ -82,7 +82,7 @@ class Compilers(unittest.TestCase):
         Path(self.top, "stdlib.cmi").write_bytes(b"\x24Bool")
         Path(self.top, "stdlib.ml").write_bytes(b"module Bee = B")
         events = [("L", ".\0*"), ("R", "a.ml"), ("R", "stdlib.cmi"), ("R", "stdlib.ml")]
-        with mock.patch("record.modules.SYSTEM", re.compile(re.escape(self.top) + "/stdlib")):
+        with mock.patch("record.modules.OF_SYSTEM", re.compile(re.escape(self.top) + "/stdlib")):
             found = self.left("ocamlc -c a.ml", {"a.ml": ""}, events, ["./bool.cmi", "./b.cmi", "./bool.cmo"])
         self.assertEqual({("L", ".\0bool.cmi"), *events[1:]}, found)
 

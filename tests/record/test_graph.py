@@ -23,6 +23,9 @@ def graph_of(considered: str, base: str, jobs: List[str]) -> Graph:
     return Graph(Make(words, Life(7), "/w"), 0)
 
 
+RECIPE = "#  recipe to execute (from 'Makefile', line 1):\n\ttouch $@\n"
+
+
 def prerequisites(graph: Graph) -> Dict[str, List[str]]:
     """What each node waits for."""
     return {label: sorted(node.prerequisites) for label, node in graph.nodes.items()}
@@ -41,7 +44,7 @@ class Nodes(unittest.TestCase):
         self.assertEqual(["all", "other"], graph.goals)
 
     def test_rules_of_a_double_colon_target(self) -> None:
-        graph = graph_of("u\n d\n  p\n d\n  q", "u: d\n\nd:: p\n\nd:: q\n", ["d", "d"])
+        graph = graph_of("u\n d\n  p\n d\n  q", "u: d\n\nd:: p\n%s\nd:: q\n%s" % (RECIPE, RECIPE), ["d", "d"])
         self.assertEqual(["d"], sorted(graph.nodes["u"].prerequisites))
         self.assertEqual(["p"], sorted(graph.nodes["d"].prerequisites))
         self.assertEqual(["d", "q"], sorted(graph.nodes["d@rule2"].prerequisites))
@@ -49,16 +52,21 @@ class Nodes(unittest.TestCase):
         self.assertEqual([1, 1], [len(graph.nodes[n].jobs) for n in ("d", "d@rule2")])
 
     def test_double_colons_of_which_not_every_rule_ran(self) -> None:
-        graph = graph_of("d\n p\nd\n q", "d:: p\n\nd:: q\n", ["d"])
+        graph = graph_of("d\n p\nd\n q", "d:: p\n%s\nd:: q\n%s" % (RECIPE, RECIPE), ["d"])
         self.assertEqual([1, 0], [len(graph.nodes[n].jobs) for n in ("d", "d@rule2")])
-        self.assertEqual(1, len(graph.notes))
+        self.assertNotIn("d", graph.nodes["q"].prerequisites)
+
+    def test_double_colons_without_a_recipe(self) -> None:
+        graph = graph_of("u\n d\n  p\n d\n  q\n d\n  r", "u: d\n\nd:: p\n\nd:: q\n%s\nd:: r\n%s" % (RECIPE, RECIPE), ["d", "d"])
+        self.assertEqual([0, 1, 1], [len(graph.nodes[n].jobs) for n in ("d", "d@rule2", "d@rule3")])
+        self.assertEqual((["d", "d@rule2"], ["d@rule2", "r"]), tuple(sorted(graph.nodes[n].prerequisites) for n in ("u", "d@rule3")))
 
     def test_members_of_a_group_wait_for_the_one_that_runs(self) -> None:
         graph = graph_of("all\n a\n  s\n b\n  *s", "all: a b\n\na: s\n#  Also makes: b\n\nb: s\n#  Also makes: a\n", ["a"])
         self.assertEqual((["s"], ["a", "s"]), (sorted(graph.nodes["a"].prerequisites), sorted(graph.nodes["b"].prerequisites)))
 
     def test_late_targets(self) -> None:
-        graph = graph_of("all\n d\n  p\n d\n  q\n m", "all: d m\n\nd:: p\n\nd:: q\n\nm:\n#  File is an intermediate prerequisite.\n", ["d", "d"])
+        graph = graph_of("all\n d\n  p\n d\n  q\n m", "all: d m\n\nd:: p\n" + RECIPE + "\nd:: q\n" + RECIPE + "\nm:\n#  File is an intermediate prerequisite.\n", ["d", "d"])
         self.assertEqual({"d@rule2", "q", "m"}, graph.late() - {"+"})
 
 

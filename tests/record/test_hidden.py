@@ -6,7 +6,7 @@ import unittest
 from typing import Dict
 
 import support
-from record.main import replay_trace
+from record.importing import replay_trace
 from record.names import Names
 from record.owners import Make
 from record.past import Past

@@ -9,7 +9,8 @@ from record.calls import Calls
 from record.lives import Act, Life
 from record.names import Names
 from record.ninja_build import NinjaBuilder
-from record.ninja_runs import Kept, Runs
+from record.ninja_log import Kept
+from record.ninja_runs import Runs
 from record.owners import Owners
 from record.strace import read_trace
 

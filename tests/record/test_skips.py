@@ -8,7 +8,7 @@ from pathlib import Path
 from typing import List
 
 import support  # noqa: F401
-from record.main import replay_trace
+from record.importing import replay_trace
 from record.names import Inode, Names
 from record.skips import PIECE, Skip, pieces, sift
 from record.strace import read_trace

@@ -8,13 +8,13 @@ ghost use Rattle.mk_jobs.specs.Numbered.{number_of};
 ghost use Rattle.mk_jobs.specs.Plan.{node_limit};
 ghost use Rattle.mk_due.specs.Items as spec;
 
-use mk_jobs::numbering::Numbering;
 use mk_name::name::Name;
+use mk_task::labels::Labels;
 use std::alloc::{AllocError, Global};
 use std::collections::BTreeSet;
 
 /// Adds the number of a name, if it has one.
-fn add_number(numbers: &mut BTreeSet<u32>, names: &Numbering, name: &Name) -> Result<(), AllocError>
+fn add_number(numbers: &mut BTreeSet<u32>, names: &Labels, name: &Name) -> Result<(), AllocError>
     requires { length names.now ≤ node_limit }
     ensures { OnOk result (numbers.new.keys
         ≡ fold (insert_key nat_cmp) numbers.old.keys (cons_option (number_of names.now name.now) [])) }
@@ -28,7 +28,7 @@ fn add_number(numbers: &mut BTreeSet<u32>, names: &Numbering, name: &Name) -> Re
 /// The numbers of some names. The only error is out of memory.
 pub(crate) fn numbers_of(
     alloc: Global,
-    names: &Numbering,
+    names: &Labels,
     some: &[Name],
 ) -> Result<BTreeSet<u32>, AllocError>
     requires { length names.now ≤ node_limit }

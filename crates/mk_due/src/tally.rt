@@ -13,9 +13,9 @@ ghost use Rattle.mk_due.specs.Items as spec;
 use crate::item::{Item, always_node, due_node, leaf, order_item, task_item};
 use crate::line::{Due, Line};
 use crate::numbers::{numbers_of, others};
-use mk_jobs::numbering::Numbering;
 use mk_name::fault::{Fault, Halt, Kind, Source};
 use mk_name::name::Name;
+use mk_task::labels::Labels;
 use mk_task::line as tasks;
 use mk_task::needs::in_order;
 use mk_task::tasks::limit_passed;
@@ -27,7 +27,7 @@ use std::collections::{BTreeMap, BTreeSet};
 #[derive(Debug, Drop)]
 pub(crate) struct Tally {
     pub(crate) items: Vec<Item>,
-    names: Numbering,
+    names: Labels,
     tasks: BTreeMap<Name, u32>,
     edges: usize,
     paths: usize,
@@ -41,7 +41,7 @@ impl Tally {
     {
         Tally {
             items: Vec::new(alloc),
-            names: Numbering::new(alloc),
+            names: Labels::new(alloc),
             tasks: BTreeMap::new(alloc),
             edges: 0,
             paths: 0,

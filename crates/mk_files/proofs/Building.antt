@@ -5,13 +5,13 @@ use Rattle.std.specs.List.{All}
 use Rattle.std.specs.Prelude.{IfSome}
 use Rattle.std.specs.Option.{option_to_list}
 use Rattle.std.specs.Borrow.{Bor}
-use Rattle.mk_files.specs.Builds.{AreRead, IsGiven, IsReadAs, all_marks, inputs_with, other_text, path_mark, path_marks, stated_at}
+use Rattle.mk_files.specs.Builds.{AreRead, IsGiven, IsReadAs, all_marks, other_text, path_mark, path_marks, stated_at}
 use Rattle.mk_files.specs.Files.{Files}
 use Rattle.mk_files.specs.Inputs.{Hold, IsFirstToFail, IsLeftOut, IsShortOr, Mark, MayWork, marks}
 use Rattle.mk_files.specs.declared.builds.ReadBuild.{ReadBuild}
 use Rattle.mk_files.specs.declared.failures.Failure.{Failure}
 use Rattle.mk_files.specs.declared.failures.Failure.TheVariants as failures
-use Rattle.mk_request.specs.Requests.{base_input, input_at}
+use Rattle.mk_request.specs.Requests.{base_input, input_at, job_inputs}
 use Rattle.mk_request.specs.declared.inputs.InputFile.{InputFile}
 use Rattle.mk_request.specs.declared.inputs.InputFile.TheVariants as inputs
 use Rattle.mk_request.specs.declared.inputs.InputPath.{InputPath}
@@ -108,7 +108,7 @@ marks_of_each works (Some base) makefile listing footprints None = refl
 marks_of_each works (Some base) makefile listing footprints (Some known) = refl
 
 pub marks_are : (works : List ℕ → Option Bool) (build : BuildArgs) (footprints : Bor (List ℕ)) (other : Option InputPath)
-    → marks works (inputs_with build footprints other) ≡ path_marks works build footprints other
+    → marks works (job_inputs build footprints other) ≡ path_marks works build footprints other
 marks_are works build footprints other = marks_of_each works build.base build.makefile build.listing footprints other
 
 module _ (base : Option Mark) (makefile listing footprints : Mark) (other : Option Mark) where
@@ -222,7 +222,7 @@ module _ (files : List ℕ → Option (List ℕ)) (text : InputFile → List ℕ
 
   -- what was read of a build is what its files hold
   pub read_as : (build : BuildArgs) (footprints : Bor (List ℕ)) (other : Option InputPath) (root : List ℕ) (read : ReadBuild)
-      → IfSome other (λ known. known.input ≢ inputs.Base) → Hold files (inputs_with build footprints other) text
+      → IfSome other (λ known. known.input ≢ inputs.Base) → Hold files (job_inputs build footprints other) text
       → AreRead (stated_at files build footprints other) root read → IsReadAs root other text read
   read_as build footprints other root read none hold are =
       let base = base_is build.base build.makefile build.listing footprints other read.base.items none hold are.base in

@@ -7,7 +7,6 @@ use Rattle.mk_name.specs.Names.{Name}
 use Rattle.mk_name.specs.Reported.{Reported}
 use Rattle.mk_read.specs.Read.{IsReadBelow}
 use Rattle.mk_text.specs.Listing.{listing_of}
-use Rattle.mk_request.specs.Requests.{build_inputs, input_at}
 use Rattle.mk_request.specs.declared.inputs.InputFile.{InputFile}
 use Rattle.mk_request.specs.declared.inputs.InputFile.TheVariants as inputs
 use Rattle.mk_request.specs.declared.inputs.InputPath.{InputPath}
@@ -16,10 +15,6 @@ use Rattle.mk_files.specs.Inputs.{Mark}
 use Rattle.mk_files.specs.declared.builds.OpenBuild.{OpenBuild}
 use Rattle.mk_files.specs.declared.builds.ReadBuild.{ReadBuild}
 use Rattle.mk_files.specs.declared.inputs.OpenInput.{OpenInput}
-
--- its inputs, in the order in which they are opened and read: one more may come behind the footprints
-abbrev pub inputs_with : BuildArgs → Bor (List ℕ) → Option InputPath → List InputPath
-inputs_with build footprints other = build_inputs build ++ input_at inputs.Footprints footprints ++ option_to_list other
 
 -- the marks of a build: of the base, if it has one, of the makefile, the listing and the footprints, and of one more input, if there is one
 abbrev pub all_marks : Option Mark → Mark → Mark → Mark → Option Mark → List Mark

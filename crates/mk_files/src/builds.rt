@@ -3,7 +3,7 @@ ghost use Rattle.std.specs.Prelude.{◌≡◌, ◌≢◌, ◌⊎◌, IfErr, IfOk
 ghost use Rattle.std.specs.List.{All};
 ghost use Rattle.std.specs.Option.{option_to_list};
 ghost use Rattle.mk_read.specs.Read.{IsReadBelow};
-ghost use Rattle.mk_request.specs.Requests.{base_input};
+ghost use Rattle.mk_request.specs.Requests.{base_input, job_inputs};
 ghost use Rattle.mk_files.specs.Builds as spec;
 ghost use Rattle.mk_files.specs.Inputs.{Hold, InputsMayBeRead, IsFirstToFail, IsShortOr, IsUnread, MayWork};
 
@@ -54,12 +54,12 @@ pub fn read_build<P: Opener>(
 ) -> Result<ReadBuild, Failure>
     ensures reported { IfOk result (λ read. (text : InputFile → List ℕ)
         → IfSome other.entry (λ known. known.input ≢ InputFile.Base)
-        → Hold (P.files opener.old).text (spec.inputs_with build.now footprints.entry other.entry) text
+        → Hold (P.files opener.old).text (job_inputs build.now footprints.entry other.entry) text
         → spec.IsReadAs build.now.root.now other.entry text read) }
     ensures read { OnOk result (InputsMayBeRead (P.files opener.old)
-        (spec.inputs_with build.now footprints.entry other.entry)) }
+        (job_inputs build.now footprints.entry other.entry)) }
     ensures failure { IfErr result (IsShortOr (IsUnread (P.files opener.old)
-        (spec.inputs_with build.now footprints.entry other.entry))) }
+        (job_inputs build.now footprints.entry other.entry))) }
 {
     let files = open_build(opener, build, footprints, other)?;
     build_in::<P>(alloc, build.root.as_bytes(), files)

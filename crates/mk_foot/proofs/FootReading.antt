@@ -1,24 +1,23 @@
--- A reader of footprints, line by line.
-use Rattle.std.proofs.Common.{◌≡◌, ℕ, ◌+◌, ◌<◌, ◌≤◌, true, false, cond, List, [], ◌∷◌, ◌++◌, Option, None, Some, length, take, slice_get, refl, sym, ap, ap₂, subst, ◌∙◌, arith, append_assoc, nat_lt}
-use Rattle.std.specs.Prelude.{is_some, min, unwrap_or, ◌≢◌}
+-- The lines of footprints, one by one.
+use Rattle.std.proofs.Common.{◌≡◌, ℕ, ◌+◌, ◌<◌, ◌≤◌, cond, List, [], ◌∷◌, ◌++◌, Option, None, Some, length, take, slice_get, refl, sym, ap, ap₂, subst, ◌∙◌, arith, append_assoc, nat_lt}
+use Rattle.std.specs.Prelude.{min, unwrap_or, ◌≢◌}
 use Rattle.std.specs.List.{cons_option, enumerate_from, filter_map}
 use Rattle.std.specs.Option.{option_to_list}
-use Rattle.std.proofs.lemmas.Bool.{cond-true, cond-false, false≢true, lt-ltb, le-ltb}
-use Rattle.std.proofs.lemmas.List.{append-nil, length-append, take_all, take_at}
+use Rattle.std.proofs.lemmas.Bool.{cond-true, cond-false, lt-ltb, le-ltb}
+use Rattle.std.proofs.lemmas.List.{append-nil, length-append, length-take, take_all, take_at}
 use Rattle.std.proofs.lemmas.List.Elements.{filter_map-append}
 use Rattle.std.proofs.lemmas.List.Sums.{sum_by-append, sum_by-cons}
 use Rattle.std.proofs.lemmas.Grind.{flat_map-append}
 use Rattle.mk_name.specs.Reported.{Reported}
 use Rattle.mk_name.specs.declared.fault.Kind.{Kind}
+use Rattle.mk_name.specs.declared.fault.Source.TheVariants as sources
 use Rattle.mk_name.specs.declared.fault.Kind.TheVariants.{BadFootprint, FootprintsTooLarge}
-use Rattle.mk_text.specs.Blocks.{physical_lines}
-use Rattle.mk_text.specs.Fed.{IsCut}
-use Rattle.mk_text.proofs.FedLines.{joined, joined_open, lines_joined}
-use Rattle.mk_foot.specs.declared.foot_reader.Stop.{Stop}
-use Rattle.mk_foot.specs.declared.foot_reader.Stop.TheVariants.{Memory, Fault}
+use Rattle.mk_text.specs.LineFeed.{HasStopped}
+use Rattle.mk_text.specs.declared.line_sink.Stop.{Stop}
+use Rattle.mk_text.specs.declared.line_sink.Stop.TheVariants.{Memory, Fault}
 use Rattle.mk_foot.specs.Lines.{Line, lines_in}
-use Rattle.mk_foot.specs.Footprints.{AreFootprints, Footprints, fault_at, fault_by, first_fault, greatest_place, lines_of, path_count, path_limit, reported, reported_at}
-use Rattle.mk_foot.specs.FootReader.{AreGood, HasRead, HasReadBy, HasReadLines, HasStopped, IsUnderWay, Reader}
+use Rattle.mk_foot.specs.Footprints.{AreFootprints, AreRead, fault_at, fault_by, first_fault, greatest_place, lines_of, path_count, path_limit, reported, reported_at}
+use Rattle.mk_foot.specs.FootReader.{HasUnited, United}
 
 -- ---- the first fault of some lines and one more
 
@@ -85,8 +84,13 @@ still_first [] more t some = absurd (let e : ◌≡◌ {A = Option Reported} Non
 still_first (f ∷ fs) more t some = some
 
 -- a fault stays the first
-pub fault_stays : (root : List ℕ) (ended : List (List ℕ)) (x : List ℕ) (t : Reported) → first_fault root ended ≡ Some t → first_fault root (ended ++ x ∷ []) ≡ Some t
+fault_stays : (root : List ℕ) (ended : List (List ℕ)) (x : List ℕ) (t : Reported) → first_fault root ended ≡ Some t → first_fault root (ended ++ x ∷ []) ≡ Some t
 fault_stays root ended x t is = ap (λ fs. slice_get fs 0) (faults_push root ended x) ∙ still_first _ _ t is
+
+pub faults_stay : (root : List ℕ) (lines more : List (List ℕ)) (t : Reported) → first_fault root lines ≡ Some t → first_fault root (lines ++ more) ≡ Some t
+faults_stay root lines [] t is = ap (first_fault root) (append-nil lines) ∙ is
+faults_stay root lines (x ∷ more) t is =
+    ap (first_fault root) (whole lines x more) ∙ faults_stay root (lines ++ x ∷ []) more t (fault_stays root lines x t is)
 
 -- behind good lines the fault of the next one is the first
 fault_next : (root : List ℕ) (ended : List (List ℕ)) (x : List ℕ) → first_fault root ended ≡ None
@@ -118,7 +122,7 @@ module _ (root : List ℕ) (ended : List (List ℕ)) (x : List ℕ) where
       ∙ sum_by-append (λ (l : Line). length l.reads + length l.writes) (lines_of root ended) said
       ∙ ap (λ n. n + path_count said) (sym count)
 
-  module _ (footprints : Footprints) (paths place : ℕ) (before : AreGood root ended footprints paths) (place_is : place ≡ min (length ended + 1) greatest_place) where
+  module _ (sink : United) (place : ℕ) (before : HasUnited root sink ended) (place_is : place ≡ min (length ended + 1) greatest_place) where
     fault_here : (o : Option (List Line)) → lines_in root x ≡ o → first_fault root (ended ++ x ∷ []) ≡ fault_by o (path_count (lines_of root (ended ++ x ∷ []))) (length ended + 1)
     fault_here o e =
         fault_next root ended x before.good
@@ -128,93 +132,38 @@ module _ (root : List ℕ) (ended : List (List ℕ)) (x : List ℕ) where
     pub bad_first : lines_in root x ≡ None → first_fault root (ended ++ x ∷ []) ≡ Some (reported_at BadFootprint place)
     bad_first e = fault_here None e ∙ ap (λ p. Some (reported_at BadFootprint p)) (sym place_is)
 
-    pub large_first : (line : Line) → lines_in root x ≡ Some (line ∷ []) → path_limit < paths + (length line.reads + length line.writes)
+    pub large_first : (line : Line) → lines_in root x ≡ Some (line ∷ []) → path_limit < sink.paths + (length line.reads + length line.writes)
         → first_fault root (ended ++ x ∷ []) ≡ Some (reported_at FootprintsTooLarge place)
     large_first line e over =
         fault_here (Some (line ∷ [])) e
-        ∙ ap (λ n. cond (nat_lt path_limit n) (Some (reported FootprintsTooLarge (length ended + 1))) None) (counted paths (line ∷ []) e before.count)
-        ∙ cond-true (nat_lt path_limit (paths + path_count (line ∷ []))) _ _ (lt-ltb path_limit (paths + path_count (line ∷ [])) (omega (arith, over, one_line line)))
+        ∙ ap (λ n. cond (nat_lt path_limit n) (Some (reported FootprintsTooLarge (length ended + 1))) None) (counted sink.paths (line ∷ []) e before.count)
+        ∙ cond-true (nat_lt path_limit (sink.paths + path_count (line ∷ []))) _ _ (lt-ltb path_limit (sink.paths + path_count (line ∷ [])) (omega (arith, over, one_line line)))
         ∙ ap (λ p. Some (reported_at FootprintsTooLarge p)) (sym place_is)
 
-    pub good_more : (said : List Line) (count : ℕ) (new : Footprints) → lines_in root x ≡ Some said → count ≡ paths + path_count said → count ≤ path_limit
-        → AreFootprints root new (lines_of root ended ++ said) → AreGood root (ended ++ x ∷ []) new count
-    good_more said count new e is few united = record {
+    pub good_more : (said : List Line) (new : United) → lines_in root x ≡ Some said → new.paths ≡ sink.paths + path_count said → new.paths ≤ path_limit
+        → AreFootprints root new.footprints (lines_of root ended ++ said) → HasUnited root new (ended ++ x ∷ [])
+    good_more said new e is few united = record {
       good =
           fault_here (Some said) e
-          ∙ ap (λ n. cond (nat_lt path_limit n) (Some (reported FootprintsTooLarge (length ended + 1))) None) (counted paths said e before.count ∙ sym is)
-          ∙ cond-false (nat_lt path_limit count) _ _ (le-ltb path_limit count few);
-      united = subst (λ (ls : List Line). AreFootprints root new ls) (sym (lines_more said e)) united;
-      count = is ∙ sym (counted paths said e before.count);
+          ∙ ap (λ n. cond (nat_lt path_limit n) (Some (reported FootprintsTooLarge (length ended + 1))) None) (counted sink.paths said e before.count ∙ sym is)
+          ∙ cond-false (nat_lt path_limit new.paths) _ _ (le-ltb path_limit new.paths few);
+      united = subst (λ (ls : List Line). AreFootprints root new.footprints ls) (sym (lines_more said e)) united;
+      count = is ∙ sym (counted sink.paths said e before.count);
       few = few;
     }
 
 -- a call that stops by a fault, and not out of memory
 pub stops_by : (stop : Stop) (root : List ℕ) (lines : List (List ℕ)) (kind : Kind) (place : ℕ) → (stop ≢ Memory → stop ≡ Fault kind place)
-    → (stop ≢ Memory → first_fault root lines ≡ Some (reported_at kind place)) → HasStopped root lines stop
+    → (stop ≢ Memory → first_fault root lines ≡ Some (reported_at kind place)) → HasStopped sources.Footprints (AreRead root) lines stop
 stops_by Memory root lines kind place is holds = tt
 stops_by (Fault given at) root lines kind place is holds =
     let other : Fault given at ≢ Memory = λ e. cc in
     let same : Fault given at ≡ Fault kind place = is other in
-    subst (HasStopped root lines) (sym same) (holds other)
+    subst (HasStopped sources.Footprints (AreRead root) lines) (sym same) (λ more. faults_stay root lines more (reported_at kind place) (holds other))
 
--- ---- the reader
-
-pub reads_none : (root : List ℕ) (footprints : Footprints) (open_line : List ℕ) → AreFootprints root footprints [] → open_line ≡ []
-    → HasRead root [] (record { footprints = footprints; paths = 0; place = 0; open_line = open_line; stop = None })
-reads_none root footprints open_line united no_bytes = record {
-  ended = [];
-  open_line = [];
-  cut = record { whole = refl };
-  read = record { lines = record { good = refl; united = united; count = refl; few = omega arith }; place = refl; begun = no_bytes };
-}
-
-stopped_keeps : (stop : Option Stop) (root : List ℕ) (ended : List (List ℕ)) (line more : List ℕ) (reader : Reader) → is_some stop ≡ true
-    → HasReadBy stop root ended line reader → HasReadBy stop root ended more reader
-stopped_keeps None root ended line more reader some read = absurd (false≢true some)
-stopped_keeps (Some Memory) root ended line more reader some read = tt
-stopped_keeps (Some (Fault kind place)) root ended line more reader some read = read
-
-pub keeps_stopped : (root : List ℕ) (ended : List (List ℕ)) (line more : List ℕ) (reader : Reader) → is_some reader.stop ≡ true
-    → HasReadLines root ended line reader → HasReadLines root ended more reader
-keeps_stopped root ended line more reader = stopped_keeps reader.stop root ended line more reader
-
-stopped_ends : (stop : Option Stop) (root : List ℕ) (ended : List (List ℕ)) (line : List ℕ) (reader : Reader) → is_some stop ≡ true
-    → HasReadBy stop root ended line reader → HasReadBy stop root (ended ++ line ∷ []) [] reader
-stopped_ends None root ended line reader some read = absurd (false≢true some)
-stopped_ends (Some Memory) root ended line reader some read = tt
-stopped_ends (Some (Fault kind place)) root ended line reader some read = fault_stays root ended line (reported_at kind place) read
-
-pub ends_stopped : (root : List ℕ) (ended : List (List ℕ)) (line : List ℕ) (reader : Reader) → is_some reader.stop ≡ true
-    → HasReadLines root ended line reader → HasReadLines root (ended ++ line ∷ []) [] reader
-ends_stopped root ended line reader = stopped_ends reader.stop root ended line reader
-
-way_by : (stop : Option Stop) (root : List ℕ) (ended : List (List ℕ)) (line : List ℕ) (reader : Reader) → is_some stop ≡ false
-    → HasReadBy stop root ended line reader → IsUnderWay root ended line reader
-way_by None root ended line reader none read = read
-way_by (Some stop) root ended line reader none read = absurd (false≢true (sym none))
-
-pub under_way : (root : List ℕ) (ended : List (List ℕ)) (line : List ℕ) (reader : Reader) → is_some reader.stop ≡ false
-    → HasReadLines root ended line reader → IsUnderWay root ended line reader
-under_way root ended line reader = way_by reader.stop root ended line reader
-
-by_way : (stop : Option Stop) (root : List ℕ) (ended : List (List ℕ)) (line : List ℕ) (reader : Reader) → is_some stop ≡ false
-    → IsUnderWay root ended line reader → HasReadBy stop root ended line reader
-by_way None root ended line reader none read = read
-by_way (Some stop) root ended line reader none read = absurd (false≢true (sym none))
-
-pub goes_on : (root : List ℕ) (ended : List (List ℕ)) (line : List ℕ) (reader : Reader) → is_some reader.stop ≡ false
-    → IsUnderWay root ended line reader → HasReadLines root ended line reader
-goes_on root ended line reader = by_way reader.stop root ended line reader
-
--- what is read of a text, with the lines that are left
-pub record ReadsOn (root : List ℕ) (all left : List (List ℕ)) (reader : Reader) : Type 0 where
-  pub ended : List (List ℕ)
-  pub open_line : List ℕ
-  pub whole : ended ++ open_line ∷ left ≡ all
-  pub read : HasReadLines root ended open_line reader
-
--- the lines of a piece behind a text
-pub piece_lines : (text piece first : List ℕ) (left ended : List (List ℕ)) (open_line : List ℕ) → IsCut text ended open_line → physical_lines piece ≡ first ∷ left
-    → ended ++ (open_line ++ first) ∷ left ≡ physical_lines (text ++ piece)
-piece_lines text piece first left ended open_line cut is =
-    sym (joined_open ended open_line first left) ∙ ap₂ joined (sym cut.whole) (sym is) ∙ sym (lines_joined text piece)
+-- a line of which fewer bytes stand here than are kept stands here whole
+pub whole_line : (n : ℕ) (line other : List ℕ) → length line < n → take n line ≡ take n other → line ≡ other
+whole_line n line other short same =
+    let full : take n line ≡ line = take_all n line (omega (arith, short)) in
+    let long : length (take n other) ≡ length line = ap length (sym same ∙ full) in
+    sym full ∙ same ∙ take_all n other (omega (arith, short, long, length-take n other))

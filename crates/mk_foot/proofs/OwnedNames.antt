@@ -1,8 +1,10 @@
 -- The names that belong to recipes, put in order one by one.
-use Rattle.std.proofs.Common.{◌≡◌, ℕ, ◌+◌, ◌<◌, List, [], ◌∷◌, ◌++◌, fold, get_or, length, take, sym, ap, ◌∙◌}
+use Rattle.std.proofs.Common.{◌≡◌, Less, Equal, Greater, Ordering, ℕ, ◌+◌, ◌<◌, List, [], ◌∷◌, ◌++◌, fold, get_or, length, map, take, refl, sym, ap, ◌∙◌}
 use Rattle.std.specs.BTreeSet.{insert_key}
 use Rattle.std.specs.Cmp.Lexicographic.{slice_cmp}
-use Rattle.std.specs.Ordering.{nat_cmp}
+use Rattle.std.specs.List.{AllByRecursion}
+use Rattle.std.specs.List.Sorted.{IsStrictlySortedBy}
+use Rattle.std.specs.Ordering.{match_ordering, nat_cmp}
 use Rattle.std.proofs.lemmas.Bool.{or_left}
 use Rattle.std.proofs.lemmas.List.{take_more}
 use Rattle.std.proofs.lemmas.List.Folds.{list_any-append}
@@ -13,6 +15,29 @@ use Rattle.mk_foot.specs.Attached.{HasAll, owned_names}
 
 abbrev pub put_among : List Name → Name → List Name
 put_among = insert_key (slice_cmp nat_cmp)
+
+module _ {R X : Type 0} (now : R → X) (c : X → X → Ordering) where
+  -- what is lent goes where the name that it stands for goes
+  pub lent_put : (xs : List R) (k : R) → map now (insert_key (λ a b. c (now a) (now b)) xs k) ≡ insert_key c (map now xs) (now k)
+  lent_put [] k = refl
+  lent_put (x ∷ xs) k = by (c (now k) (now x)) (lent_put xs k)
+    where
+      by : (o : Ordering) → map now (insert_key (λ a b. c (now a) (now b)) xs k) ≡ insert_key c (map now xs) (now k)
+          → map now (match_ordering o (k ∷ x ∷ xs) (x ∷ xs) (x ∷ insert_key (λ a b. c (now a) (now b)) xs k))
+          ≡ match_ordering o (now k ∷ now x ∷ map now xs) (now x ∷ map now xs) (now x ∷ insert_key c (map now xs) (now k))
+      by Less rest = refl
+      by Equal rest = refl
+      by Greater rest = ap (λ ys. now x ∷ ys) rest
+
+  lent_less : (x : R) (xs : List R) → AllByRecursion (λ b. c (now x) (now b) ≡ Less) xs → AllByRecursion (λ y. c (now x) y ≡ Less) (map now xs)
+  lent_less x [] all = tt
+  lent_less x (y ∷ ys) all = (all.0, lent_less x ys all.1)
+
+  -- and stands in the order of the names
+  pub lent_rise : (xs : List R) → IsStrictlySortedBy (λ a b. c (now a) (now b)) xs → IsStrictlySortedBy c (map now xs)
+  unfolding IsStrictlySortedBy
+  lent_rise [] rise = tt
+  lent_rise (x ∷ xs) rise = (lent_less x xs rise.0, lent_rise xs rise.1)
 
 -- one more name put among others
 pub names_more : (first now new names : List Name) (n : ℕ) (x d : Name) → n < length names → now ≡ fold put_among first (take n names)

@@ -118,10 +118,14 @@ fault_at root texts placed = fault_by (lines_in root placed.1) (path_count (line
 abbrev pub first_fault : List ℕ → List (List ℕ) → Option Reported
 first_fault root texts = slice_get (filter_map (fault_at root texts) (enumerate_from 1 texts)) 0
 
--- what `read_footprints` answers: the footprints of all lines, or the first fault
+-- what physical lines say: the footprints of all of them, or the first fault
+abbrev pub AreRead : List ℕ → List (List ℕ) → Result Footprints Reported → Type 0
+AreRead root texts (Ok footprints) = (first_fault root texts ≡ None) × AreFootprints root footprints (lines_of root texts)
+AreRead root texts (Err fault) = first_fault root texts ≡ Some fault
+
+-- what `read_footprints` answers
 abbrev pub IsRead : List ℕ → List ℕ → Result Footprints Reported → Type 0
-IsRead root text (Ok footprints) = (first_fault root (lines text) ≡ None) × AreFootprints root footprints (lines_of root (lines text))
-IsRead root text (Err fault) = first_fault root (lines text) ≡ Some fault
+IsRead root text answer = AreRead root (lines text) answer
 
 -- the footprints of some lines become those of the same lines and one more
 abbrev pub AddsLine : Footprints → Line → Footprints → Type 0

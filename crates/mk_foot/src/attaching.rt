@@ -13,7 +13,7 @@ ghost use Rattle.mk_foot.specs.Footprints.{LeavesOthers};
 ghost use Rattle.mk_foot.specs.Attached as spec;
 
 use crate::footprints::{Footprint, Footprints, in_order};
-use crate::owned::{lent, owned_names};
+use crate::owned::owned_names;
 use mk_jobs::jobs::Jobs;
 use mk_jobs::plan::Plan;
 use mk_jobs::recipe::is_live;
@@ -92,8 +92,7 @@ fn rows_beside(
     ensures fault { IfErr result (λ halt.
         Halts halt (spec.attached plan.now (targets_of rulebook.now.rules) footprints)) }
 {
-    let names = owned_names(alloc, plan, rulebook)?;
-    let owned = lent(alloc, names.as_slice())?;
+    let owned = owned_names(alloc, plan, rulebook)?;
     rows_of(alloc, plan, owned.as_slice(), footprints)
 }
 

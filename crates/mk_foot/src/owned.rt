@@ -14,66 +14,57 @@ use mk_rules::rulebook::Rulebook;
 use std::alloc::{AllocError, Global};
 use std::collections::BTreeSet;
 
-/// The names of the nodes of a plan and of the targets of target rules, rising, each once. The only error is out of
+/// The names of the nodes of a plan and of the targets of target rules, lent, rising, each once. The only error is out of
 /// memory.
-pub(crate) fn owned_names(
+pub(crate) fn owned_names<'a>(
     alloc: Global,
-    plan: &Plan,
-    rulebook: &Rulebook,
-) -> Result<Vec<Name>, AllocError>
-    ensures names { IfOk result (λ list.
-        list.items ≡ owned_names (names_of plan.now.nodes) (targets_of rulebook.now.rules)) }
-    ensures rising { IfOk result (λ list. IsStrictlySortedBy (slice_cmp nat_cmp) list.items) }
+    plan: &'a Plan,
+    rulebook: &'a Rulebook,
+) -> Result<Vec<&'a Name>, AllocError>
+    ensures names { IfOk result (λ list. map (λ name. name.now) list.items
+        ≡ owned_names (names_of plan.now.nodes) (targets_of rulebook.now.rules)) }
+    ensures rising { IfOk result (λ list.
+        IsStrictlySortedBy (slice_cmp nat_cmp) (map (λ name. name.now) list.items)) }
 {
     let mut names = BTreeSet::new(alloc);
-    add_nodes(alloc, &mut names, plan)?;
-    add_targets(alloc, &mut names, rulebook)?;
+    add_nodes(&mut names, plan)?;
+    add_targets(&mut names, rulebook)?;
     in_order(alloc, &names)
 }
 
 /// Adds the names of the nodes.
-fn add_nodes(alloc: Global, names: &mut BTreeSet<Name>, plan: &Plan) -> Result<(), AllocError>
-    ensures { OnOk result (names.new.keys
-        ≡ fold (insert_key (slice_cmp nat_cmp)) names.old.keys (names_of plan.now.nodes)) }
+fn add_nodes<'a>(names: &mut BTreeSet<&'a Name>, plan: &'a Plan) -> Result<(), AllocError>
+    ensures { OnOk result (map (λ name. name.now) names.new.keys
+        ≡ fold (insert_key (slice_cmp nat_cmp)) (map (λ name. name.now) names.old.keys) (names_of plan.now.nodes)) }
 {
     for n in 0..plan.count() {
-        names.insert(plan.name(n).copy(alloc)?)?;
+        names.insert(plan.name(n))?;
     }
     Ok(())
 }
 
 /// Adds the targets of target rules.
-fn add_targets(
-    alloc: Global,
-    names: &mut BTreeSet<Name>,
-    rulebook: &Rulebook,
-) -> Result<(), AllocError>
-    ensures { OnOk result (names.new.keys
-        ≡ fold (insert_key (slice_cmp nat_cmp)) names.old.keys (targets_of rulebook.now.rules)) }
+fn add_targets<'a>(names: &mut BTreeSet<&'a Name>, rulebook: &'a Rulebook) -> Result<(), AllocError>
+    ensures { OnOk result (map (λ name. name.now) names.new.keys
+        ≡ fold (insert_key (slice_cmp nat_cmp)) (map (λ name. name.now) names.old.keys) (targets_of rulebook.now.rules)) }
 {
     for number in 0..rulebook.target_count() {
         if let Some(target) = rulebook.target(number) {
-            names.insert(target.copy(alloc)?)?;
+            names.insert(target)?;
         }
     }
     Ok(())
 }
 
 /// The names of a set, rising.
-fn in_order(alloc: Global, names: &BTreeSet<Name>) -> Result<Vec<Name>, AllocError>
-    ensures names { IfOk result (λ list. list.items ≡ names.now.keys) }
-    ensures rising { IfOk result (λ list. IsStrictlySortedBy (slice_cmp nat_cmp) list.items) }
+fn in_order<'a>(alloc: Global, names: &BTreeSet<&'a Name>) -> Result<Vec<&'a Name>, AllocError>
+    ensures names { IfOk result (λ list. map (λ name. name.now) list.items ≡ map (λ name. name.now) names.now.keys) }
+    ensures rising { IfOk result (λ list.
+        IsStrictlySortedBy (slice_cmp nat_cmp) (map (λ name. name.now) list.items)) }
 {
     let mut list = Vec::with_capacity(alloc, names.len())?;
     for name in names {
-        list.push(name.copy(alloc)?)?;
+        list.push(*name)?;
     }
     Ok(list)
-}
-
-/// The names, lent one by one. The only error is out of memory.
-pub(crate) fn lent(alloc: Global, names: &[Name]) -> Result<Vec<&Name>, AllocError>
-    ensures { IfOk result (λ list. map (λ name. name.now) list.items ≡ names.now) }
-{
-    names.iter().collect(alloc)
 }

@@ -5,7 +5,7 @@ use Rattle.std.specs.Prelude.{not, is_some, IsTrue, IsSome, nat_eq, map, Vec, sl
 use Rattle.std.specs.List.{flat_map}
 use Rattle.std.specs.Global.{Global}
 use Rattle.std.proofs.lemmas.Bool.{both_ways, cases_eq}
-use Rattle.std.proofs.lemmas.List.{get_or-set_same, get_or-set_other, length-set, append-nil, take_more, get_or-replicate, length-replicate, get_or_default, get_or_append_left, get_or_push, length_push}
+use Rattle.std.proofs.lemmas.List.{get_or-set_same, get_or-set_other, length-set, append-nil, take_more, get_or-replicate, length-replicate, get_or_default, get_or_append_left, get_or_push, length_push, get_or-map, length-map, map_more, map_push, take-append-le}
 use Rattle.std.proofs.lemmas.Option.{get_or_from_slice_get}
 use Rattle.mk_name.specs.Names.{Name, same_name, has, kept, firsts, IsDistinct}
 use Rattle.mk_name.proofs.Names.{name_is_exact, nat_is_exact, in_left, in_push, in_push_cases, in_joined, kept_has, kept_cases, kept_front, distinct_kept}
@@ -209,3 +209,23 @@ collected_nodes book listing goals names entries sources starts read c = record 
 
 pub collected_all : (book : Book) (listing goals names : List Name) (entries : Entries) (sources : List (Option ℕ)) (starts : List ℕ) (read : ℕ) → Collected book listing goals names entries sources starts read → length names ≤ read → Collected book listing goals names entries sources starts (length names)
 collected_all book listing goals names entries sources starts read c h = let w = c.within in let e : read ≡ length names = omega arith in subst (λ (n : ℕ). Collected book listing goals names entries sources starts n) e c
+
+-- the places of the rules of one more name
+pub rules_more : {R : Type 0} (now : R → List ℕ) (rules : List Entry) (names new newer source more : List Name) (rows all : List R) (places : R) (read : ℕ) → read < length names → new ≡ names ++ more → newer ≡ kept same_name new source
+    → map now rows ≡ map (places_of rules) (take read names) → all ≡ rows ++ places ∷ [] → now places ≡ places_of rules (name_at names read) → map now all ≡ map (places_of rules) (take (read + 1) newer)
+rules_more now rules names new newer source more rows all places read h grows step so_far pushed at =
+    let g = kept_grows new source in
+    let whole : newer ≡ names ++ (more ++ g.0) = step ∙ g.1 ∙ ap (λ ns. ns ++ g.0) grows ∙ append_assoc names more g.0 in
+    ap (map now) pushed ∙ map_push now rows places ∙ ap (λ rs. rs ++ now places ∷ []) so_far ∙ ap (λ p. map (places_of rules) (take read names) ++ p ∷ []) at
+    ∙ sym (map_more (places_of rules) names read [] h)
+    ∙ ap (map (places_of rules)) (sym (take-append-le (read + 1) names (more ++ g.0) (omega (arith, h))) ∙ ap (take (read + 1)) (sym whole))
+
+-- the places beside a name are those of its rules
+pub rules_at : {R : Type 0} (now : R → List ℕ) (rules : List Entry) (names : List Name) (rows : List R) (i : ℕ) (d : R) → map now rows ≡ map (places_of rules) names → i < length names → now (get_or rows i d) ≡ places_of rules (name_at names i)
+rules_at now rules names rows i d is h =
+    sym (get_or-map now rows i d [] (let e = ap length is in omega (arith, h, e, length-map rows now, length-map names (places_of rules))))
+    ∙ ap (λ rs. get_or rs i []) is ∙ get_or-map (places_of rules) names i [] [] h
+
+-- there are as many as names
+pub rules_count : {R : Type 0} (now : R → List ℕ) (rules : List Entry) (names : List Name) (rows : List R) → map now rows ≡ map (places_of rules) names → length rows ≡ length names
+rules_count now rules names rows is = sym (length-map rows now) ∙ ap length is ∙ length-map names (places_of rules)

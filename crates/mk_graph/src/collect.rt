@@ -1,8 +1,9 @@
 //! All that some goals need: their names, the prerequisites of the rules that name them as targets, and their sources.
-ghost use Rattle.std.specs.Prelude.{◌≡◌, ◌<◌, ◌≤◌, List, ℕ, length, replicate, None, IfOk, OnOk, IfSome, IfNone};
+ghost use Rattle.std.specs.Prelude.{◌≡◌, ◌<◌, ◌≤◌, List, ℕ, length, map, replicate, None, IfOk, OnOk, IfSome, IfNone};
 ghost use Rattle.std.specs.List.{All};
 ghost use Rattle.std.specs.Option.{option_to_list};
 ghost use Rattle.mk_name.specs.Names.{Name, kept, same_name};
+ghost use Rattle.mk_rules.specs.Book.{places_of};
 ghost use Rattle.mk_graph.specs.Collected.{Collected, Reads, SourceStands};
 ghost use Rattle.mk_graph.specs.Graph.{AreNodes};
 ghost use Rattle.mk_graph.specs.Makers.{inferred_source, needs};
@@ -19,9 +20,11 @@ use std::alloc::{AllocError, Global};
 
 /// What the goals need.
 #[derive(Debug, Drop)]
-pub struct Found {
+pub struct Found<'a> {
     /// The names, in the order in which they were found.
     pub names: Numbering,
+    /// The places in the book of the rules that name them as targets.
+    pub rules: Vec<&'a [usize]>,
     /// The prerequisites of the rules that name one of them as a target, by their places in the book.
     pub entries: Vec<Option<Vec<usize>>>,
     /// The numbers of the sources that inference rules make them from.
@@ -64,51 +67,58 @@ fn read_entries(
     Ok(())
 }
 
-/// The number of the inferred source of the name with a number, if it has one. A new source is put last.
+/// The number of the inferred source of the name with a number, if it has one. A new source is put last. The places are
+/// those of the name's rules.
 fn read_source(
     alloc: Global,
     book: &Rulebook,
     listing: &Listing,
     index: &SourceIndex,
+    places: &[usize],
     names: &mut Numbering,
     number: usize,
 ) -> Result<Option<usize>, AllocError>
     requires index { IsSourceIndex book.now listing.now index.now }
+    requires places { places.now ≡ places_of book.now.rules (name_at names.old number) }
     requires number { number < length names.old }
     ensures kept { let source = inferred_source book.now listing.now (name_at names.old number) in
         OnOk result (names.new ≡ kept same_name names.old (option_to_list source)) }
     ensures stands { let source = inferred_source book.now listing.now (name_at names.old number) in
         IfOk result (λ found. SourceStands names.new found source) }
 {
-    match inferred_source(alloc, book, listing, index, names.name(number))? {
+    match inferred_source(alloc, book, listing, index, places, names.name(number))? {
         Some(source) => Ok(Some(names.put(alloc, &source)?)),
         None => Ok(None),
     }
 }
 
 /// All that the goals need, or nothing where this is more than `limit` names, by an index of the sources.
-fn collect_by(
+fn collect_by<'a>(
     alloc: Global,
-    book: &Rulebook,
+    book: &'a Rulebook,
     listing: &Listing,
     index: &SourceIndex,
     goals: &[Name],
     limit: usize,
-) -> Result<Option<Found>, AllocError>
+) -> Result<Option<Found<'a>>, AllocError>
     requires index { IsSourceIndex book.now listing.now index.now }
     ensures found { IfOk result
         (λ found. IfSome found
         (λ f. Collected book.now listing.now goals.now f.names f.entries.items f.sources.items
         f.goals.items (length f.names))) }
+    ensures rules { IfOk result
+        (λ found. IfSome found
+        (λ f. map (λ row. row.now) f.rules.items ≡ map (places_of book.now.rules) f.names)) }
     ensures few { IfOk result (λ found. IfSome found (λ f. length f.names ≤ limit)) }
     ensures too_large { IfOk result
         (λ found. IfNone found
         ((names : List Name) × AreNodes same_name (needs book.now listing.now) goals.now names ×
         (limit < length names))) }
 {
-    let mut names = Numbering::new(alloc);
+    let mut names = Numbering::of_set(book.empty_set(alloc));
     let starts = names.put_all(alloc, goals)?;
     let mut entries = none_read(alloc, book.rule_count())?;
+    let mut rules = Vec::new(alloc);
     let mut sources = Vec::new(alloc);
     let mut read = 0;
     'all: while read < names.count() {
@@ -116,12 +126,14 @@ fn collect_by(
             return Ok(None);
         }
         let places = book.rules_of(names.name(read));
+        rules.push(places)?;
         read_entries(alloc, book, places, &mut names, &mut entries)?;
-        sources.push(read_source(alloc, book, listing, index, &mut names, read)?)?;
+        sources.push(read_source(alloc, book, listing, index, places, &mut names, read)?)?;
         read += 1;
     }
     Ok(Some(Found {
         names,
+        rules,
         entries,
         sources,
         goals: starts,
@@ -129,17 +141,20 @@ fn collect_by(
 }
 
 /// All that the goals need, or nothing where this is more than `limit` names. The only error is out of memory.
-pub fn collect(
+pub fn collect<'a>(
     alloc: Global,
-    book: &Rulebook,
+    book: &'a Rulebook,
     listing: &Listing,
     goals: &[Name],
     limit: usize,
-) -> Result<Option<Found>, AllocError>
+) -> Result<Option<Found<'a>>, AllocError>
     ensures found { IfOk result
         (λ found. IfSome found
         (λ f. Collected book.now listing.now goals.now f.names f.entries.items f.sources.items
         f.goals.items (length f.names))) }
+    ensures rules { IfOk result
+        (λ found. IfSome found
+        (λ f. map (λ row. row.now) f.rules.items ≡ map (places_of book.now.rules) f.names)) }
     ensures few { IfOk result (λ found. IfSome found (λ f. length f.names ≤ limit)) }
     ensures too_large { IfOk result
         (λ found. IfNone found

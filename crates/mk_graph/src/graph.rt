@@ -54,12 +54,14 @@ pub fn graph_of(
     let mut marks = vec![in alloc; false; found.names.count()]?;
     let seen = marks.as_mut_slice();
     let entries = distinct_entries(alloc, seen, found.entries.as_slice())?;
+    let rules = found.rules.as_slice();
     let sources = found.sources.as_slice();
     let Some(rows) = rows_of(
         alloc,
         book,
         listing,
         &found.names,
+        rules,
         entries.as_slice(),
         sources,
         seen,
@@ -68,7 +70,7 @@ pub fn graph_of(
     else {
         return Ok(None);
     };
-    let makers = makers_of(alloc, book, listing, &found.names, sources)?;
+    let makers = makers_of(alloc, book, listing, &found.names, rules, sources)?;
     Ok(Some(Graph {
         names: found.names,
         rows,

@@ -1,13 +1,14 @@
 //! The sources of names by inference rules.
 ghost use Rattle.std.specs.Prelude.{◌≡◌, ◌++◌, ◌&&◌, ◌<◌, ℕ, length, IfOk, IsTrue};
 ghost use Rattle.mk_name.specs.Names.{has, same_name};
-ghost use Rattle.mk_rules.specs.Book.{has_inference};
+ghost use Rattle.mk_rules.specs.Book.{has_inference, places_of};
 ghost use Rattle.mk_jobs.specs.Numbered.{name_at};
 ghost use Rattle.mk_graph.specs.Makers.{inferred_source, is_there, old_suffix, source_of};
 ghost use Rattle.mk_graph.specs.Places.{IsLeast, IsLeastSuffix, IsOld, in_set};
 ghost use Rattle.mk_graph.specs.SourceIndex.{IsSourceIndex};
 
 use crate::index::SourceIndex;
+use crate::makers::has_recipe;
 use crate::places::{first_common, next_place};
 use crate::suffix::suffix_of;
 use mk_name::name::Name;
@@ -112,21 +113,23 @@ fn source_of(
 }
 
 /// The source that an inference rule makes a name from; none where a target rule of it has commands, or where it is
-/// phony ("Inference Rules"). The only error is out of memory.
+/// phony ("Inference Rules"). The places are those of its target rules. The only error is out of memory.
 pub(crate) fn inferred_source(
     alloc: Global,
     book: &Rulebook,
     listing: &Listing,
     index: &SourceIndex,
+    places: &[usize],
     name: &Name,
 ) -> Result<Option<Name>, AllocError>
-    requires { IsSourceIndex book.now listing.now index.now }
+    requires index { IsSourceIndex book.now listing.now index.now }
+    requires places { places.now ≡ places_of book.now.rules name.now }
     ensures { IfOk result (λ source. source ≡ inferred_source book.now listing.now name.now) }
 {
     if index.rules.is_empty() {
         return Ok(None);
     }
-    if book.has_recipe(name) {
+    if has_recipe(book, places, name) {
         return Ok(None);
     }
     source_of(alloc, book, listing, index, name)

@@ -1,5 +1,6 @@
 //! What makes the names of a graph.
 ghost use Rattle.std.specs.Prelude.{◌≡◌, ◌<◌, ℕ, length, map, get_or, is_some, None, IfOk};
+ghost use Rattle.mk_rules.specs.Book.{has_recipe, places_of};
 ghost use Rattle.mk_graph.specs.Makers.{inferred_source, is_unknown, is_unmade, maker_of};
 ghost use Rattle.mk_jobs.specs.Numbered.{name_at};
 
@@ -17,12 +18,28 @@ fn is_unknown(book: &Rulebook, listing: &Listing, name: &Name) -> bool
     !listing.contains(name) && !book.is_phony(name) && !book.is_target(name)
 }
 
-/// What makes a name, by whether an inference rule does where no target rule has commands.
-fn maker_of(book: &Rulebook, listing: &Listing, name: &Name, is_inferred: bool) -> Maker
-    requires { is_inferred ≡ is_some (inferred_source book.now listing.now name.now) }
+/// Whether a target rule of a name has commands, by the places of its target rules. Only the contract speaks of the name.
+pub(crate) fn has_recipe(book: &Rulebook, places: &[usize], name: &Name) -> bool
+    requires { places.now ≡ places_of book.now.rules name.now }
+    ensures { result ≡ has_recipe book.now.rules name.now }
+{
+    book.recipe_among(places).is_some()
+}
+
+/// What makes a name, by the places of its target rules, and by whether an inference rule does where none of these has
+/// commands.
+fn maker_of(
+    book: &Rulebook,
+    listing: &Listing,
+    name: &Name,
+    places: &[usize],
+    is_inferred: bool,
+) -> Maker
+    requires places { places.now ≡ places_of book.now.rules name.now }
+    requires inferred { is_inferred ≡ is_some (inferred_source book.now listing.now name.now) }
     ensures { result ≡ maker_of book.now listing.now name.now }
 {
-    if book.has_recipe(name) {
+    if has_recipe(book, places, name) {
         Maker::Rule
     } else if is_inferred {
         Maker::Inferred
@@ -33,14 +50,16 @@ fn maker_of(book: &Rulebook, listing: &Listing, name: &Name, is_inferred: bool) 
     }
 }
 
-/// What makes each of the names, by their sources.
+/// What makes each of the names, by the places of their target rules and by their sources.
 pub fn makers_of(
     alloc: Global,
     book: &Rulebook,
     listing: &Listing,
     names: &Numbering,
+    rules: &[&[usize]],
     sources: &[Option<usize>],
 ) -> Result<Vec<Maker>, AllocError>
+    requires rules { map (λ row. row.now) rules.now ≡ map (places_of book.now.rules) names.now }
     requires long { length sources.now ≡ length names.now }
     requires inferred { (i : ℕ) → i < length names.now → is_some (get_or sources.now i None)
         ≡ is_some (inferred_source book.now listing.now (name_at names.now i)) }
@@ -50,7 +69,8 @@ pub fn makers_of(
     let mut makers = Vec::new(alloc);
     for number in 0..names.count() {
         let is_inferred = sources[number].is_some();
-        makers.push(maker_of(book, listing, names.name(number), is_inferred))?;
+        let name = names.name(number);
+        makers.push(maker_of(book, listing, name, rules[number], is_inferred))?;
     }
     Ok(makers)
 }

@@ -2,6 +2,7 @@
 ghost use Rattle.std.specs.Prelude.{◌≡◌, ◌<◌, ◌≤◌, ◌+◌, List, [], ℕ, length, take, map, None, nat_eq, get_or, IsTrue, IfOk, OnOk, IfSome, IfNone};
 ghost use Rattle.std.specs.List.{flat_map, sum_by};
 ghost use Rattle.mk_name.specs.Names.{firsts, has, kept};
+ghost use Rattle.mk_rules.specs.Book.{places_of};
 ghost use Rattle.mk_graph.specs.Rows.{row};
 ghost use Rattle.mk_jobs.specs.Numbered.{name_at, Stand};
 ghost use Rattle.mk_graph.specs.Graph.{count_edges};
@@ -148,18 +149,21 @@ pub fn distinct_entries(
     Ok(rows)
 }
 
-/// The numbers of what each name needs, in its order, or nothing where these are more than `limit`.
+/// The numbers of what each name needs, in its order, or nothing where these are more than `limit`. Beside each name are the
+/// places of its rules in the book.
 pub fn rows_of(
     alloc: Global,
     book: &Rulebook,
     listing: &Listing,
     names: &Numbering,
+    rules: &[&[usize]],
     entries: &[Vec<usize>],
     sources: &[Option<usize>],
     seen: &mut [bool],
     limit: usize,
 ) -> Result<Option<Vec<Vec<usize>>>, AllocError>
     requires limit { limit ≤ 1000000 }
+    requires rules { map (λ row. row.now) rules.now ≡ map (places_of book.now.rules) names.now }
     requires entries { length entries.now ≡ length book.now.rules }
     requires sources { length sources.now ≡ length names.now }
     requires within { (place n : ℕ) → IsTrue (has nat_eq (row entries.now place) n)
@@ -186,7 +190,7 @@ pub fn rows_of(
     let mut rows: Vec<Vec<usize>> = Vec::new(alloc);
     let mut edges = 0;
     for number in 0..names.count() {
-        let places = book.rules_of(names.name(number));
+        let places = rules[number];
         let row = full_row(alloc, seen, entries, places, sources[number])?;
         edges += row.len();
         if edges > limit {

@@ -1,20 +1,17 @@
 -- Names and their numbers.
 use Rattle.std.proofs.Common.{◌≡◌, ℕ, zero, suc, ◌+◌, ◌<◌, Bool, true, false, cond, List, [], ◌∷◌, ◌++◌, length, get_or, take, sym, ◌∙◌, ap, subst, inl, inr, refl, arith, append_assoc, length-append, Some, None, Option}
-use Rattle.std.specs.Prelude.{◌||◌, IsTrue, OnErr, Ok, Err, Result, nat_eq, map}
-use Rattle.std.specs.List.{list_any, position_from}
-use Rattle.std.specs.Ordering.{is_eq, nat_cmp}
-use Rattle.std.specs.Cmp.Lexicographic.{slice_cmp, texts_ties}
+use Rattle.std.specs.Prelude.{◌||◌, IsTrue, OnErr, Ok, Err, Result, nat_eq, map, position}
+use Rattle.std.specs.List.{list_any, position_from, AllByRecursion}
+use Rattle.std.specs.List as std
+use Rattle.std.specs.Cmp.Lexicographic.{nat_list_eq_equiv}
 use Rattle.std.proofs.lemmas.Bool.{cases_Bool, both_ways, or_parts, or_right, cond-true, cond-false, false_from_ne_true}
-use Rattle.std.proofs.lemmas.List.{append-nil, map_push, take_more, get_or_append_left}
+use Rattle.std.proofs.lemmas.List.{append-nil, map_push, take_more, get_or_append_left, get_or-append-add}
 use Rattle.std.proofs.lemmas.List.Quantifiers.{position-Some}
 use Rattle.std.proofs.lemmas.Iterator.Adapters.{position_from-zero}
+use Rattle.indexmap.specs.IndexSet.{insert_key}
 use Rattle.mk_name.specs.Names.{Name, same_name, has, kept, IsDistinct}
-use Rattle.mk_name.proofs.Names.{name_is_exact, nat_is_exact, in_head, in_tail, kept-append, kept_new, kept_old, in_push_cases, distinct_push}
-use Rattle.std.specs.BTreeMap.{get}
-use Rattle.std.specs.declared.collections.BTreeMap.{BTreeMap}
-use Rattle.std.specs.Global.{Global}
+use Rattle.mk_name.proofs.Names.{name_is_exact, nat_is_exact, in_head, in_tail, kept-append, kept_new, kept_old, in_push_cases}
 use Rattle.mk_jobs.specs.Numbered.{name_at, number_of, HasFirst, Stand}
-use Rattle.mk_jobs.specs.Numbers.{IsNumbered}
 
 from_other : (test : Name → Bool) (n : ℕ) (xs : List Name) (x : Name) → test x ≡ false → position_from test n (xs ++ x ∷ []) ≡ position_from test n xs
 from_other test n [] x h = cond-false (test x) _ _ h
@@ -122,24 +119,47 @@ stand_none names = record { within = λ n h. absurd (both_ways _ refl h); names_
 pub number_has : (names : List Name) (x : Name) (n : ℕ) → number_of names x ≡ Some n → IsTrue (has same_name names x)
 number_has names x n h = let s = number_some names x n h in subst (λ (z : Name). IsTrue (has same_name names z)) s.1 (has_at names n s.0)
 
--- the index after a new name
-pub index_push : (old new : BTreeMap Name ℕ Global) (names : List Name) (x : Name) → has same_name names x ≡ false → ((y : Name) → get (slice_cmp nat_cmp) old y ≡ number_of names y) → ((q : Name) → get (slice_cmp nat_cmp) new q ≡ cond (is_eq (slice_cmp nat_cmp x q)) (Some (length names)) (get (slice_cmp nat_cmp) old q)) → (y : Name) → get (slice_cmp nat_cmp) new y ≡ number_of (names ++ x ∷ []) y
-index_push old new names x absent was now y =
-    now y ∙ ap (λ b. cond b (Some (length names)) (get (slice_cmp nat_cmp) old y)) (sym (texts_ties x y)) ∙ ap (λ o. cond (same_name x y) (Some (length names)) o) (was y) ∙ sym (number_push names x y absent)
-
 pub absent_from : (names : List Name) (x : Name) (r : Option ℕ) → r ≡ number_of names x → ((n : ℕ) → r ≡ Some n → ⊥) → has same_name names x ≡ false
 absent_from names x None e h = number_none names x (sym e)
 absent_from names x (Some n) e h = absurd (h n refl)
-
-pub numbered_push : (old new : BTreeMap Name ℕ Global) (names pushed : List Name) (x own key : Name) (n : ℕ) → IsNumbered names old → has same_name names x ≡ false → own ≡ x → key ≡ x → n ≡ length names → pushed ≡ names ++ own ∷ [] → ((q : Name) → get (slice_cmp nat_cmp) new q ≡ cond (is_eq (slice_cmp nat_cmp key q)) (Some n) (get (slice_cmp nat_cmp) old q)) → IsNumbered pushed new
-numbered_push old new names pushed x own key n i absent e k l is updates =
-    subst (λ (ns : List Name). IsNumbered ns new) (ap (λ z. names ++ z ∷ []) (sym e) ∙ sym is) (record {
-      distinct = distinct_push same_name name_is_exact names x i.distinct absent;
-      index = index_push old new names x absent i.index (λ q. updates q ∙ ap (λ z. cond (is_eq (slice_cmp nat_cmp z q)) (Some n) (get (slice_cmp nat_cmp) old q)) k ∙ ap (λ m. cond (is_eq (slice_cmp nat_cmp x q)) (Some m) (get (slice_cmp nat_cmp) old q)) l);
-    })
 
 -- where memory ends behind a step, the first names have been put
 pub put_begun : {X E : Type 0} (result : Result X E) (old some new : List Name) (i : ℕ) → i < length some → new ≡ kept same_name old (take (i + 1) some)
     → OnErr result (HasFirst old some new)
 put_begun (Ok x) old some new i h is = tt
 put_begun (Err e) old some new i h is = record { count = i + 1; within = omega arith; names_are = is }
+
+-- which of the two is compared with which does not matter
+number_turned : (names : List Name) (x : Name) (n : ℕ) → position_from (same_name x) n names ≡ position_from (λ y. same_name y x) n names
+number_turned [] x n = refl
+number_turned (y ∷ ys) x n =
+    ap (λ b. cond b (Some n) (position_from (same_name x) (n + 1) ys)) (nat_list_eq_equiv.symm x y)
+    ∙ ap (cond (same_name y x) (Some n)) (number_turned ys x (n + 1))
+
+pub number_found : (names : List Name) (x : Name) → position (same_name x) names ≡ number_of names x
+number_found names x = position_from-zero (same_name x) names ∙ number_turned names x 0 ∙ sym (number_from names x)
+
+has_turned : (names : List Name) (x : Name) → list_any (same_name x) names ≡ has same_name names x
+has_turned [] x = refl
+has_turned (y ∷ ys) x =
+    ap (λ b. b || list_any (same_name x) ys) (nat_list_eq_equiv.symm x y) ∙ ap (λ b. same_name y x || b) (has_turned ys x)
+
+-- a new name goes last
+pub put_last : (names new : List Name) (x : Name) → has same_name names x ≡ false → new ≡ insert_key same_name names x → new ≡ names ++ x ∷ []
+put_last names new x absent is = is ∙ cond-false (list_any (same_name x) names) names (names ++ x ∷ []) (has_turned names x ∙ absent)
+
+none_same : (x : Name) (xs : List Name) → AllByRecursion (λ y. same_name x y ≡ false) xs → has same_name xs x ≡ false
+none_same x [] all = refl
+none_same x (y ∷ ys) all =
+    ap (λ b. b || has same_name ys x) (nat_list_eq_equiv.symm y x ∙ all.0) ∙ none_same x ys all.1
+
+-- the keys of a set differ
+pub set_distinct : (names : List Name) → std.IsDistinct same_name names → IsDistinct same_name names
+unfolding std.IsDistinct
+set_distinct [] d = tt
+set_distinct (x ∷ xs) d = (none_same x xs d.0, set_distinct xs d.1)
+
+-- the place of a name that was put last
+pub name_last : (names new : List Name) (x : Name) → new ≡ names ++ x ∷ [] → (length names < length new) × (name_at new (length names) ≡ x)
+name_last names new x is =
+    (let e = ap length is ∙ length-append names (x ∷ []) in omega (arith, e), ap (λ ns. name_at ns (length names)) is ∙ ap (λ i. name_at (names ++ x ∷ []) i) (let same : length names ≡ length names + 0 = omega arith in same) ∙ get_or-append-add names (x ∷ []) 0 [])

@@ -4,7 +4,6 @@ pub mod Kept
 pub mod Laws
 pub mod Needs
 pub mod Numbered
-pub mod Numbers
 pub mod Plan
 pub mod Reaching
 pub mod Recipes

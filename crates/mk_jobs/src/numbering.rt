@@ -1,42 +1,36 @@
 //! Names in the order in which they are found, each with its place as its number.
-ghost use Rattle.std.specs.Prelude.{◌≡◌, ◌<◌, List, [], ◌∷◌, ℕ, length, IfOk, OnErr};
+ghost use Rattle.std.specs.Prelude.{◌≡◌, ◌<◌, ◌∷◌, [], length, IfOk, OnErr};
 ghost use Rattle.mk_name.specs.Names.{kept, same_name, IsDistinct};
 ghost use Rattle.mk_jobs.specs.Numbered.{name_at, number_of, HasFirst, Stand};
 
 use mk_name::name::Name;
+use mk_table::hasher::NameSet;
 use std::alloc::{AllocError, Global};
-use std::collections::BTreeMap;
 use std::marker::Model;
 
-/// Names in the order in which they were put, each once. A name's number is its place. The index is an ordered map, so
-/// that no choice of names makes a look-up slow.
+/// Names in the order in which they were put, each once. A name's number is its place. It is kept once, in a table of
+/// hashes.
 #[derive(Debug, Drop)]
 pub struct Numbering {
-    names: Vec<Name>,
-    numbers: BTreeMap<Name, usize>,
+    names: NameSet,
 }
 
 impl Model for Numbering {
     ghost use Rattle.std.specs.Prelude.{List};
     ghost use Rattle.mk_name.specs.Names.{Name};
-    ghost use Rattle.mk_jobs.specs.Numbers.{IsNumbered};
 
     ghost Value = { List Name };
 
-    ghost view = { λ a. a.names.items };
-
-    ghost invariant = { λ a. IsNumbered a.names.items a.numbers };
+    ghost view = { λ a. a.names.keys };
 }
 
 impl Numbering {
-    /// No names.
-    pub fn new(alloc: Global) -> Numbering
-        ensures { result ≡ [] }
+    /// The names of a set, by their places. The key of the set's hasher must be one that nobody can choose names to collide
+    /// under.
+    pub fn of_set(names: NameSet) -> Numbering
+        ensures { result ≡ names.keys }
     {
-        Numbering {
-            names: Vec::new(alloc),
-            numbers: BTreeMap::new(alloc),
-        }
+        Numbering { names }
     }
 
     /// How many names there are.
@@ -52,14 +46,14 @@ impl Numbering {
         requires { number < length self.now }
         ensures { result.now ≡ name_at self.now number }
     {
-        &self.names[number]
+        &self.names.as_slice()[number]
     }
 
     /// The number of a name.
     pub fn number(&self, name: &Name) -> Option<usize>
         ensures { result ≡ number_of self.now name.now }
     {
-        self.numbers.get(name).copied()
+        self.names.get_index_of(name)
     }
 
     /// The number of a name, which is put last if it is new. The only error is out of memory, and then the names
@@ -73,12 +67,8 @@ impl Numbering {
         if let Some(number) = self.number(name) {
             return Ok(number);
         }
-        let number = self.names.len();
-        let own = name.copy(alloc)?;
-        let key = name.copy(alloc)?;
-        self.names.reserve(1)?;
-        self.numbers.insert(key, number)?;
-        self.names.push(own)?;
+        let number = self.count();
+        self.names.insert(name.copy(alloc)?)?;
         Ok(number)
     }
 

@@ -1,12 +1,18 @@
 //! The plan: all that some goals need, in serial order.
 ghost use Rattle.std.specs.Prelude.{◌≡◌, ◌<◌, ◌≤◌, ℕ, get_or, length, nat_eq, IsTrue, IfOk};
+ghost use Rattle.std.specs.Hash.DefaultHasher as sip;
+ghost use Rattle.sha2.specs.Sha256.{sha256};
 ghost use Rattle.mk_name.specs.Names.{has, same_name, IsDistinct};
+ghost use Rattle.mk_table.specs.Hashing.{key_text};
 ghost use Rattle.mk_jobs.specs.Numbered.{number_of};
 ghost use Rattle.mk_jobs.specs.Plan.{AreFoundBy, NeedsStandBefore, edge_count, edge_limit, names_of, node_at, node_limit};
 
 use crate::maker::Maker;
 use crate::numbering::Numbering;
+use indexmap::IndexSet;
 use mk_name::name::Name;
+use mk_table::hasher::{NameHasher, feed_name};
+use sha2::{Digest, Sha256};
 use std::alloc::{AllocError, Global};
 use std::marker::Model;
 
@@ -66,12 +72,23 @@ impl Model for Plan {
     ghost invariant = { λ a. plans.IsOrdered a.nodes.items a.names a.places.items };
 }
 
+/// The maker of hashers for a table of the names of these nodes.
+fn hasher_of(nodes: &[PlanNode]) -> NameHasher
+    ensures { result ≡ sip.write sip.initial (sha256 (key_text (names_of nodes.now))) }
+{
+    let mut digest = Sha256::new();
+    for node in nodes {
+        feed_name(&mut digest, &node.name);
+    }
+    NameHasher::of_digest(digest)
+}
+
 /// The names of some nodes, each by its node's place.
 fn names_of(alloc: Global, nodes: &[PlanNode]) -> Result<Numbering, AllocError>
     requires { IsDistinct same_name (names_of nodes.now) }
     ensures { IfOk result (λ names. names ≡ names_of nodes.now) }
 {
-    let mut names = Numbering::new(alloc);
+    let mut names = Numbering::of_set(IndexSet::with_hasher(alloc, hasher_of(nodes)));
     for node in nodes {
         names.put(alloc, &node.name)?;
     }

@@ -16,12 +16,6 @@ use Rattle.mk_program.specs.Answers.{IsFixAnswer, IsFixReported, IsTaskFixAnswer
 use Rattle.mk_program.specs.declared.statuses.Status.{Status}
 use Rattle.mk_program.specs.declared.statuses.Status.TheVariants.{Done, No, Failed, Refused}
 
--- the answer over what was read is the one over the texts
-pub fix_read : (old new : Texts) (footprints footprints' : List ℕ) (proof : Bool) (status : Status) (text : List ℕ)
-    → old ≡ new → footprints ≡ footprints' → IsFixAnswer old footprints proof status text → IsFixAnswer new footprints' proof status text
-fix_read old new footprints footprints' proof status text t f h =
-    subst (λ (x : List ℕ). IsFixAnswer new x proof status text) f (subst (λ (x : Texts). IsFixAnswer x footprints proof status text) t h)
-
 -- what is reported of a build ends as done or as no
 pub fixing_not_failed : (texts : Texts) (footprints : List ℕ) (proof : Bool) (fixing : Fixing) (status : Status) (text : List ℕ)
     → IsFixReported texts footprints proof fixing status text → status ≢ Failed

@@ -10,14 +10,18 @@ use Rattle.mk_report.specs.declared.answer.Answer.TheVariants as judged
 use Rattle.mk_race.specs.Judged.{HoldsOfRace, IsSafe, NoScheduleShows}
 use Rattle.mk_race.specs.Stages.{Texts}
 use Rattle.mk_race.specs.Tasked as tasked
-use Rattle.mk_program.specs.Answers.{AskToCheck, IsAnswerTo, IsNotedCheck, IsTasksAnswer, SaysJudged, SaysSafe, judged_status}
-use Rattle.mk_request.specs.CommandLine.{Asks, IsQuestion, asked}
+use Rattle.mk_program.specs.Answers.{AskToCheck, IsAnswerTo, IsCheckAnswer, IsJobAnswer, IsTasksAnswer, SaysJudged, SaysSafe, judged_status}
+use Rattle.mk_program.specs.Noting.{SaysNoting}
+use Rattle.mk_request.specs.CommandLine.{Asks, IsJobQuestion, IsQuestion, asked}
 use Rattle.mk_files.specs.Includes.{Pair}
 use Rattle.mk_files.specs.Inputs.{Hold, IsLeftOut}
 use Rattle.mk_request.specs.Requests.{input_at, listing_input, proof_input}
 use Rattle.mk_request.specs.declared.inputs.InputFile.{InputFile}
 use Rattle.mk_request.specs.declared.inputs.InputFile.TheVariants as inputs
 use Rattle.mk_request.specs.declared.inputs.InputPath.{InputPath}
+use Rattle.mk_request.specs.declared.requests.JobArgs.{JobArgs}
+use Rattle.mk_request.specs.declared.requests.JobQuestion.{JobQuestion}
+use Rattle.mk_request.specs.declared.requests.JobQuestion.TheVariants as jobs
 use Rattle.mk_request.specs.declared.requests.Request.{Request}
 use Rattle.mk_request.specs.declared.requests.Request.TheVariants as requests
 use Rattle.mk_request.specs.declared.requests.TaskArgs.{TaskArgs}
@@ -27,8 +31,8 @@ use Rattle.mk_program.specs.declared.statuses.Status.{Status}
 use Rattle.mk_program.specs.declared.statuses.Status.TheVariants.{Done, Failed, No, Refused}
 
 -- a build that is said to be safe is
-noted_safe : (strict : Bool) (texts : Texts) (footprints : List ℕ) (proof : Bool) (text note : List ℕ) → IsNotedCheck strict texts footprints proof Done text note
-    → NoScheduleShows texts footprints
+noted_safe : (strict : Bool) (texts : Texts) (footprints : List ℕ) (proof : Bool) (text note : List ℕ)
+    → SaysNoting strict texts footprints (IsCheckAnswer texts footprints proof) Done text note → NoScheduleShows texts footprints
 noted_safe strict texts footprints proof text note (Ok noted, is, says) = says.0.headline
 noted_safe strict texts footprints proof text note (Err reported, is, says) = absurd (let e : ◌≡◌ {A = Status} Done Refused = says.0 in cc)
 
@@ -52,6 +56,24 @@ judged_ends (judged.Refused reported) status ends failed = let e : ◌≡◌ {A 
 not_check : (name : Text) → (found : Text) → found ≡ codes "check" → found ≡ name → (slice_index_or name 0 0 == 99) ≡ false → ⊥
 not_check name found check is first =
     false≢true (sym first ∙ ap (λ (text : Text). slice_index_or text 0 0 == 99) (sym is ∙ check))
+
+-- what is asked about jobs is whether they are safe
+job_asked : (o : Option (Text × List Row)) (args : JobArgs) → AskToCheck o → Asks (requests.Jobs args) o
+    → (name : Text) × (rows : List Row) × (name ≡ codes "check") × IsJobQuestion args.question name rows
+job_asked None args check asks = absurd check
+job_asked (Some found) args check asks = (found.0, found.1, check, asks.question)
+
+-- what is reported of safe jobs says that no schedule shows
+job_safe : (question : JobQuestion) (strict : Bool) (texts : Texts) (text : InputFile → List ℕ) (answer note : List ℕ)
+    → (name : Text) × (rows : List Row) × (name ≡ codes "check") × IsJobQuestion question name rows
+    → IsJobAnswer question strict texts text Done answer note → NoScheduleShows texts (text inputs.Footprints)
+job_safe (jobs.Check proof) strict texts text answer note asks says = noted_safe strict texts (text inputs.Footprints) proof answer note says
+job_safe (jobs.Verify proof) strict texts text answer note asks says = absurd (not_check (codes "verify") asks.0 asks.2 asks.3.0 refl)
+job_safe (jobs.Replay args) strict texts text answer note asks says = absurd (not_check (codes "replay") asks.0 asks.2 asks.3.0 refl)
+job_safe (jobs.Serialise args) strict texts text answer note asks says = absurd (not_check (codes "serialise") asks.0 asks.2 asks.3.0 refl)
+job_safe jobs.List strict texts text answer note asks says = absurd (not_check (codes "list") asks.0 asks.2 asks.3.0 refl)
+job_safe (jobs.Fix proof) strict texts text answer note asks says = absurd (not_check (codes "fix") asks.0 asks.2 asks.3.0 refl)
+job_safe jobs.Missing strict texts text answer note asks says = absurd (not_check (codes "missing") asks.0 asks.2 asks.3.0 refl)
 
 -- what is asked about tasks is whether they are safe
 question_asked : (o : Option (Text × List Row)) (args : TaskArgs) → AskToCheck o → Asks (requests.Tasks args) o
@@ -112,25 +134,13 @@ pub says_safe : (words : List (Bor Text)) (files : List ℕ → Option (List ℕ
     → IsAnswerTo words files Done text note → SaysSafe words files
 says_safe words files text note check (requests.Order build, asks, answer) =
     absurd (not_asked (codes "order") (requests.Order build) (asked words) (λ found named. named.0) refl check asks)
-says_safe words files text note check (requests.Check args, asks, answer) =
+says_safe words files text note check (requests.Jobs args, asks, answer) =
     inl (
       args,
       asks,
       λ includes texts opened held.
-          noted_safe args.build.strict _ (texts inputs.Footprints) args.print_proof text note (answer includes texts opened held),
+          job_safe args.question args.strict _ texts text note (job_asked (asked words) args check asks) (answer includes texts opened held),
     )
-says_safe words files text note check (requests.Verify args, asks, answer) =
-    absurd (not_asked (codes "verify") (requests.Verify args) (asked words) (λ found named. named.0) refl check asks)
-says_safe words files text note check (requests.Replay args, asks, answer) =
-    absurd (not_asked (codes "replay") (requests.Replay args) (asked words) (λ found named. named.0) refl check asks)
-says_safe words files text note check (requests.Serialise args, asks, answer) =
-    absurd (not_asked (codes "serialise") (requests.Serialise args) (asked words) (λ found named. named.0) refl check asks)
-says_safe words files text note check (requests.List args, asks, answer) =
-    absurd (not_asked (codes "list") (requests.List args) (asked words) (λ found named. named.0) refl check asks)
-says_safe words files text note check (requests.Missing args, asks, answer) =
-    absurd (not_asked (codes "missing") (requests.Missing args) (asked words) (λ found named. named.0) refl check asks)
-says_safe words files text note check (requests.Fix args, asks, answer) =
-    absurd (not_asked (codes "fix") (requests.Fix args) (asked words) (λ found named. named.0) refl check asks)
 says_safe words files text note check (requests.Tasks args, asks, answer) =
     inr (
       args,

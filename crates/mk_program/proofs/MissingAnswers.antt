@@ -6,17 +6,10 @@ use Rattle.mk_name.specs.Reported.{Reported}
 use Rattle.mk_name.specs.declared.fault.Halt.{Halt}
 use Rattle.mk_name.specs.declared.fault.Halt.TheVariants.{Fault}
 use Rattle.mk_race.specs.Missing.{IsEmpty}
-use Rattle.mk_race.specs.Stages.{Texts}
 use Rattle.mk_race.specs.declared.missing.MissingList.{MissingList}
-use Rattle.mk_program.specs.Answers.{IsMissingAnswer, MissingEnds, SaysMissing, listed_text}
+use Rattle.mk_program.specs.Answers.{MissingEnds, SaysMissing, listed_text}
 use Rattle.mk_program.specs.declared.statuses.Status.{Status}
 use Rattle.mk_program.specs.declared.statuses.Status.TheVariants.{Done, No, Failed, Refused}
-
--- the answer over what was read is the one over the texts
-pub missing_read : (old new : Texts) (footprints footprints' : List ℕ) (status : Status) (text : List ℕ)
-    → old ≡ new → footprints ≡ footprints' → IsMissingAnswer old footprints status text → IsMissingAnswer new footprints' status text
-missing_read old new footprints footprints' status text t f h =
-    subst (λ (x : List ℕ). IsMissingAnswer new x status text) f (subst (λ (x : Texts). IsMissingAnswer x footprints status text) t h)
 
 -- what was listed ends as done or as no
 pub missing_not_failed : (listed : MissingList) (status : Status) → MissingEnds listed status → status ≢ Failed

@@ -1,5 +1,5 @@
 -- Lemmas on the answers to requests for all races.
-use Rattle.std.proofs.Common.{◌≡◌, ◌≢◌, ◌∙◌, ◌⊎◌, ◌==◌, inl, inr, ℕ, true, false, IfOk, List, [], ◌∷◌, Result, Ok, Err, length, ap, refl, subst, sym}
+use Rattle.std.proofs.Common.{◌≡◌, ◌≢◌, ◌∙◌, ◌⊎◌, ◌==◌, inl, inr, ℕ, true, false, List, [], ◌∷◌, Result, Ok, length, ap, refl, subst, sym}
 use Rattle.std.proofs.lemmas.Bool.{eqb-true, false≢true}
 use Rattle.std.proofs.lemmas.List.{nil_from_length}
 use Rattle.mk_name.specs.Gives.{HaltsAmong}
@@ -9,26 +9,12 @@ use Rattle.mk_name.specs.declared.fault.Halt.{Halt}
 use Rattle.mk_name.specs.declared.fault.Halt.TheVariants.{Fault, Memory}
 use Rattle.mk_race.specs.Listed.{IsListed, IsListedOf}
 use Rattle.mk_race.specs.Stages.{IsPrepared, Texts}
-use Rattle.mk_race.specs.Unused.{IsNoted}
 use Rattle.mk_race.specs.declared.listing.RaceList.{RaceList}
 use Rattle.mk_race.specs.declared.preparing.Prepared.{Prepared}
-use Rattle.mk_race.specs.declared.unused.Noted.{Noted}
 use Rattle.mk_report.specs.RacesText.{IsRacesText}
-use Rattle.mk_program.specs.Answers.{IsListAnswer, SaysList, races_status}
-use Rattle.mk_program.specs.Noting.{SaysQuietly}
+use Rattle.mk_program.specs.Answers.{SaysList, races_status}
 use Rattle.mk_program.specs.declared.statuses.Status.{Status}
 use Rattle.mk_program.specs.declared.statuses.Status.TheVariants.{Done, No, Failed, Refused}
-
--- what is said without a note of a build is the answer: without jobs the first fault is reported
-pub quiet_is : (texts : Texts) (footprints : List ℕ) (status : Status) (text : List ℕ)
-    → SaysQuietly texts footprints (IsListAnswer texts footprints) status text → IsListAnswer texts footprints status text
-quiet_is texts footprints status text (note, (Ok noted, is, said)) = said.0
-quiet_is texts footprints status text (note, (Err reported, (Ok noted, is, same), said)) =
-    absurd (let e : ◌≡◌ {A = Result Noted Reported} (Err reported) (Ok noted) = same in cc)
-quiet_is texts footprints status text (note, (Err reported, (Err fault, is, same), said)) =
-    let there : IsPrepared texts footprints (Err reported) =
-    subst (λ (x : Result Noted Reported). IsNoted texts footprints x) (sym same) is in
-    subst (λ (s : Status). IsListAnswer texts footprints s text) (sym said.0) (reported, (Err reported, there, refl), said.1)
 
 -- all races of the jobs of a build are those of the build
 pub listed_there : (texts : Texts) (footprints : List ℕ) (prepared : Prepared) (answer : Result RaceList Reported)
@@ -72,9 +58,3 @@ races_done races none = ap races_status (sym (nil_from_length races (eqb-true (l
 pub races_no : (races : List (ℕ × ℕ)) → (length races == 0) ≡ false → No ≡ races_status races
 races_no [] some = absurd (false≢true (sym some))
 races_no (race ∷ races) some = refl
-
--- two facts of a result
-pub with_note : {X E : Type 0} (result : Result X E) (One Other Both : X → Type 0) → ((x : X) → One x → Other x → Both x)
-    → IfOk result One → IfOk result Other → IfOk result Both
-with_note (Ok x) One Other Both both one other = both x one other
-with_note (Err e) One Other Both both one other = tt

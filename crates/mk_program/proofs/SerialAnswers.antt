@@ -7,8 +7,9 @@ use Rattle.mk_name.specs.Shown.{refused_text}
 use Rattle.mk_name.specs.Reported.{Reported}
 use Rattle.mk_name.specs.declared.fault.Halt.{Halt}
 use Rattle.mk_name.specs.declared.fault.Halt.TheVariants.{Fault}
-use Rattle.mk_race.specs.Serialised.{IsLawful, IsLawfulBuild, IsSerialised}
+use Rattle.mk_race.specs.Serialised.{IsLawful, IsLawfulBuild, IsLawfulOn, IsSerialised}
 use Rattle.mk_race.specs.Stages.{Texts}
+use Rattle.mk_race.specs.declared.preparing.Prepared.{Prepared}
 use Rattle.mk_race.specs.declared.serialising.Ordered.{Ordered}
 use Rattle.mk_race.specs.declared.serialising.Ordered.TheVariants.{Serial, NotAllowed, NotComplete, Race, NoRoom}
 use Rattle.mk_race.specs.declared.serialising.Serialised.{Serialised}
@@ -19,15 +20,6 @@ use Rattle.mk_program.specs.OrderText.{HasNodes, IsNoText, IsOrderText, IsUnrepo
 use Rattle.mk_files.specs.declared.failures.Failure.{Failure}
 use Rattle.mk_program.specs.declared.statuses.Status.{Status}
 use Rattle.mk_program.specs.declared.statuses.Status.TheVariants.{Done, No, Failed, Refused}
-
--- the answer over what was read is the one over the texts
-pub serial_reported : (old new : Texts) (footprints footprints' log log' : List ℕ) (limit : ℕ) (tie : Bool) (status : Status) (text : List ℕ)
-    → old ≡ new → footprints ≡ footprints' → log ≡ log' → IsSerialiseAnswer old footprints log limit tie status text
-    → IsSerialiseAnswer new footprints' log' limit tie status text
-serial_reported old new footprints footprints' log log' limit tie status text t f l h =
-    subst (λ (x : List ℕ). IsSerialiseAnswer new footprints' x limit tie status text) l
-    (subst (λ (x : List ℕ). IsSerialiseAnswer new x log limit tie status text) f
-    (subst (λ (x : Texts). IsSerialiseAnswer x footprints log limit tie status text) t h))
 
 -- what is reported of a log ends as done or as no
 pub ends_as : (order : Ordered) → (order_status order ≡ Done) ⊎ (order_status order ≡ No)
@@ -70,9 +62,10 @@ nodes_in jobs tie log (Race trace) same = tt
 nodes_in jobs tie log NoRoom same = tt
 
 -- the events of a log in serial order are of nodes
-pub has_nodes : (texts : Texts) (footprints log : List ℕ) (tie : Bool) (given : Serialised) → IsLawfulBuild texts footprints log tie given → HasNodes given.jobs given.order
-has_nodes texts footprints log tie given law =
-    subst (λ (jobs : Jobs). HasNodes jobs given.order) (sym law.jobs) (nodes_in law.prepared.jobs tie law.lawful.read given.order law.lawful.lawful)
+pub has_nodes : (prepared : Prepared) (log : List ℕ) (tie : Bool) (given : Serialised) → given.jobs ≡ prepared.jobs
+    → IsLawfulOn prepared log tie given.order → HasNodes given.jobs given.order
+has_nodes prepared log tie given jobs law =
+    subst (λ (j : Jobs). HasNodes j given.order) (sym jobs) (nodes_in prepared.jobs tie law.read given.order law.lawful)
 
 -- why something is not reported gives why more is not
 pub unreported_more : (P Q : Type 0) (failure : Failure) → (P → Q) → IsUnreported P failure → IsUnreported Q failure
@@ -84,11 +77,3 @@ pub no_text_is : (texts : Texts) (footprints log : List ℕ) (limit limit' : ℕ
     → IsSerialised texts footprints log limit' tie (Ok given) → limit' ≡ limit → IsNoText given.jobs given.order → HasNoText texts footprints log limit tie
 no_text_is texts footprints log limit limit' tie given is same no_text =
     (given, subst (λ (n : ℕ). IsSerialised texts footprints log n tie (Ok given)) same is, no_text)
-
--- over what was read it is one over the texts
-pub no_text_reported : (old new : Texts) (footprints footprints' log log' : List ℕ) (limit : ℕ) (tie : Bool)
-    → old ≡ new → footprints ≡ footprints' → log ≡ log' → HasNoText old footprints log limit tie → HasNoText new footprints' log' limit tie
-no_text_reported old new footprints footprints' log log' limit tie t f l h =
-    subst (λ (x : List ℕ). HasNoText new footprints' x limit tie) l
-    (subst (λ (x : List ℕ). HasNoText new x log limit tie) f
-    (subst (λ (x : Texts). HasNoText x footprints log limit tie) t h))

@@ -56,7 +56,9 @@ use Rattle.mk_request.specs.declared.inputs.InputFile.{InputFile}
 use Rattle.mk_request.specs.declared.inputs.InputFile.TheVariants as inputs
 use Rattle.mk_request.specs.declared.inputs.InputPath.{InputPath}
 use Rattle.mk_request.specs.declared.requests.BuildArgs.{BuildArgs}
-use Rattle.mk_request.specs.declared.requests.CheckArgs.{CheckArgs}
+use Rattle.mk_request.specs.declared.requests.JobArgs.{JobArgs}
+use Rattle.mk_request.specs.declared.requests.JobQuestion.{JobQuestion}
+use Rattle.mk_request.specs.declared.requests.JobQuestion.TheVariants as jobs
 use Rattle.mk_request.specs.declared.requests.Request.{Request}
 use Rattle.mk_request.specs.declared.requests.Request.TheVariants as requests
 use Rattle.mk_request.specs.declared.requests.TaskArgs.{TaskArgs}
@@ -288,37 +290,29 @@ IsTasksAnswer questions.List root text status answer = IsTaskListAnswer root (te
 IsTasksAnswer (questions.Fix print_proof) root text status answer = IsTaskFixAnswer root (text inputs.Tasks) print_proof status answer
 IsTasksAnswer (questions.Missing listing) root text status answer = IsTaskMissingAnswer root (text inputs.Listing) (text inputs.Tasks) status answer
 
--- the answers of a build whose footprints may lie unused, each with its note: to a check, to a proof and to a log
-abbrev pub IsNotedCheck : Bool → Texts → List ℕ → Bool → Status → List ℕ → List ℕ → Type 0
-IsNotedCheck strict texts footprints proof = SaysNoting strict texts footprints (IsCheckAnswer texts footprints proof)
-
-abbrev pub IsNotedVerify : Bool → Texts → List ℕ → List ℕ → Status → List ℕ → List ℕ → Type 0
-IsNotedVerify strict texts footprints proof = SaysNoting strict texts footprints (IsVerifyAnswer texts footprints proof)
-
-abbrev pub IsNotedReplay : Bool → Texts → List ℕ → List ℕ → ℕ → Bool → Status → List ℕ → List ℕ → Type 0
-IsNotedReplay strict texts footprints log limit tie = SaysNoting strict texts footprints (IsReplayAnswer texts footprints log limit tie)
+-- the answer to a question about the jobs of a build and its note, over the texts of the build and of the inputs; where it has a note, a
+-- strict build is refused if footprints lie unused
+abbrev pub IsJobAnswer : JobQuestion → Bool → Texts → (InputFile → List ℕ) → Status → List ℕ → List ℕ → Type 0
+IsJobAnswer (jobs.Check print_proof) strict texts text =
+    SaysNoting strict texts (text inputs.Footprints) (IsCheckAnswer texts (text inputs.Footprints) print_proof)
+IsJobAnswer (jobs.Verify proof) strict texts text =
+    SaysNoting strict texts (text inputs.Footprints) (IsVerifyAnswer texts (text inputs.Footprints) (text inputs.Proof))
+IsJobAnswer (jobs.Replay args) strict texts text =
+    SaysNoting strict texts (text inputs.Footprints) (IsReplayAnswer texts (text inputs.Footprints) (text inputs.Log) args.limit args.tie)
+IsJobAnswer (jobs.Serialise args) strict texts text = λ status answer note.
+    IsSerialiseAnswer texts (text inputs.Footprints) (text inputs.Log) args.limit args.tie status answer × (note ≡ [])
+IsJobAnswer jobs.List strict texts text = λ status answer note. IsListAnswer texts (text inputs.Footprints) status answer × (note ≡ [])
+IsJobAnswer (jobs.Fix print_proof) strict texts text = λ status answer note.
+    IsFixAnswer texts (text inputs.Footprints) print_proof status answer × (note ≡ [])
+IsJobAnswer jobs.Missing strict texts text = λ status answer note. IsMissingAnswer texts (text inputs.Footprints) status answer × (note ≡ [])
 
 -- the answer to a request and its note, which may be empty, over the texts of its includes and of its inputs
 abbrev pub IsAnswerOver : Request → List Pair → (InputFile → List ℕ) → Status → List ℕ → List ℕ → Type 0
 IsAnswerOver (requests.Order build) includes text status answer note = IsOrderAnswer (texts_for build includes text) status answer × (note ≡ [])
-IsAnswerOver (requests.Check check) includes text status answer note =
-    IsNotedCheck check.build.strict (texts_for check.build includes text) (text inputs.Footprints) check.print_proof status answer note
-IsAnswerOver (requests.Verify verify) includes text status answer note =
-    IsNotedVerify verify.build.strict (texts_for verify.build includes text) (text inputs.Footprints) (text inputs.Proof) status answer note
-IsAnswerOver (requests.Replay replay) includes text status answer note =
-    IsNotedReplay replay.build.strict (texts_for replay.build includes text) (text inputs.Footprints) (text inputs.Log) replay.limit replay.tie
-    status answer note
-IsAnswerOver (requests.Serialise replay) includes text status answer note =
-    IsSerialiseAnswer (texts_for replay.build includes text) (text inputs.Footprints) (text inputs.Log) replay.limit replay.tie status answer
-    × (note ≡ [])
-IsAnswerOver (requests.List list) includes text status answer note =
-    IsListAnswer (texts_for list.build includes text) (text inputs.Footprints) status answer × (note ≡ [])
-IsAnswerOver (requests.Missing list) includes text status answer note =
-    IsMissingAnswer (texts_for list.build includes text) (text inputs.Footprints) status answer × (note ≡ [])
-IsAnswerOver (requests.Fix fix) includes text status answer note =
-    IsFixAnswer (texts_for fix.build includes text) (text inputs.Footprints) fix.print_proof status answer × (note ≡ [])
-IsAnswerOver (requests.Tasks asked) includes text status answer note =
-    IsTasksAnswer asked.question asked.root.now text status answer × (note ≡ [])
+IsAnswerOver (requests.Jobs args) includes text status answer note =
+    IsJobAnswer args.question args.strict (texts_for args.build includes text) text status answer note
+IsAnswerOver (requests.Tasks args) includes text status answer note =
+    IsTasksAnswer args.question args.root.now text status answer × (note ≡ [])
 
 -- the answer to a request and its note, over what its files hold
 abbrev pub IsAnswer : Request → (List ℕ → Option (List ℕ)) → Status → List ℕ → List ℕ → Type 0
@@ -331,11 +325,11 @@ abbrev pub AskToCheck : Option (Text × List Row) → Type 0
 AskToCheck None = ⊥
 AskToCheck (Some found) = found.0 ≡ codes "check"
 
--- no schedule of the build that is to be checked shows in its files, where its texts are those that these files hold
-abbrev pub IsSafeBuild : CheckArgs → (List ℕ → Option (List ℕ)) → Type 0
-IsSafeBuild check files =
-    (includes : List Pair) (text : InputFile → List ℕ) → includes_in files (includes_path (requests.Check check)) ≡ Some includes
-    → Hold files (inputs_of (requests.Check check)) text → NoScheduleShows (texts_for check.build includes text) (text inputs.Footprints)
+-- no schedule of the build that is asked about shows in its files, where its texts are those that these files hold
+abbrev pub IsSafeBuild : JobArgs → (List ℕ → Option (List ℕ)) → Type 0
+IsSafeBuild args files =
+    (includes : List Pair) (text : InputFile → List ℕ) → includes_in files (includes_path (requests.Jobs args)) ≡ Some includes
+    → Hold files (inputs_of (requests.Jobs args)) text → NoScheduleShows (texts_for args.build includes text) (text inputs.Footprints)
 
 -- each of the tasks that are to be checked starts, and no schedule of them shows in their files, where this is the text that
 -- their file holds
@@ -345,7 +339,7 @@ AreSafeTasks tasks files = (text : List ℕ) → files tasks.tasks.now ≡ Some 
 -- the words ask to check a build or tasks, and no schedule of these shows in the files
 abbrev pub SaysSafe : List (Bor Text) → (List ℕ → Option (List ℕ)) → Type 0
 SaysSafe words files =
-    ((check : CheckArgs) × Asks (requests.Check check) (asked words) × IsSafeBuild check files)
+    ((args : JobArgs) × Asks (requests.Jobs args) (asked words) × IsSafeBuild args files)
     ⊎ ((tasks : TaskArgs) × Asks (requests.Tasks tasks) (asked words) × AreSafeTasks tasks files)
 
 -- the answer to what these words ask, and its note
@@ -369,18 +363,21 @@ WritesNote words files status old new before after =
 abbrev pub HasNote : List (Bor Text) → (List ℕ → Option (List ℕ)) → Status → Type 0
 HasNote words files status = (text note : List ℕ) × (note ≢ []) × IsAnswerTo words files status text note
 
--- the log in serial order that a request is to write has a name that is no text, over the texts of its includes and of its inputs
+-- the log in serial order that a question about jobs is to write has a name that is no text, over the texts of the build and of the inputs
+abbrev pub IsNoTextOf : JobQuestion → Texts → (InputFile → List ℕ) → Type 0
+IsNoTextOf (jobs.Check print_proof) texts text = ⊥
+IsNoTextOf (jobs.Verify proof) texts text = ⊥
+IsNoTextOf (jobs.Replay args) texts text = ⊥
+IsNoTextOf (jobs.Serialise args) texts text = HasNoText texts (text inputs.Footprints) (text inputs.Log) args.limit args.tie
+IsNoTextOf jobs.List texts text = ⊥
+IsNoTextOf (jobs.Fix print_proof) texts text = ⊥
+IsNoTextOf jobs.Missing texts text = ⊥
+
+-- the same of a request, over the texts of its includes and of its inputs
 abbrev pub IsNoTextOver : Request → List Pair → (InputFile → List ℕ) → Type 0
 IsNoTextOver (requests.Order build) includes text = ⊥
-IsNoTextOver (requests.Check check) includes text = ⊥
-IsNoTextOver (requests.Verify verify) includes text = ⊥
-IsNoTextOver (requests.Replay replay) includes text = ⊥
-IsNoTextOver (requests.Serialise replay) includes text =
-    HasNoText (texts_for replay.build includes text) (text inputs.Footprints) (text inputs.Log) replay.limit replay.tie
-IsNoTextOver (requests.List list) includes text = ⊥
-IsNoTextOver (requests.Missing list) includes text = ⊥
-IsNoTextOver (requests.Fix fix) includes text = ⊥
-IsNoTextOver (requests.Tasks tasks) includes text = ⊥
+IsNoTextOver (requests.Jobs args) includes text = IsNoTextOf args.question (texts_for args.build includes text) text
+IsNoTextOver (requests.Tasks args) includes text = ⊥
 
 -- that, over what its files hold
 abbrev pub IsNoTextIn : Request → (List ℕ → Option (List ℕ)) → Type 0

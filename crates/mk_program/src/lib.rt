@@ -2,7 +2,7 @@
 //!
 //! [`race_words`] is the program: it reads its words, opens and reads files through an opener of `mk_files`, and writes one text. Read
 //! its contract first, then `specs/Answers.antt`. What the words ask for is in `mk_request`. A subcommand more is a variant of its
-//! `Request`, and a question in `answers::answer_with`.
+//! `JobQuestion`, with a module of its own, and a line in `answers::job_reply`.
 #![tactic(auto)]
 
 mod answers;
@@ -13,14 +13,17 @@ mod listing;
 mod missing;
 mod noting;
 mod order_lines;
+mod ordering;
 mod outcome_lines;
 mod plan_lines;
 mod posix_base;
+mod replaying;
 mod running;
 mod serialising;
 mod statuses;
 mod tasks;
 mod text_questions;
+mod verifying;
 
 pub use running::{fail, race_words};
 pub use statuses::Status;

@@ -1,62 +1,29 @@
 //! The answers to `race list`.
-ghost use Rattle.std.specs.Prelude.{◌≡◌, ◌≢◌, IfErr, IfOk, List, None, Ok, OnOk, map, ℕ};
+ghost use Rattle.std.specs.Prelude.{◌≡◌, ◌≢◌, IfOk, List, Ok, ℕ};
 ghost use Rattle.mk_race.specs.Stages.{IsPrepared, Texts};
 ghost use Rattle.mk_report.specs.RacesText.{IsRacesText};
-ghost use Rattle.mk_request.specs.Requests.{inputs_of};
-ghost use Rattle.mk_files.specs.Inputs.{Hold, InputsMayBeRead, IsShortOr, IsUnread};
 ghost use Rattle.mk_program.specs.Answers as spec;
 
 use crate::answers::{Answer, refused};
-use crate::noting::{Question, Reply, quiet_reply};
+use crate::noting::Question;
 use crate::statuses::Status;
 use mk_files::failures::Failure;
-use mk_files::openers::Opener;
 use mk_race::listing::{RaceList, list_jobs};
 use mk_race::preparing::Prepared;
 use mk_report::races::races_report;
-use mk_request::inputs::{InputFile, InputPath};
-use mk_request::requests::{ListArgs, Request};
 use std::alloc::{AllocError, Global};
 
 /// All races of a build.
 #[derive(Clone, Copy)]
-struct AllRaces;
-
-/// All races of a build, or why its inputs are refused; and no note.
-pub(crate) fn list_reply<P: Opener>(
-    alloc: Global,
-    opener: &mut P,
-    list: &ListArgs<'_>,
-    includes: &[(&[u8], &[u8])],
-) -> Result<Reply, Failure>
-    ensures status { IfOk result (λ reply. reply.answer.status ≢ Status.Failed) }
-    ensures read { OnOk result (InputsMayBeRead (P.files opener.old) (inputs_of (Request.List list.now))) }
-    ensures failure { IfErr result (IsShortOr (IsUnread (P.files opener.old) (inputs_of (Request.List list.now)))) }
-    ensures answer { IfOk result (λ reply. (text : InputFile → List ℕ)
-        → Hold (P.files opener.old).text (inputs_of (Request.List list.now)) text
-        → spec.IsAnswerOver (Request.List list.now) (map (λ pair. (pair.0.now, pair.1.now)) includes.now) text
-        reply.answer.status reply.answer.text.items reply.note.items) }
-{
-    let footprints = list.footprints;
-    quiet_reply(alloc, opener, &list.build, footprints, includes, &AllRaces)
-}
+pub(crate) struct AllRaces;
 
 impl Question for AllRaces {
-    ghost other = { λ _. None };
-
     ghost says = { λ _ texts footprints _. spec.IsListAnswer texts footprints };
 
-    fn other_input(&self) -> Option<InputPath<'_>> {
-        None
-    }
+    ghost has_no_text = { λ _ _ _ _. ⊥ };
 
-    fn answer(
-        &self,
-        alloc: Global,
-        prepared: Prepared,
-        _text: &[u8],
-    ) -> Result<Answer, AllocError> {
-        list_over(alloc, prepared)
+    fn answer(&self, alloc: Global, prepared: Prepared, _other: &[u8]) -> Result<Answer, Failure> {
+        Ok(list_over(alloc, prepared)?)
     }
 }
 

@@ -1,16 +1,18 @@
-//! Questions about a build whose footprints may lie unused, and the note of that.
-ghost use Rattle.std.specs.Prelude.{◌≡◌, ◌≢◌, ◌++◌, [], IfErr, IfOk, IfSome, List, Ok, OnOk, Option, map, ℕ};
+//! Questions about the jobs of a build whose footprints may lie unused, and the note of that.
+ghost use Rattle.std.specs.Prelude.{◌≡◌, ◌≢◌, ◌++◌, [], IfErr, IfOk, List, Ok, OnOk, Option, map, ℕ};
 ghost use Rattle.mk_name.specs.Gives.{Answers};
 ghost use Rattle.mk_name.specs.Shown.{refused_text};
 ghost use Rattle.mk_name.specs.Reported.{Reported};
 ghost use Rattle.mk_name.specs.declared.fault.Halt.TheVariants as halts;
 ghost use Rattle.mk_race.specs.Stages.{AreListed, IsPrepared, Texts};
 ghost use Rattle.mk_race.specs.Unused.{IsNotedBy};
+ghost use Rattle.mk_request.specs.Requests.{inputs_of, other_input as other_of};
 ghost use Rattle.mk_request.specs.declared.inputs.InputPath.{InputPath as Path};
-ghost use Rattle.mk_program.specs.Answers.{base_of as base_text, texts_for};
-ghost use Rattle.mk_files.specs.Builds.{AreBelow, IsReadAs, inputs_with, other_text};
-ghost use Rattle.mk_files.specs.Inputs.{Hold, InputsMayBeRead, IsShortOr, IsUnread};
+ghost use Rattle.mk_program.specs.Answers.{IsInputFailure, base_of as base_text, texts_for};
+ghost use Rattle.mk_files.specs.Builds.{AreBelow, IsReadAs, other_text};
+ghost use Rattle.mk_files.specs.Inputs.{Hold, InputsMayBeRead};
 ghost use Rattle.mk_program.specs.Noting as spec;
+ghost use Rattle.mk_program.specs.OrderText.{IsUnreported};
 ghost use Rattle.mk_program.specs.declared.statuses.Status.{Status as Ending};
 
 use crate::answers::{Answer, base_of, bytes_of, refused};
@@ -24,8 +26,8 @@ use mk_name::report::push_shown;
 use mk_race::input::Settings;
 use mk_race::preparing::Prepared;
 use mk_race::unused::{Noted, Unused, note_parts};
-use mk_request::inputs::{InputFile, InputPath};
-use mk_request::requests::BuildArgs;
+use mk_request::inputs::InputFile;
+use mk_request::requests::{BuildArgs, JobArgs, Request, other_input};
 use mk_text::listing::Listing;
 use std::alloc::{AllocError, Global};
 
@@ -36,86 +38,85 @@ pub struct Reply {
     pub note: Vec<u8>,
 }
 
-/// A question about the jobs of a build.
+/// A question about the jobs of a build, which are answered for by a further input where there is one, such as a proof.
 pub(crate) trait Question {
-    /// The input that it has beside those of a build, where it has one.
-    ghost other: { Self → Option Path };
-
     /// What is said of a build with these texts and footprints where that input has this text, and how the program ends then.
     ghost says: { Self → Texts → List ℕ → List ℕ → Ending → List ℕ → Type 0 };
 
-    /// That input, which is no base makefile.
-    fn other_input(&self) -> Option<InputPath<'_>>
-        ensures input { result ≡ other self.now }
-        ensures no_base { IfSome (other self.now) (λ known. known.input ≢ InputFile.Base) };
+    /// What would be said has a name that is no text.
+    ghost has_no_text: { Self → Texts → List ℕ → List ℕ → Type 0 };
 
-    /// The answer about these jobs, where that input has this text. The only error is out of memory.
-    fn answer(&self, alloc: Global, prepared: Prepared, text: &[u8]) -> Result<Answer, AllocError>
+    /// The answer about these jobs, where that input has this text. The errors are `Failure::NotText` and out of memory.
+    fn answer(&self, alloc: Global, prepared: Prepared, other: &[u8]) -> Result<Answer, Failure>
         requires { AreListed prepared }
         ensures status { IfOk result (λ answer. answer.status ≢ Status.Failed) }
         ensures answer { IfOk result (λ answer. (texts : Texts) (footprints : List ℕ)
             → IsPrepared texts footprints (Ok prepared)
-            → says self.now texts footprints text.now answer.status answer.text.items) };
+            → says self.now texts footprints other.now answer.status answer.text.items) }
+        ensures failure { IfErr result (IsUnreported ((texts : Texts) (footprints : List ℕ)
+            → IsPrepared texts footprints (Ok prepared) → has_no_text self.now texts footprints other.now)) };
 }
 
-/// Reads a build and the input of a question about it, and gives the answer, or the report of the build's first fault; and the note.
-/// A strict build has the fault of footprints that lie unused. `Failure::Read` names the first input whose file cannot be opened, or
-/// cannot be read; the only other failure is out of memory.
+/// Reads a build and the further input of what is asked about its jobs, and gives the answer to the question, or the report of the
+/// build's first fault; and the note. A strict build has the fault of footprints that lie unused. `Failure::Read` names the first
+/// input whose file cannot be opened, or cannot be read; the other failures are `Failure::NotText` and out of memory.
 pub(crate) fn noted_reply<P: Opener, Q: Question>(
     alloc: Global,
     opener: &mut P,
-    build: &BuildArgs<'_>,
-    footprints: &str,
+    args: &JobArgs<'_>,
     includes: &[(&[u8], &[u8])],
     question: &Q,
     strict: bool,
 ) -> Result<Reply, Failure>
     ensures status { IfOk result (λ reply. reply.answer.status ≢ Status.Failed) }
-    ensures read { OnOk result (InputsMayBeRead (P.files opener.old)
-        (inputs_with build.now footprints.entry (Q.other question.now))) }
-    ensures failure { IfErr result (IsShortOr (IsUnread (P.files opener.old)
-        (inputs_with build.now footprints.entry (Q.other question.now)))) }
-    ensures answer { IfOk result (λ reply. (text : InputFile → List ℕ)
-        → Hold (P.files opener.old).text (inputs_with build.now footprints.entry (Q.other question.now)) text
-        → spec.SaysNoting strict (texts_for build.now
+    ensures read { OnOk result (InputsMayBeRead (P.files opener.old) (inputs_of (Request.Jobs args.now))) }
+    ensures failure { IfErr result (IsInputFailure (P.files opener.old) (inputs_of (Request.Jobs args.now))
+        (λ text. Q.has_no_text question.now (texts_for args.now.build
         (map (λ pair. (pair.0.now, pair.1.now)) includes.now) text) (text InputFile.Footprints)
-        (Q.says question.now (texts_for build.now (map (λ pair. (pair.0.now, pair.1.now)) includes.now) text)
-        (text InputFile.Footprints) (other_text (Q.other question.now) text))
+        (other_text (other_of args.now.question) text))) }
+    ensures answer { IfOk result (λ reply. (text : InputFile → List ℕ)
+        → Hold (P.files opener.old).text (inputs_of (Request.Jobs args.now)) text
+        → spec.SaysNoting strict (texts_for args.now.build
+        (map (λ pair. (pair.0.now, pair.1.now)) includes.now) text) (text InputFile.Footprints)
+        (Q.says question.now (texts_for args.now.build (map (λ pair. (pair.0.now, pair.1.now)) includes.now) text)
+        (text InputFile.Footprints) (other_text (other_of args.now.question) text))
         reply.answer.status reply.answer.text.items reply.note.items) }
 {
-    let read = read_build(alloc, opener, build, footprints, question.other_input())?;
-    Ok(reply_over(alloc, build, includes, read, question, strict)?)
+    let build = &args.build;
+    let other = other_input(args.question);
+    let read = read_build(alloc, opener, build, args.footprints, other)?;
+    reply_over(alloc, build, includes, read, question, strict)
 }
 
 /// The same without a note, of a build that is not strict: its footprints may lie unused.
 pub(crate) fn quiet_reply<P: Opener, Q: Question>(
     alloc: Global,
     opener: &mut P,
-    build: &BuildArgs<'_>,
-    footprints: &str,
+    args: &JobArgs<'_>,
     includes: &[(&[u8], &[u8])],
     question: &Q,
 ) -> Result<Reply, Failure>
     ensures status { IfOk result (λ reply. reply.answer.status ≢ Status.Failed) }
-    ensures read { OnOk result (InputsMayBeRead (P.files opener.old)
-        (inputs_with build.now footprints.entry (Q.other question.now))) }
-    ensures failure { IfErr result (IsShortOr (IsUnread (P.files opener.old)
-        (inputs_with build.now footprints.entry (Q.other question.now)))) }
-    ensures answer { IfOk result (λ reply. (text : InputFile → List ℕ)
-        → Hold (P.files opener.old).text (inputs_with build.now footprints.entry (Q.other question.now)) text
-        → spec.SaysQuietly (texts_for build.now
+    ensures read { OnOk result (InputsMayBeRead (P.files opener.old) (inputs_of (Request.Jobs args.now))) }
+    ensures failure { IfErr result (IsInputFailure (P.files opener.old) (inputs_of (Request.Jobs args.now))
+        (λ text. Q.has_no_text question.now (texts_for args.now.build
         (map (λ pair. (pair.0.now, pair.1.now)) includes.now) text) (text InputFile.Footprints)
-        (Q.says question.now (texts_for build.now (map (λ pair. (pair.0.now, pair.1.now)) includes.now) text)
-        (text InputFile.Footprints) (other_text (Q.other question.now) text))
+        (other_text (other_of args.now.question) text))) }
+    ensures answer { IfOk result (λ reply. (text : InputFile → List ℕ)
+        → Hold (P.files opener.old).text (inputs_of (Request.Jobs args.now)) text
+        → spec.SaysQuietly (texts_for args.now.build
+        (map (λ pair. (pair.0.now, pair.1.now)) includes.now) text) (text InputFile.Footprints)
+        (Q.says question.now (texts_for args.now.build (map (λ pair. (pair.0.now, pair.1.now)) includes.now) text)
+        (text InputFile.Footprints) (other_text (other_of args.now.question) text))
         reply.answer.status reply.answer.text.items) }
     ensures note { IfOk result (λ reply. reply.note.items ≡ []) }
 {
-    let reply = noted_reply(alloc, opener, build, footprints, includes, question, false)?;
+    let reply = noted_reply(alloc, opener, args, includes, question, false)?;
     Ok(without_note(alloc, reply.answer))
 }
 
-/// The answer to a question about the build that was read, or the report of its first fault; and the note. The only error is out
-/// of memory.
+/// The answer to a question about the build that was read, or the report of its first fault; and the note. The errors are
+/// `Failure::NotText` and out of memory.
 fn reply_over<Q: Question>(
     alloc: Global,
     build: &BuildArgs<'_>,
@@ -123,15 +124,19 @@ fn reply_over<Q: Question>(
     read: ReadBuild,
     question: &Q,
     strict: bool,
-) -> Result<Reply, AllocError>
+) -> Result<Reply, Failure>
     ensures status { IfOk result (λ reply. reply.answer.status ≢ Status.Failed) }
-    ensures answer { IfOk result (λ reply. (text : InputFile → List ℕ)
-        → IsReadAs build.now.root.now (Q.other question.now) text read
+    ensures answer { IfOk result (λ reply. (text : InputFile → List ℕ) (other : Option Path)
+        → IsReadAs build.now.root.now other text read
         → spec.SaysNoting strict (texts_for build.now
         (map (λ pair. (pair.0.now, pair.1.now)) includes.now) text) (text InputFile.Footprints)
         (Q.says question.now (texts_for build.now (map (λ pair. (pair.0.now, pair.1.now)) includes.now) text)
-        (text InputFile.Footprints) (other_text (Q.other question.now) text))
+        (text InputFile.Footprints) (other_text other text))
         reply.answer.status reply.answer.text.items reply.note.items) }
+    ensures failure { IfErr result (IsUnreported ((text : InputFile → List ℕ) (other : Option Path)
+        → IsReadAs build.now.root.now other text read
+        → Q.has_no_text question.now (texts_for build.now
+        (map (λ pair. (pair.0.now, pair.1.now)) includes.now) text) (text InputFile.Footprints) (other_text other text))) }
 {
     let ReadBuild {
         base,
@@ -152,7 +157,7 @@ fn reply_over<Q: Question>(
         strict,
     ) {
         Ok(noted) => reply_on(alloc, noted, other.as_slice(), question),
-        Err(halt) => refused_reply(alloc, halt),
+        Err(halt) => Ok(refused_reply(alloc, halt)?),
     }
 }
 
@@ -203,23 +208,26 @@ fn settings_of<'a>(
     }
 }
 
-/// The answer to a question about a build of these jobs, and the note of the build. The only error is out of memory.
+/// The answer to a question about a build of these jobs, and the note of the build. The errors are `Failure::NotText` and out of
+/// memory.
 fn reply_on<Q: Question>(
     alloc: Global,
     noted: Noted,
     other: &[u8],
     question: &Q,
-) -> Result<Reply, AllocError>
+) -> Result<Reply, Failure>
     requires { AreListed noted.prepared }
     ensures status { IfOk result (λ reply. reply.answer.status ≢ Status.Failed) }
     ensures answer { IfOk result (λ reply. (texts : Texts) (footprints : List ℕ)
         → IsPrepared texts footprints (Ok noted.prepared)
         → Q.says question.now texts footprints other.now reply.answer.status reply.answer.text.items) }
     ensures note { IfOk result (λ reply. reply.note.items ≡ spec.note_of noted.unused) }
+    ensures failure { IfErr result (IsUnreported ((texts : Texts) (footprints : List ℕ)
+        → IsPrepared texts footprints (Ok noted.prepared) → Q.has_no_text question.now texts footprints other.now)) }
 {
     let Noted { prepared, unused } = noted;
     let answer = question.answer(alloc, prepared, other)?;
-    with_note(alloc, answer, &unused)
+    Ok(with_note(alloc, answer, &unused)?)
 }
 
 /// An answer, and no note.

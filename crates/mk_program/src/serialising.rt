@@ -1,64 +1,53 @@
 //! The answers to `race serialise`.
-ghost use Rattle.std.specs.Prelude.{◌≡◌, ◌≢◌, IfErr, IfOk};
-ghost use Rattle.mk_race.specs.Stages.{texts_of};
-ghost use Rattle.mk_request.specs.declared.inputs.InputFile.TheVariants as inputs;
+ghost use Rattle.std.specs.Prelude.{◌≡◌, ◌≢◌, IfErr, IfOk, List, Ok, ℕ};
+ghost use Rattle.mk_race.specs.Stages.{AreListed, IsPrepared, Texts};
 ghost use Rattle.mk_program.specs.Answers as spec;
 ghost use Rattle.mk_program.specs.OrderText.{HasNodes, IsNoText, IsOrderText, IsUnreported, order_status};
 
-use crate::answers::{Answer, bytes_of, input_of, refused};
+use crate::answers::{Answer, refused};
+use crate::noting::Question;
 use crate::order_lines::order_text;
 use crate::statuses::Status;
-use crate::text_questions::TextQuestion;
 use mk_files::failures::Failure;
-use mk_files::inputs::{InputText, text_of};
-use mk_race::input::Input;
-use mk_race::serialising::{Ordered, Serialised, serialise_log};
-use mk_request::inputs::InputFile;
-use mk_request::requests::ReplayArgs;
+use mk_race::preparing::Prepared;
+use mk_race::serialising::{Ordered, Serialised, serialise_prepared};
+use mk_request::requests::LogArgs;
 use std::alloc::Global;
 
-/// A log in serial order, or why it has none, or why the inputs are refused.
+/// A log in serial order, or why it has none.
 #[derive(Clone, Copy)]
-pub(crate) struct SerialOrder<'q, 'a> {
-    pub(crate) replay: &'q ReplayArgs<'a>,
+pub(crate) struct SerialOrder<'a> {
+    pub(crate) log: LogArgs<'a>,
 }
 
-impl TextQuestion for SerialOrder<'_, '_> {
-    ghost says = { λ asked includes text. spec.IsSerialiseAnswer (spec.texts_for asked.replay.now.build includes text)
-        (text inputs.Footprints) (text inputs.Log) asked.replay.now.limit asked.replay.now.tie };
+impl Question for SerialOrder<'_> {
+    ghost says = { λ asked texts footprints log. spec.IsSerialiseAnswer texts footprints log asked.log.limit asked.log.tie };
 
-    ghost has_no_text = { λ asked includes text. spec.HasNoText (spec.texts_for asked.replay.now.build includes text)
-        (text inputs.Footprints) (text inputs.Log) asked.replay.now.limit asked.replay.now.tie };
+    ghost has_no_text = { λ asked texts footprints log. spec.HasNoText texts footprints log asked.log.limit asked.log.tie };
 
-    fn answer(
-        &self,
-        alloc: Global,
-        includes: &[(&[u8], &[u8])],
-        texts: &[InputText],
-    ) -> Result<Answer, Failure> {
-        let build = &self.replay.build;
-        let operands = bytes_of(alloc, build.operands.as_slice())?;
-        let input = input_of(build, operands.as_slice(), includes, texts);
-        let log = text_of(texts, InputFile::Log);
-        serialise_over(alloc, &input, log, self.replay.limit, self.replay.tie)
+    fn answer(&self, alloc: Global, prepared: Prepared, log: &[u8]) -> Result<Answer, Failure> {
+        serialised_of(alloc, prepared, log, self.log.limit, self.log.tie)
     }
 }
 
-/// What comes of a log that is to be put in serial order, or the report of the first fault of the build and the log.
-fn serialise_over(
+/// What comes of a log that is to be put in serial order on a build of these jobs, or the report of its fault. The errors are
+/// `Failure::NotText` and out of memory.
+fn serialised_of(
     alloc: Global,
-    input: &Input<'_>,
+    prepared: Prepared,
     log: &[u8],
     limit: u16,
     tie: bool,
 ) -> Result<Answer, Failure>
+    requires { AreListed prepared }
     ensures status { IfOk result (λ answer. answer.status ≢ Status.Failed) }
-    ensures answer { IfOk result (λ answer. spec.IsSerialiseAnswer (texts_of input.now)
-        input.now.footprints.now log.now limit tie answer.status answer.text.items) }
-    ensures failure { IfErr result (IsUnreported (spec.HasNoText (texts_of input.now)
-        input.now.footprints.now log.now limit tie)) }
+    ensures answer { IfOk result (λ answer. (texts : Texts) (footprints : List ℕ)
+        → IsPrepared texts footprints (Ok prepared) → spec.IsSerialiseAnswer texts
+        footprints log.now limit tie answer.status answer.text.items) }
+    ensures failure { IfErr result (IsUnreported ((texts : Texts) (footprints : List ℕ)
+        → IsPrepared texts footprints (Ok prepared) → spec.HasNoText texts footprints log.now limit tie)) }
 {
-    match serialise_log(alloc, input, log, u32::from(limit), tie) {
+    match serialise_prepared(alloc, prepared, log, u32::from(limit), tie) {
         Ok(given) => reported(alloc, &given),
         Err(halt) => Ok(refused(alloc, halt)?),
     }

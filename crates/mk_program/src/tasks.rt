@@ -1,44 +1,47 @@
 //! The answers about tasks.
-ghost use Rattle.std.specs.Prelude.{◌≢◌, IfOk, List, ℕ};
+ghost use Rattle.std.specs.Prelude.{◌≡◌, ◌≢◌, [], IfErr, IfOk, List, OnOk, ℕ};
 ghost use Rattle.mk_race.specs.TasksFixed.{HoldsOfFixed};
+ghost use Rattle.mk_request.specs.Requests.{inputs_of};
 ghost use Rattle.mk_program.specs.Answers as spec;
-ghost use Rattle.mk_files.specs.Inputs.{AreTexts};
+ghost use Rattle.mk_files.specs.Inputs.{AreTexts, Hold, InputsMayBeRead, IsShortOr, IsUnread};
 
-use crate::answers::{Answer, refused, verdict_answer};
+use crate::answers::{Answer, refused};
 use crate::checking::judged_answer;
 use crate::fixing::fixed_text;
 use crate::listing::races_answer;
 use crate::missing::listed_answer;
+use crate::noting::{Reply, without_note};
 use crate::statuses::Status;
-use crate::text_questions::TextQuestion;
+use crate::verifying::verdict_answer;
 use mk_files::failures::Failure;
-use mk_files::inputs::{InputText, text_of};
+use mk_files::inputs::{InputText, read_inputs, text_of};
+use mk_files::openers::Opener;
 use mk_race::tasked::{judge_tasks, list_tasks, verify_tasks};
 use mk_race::tasks_fixing::{TaskFixing, fix_tasks};
 use mk_race::tasks_missing::list_missing_tasks;
 use mk_request::inputs::InputFile;
-use mk_request::requests::{TaskArgs, TaskQuestion};
+use mk_request::requests::{Request, TaskArgs, TaskQuestion, task_inputs};
 use std::alloc::{AllocError, Global};
 
-/// The answer to a question about tasks, or why their text is refused.
-#[derive(Clone, Copy)]
-pub(crate) struct TasksQuestion<'q, 'a> {
-    pub(crate) args: &'q TaskArgs<'a>,
-}
-
-impl TextQuestion for TasksQuestion<'_, '_> {
-    ghost says = { λ asked _ text. spec.IsTasksAnswer asked.args.now.question asked.args.now.root.now text };
-
-    ghost has_no_text = { λ _ _ _. ⊥ };
-
-    fn answer(
-        &self,
-        alloc: Global,
-        _includes: &[(&[u8], &[u8])],
-        texts: &[InputText],
-    ) -> Result<Answer, Failure> {
-        Ok(tasks_answer(alloc, self.args, texts)?)
-    }
+/// Reads the inputs of a question about tasks, and gives the answer, or the report of their first fault, without a note.
+/// `Failure::Read` names the first input whose file cannot be opened, or cannot be read; the only other failure is out of memory.
+pub(crate) fn tasks_reply<P: Opener>(
+    alloc: Global,
+    opener: &mut P,
+    args: &TaskArgs<'_>,
+) -> Result<Reply, Failure>
+    ensures status { IfOk result (λ reply. reply.answer.status ≢ Status.Failed) }
+    ensures read { OnOk result (InputsMayBeRead (P.files opener.old) (inputs_of (Request.Tasks args.now))) }
+    ensures failure { IfErr result (IsShortOr (IsUnread (P.files opener.old) (inputs_of (Request.Tasks args.now)))) }
+    ensures answer { IfOk result (λ reply. (text : InputFile → List ℕ)
+        → Hold (P.files opener.old).text (inputs_of (Request.Tasks args.now)) text
+        → spec.IsTasksAnswer args.now.question args.now.root.now text reply.answer.status reply.answer.text.items
+        × (reply.note.items ≡ [])) }
+{
+    let inputs = task_inputs(alloc, args)?;
+    let texts = read_inputs(alloc, opener, inputs.as_slice())?;
+    let answer = tasks_answer(alloc, args, texts.as_slice())?;
+    Ok(without_note(alloc, answer))
 }
 
 /// The answer to a question about tasks, or why their text is refused. The only error is out of memory.

@@ -99,7 +99,9 @@ pub fn serialise_prepared(
 ) -> Result<Serialised, Halt>
     requires { AreListed prepared }
     ensures answer { Answers result (IsSerialisedOn prepared log.now limit tie) }
-    // What is put in serial order is the same build, by the law of serial lists, of any texts that mean it.
+    ensures jobs { IfOk result (λ given. given.jobs ≡ prepared.jobs) }
+    // What is put in serial order is the same build, by the law of serial lists, and of any texts that mean it.
+    ensures lawful { IfOk result (λ given. IsLawfulOn prepared log.now tie given.order) }
     ensures law { IfOk result (λ given. (texts : Texts) (footprints : List ℕ)
         → IsPrepared texts footprints (Ok prepared) → IsLawfulBuild texts footprints log.now tie given) }
 {

@@ -7,5 +7,4 @@
 
 pub mod devices;
 pub mod line_reader;
-pub mod lists;
 pub mod texts;

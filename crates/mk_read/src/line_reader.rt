@@ -2,8 +2,12 @@
 ghost use Rattle.std.specs.Prelude.{◌++◌, [], IfOk, List, Result, ℕ};
 ghost use Rattle.mk_name.specs.Gives.{Answers};
 ghost use Rattle.mk_name.specs.Reported.{Reported};
+ghost use Rattle.mk_text.specs.Blocks.{physical_lines};
+ghost use Rattle.mk_text.specs.LineFeed.{HasRead};
 
 use mk_name::fault::{Fault, Halt};
+use mk_text::line_feed::LineFeed;
+use mk_text::line_sink::LineSink;
 use mk_text::root::Root;
 use std::alloc::{AllocError, Global};
 
@@ -30,6 +34,27 @@ pub trait LineReader: Drop {
     /// What all pieces say, whose last line needs no newline; or the first line's fault. The only other error is out of memory.
     fn finish(self) -> Result<Self::Value, Halt>
         ensures { (root text : List ℕ) → has_read self root text → Answers result (says root text) };
+}
+
+impl<S: LineSink> LineReader for LineFeed<S> {
+    type Value = S::Value;
+
+    ghost has_read = { λ reader root text. HasRead (S.has root) (S.says root) S.source S.KEPT text reader };
+
+    ghost says = { λ root text. S.says root (physical_lines text) };
+
+    fn begin(alloc: Global, root: Root) -> LineFeed<S> {
+        LineFeed::new(alloc, root)
+    }
+
+    fn take(&mut self, piece: &[u8]) {
+        // `finish` answers the same fault.
+        let _fed = self.feed(piece);
+    }
+
+    fn finish(self) -> Result<S::Value, Halt> {
+        LineFeed::finish(self)
+    }
 }
 
 /// What the text that a reader has read says, or its first fault. The only error is out of memory.

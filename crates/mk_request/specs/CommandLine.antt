@@ -10,10 +10,10 @@ use Rattle.clap.specs.declared.builder.value_parser.ValueParser.TheVariants.{Uns
 use Rattle.clap.specs.declared.error.kind.ErrorKind.{ErrorKind}
 use Rattle.clap.specs.declared.error.kind.ErrorKind.TheVariants.{ArgumentConflict, DisplayHelp, DisplayVersion, MissingRequiredArgument}
 use Rattle.mk_request.specs.declared.requests.BuildArgs.{BuildArgs}
-use Rattle.mk_request.specs.declared.requests.CheckArgs.{CheckArgs}
-use Rattle.mk_request.specs.declared.requests.ListArgs.{ListArgs}
-use Rattle.mk_request.specs.declared.requests.ReplayArgs.{ReplayArgs}
-use Rattle.mk_request.specs.declared.requests.VerifyArgs.{VerifyArgs}
+use Rattle.mk_request.specs.declared.requests.JobArgs.{JobArgs}
+use Rattle.mk_request.specs.declared.requests.JobQuestion.{JobQuestion}
+use Rattle.mk_request.specs.declared.requests.JobQuestion.TheVariants as jobs
+use Rattle.mk_request.specs.declared.requests.LogArgs.{LogArgs}
 use Rattle.mk_request.specs.declared.requests.Request.{Request}
 use Rattle.mk_request.specs.declared.requests.Request.TheVariants as requests
 use Rattle.mk_request.specs.declared.requests.TaskArgs.{TaskArgs}
@@ -165,7 +165,6 @@ pub record HasValues (build : BuildArgs) (rows : List Row) : Type 0 where
   pub listing : build.listing.now ≡ value_of (codes "listing") rows
   pub root : build.root.now ≡ value_of (codes "root") rows
   pub operands : map (λ word. word.now) build.operands.items ≡ operands_of rows
-  pub strict : build.strict ≡ is_true (first_of (codes "strict") rows)
 
 -- the limit that a value writes, a number from 1 to 65,535; without a value it is 1
 abbrev pub IsLimit : Option Text → ℕ → Type 0
@@ -176,32 +175,34 @@ IsLimit (Some text) limit = IsUnsignedIn 1 65535 text × (limit ≡ digits_value
 abbrev pub HasNoTasks : List Row → Type 0
 HasNoTasks rows = first_of (codes "tasks") rows ≡ None
 
--- the check and its build have the values that were found
-pub record HasCheck (check : CheckArgs) (rows : List Row) : Type 0 where
-  pub build : HasValues check.build rows
-  pub footprints : check.footprints.now ≡ value_of (codes "footprints") rows
-  pub print_proof : check.print_proof ≡ is_true (first_of (codes "print-proof") rows)
+-- the log has the values that were found
+pub record HasLog (args : LogArgs) (rows : List Row) : Type 0 where
+  pub log : args.log.now ≡ value_of (codes "log") rows
+  pub limit : (limit : ℕ) → IsLimit (first_of (codes "limit") rows) limit → args.limit ≡ limit
+  pub tie : args.tie ≡ is_true (first_of (codes "tie") rows)
 
--- the proof and its build have the values that were found
-pub record HasVerify (verify : VerifyArgs) (rows : List Row) : Type 0 where
-  pub build : HasValues verify.build rows
-  pub footprints : verify.footprints.now ≡ value_of (codes "footprints") rows
-  pub proof : verify.proof.now ≡ value_of (codes "proof") rows
+-- the question about jobs is that of the subcommand of this name, with the values that were found; no tasks are named where that
+-- subcommand takes some
+abbrev pub IsJobQuestion : JobQuestion → Text → List Row → Type 0
+IsJobQuestion (jobs.Check print_proof) name rows =
+    (name ≡ codes "check") × HasNoTasks rows × (print_proof ≡ is_true (first_of (codes "print-proof") rows))
+IsJobQuestion (jobs.Verify proof) name rows =
+    (name ≡ codes "verify") × HasNoTasks rows × (proof.now ≡ value_of (codes "proof") rows)
+IsJobQuestion (jobs.Replay args) name rows = (name ≡ codes "replay") × HasLog args rows
+IsJobQuestion (jobs.Serialise args) name rows = (name ≡ codes "serialise") × HasLog args rows
+IsJobQuestion jobs.List name rows = (name ≡ codes "list") × HasNoTasks rows
+IsJobQuestion (jobs.Fix print_proof) name rows =
+    (name ≡ codes "fix") × HasNoTasks rows × (print_proof ≡ is_true (first_of (codes "print-proof") rows))
+IsJobQuestion jobs.Missing name rows = (name ≡ codes "missing") × HasNoTasks rows
 
--- the replay has the values that were found
-pub record HasReplay (replay : ReplayArgs) (rows : List Row) : Type 0 where
-  pub build : HasValues replay.build rows
-  pub footprints : replay.footprints.now ≡ value_of (codes "footprints") rows
-  pub log : replay.log.now ≡ value_of (codes "log") rows
-  pub limit : (limit : ℕ) → IsLimit (first_of (codes "limit") rows) limit → replay.limit ≡ limit
-  pub tie : replay.tie ≡ is_true (first_of (codes "tie") rows)
+-- the build and its footprints have the values that were found, and the question is that of the subcommand of this name
+pub record HasJobs (args : JobArgs) (name : Text) (rows : List Row) : Type 0 where
+  pub build : HasValues args.build rows
+  pub footprints : args.footprints.now ≡ value_of (codes "footprints") rows
+  pub strict : args.strict ≡ is_true (first_of (codes "strict") rows)
+  pub question : IsJobQuestion args.question name rows
 
--- the list and its build have the values that were found
-pub record HasList (list : ListArgs) (rows : List Row) : Type 0 where
-  pub build : HasValues list.build rows
-  pub footprints : list.footprints.now ≡ value_of (codes "footprints") rows
-
--- the question is that of the subcommand of this name, with the values that were found
+-- the question about tasks is that of the subcommand of this name, with the values that were found
 abbrev pub IsQuestion : TaskQuestion → Text → List Row → Type 0
 IsQuestion (questions.Check print_proof) name rows =
     (name ≡ codes "check") × (print_proof ≡ is_true (first_of (codes "print-proof") rows))
@@ -217,18 +218,11 @@ pub record HasTasks (args : TaskArgs) (name : Text) (rows : List Row) : Type 0 w
   pub root : args.root.now ≡ value_of (codes "root") rows
   pub question : IsQuestion args.question name rows
 
--- the request is for the subcommand of this name, with the values that were found; where both may be asked about, for tasks if
--- any are named, and else for a build
+-- the request is for the subcommand of this name, with the values that were found
 abbrev pub IsFor : Request → Text → List Row → Type 0
 IsFor (requests.Order build) name rows = (name ≡ codes "order") × HasValues build rows
-IsFor (requests.Check check) name rows = (name ≡ codes "check") × HasNoTasks rows × HasCheck check rows
-IsFor (requests.Verify verify) name rows = (name ≡ codes "verify") × HasNoTasks rows × HasVerify verify rows
-IsFor (requests.Replay replay) name rows = (name ≡ codes "replay") × HasReplay replay rows
-IsFor (requests.Serialise replay) name rows = (name ≡ codes "serialise") × HasReplay replay rows
-IsFor (requests.List list) name rows = (name ≡ codes "list") × HasNoTasks rows × HasList list rows
-IsFor (requests.Missing list) name rows = (name ≡ codes "missing") × HasNoTasks rows × HasList list rows
-IsFor (requests.Fix fix) name rows = (name ≡ codes "fix") × HasNoTasks rows × HasCheck fix rows
-IsFor (requests.Tasks tasks) name rows = HasTasks tasks name rows
+IsFor (requests.Jobs args) name rows = HasJobs args name rows
+IsFor (requests.Tasks args) name rows = HasTasks args name rows
 
 -- the request is for the subcommand that was found
 abbrev pub Asks : Request → Option (Text × List Row) → Type 0

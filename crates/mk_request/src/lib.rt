@@ -1,8 +1,9 @@
 //! What is asked: from the words of the command line to a request, and the files that it reads.
 //!
 //! [`words::read_words`] reads the words by `clap`, and gives a [`requests::Request`] or the error of the words, with its text;
-//! [`requests::inputs_of`] says what a request reads, in which order. Read `specs/CommandLine.antt` first, then
-//! `specs/Requests.antt`. A subcommand more is a variant of `Request`, and its words in `words`.
+//! [`requests::build_inputs`], [`requests::job_inputs`] and [`requests::task_inputs`] say what is read for it, in which order. Read
+//! `specs/CommandLine.antt` first, then `specs/Requests.antt`. A subcommand more is a variant of `JobQuestion` or of `TaskQuestion`, and
+//! its words in `words`.
 #![tactic(auto)]
 
 pub mod inputs;

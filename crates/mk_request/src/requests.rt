@@ -6,8 +6,7 @@ use crate::inputs::{InputFile, InputPath};
 use std::alloc::{AllocError, Global};
 
 /// What a build is read from: the paths of files, those of includes and of the base makefile where they are given, whether
-/// the base is the one that the standard lists, the root and the operands, as they were given; and whether footprints that
-/// lie unused are refused.
+/// the base is the one that the standard lists, and the root and the operands, as they were given.
 #[derive(Drop)]
 pub struct BuildArgs<'a> {
     pub includes: Option<&'a str>,
@@ -17,41 +16,37 @@ pub struct BuildArgs<'a> {
     pub listing: &'a str,
     pub root: &'a str,
     pub operands: Vec<&'a str>,
+}
+
+/// What is asked about the jobs of a build: the build, the path of its footprints, whether footprints that lie unused are
+/// refused, and the question.
+#[derive(Drop)]
+pub struct JobArgs<'a> {
+    pub build: BuildArgs<'a>,
+    pub footprints: &'a str,
     pub strict: bool,
+    pub question: JobQuestion<'a>,
 }
 
-/// What is checked or fixed: a build, the path of its footprints, and whether the proof is printed in place of the report.
-#[derive(Drop)]
-pub struct CheckArgs<'a> {
-    pub build: BuildArgs<'a>,
-    pub footprints: &'a str,
-    pub print_proof: bool,
+/// A question about jobs: that of the subcommand of this name, with the values that it has for a build.
+#[derive(Clone, Copy)]
+pub enum JobQuestion<'a> {
+    Check { print_proof: bool },
+    Verify { proof: &'a str },
+    Replay(LogArgs<'a>),
+    Serialise(LogArgs<'a>),
+    List,
+    Fix { print_proof: bool },
+    Missing,
 }
 
-/// What a proof is judged by: a build, and the paths of its footprints and of the proof.
-#[derive(Drop)]
-pub struct VerifyArgs<'a> {
-    pub build: BuildArgs<'a>,
-    pub footprints: &'a str,
-    pub proof: &'a str,
-}
-
-/// What a log is judged by: a build, the paths of its footprints and of the log, how many recipes may run at once, and
-/// whether files of equal times count as newer.
-#[derive(Drop)]
-pub struct ReplayArgs<'a> {
-    pub build: BuildArgs<'a>,
-    pub footprints: &'a str,
+/// What a log is judged by: the path of its file, how many recipes may run at once, and whether files of equal times count
+/// as newer.
+#[derive(Clone, Copy)]
+pub struct LogArgs<'a> {
     pub log: &'a str,
     pub limit: u16,
     pub tie: bool,
-}
-
-/// What all races of a build are listed from, and all that is missing of it.
-#[derive(Drop)]
-pub struct ListArgs<'a> {
-    pub build: BuildArgs<'a>,
-    pub footprints: &'a str,
 }
 
 /// What is asked about tasks: the paths of their text and of the root, and the question.
@@ -72,17 +67,11 @@ pub enum TaskQuestion<'a> {
     Missing { listing: &'a str },
 }
 
-/// A subcommand, with its values.
+/// What is asked: the serial order of a build, or something about the jobs of a build, or about tasks.
 #[derive(Drop)]
 pub enum Request<'a> {
     Order(BuildArgs<'a>),
-    Check(CheckArgs<'a>),
-    Verify(VerifyArgs<'a>),
-    Replay(ReplayArgs<'a>),
-    Serialise(ReplayArgs<'a>),
-    List(ListArgs<'a>),
-    Missing(ListArgs<'a>),
-    Fix(CheckArgs<'a>),
+    Jobs(JobArgs<'a>),
     Tasks(TaskArgs<'a>),
 }
 
@@ -92,57 +81,71 @@ pub fn includes_path<'a>(request: &Request<'a>) -> Option<&'a str>
 {
     match request {
         Request::Order(build) => build.includes,
-        Request::Check(check) => check.build.includes,
-        Request::Verify(verify) => verify.build.includes,
-        Request::Replay(replay) | Request::Serialise(replay) => replay.build.includes,
-        Request::List(list) | Request::Missing(list) => list.build.includes,
-        Request::Fix(fix) => fix.build.includes,
+        Request::Jobs(args) => args.build.includes,
         Request::Tasks(_) => None,
     }
 }
 
-/// The inputs of a request without its includes, with the paths of their files, in the order in which they are opened
-/// and read. The only error is out of memory.
-pub fn inputs_of<'a>(alloc: Global, request: &Request<'a>) -> Result<Vec<InputPath<'a>>, AllocError>
-    ensures { IfOk result (λ inputs. inputs.items ≡ spec.inputs_of request.now) }
+/// The input that a question about jobs has beside those of a build and its footprints, where it has one.
+pub fn other_input<'a>(question: JobQuestion<'a>) -> Option<InputPath<'a>>
+    ensures { result ≡ spec.other_input question.entry }
 {
-    let mut inputs = Vec::new(alloc);
-    push_inputs(&mut inputs, request)?;
-    Ok(inputs)
-}
-
-/// Puts the inputs of a request at the end.
-fn push_inputs<'a>(inputs: &mut Vec<InputPath<'a>>, request: &Request<'a>) -> Result<(), AllocError>
-    ensures { OnOk result (inputs.new.items ≡ inputs.old.items ++ spec.inputs_of request.now) }
-{
-    match request {
-        Request::Order(build) => push_build(inputs, build),
-        Request::Check(check) | Request::Fix(check) => {
-            push_build(inputs, &check.build)?;
-            push_input(inputs, InputFile::Footprints, check.footprints)
-        }
-        Request::Verify(verify) => {
-            push_build(inputs, &verify.build)?;
-            push_input(inputs, InputFile::Footprints, verify.footprints)?;
-            push_input(inputs, InputFile::Proof, verify.proof)
-        }
-        Request::Replay(replay) | Request::Serialise(replay) => push_replay(inputs, replay),
-        Request::List(list) | Request::Missing(list) => {
-            push_build(inputs, &list.build)?;
-            push_input(inputs, InputFile::Footprints, list.footprints)
-        }
-        Request::Tasks(args) => push_tasks(inputs, args),
+    match question {
+        JobQuestion::Verify { proof } => Some(InputPath {
+            input: InputFile::Proof,
+            path: proof,
+        }),
+        JobQuestion::Replay(args) | JobQuestion::Serialise(args) => Some(InputPath {
+            input: InputFile::Log,
+            path: args.log,
+        }),
+        JobQuestion::Check { .. }
+        | JobQuestion::List
+        | JobQuestion::Fix { .. }
+        | JobQuestion::Missing => None,
     }
 }
 
-/// Puts the text of tasks at the end, behind the listing where there is one, and before the proof where there is one.
-fn push_tasks<'a>(inputs: &mut Vec<InputPath<'a>>, args: &TaskArgs<'a>) -> Result<(), AllocError>
-    ensures { OnOk result (inputs.new.items ≡ inputs.old.items ++ spec.listing_input args.now.question
-        ++ spec.input_at InputFile.Tasks args.now.tasks ++ spec.proof_input args.now.question) }
+/// The inputs of a build, with the paths of their files, in the order in which they are opened and read. The only error is out
+/// of memory.
+pub fn build_inputs<'a>(
+    alloc: Global,
+    build: &BuildArgs<'a>,
+) -> Result<Vec<InputPath<'a>>, AllocError>
+    ensures { IfOk result (λ inputs. inputs.items ≡ spec.build_inputs build.now) }
 {
-    push_listing(inputs, args.question)?;
-    push_input(inputs, InputFile::Tasks, args.tasks)?;
-    push_proof(inputs, args.question)
+    let mut inputs = Vec::new(alloc);
+    if let Some(base) = build.base {
+        push_input(&mut inputs, InputFile::Base, base)?;
+    }
+    push_input(&mut inputs, InputFile::Makefile, build.makefile)?;
+    push_input(&mut inputs, InputFile::Listing, build.listing)?;
+    Ok(inputs)
+}
+
+/// The inputs of a question about the jobs of a build: those of the build, its footprints, and one more where the question has
+/// one. The only error is out of memory.
+pub fn job_inputs<'a>(alloc: Global, args: &JobArgs<'a>) -> Result<Vec<InputPath<'a>>, AllocError>
+    ensures { IfOk result (λ inputs. inputs.items ≡ spec.inputs_of (Request.Jobs args.now)) }
+{
+    let mut inputs = build_inputs(alloc, &args.build)?;
+    push_input(&mut inputs, InputFile::Footprints, args.footprints)?;
+    if let Some(other) = other_input(args.question) {
+        inputs.push(other)?;
+    }
+    Ok(inputs)
+}
+
+/// The inputs of a question about tasks: a listing where it has one, their text, and a proof where it has one. The only error is
+/// out of memory.
+pub fn task_inputs<'a>(alloc: Global, args: &TaskArgs<'a>) -> Result<Vec<InputPath<'a>>, AllocError>
+    ensures { IfOk result (λ inputs. inputs.items ≡ spec.inputs_of (Request.Tasks args.now)) }
+{
+    let mut inputs = Vec::new(alloc);
+    push_listing(&mut inputs, args.question)?;
+    push_input(&mut inputs, InputFile::Tasks, args.tasks)?;
+    push_proof(&mut inputs, args.question)?;
+    Ok(inputs)
 }
 
 /// Puts the listing at the end that a question about tasks has, if it has one.
@@ -177,29 +180,7 @@ fn push_proof<'a>(
     }
 }
 
-/// Puts the inputs of a log at the end.
-fn push_replay<'a>(
-    inputs: &mut Vec<InputPath<'a>>,
-    replay: &ReplayArgs<'a>,
-) -> Result<(), AllocError>
-    ensures { OnOk result (inputs.new.items ≡ inputs.old.items ++ spec.log_inputs replay.now) }
-{
-    push_build(inputs, &replay.build)?;
-    push_input(inputs, InputFile::Footprints, replay.footprints)?;
-    push_input(inputs, InputFile::Log, replay.log)
-}
-
-/// Puts the inputs that every subcommand reads at the end.
-fn push_build<'a>(inputs: &mut Vec<InputPath<'a>>, build: &BuildArgs<'a>) -> Result<(), AllocError>
-    ensures { OnOk result (inputs.new.items ≡ inputs.old.items ++ spec.build_inputs build.now) }
-{
-    if let Some(base) = build.base {
-        push_input(inputs, InputFile::Base, base)?;
-    }
-    push_input(inputs, InputFile::Makefile, build.makefile)?;
-    push_input(inputs, InputFile::Listing, build.listing)
-}
-
+/// Puts an input at the end.
 fn push_input<'a>(
     inputs: &mut Vec<InputPath<'a>>,
     input: InputFile,

@@ -7,6 +7,7 @@ ghost use Rattle.mk_request.specs.CommandLine as spec;
 mod check_words;
 mod fix_words;
 mod help;
+mod job_words;
 mod list_words;
 mod missing_words;
 mod mistakes;
@@ -15,18 +16,19 @@ mod serialise_words;
 mod task_words;
 mod verify_words;
 
-use crate::requests::{BuildArgs, Request};
-use check_words::{check_args, check_command};
+use crate::requests::{BuildArgs, JobQuestion, Request};
+use check_words::check_command;
 use clap::{Arg, ArgAction, ArgMatches, Command, Error};
 use fix_words::fix_command;
-use list_words::{list_args, list_command};
+use job_words::{job_question, job_request};
+use list_words::list_command;
 use missing_words::missing_command;
 use mistakes::{Mistake, mistake_in};
-use replay_words::{replay_args, replay_command};
+use replay_words::{log_args, replay_command};
 use serialise_words::serialise_command;
 use std::alloc::{AllocError, Global};
 use task_words::task_args;
-use verify_words::{verify_args, verify_command};
+use verify_words::verify_command;
 
 /// Reads the words of the command line, of which the first is the program's name. A fault of the words and a call for
 /// help or the version are errors, which have their text.
@@ -69,42 +71,15 @@ fn request_of<'a>(
         return Ok(Request::Order(build_args(alloc, found)?));
     }
     if name == "replay" {
-        return Ok(Request::Replay(replay_args(alloc, found)?));
+        return job_request(alloc, found, JobQuestion::Replay(log_args(found)));
     }
     if name == "serialise" {
-        return Ok(Request::Serialise(replay_args(alloc, found)?));
+        return job_request(alloc, found, JobQuestion::Serialise(log_args(found)));
     }
     match found.get_str("tasks") {
         Some(tasks) => Ok(Request::Tasks(task_args(name, found, tasks))),
-        None => build_request(alloc, name, found),
+        None => job_request(alloc, found, job_question(name, found)),
     }
-}
-
-/// What the matches of a subcommand that takes tasks ask for where none are named. The only error is out of memory.
-fn build_request<'a>(
-    alloc: Global,
-    name: &str,
-    found: &ArgMatches<'a>,
-) -> Result<Request<'a>, AllocError>
-    requires named { (name.now ≡ codes "check") ⊎ (name.now ≡ codes "verify") ⊎ (name.now ≡ codes "list")
-        ⊎ (name.now ≡ codes "fix") ⊎ (name.now ≡ codes "missing") }
-    requires no_tasks { spec.HasNoTasks (rows_of (found_of found.now)) }
-    ensures { IfOk result (λ request.
-        spec.IsFor request name.now (rows_of (found_of found.now))) }
-{
-    if name == "check" {
-        return Ok(Request::Check(check_args(alloc, found)?));
-    }
-    if name == "verify" {
-        return Ok(Request::Verify(verify_args(alloc, found)?));
-    }
-    if name == "list" {
-        return Ok(Request::List(list_args(alloc, found)?));
-    }
-    if name == "missing" {
-        return Ok(Request::Missing(list_args(alloc, found)?));
-    }
-    Ok(Request::Fix(check_args(alloc, found)?))
 }
 
 /// The program, with its subcommands.
@@ -236,7 +211,6 @@ fn build_args<'a>(alloc: Global, found: &ArgMatches<'a>) -> Result<BuildArgs<'a>
         listing: found.get_str("listing").unwrap_or(""),
         root: found.get_str("root").unwrap_or(""),
         operands: Vec::from_slice(alloc, found.get_strs("operands").unwrap_or(&[]))?,
-        strict: is_true(found.get_str("strict")),
     })
 }
 

@@ -10,7 +10,7 @@ use Rattle.std.proofs.lemmas.Option.{get_or_from_slice_get}
 use Rattle.std.specs.Cmp.Lexicographic.{nat_list_eq_equiv}
 use Rattle.std.specs.List.{All, enumerate_from, flat_map, list_any, position_from}
 use Rattle.mk_name.specs.Names.{Name, same_name, has, firsts, kept}
-use Rattle.mk_rules.specs.Book.{Entry, names_target, targets_of, is_target, places_of, gives_commands, has_recipe, recipe_place}
+use Rattle.mk_rules.specs.Book.{Entry, commands_at, names_target, targets_of, is_target, places_of, gives_commands, has_recipe, recipe_place}
 use Rattle.mk_rules.specs.Index.{IsIndexed}
 use Rattle.mk_rules.proofs.Firsts.{has-firsts, has-flip, kept-append, same_name-true}
 
@@ -63,10 +63,7 @@ places-within m n (e ∷ es) t h = by (names_target t e) (places-within m (n + 1
 pub places_of-within : (entries : List Entry) (t : Name) → All (λ p. p < length entries) (places_of entries t)
 places_of-within entries t = places-within (length entries) 0 entries t (omega arith)
 
--- whether the entry at a place has commands, and its prerequisites
-abbrev pub commands_at : List Entry → ℕ → Bool
-commands_at entries place = get_or (map (λ e. e.has_commands) entries) place false
-
+-- the prerequisites of the entry at a place
 abbrev pub prerequisites_at : List Entry → ℕ → List Name
 prerequisites_at entries place = get_or (map (λ e. e.prerequisites) entries) place []
 
@@ -133,6 +130,11 @@ recipe_found (e ∷ es) n t = by (gives_commands t e) (recipe_found es (n + 1) t
 
 pub is_some-recipe_place : (entries : List Entry) (t : Name) → is_some (recipe_place entries t) ≡ has_recipe entries t
 is_some-recipe_place entries t = ap is_some (position_from-zero (gives_commands t) entries) ∙ recipe_found entries 0 t
+
+-- one of the places of a name has commands where the name has a recipe
+pub has_recipe-among : (entries : List Entry) (t : Name) (places : List ℕ) → places ≡ places_of entries t → is_some (find (commands_at entries) places) ≡ has_recipe entries t
+has_recipe-among entries t places at =
+    ap (λ ps. is_some (find (commands_at entries) ps)) at ∙ ap is_some (find-places_of entries t) ∙ is_some-recipe_place entries t
 
 -- a loop over the places stops at the first whose entry has commands
 pub find_here : (entries : List Entry) (places : List ℕ) (i : ℕ) (e : Entry) → i < length places → get_or places i 0 < length entries

@@ -1,5 +1,5 @@
 -- The book of rules ("Target Rules", "Inference Rules", "Special Targets"), read off the list of all entries of the makefiles.
-use Rattle.std.specs.Prelude.{ℕ, ◌-◌, ◌^◌, ◌&&◌, ◌||◌, Bool, false, not, List, [], ◌∷◌, Option, None, map, filter, find, position, take, slice_get, length, codes, min, ◌==◌, nat_eq, if◌then◌else◌}
+use Rattle.std.specs.Prelude.{ℕ, ◌-◌, ◌^◌, ◌&&◌, ◌||◌, Bool, false, not, List, [], ◌∷◌, Option, None, map, filter, find, position, take, slice_get, get_or, length, codes, min, ◌==◌, nat_eq, if◌then◌else◌}
 use Rattle.std.specs.List.{enumerate_from, filter_map, flat_map, list_any, starts_with}
 use Rattle.std.specs.Option.{option_map}
 use Rattle.mk_name.specs.Names.{Name, same_name, has, firsts}
@@ -97,6 +97,10 @@ prerequisites_of rules t = firsts same_name (flat_map (λ e. e.prerequisites) (f
 -- the places of the rules that name it as a target, rising
 abbrev pub places_of : List Entry → Name → List ℕ
 places_of rules t = map (λ e. e.0) (filter (λ e. names_target t e.1) (enumerate_from 0 rules))
+
+-- the rule at a place has commands
+abbrev pub commands_at : List Entry → ℕ → Bool
+commands_at rules place = get_or (map (λ e. e.has_commands) rules) place false
 
 -- a target rule names it
 abbrev pub is_target : List Entry → Name → Bool

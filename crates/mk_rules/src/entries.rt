@@ -5,13 +5,13 @@ ghost use Rattle.mk_name.specs.Names.{firsts, kept, same_name};
 ghost use Rattle.mk_rules.specs.Book.{gives_commands, is_inference_rule, is_target_rule, names_target, suffixes_of, waits_of, without_waits};
 ghost use Rattle.mk_rules.specs.Special.{is_suffix};
 
-use crate::hasher::{NameHasher, NameSet};
 use crate::inference::{is_inference_rule, is_target_rule};
 use crate::names::join;
 use crate::rule::Rule;
 use crate::special::is_suffix;
 use indexmap::IndexSet;
 use mk_name::name::Name;
+use mk_table::hasher::{NameHasher, NameSet};
 use std::alloc::{AllocError, Global};
 
 /// How often entries with targets name `.WAIT` as a prerequisite; what would pass the greatest count

@@ -2,8 +2,8 @@
 ghost use Rattle.std.specs.Prelude.{◌≡◌, ◌≢◌, ◌-◌, [], ◌∷◌, ◌++◌, length, map, slice_get, Some, OnOk};
 ghost use Rattle.mk_rules.specs.Index.{NotesEntry, NotesTarget};
 
-use crate::hasher::NameSet;
 use mk_name::name::Name;
+use mk_table::hasher::NameSet;
 use std::alloc::{AllocError, Global};
 
 /// Puts a place at the end of a row, unless it stands there.

@@ -5,10 +5,10 @@ ghost use Rattle.mk_name.specs.Names.{has, same_name};
 ghost use Rattle.mk_rules.specs.Book.{is_inference_rule, is_target_rule};
 ghost use Rattle.mk_rules.specs.Special.{can_infer, is_pair, is_suffix};
 
-use crate::hasher::NameSet;
 use crate::rule::Rule;
 use crate::special::is_special;
 use mk_name::name::Name;
+use mk_table::hasher::NameSet;
 use std::alloc::{AllocError, Global};
 
 /// Where the first period behind the first byte stands, counted from behind that byte.

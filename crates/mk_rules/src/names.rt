@@ -2,9 +2,9 @@
 ghost use Rattle.std.specs.Prelude.{◌≡◌, IfOk, OnOk};
 ghost use Rattle.mk_name.specs.Names.{firsts, kept, same_name};
 
-use crate::hasher::{NameHasher, NameSet};
 use indexmap::IndexSet;
 use mk_name::name::Name;
+use mk_table::hasher::{NameHasher, NameSet};
 use std::alloc::{AllocError, Global};
 
 /// Adds the names that are not there yet, in their order.

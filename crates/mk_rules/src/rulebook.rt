@@ -1,20 +1,21 @@
 //! The book of rules: what the makefiles say of each name.
-ghost use Rattle.std.specs.Prelude.{◌≡◌, ◌<◌, true, length, map, slice_get, take, find, position, Some, IfOk, IfErr};
+ghost use Rattle.std.specs.Prelude.{◌≡◌, ◌<◌, [], true, length, map, slice_get, take, find, position, Some, IfOk, IfErr};
 ghost use Rattle.std.specs.List.{All};
 ghost use Rattle.std.specs.Option.{option_copied, option_map};
 ghost use Rattle.mk_name.specs.Names.{same_name};
 ghost use Rattle.mk_rules.specs.Special.{is_suffix};
 ghost use Rattle.mk_name.specs.declared.fault.Halt.TheVariants.{Memory};
-ghost use Rattle.mk_rules.specs.Book.{book_of, default_goal, has_inference, has_recipe, is_phony, is_target, may_be_goal, places_of, prerequisites_of, recipe_place, second_recipe, second_target, targets_of};
+ghost use Rattle.mk_rules.specs.Book.{book_of, commands_at, default_goal, has_inference, has_recipe, is_phony, is_target, may_be_goal, places_of, prerequisites_of, recipe_place, second_recipe, second_target, targets_of};
 
 use crate::entries::{has_default, inference, phony, suffixes, target_rules, wait_uses};
-use crate::hasher::{NameHasher, NameSet};
+use crate::hasher::hasher_of;
 use crate::index::note_entry;
 use crate::names::{into_names, join};
 use crate::rule::Rule;
 use indexmap::IndexSet;
 use mk_name::fault::{Halt, Source};
 use mk_name::name::Name;
+use mk_table::hasher::{NameHasher, NameSet};
 use std::alloc::{AllocError, Global};
 use std::marker::Model;
 
@@ -92,7 +93,7 @@ impl Rulebook {
     pub fn new(alloc: Global, entries: Vec<Rule>) -> Result<Rulebook, AllocError>
         ensures { IfOk result (λ book. book ≡ book_of entries.items) }
     {
-        let hasher = NameHasher::of_entries(&entries);
+        let hasher = hasher_of(&entries);
         let specials = Specials::of_entries(alloc, hasher, &entries)?;
         let rules = target_rules(alloc, &specials.suffixes, entries)?;
         Rulebook::of_rules(alloc, hasher, rules, specials)
@@ -126,6 +127,14 @@ impl Rulebook {
             places,
             specials,
         })
+    }
+
+    /// An empty set for names of this book. Its hasher is that of the book's own tables, whose key is the digest of all names
+    /// of the entries.
+    pub fn empty_set(&self, alloc: Global) -> NameSet
+        ensures { result.keys ≡ [] }
+    {
+        IndexSet::with_hasher(alloc, *self.targets.hasher())
     }
 
     /// The places of the target rules that name it as a target, rising; none for a name that is no
@@ -168,11 +177,12 @@ impl Rulebook {
         self.targets.get_index(number)
     }
 
-    /// The place of the first target rule that gives the target commands.
-    pub fn recipe_place(&self, name: &Name) -> Option<usize>
-        ensures { result ≡ recipe_place self.now.rules name.now }
+    /// The first of some places at which the target rule has commands.
+    pub fn recipe_among(&self, places: &[usize]) -> Option<usize>
+        requires { All (λ place. place < length self.now.rules) places.now }
+        ensures { result ≡ find (commands_at self.now.rules) places.now }
     {
-        for place in self.rules_of(name) {
+        for place in places {
             if self.rules[*place].has_commands() {
                 return Some(*place);
             }
@@ -180,11 +190,11 @@ impl Rulebook {
         None
     }
 
-    /// Whether a target rule of the name has commands.
-    pub fn has_recipe(&self, name: &Name) -> bool
-        ensures { result ≡ has_recipe self.now.rules name.now }
+    /// The place of the first target rule that gives the target commands.
+    pub fn recipe_place(&self, name: &Name) -> Option<usize>
+        ensures { result ≡ recipe_place self.now.rules name.now }
     {
-        self.recipe_place(name).is_some()
+        self.recipe_among(self.rules_of(name))
     }
 
     /// The prerequisites of the rule at a place, as its line gives them, without `.WAIT`.
@@ -217,7 +227,7 @@ impl Rulebook {
         ensures joined { IfOk result (λ names. names.items ≡ prerequisites_of self.now.rules name.now) }
         ensures only_memory { IfErr result (λ halt. halt ≡ Memory) }
     {
-        let mut joined = IndexSet::with_hasher(alloc, *self.targets.hasher());
+        let mut joined = self.empty_set(alloc);
         for place in self.rules_of(name) {
             join(alloc, &mut joined, self.rule_prerequisites(*place))?;
         }

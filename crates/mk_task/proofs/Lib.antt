@@ -1,5 +1,6 @@
 pub mod Adding
 pub mod Apart
+mod Numbering
 mod ReadTasks
 mod Shaped
 pub mod Starting

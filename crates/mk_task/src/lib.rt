@@ -4,6 +4,7 @@
 //! is always due, or the first line at fault. Read `specs/Lines.antt` first, then `specs/Tasks.antt` and `specs/JobsOf.antt`.
 #![tactic(auto)]
 
+pub mod labels;
 pub mod laws;
 pub mod line;
 pub mod making;

@@ -5,7 +5,7 @@ ghost use Rattle.mk_name.specs.declared.fault.Halt.TheVariants as halts;
 ghost use Rattle.mk_jobs.specs.Plan.{node_limit};
 ghost use Rattle.mk_task.specs.Tasks as spec;
 
-use mk_jobs::numbering::Numbering;
+use crate::labels::Labels;
 use mk_name::fault::{Fault, Halt, Kind, Source};
 use mk_name::name::Name;
 use std::alloc::{AllocError, Global};
@@ -15,7 +15,7 @@ use std::collections::BTreeSet;
 /// task's. The only other error is out of memory.
 pub(crate) fn needs_of(
     alloc: Global,
-    labels: &Numbering,
+    labels: &Labels,
     after: &[Name],
     place: u64,
 ) -> Result<Vec<u32>, Halt>

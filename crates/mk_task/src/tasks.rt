@@ -5,10 +5,10 @@ ghost use Rattle.mk_name.specs.Names.{has, same_name};
 ghost use Rattle.mk_task.specs.Good.{IsTally};
 ghost use Rattle.mk_task.specs.Tasks as spec;
 
+use crate::labels::Labels;
 use crate::line::Line;
 use crate::needs::needs_of;
 use mk_foot::foot_reader::PATH_LIMIT;
-use mk_jobs::numbering::Numbering;
 use mk_jobs::plan::{EDGE_LIMIT, NODE_LIMIT};
 use mk_name::fault::{Fault, Halt, Kind, Source};
 use mk_name::name::Name;
@@ -42,7 +42,7 @@ impl Model for Task {
 #[derive(Debug, Drop)]
 pub(crate) struct Tally {
     pub(crate) tasks: Vec<Task>,
-    labels: Numbering,
+    labels: Labels,
     edges: usize,
     paths: usize,
 }
@@ -68,7 +68,7 @@ impl Tally {
     {
         Tally {
             tasks: Vec::new(alloc),
-            labels: Numbering::new(alloc),
+            labels: Labels::new(alloc),
             edges: 0,
             paths: 0,
         }
@@ -120,7 +120,7 @@ impl Tally {
 }
 
 /// Whether a label is one of these.
-fn has_label(labels: &Numbering, label: &Name) -> bool
+fn has_label(labels: &Labels, label: &Name) -> bool
     ensures { result ≡ has same_name labels.now label.now }
 {
     labels.number(label).is_some()

@@ -12,7 +12,7 @@ joined (p ∷ []) [] = p ∷ []
 joined (p ∷ []) (q ∷ qs) = (p ++ q) ∷ qs
 joined (p ∷ r ∷ ps) more = p ∷ joined (r ∷ ps) more
 
-some_lines : (text : List ℕ) → 1 ≤ length (physical_lines text)
+pub some_lines : (text : List ℕ) → 1 ≤ length (physical_lines text)
 some_lines text = omega (arith, length-slice_split (λ b. b == newline) text)
 
 joined_cons : (p : List ℕ) (ps more : List (List ℕ)) → 1 ≤ length ps → joined (p ∷ ps) more ≡ p ∷ joined ps more

@@ -1,6 +1,7 @@
 mod Blanks
 mod Cuts
 pub mod FedLines
+pub mod Feeding
 pub mod Joins
 pub mod ListReading
 pub mod ListingLines

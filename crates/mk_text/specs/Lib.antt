@@ -1,6 +1,7 @@
 pub mod Blocks
 pub mod GivesLines
 pub mod Fed
+pub mod LineFeed
 pub mod Listing
 pub mod ListReader
 pub mod LogicalLine

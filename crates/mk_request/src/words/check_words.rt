@@ -1,13 +1,12 @@
 //! The words of `race check`.
 ghost use Rattle.std.specs.Prelude.{◌≡◌, IfOk, false};
-ghost use Rattle.clap.specs.Words.{app_of, found_of, rows_of};
+ghost use Rattle.clap.specs.Words.{app_of};
 ghost use Rattle.clap.specs.declared.builder.command.Command.TheViews.{out-Command as fields_of};
 ghost use Rattle.mk_request.specs.CommandLine as spec;
 
 use super::task_words::with_tasks;
-use super::{build_args, flag, help, is_true};
-use crate::requests::CheckArgs;
-use clap::{ArgMatches, Command};
+use super::{flag, help};
+use clap::Command;
 use std::alloc::{AllocError, Global};
 
 /// The subcommand, with its options and operands.
@@ -21,18 +20,4 @@ pub(super) fn check_command<'a>(alloc: Global) -> Result<Command<'a>, AllocError
     with_tasks(alloc, command, false)?
         .arg(flag(alloc, "print-proof", help::PRINT_PROOF))?
         .arg(flag(alloc, "strict", help::STRICT))
-}
-
-/// The check that these matches of the subcommand ask for. The only error is out of memory.
-pub(super) fn check_args<'a>(
-    alloc: Global,
-    found: &ArgMatches<'a>,
-) -> Result<CheckArgs<'a>, AllocError>
-    ensures { IfOk result (λ check. spec.HasCheck check (rows_of (found_of found.now))) }
-{
-    Ok(CheckArgs {
-        build: build_args(alloc, found)?,
-        footprints: found.get_str("footprints").unwrap_or(""),
-        print_proof: is_true(found.get_str("print-proof")),
-    })
 }

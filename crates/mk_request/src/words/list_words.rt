@@ -1,13 +1,12 @@
 //! The words of `race list`.
 ghost use Rattle.std.specs.Prelude.{◌≡◌, IfOk, false};
-ghost use Rattle.clap.specs.Words.{app_of, found_of, rows_of};
+ghost use Rattle.clap.specs.Words.{app_of};
 ghost use Rattle.clap.specs.declared.builder.command.Command.TheViews.{out-Command as fields_of};
 ghost use Rattle.mk_request.specs.CommandLine as spec;
 
+use super::help;
 use super::task_words::with_tasks;
-use super::{build_args, help};
-use crate::requests::ListArgs;
-use clap::{ArgMatches, Command};
+use clap::Command;
 use std::alloc::{AllocError, Global};
 
 /// The subcommand, with its options and operands.
@@ -19,17 +18,4 @@ pub(super) fn list_command<'a>(alloc: Global) -> Result<Command<'a>, AllocError>
         .about(help::LIST_ABOUT)
         .after_help(help::LIST_DETAILS);
     with_tasks(alloc, command, false)
-}
-
-/// What these matches of the subcommand ask to list. The only error is out of memory.
-pub(super) fn list_args<'a>(
-    alloc: Global,
-    found: &ArgMatches<'a>,
-) -> Result<ListArgs<'a>, AllocError>
-    ensures { IfOk result (λ list. spec.HasList list (rows_of (found_of found.now))) }
-{
-    Ok(ListArgs {
-        build: build_args(alloc, found)?,
-        footprints: found.get_str("footprints").unwrap_or(""),
-    })
 }

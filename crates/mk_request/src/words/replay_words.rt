@@ -4,8 +4,8 @@ ghost use Rattle.clap.specs.Words.{app_of, found_of, rows_of, rule_of};
 ghost use Rattle.clap.specs.declared.builder.command.Command.TheViews.{out-Command as fields_of};
 ghost use Rattle.mk_request.specs.CommandLine as spec;
 
-use super::{build_args, flag, help, is_true, option, with_build};
-use crate::requests::ReplayArgs;
+use super::{flag, help, is_set, option, value_in, with_build};
+use crate::requests::LogArgs;
 use clap::builder::ValueParser;
 use clap::{Arg, ArgAction, ArgMatches, Command};
 use std::alloc::{AllocError, Global};
@@ -51,20 +51,15 @@ fn tie<'a>(alloc: Global) -> Arg<'a>
         .help(help::TIE)
 }
 
-/// What these matches of a subcommand that reads a log ask for. The only error is out of memory.
-pub(super) fn replay_args<'a>(
-    alloc: Global,
-    found: &ArgMatches<'a>,
-) -> Result<ReplayArgs<'a>, AllocError>
-    ensures { IfOk result (λ replay. spec.HasReplay replay (rows_of (found_of found.now))) }
+/// The log that these matches of a subcommand that reads one ask for.
+pub(super) fn log_args<'a>(found: &ArgMatches<'a>) -> LogArgs<'a>
+    ensures { spec.HasLog result (rows_of (found_of found.now)) }
 {
-    Ok(ReplayArgs {
-        build: build_args(alloc, found)?,
-        footprints: found.get_str("footprints").unwrap_or(""),
-        log: found.get_str("log").unwrap_or(""),
+    LogArgs {
+        log: value_in(found, "log"),
         limit: limit_of(found.get_str("limit")),
-        tie: is_true(found.get_str("tie")),
-    })
+        tie: is_set(found, "tie"),
+    }
 }
 
 /// The number that the option's value writes, and 1 without a value.

@@ -13,19 +13,19 @@ pub rows_of-requires-clause-whole : goal.rows_of-requires-clause-whole
 rows_of-requires-clause-whole c =
     let names = names_of c.args.plan.now.nodes in
     let targets = targets_of c.args.rulebook.now.rules in
-    let is : map (λ name. name.now) c.as_slice-2.result.now ≡ owned_names names targets =
-    ap (map (λ name. name.now)) c.as_slice-2.ensures.value ∙ c.in_ok-owned.ensures ∙ c.as_slice.ensures.value ∙ c.in_ok-names.ensures.names in
+    let is : map (λ name. name.now) c.as_slice.result.now ≡ owned_names names targets =
+    ap (map (λ name. name.now)) c.as_slice.ensures.value ∙ c.in_ok-owned.ensures.names in
     subst (λ (list : List Name). HasAll list names) (sym is) (has_names names targets)
 
 pub returns-clause-rows : goal.returns-clause-rows
 returns-clause-rows c =
-    let is : map (λ name. name.now) c.as_slice-2.result.now ≡ owned_names (names_of c.args.plan.now.nodes) (targets_of c.args.rulebook.now.rules) =
-    ap (map (λ name. name.now)) c.as_slice-2.ensures.value ∙ c.in_ok-owned.ensures ∙ c.as_slice.ensures.value ∙ c.in_ok-names.ensures.names in
+    let is : map (λ name. name.now) c.as_slice.result.now ≡ owned_names (names_of c.args.plan.now.nodes) (targets_of c.args.rulebook.now.rules) =
+    ap (map (λ name. name.now)) c.as_slice.ensures.value ∙ c.in_ok-owned.ensures.names in
     subst (λ (list : List Name). IfOk c.rows_of.result (λ rows. attached_beside list c.args.plan.now c.args.footprints
     ≡ Ok (with_rows c.args.plan.now rows.root rows.reads.items rows.writes.items))) is c.rows_of.ensures.rows
 
 pub returns-clause-fault : goal.returns-clause-fault
 returns-clause-fault c =
-    let is : map (λ name. name.now) c.as_slice-2.result.now ≡ owned_names (names_of c.args.plan.now.nodes) (targets_of c.args.rulebook.now.rules) =
-    ap (map (λ name. name.now)) c.as_slice-2.ensures.value ∙ c.in_ok-owned.ensures ∙ c.as_slice.ensures.value ∙ c.in_ok-names.ensures.names in
+    let is : map (λ name. name.now) c.as_slice.result.now ≡ owned_names (names_of c.args.plan.now.nodes) (targets_of c.args.rulebook.now.rules) =
+    ap (map (λ name. name.now)) c.as_slice.ensures.value ∙ c.in_ok-owned.ensures.names in
     subst (λ (list : List Name). IfErr c.rows_of.result (λ halt. Halts halt (attached_beside list c.args.plan.now c.args.footprints))) is c.rows_of.ensures.fault

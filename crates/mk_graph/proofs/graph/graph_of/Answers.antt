@@ -1,12 +1,13 @@
-use Rattle.std.proofs.Common.{◌≡◌, ◌∙◌, ap, sym, subst, ◌<◌, length, arith, get_or, take, ℕ, List, Option, None}
-use Rattle.std.specs.Prelude.{IfSome}
+use Rattle.std.proofs.Common.{map, ◌≡◌, ◌∙◌, ap, sym, subst, ◌<◌, length, arith, get_or, take, ℕ, List, Option, None}
+use Rattle.std.specs.Prelude.{IfSome, Vec}
+use Rattle.std.specs.Global.{Global}
 use Rattle.mk_graph.specs.Collected.{Collected}
 use Rattle.mk_graph.specs.Graph.{count_edges}
 use Rattle.mk_graph.specs.Makers.{inferred_source, needs}
 use Rattle.mk_jobs.specs.Numbered.{name_at}
 use Rattle.mk_graph.specs.Rows.{row}
-use Rattle.mk_graph.specs.Seen.{firsts_of}
-use Rattle.mk_graph.proofs.Graphs.{distinct_below, graph_is, is_small, many_edges, needs_stand, source_within, source_reported, if_none_at}
+use Rattle.mk_graph.specs.Seen.{AllBelow, firsts_of}
+use Rattle.mk_graph.proofs.Graphs.{distinct_below, entries_below, graph_is, is_small, many_edges, needs_stand, source_within, source_reported, if_none_at}
 use Rattle.mk_graph.proofs.graph.graph_of.Goals as goal
 
 pub rows_of-requires-clause-within : goal.rows_of-requires-clause-within
@@ -55,3 +56,17 @@ pub makers_of-requires-clause-inferred : goal.makers_of-requires-clause-inferred
 makers_of-requires-clause-inferred c = λ i h.
     let found = subst (λ (os : List (Option ℕ)). Collected c.args.book.now c.args.listing.now c.args.goals.now c.in-Some.found.names c.in-Some.found.entries.items os c.in-Some.found.goals.items (length c.in-Some.found.names)) (sym c.as_slice-sources.ensures.value) (rw c.in-Some.is at c.in_ok-found.ensures.found) in
     source_reported c.in-Some.found.names (get_or c.as_slice-sources.result.now i None) (inferred_source c.args.book.now c.args.listing.now (name_at c.in-Some.found.names i)) (found.sources_stand i h)
+
+pub rows_of-requires-clause-rules : goal.rows_of-requires-clause-rules
+rows_of-requires-clause-rules c = ap (map (λ row. row.now)) c.as_slice-rules.ensures.value ∙ (rw c.in-Some.is at c.in_ok-found.ensures.rules)
+
+pub makers_of-requires-clause-rules : goal.makers_of-requires-clause-rules
+makers_of-requires-clause-rules c = ap (map (λ row. row.now)) c.as_slice-rules.ensures.value ∙ (rw c.in-Some.is at c.in_ok-found.ensures.rules)
+
+pub distinct_entries-requires-clause-within : goal.distinct_entries-requires-clause-within
+distinct_entries-requires-clause-within c = λ p.
+    let found = rw c.in-Some.is at c.in_ok-found.ensures.found in
+    let long : length c.in-Some.found.names ≡ length c.as_mut_slice-seen.result.now = omega (arith, ap length c.as_mut_slice-seen.ensures.value, c.in_ok-marks.marks.ok.0, c.in_ok-marks.ensures.len, c.count.ensures.count) in
+    subst (λ (size : ℕ). AllBelow size (get_or c.as_slice.result.now p None)) long
+    (subst (λ (es : List (Option (Vec ℕ Global))). AllBelow (length c.in-Some.found.names) (get_or es p None)) (sym c.as_slice.ensures.value)
+    (entries_below c.args.book.now c.args.listing.now c.args.goals.now c.in-Some.found.names c.in-Some.found.entries.items c.in-Some.found.sources.items c.in-Some.found.goals.items (length c.in-Some.found.names) p found))

@@ -26,5 +26,4 @@ returns c =
       root = text_is _ _ _ found (codes "root") c.unwrap_or-3.ensures refl c.get_str-6.ensures;
       operands = ap texts (c.in_ok-from_slice.ensures.items ∙ ap (λ (x : Bor (List (Bor Text))). x.now) c.unwrap_or-4.ensures) ∙ list_or c.get_strs.result _ refl
           ∙ ap (λ (x : Option (List Text)). unwrap_or x []) (c.get_strs.ensures ∙ raw_values-rows found (codes "operands"));
-      strict = c.is_true-2.ensures ∙ ap spec.is_true (c.get_str-7.ensures ∙ first_value-rows found (codes "strict"));
     }

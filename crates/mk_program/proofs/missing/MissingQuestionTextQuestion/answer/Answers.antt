@@ -1,13 +1,24 @@
-use Rattle.std.proofs.Common.{◌∙◌, ap, map, List, ℕ}
-use Rattle.std.specs.Borrow.{Bor}
-use Rattle.mk_program.proofs.MissingAnswers.{missing_read}
+use Rattle.std.proofs.lemmas.Result.{IfOk-weaker}
+use Rattle.mk_race.specs.Missing.{BuildsAsClean, IsMissingList}
+use Rattle.mk_race.specs.Stages.{texts_of}
+use Rattle.mk_program.proofs.Answering.{refusal_not_failed}
+use Rattle.mk_program.proofs.MissingAnswers.{listed_is, missing_not_failed, unlisted_is}
 use Rattle.mk_program.proofs.missing.MissingQuestionTextQuestion.answer.Goals as goal
 
-abbrev texts : List (Bor (List ℕ)) → List (List ℕ)
-texts = map (λ (text : Bor (List ℕ)). text.now)
+pub returns-in-Ok-clause-status : goal.returns-in-Ok-clause-status
+returns-in-Ok-clause-status c = IfOk-weaker c.listed_answer.result _ _ (λ answer h. missing_not_failed c.in-Ok.listed answer.status h.0) c.listed_answer.ensures
 
-pub returns-clause-answer : goal.returns-clause-answer
-returns-clause-answer c =
-    let operands = ap texts c.as_slice-2.ensures.value ∙ c.in_ok-operands.ensures ∙ ap texts c.as_slice.ensures.value in
-    let reported = c.input_of-input.ensures in
-    λ text are. missing_read _ _ _ _ _ _ (reported.texts text are operands) (reported.footprints text are) c.in_ok-missing_over.ensures.answer
+pub returns-in-Ok-clause-answer : goal.returns-in-Ok-clause-answer
+returns-in-Ok-clause-answer c =
+    IfOk-weaker c.listed_answer.result _ _ (λ answer h. listed_is (IsMissingList (texts_of c.args.input.now) c.args.input.now.footprints.now)
+    (BuildsAsClean (texts_of c.args.input.now) c.args.input.now.footprints.now) c.in-Ok.listed answer.status answer.text.items
+    c.in-Ok.ensures.missing c.in-Ok.ensures.headline h.0 h.1) c.listed_answer.ensures
+
+pub returns-in-Err-clause-status : goal.returns-in-Err-clause-status
+returns-in-Err-clause-status c = IfOk-weaker c.refused.result _ _ (λ answer h. refusal_not_failed answer.status h.2) c.refused.ensures
+
+pub returns-in-Err-clause-answer : goal.returns-in-Err-clause-answer
+returns-in-Err-clause-answer c =
+    IfOk-weaker c.refused.result _ _ (λ answer h. unlisted_is (IsMissingList (texts_of c.args.input.now) c.args.input.now.footprints.now)
+    (BuildsAsClean (texts_of c.args.input.now) c.args.input.now.footprints.now) c.in-Err.halt h.0 answer.status answer.text.items
+    c.in-Err.ensures.missing h.1 h.2 h.3) c.refused.ensures

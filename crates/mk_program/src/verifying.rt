@@ -1,0 +1,55 @@
+//! The answers to `race verify`.
+ghost use Rattle.std.specs.Prelude.{◌≡◌, ◌≢◌, IfOk, List, Ok, ℕ};
+ghost use Rattle.mk_race.specs.Stages.{IsPrepared, Texts};
+ghost use Rattle.mk_program.specs.Answers as spec;
+
+use crate::answers::{Answer, refused};
+use crate::noting::Question;
+use crate::statuses::Status;
+use mk_files::failures::Failure;
+use mk_race::preparing::Prepared;
+use mk_race::verifying::verify_prepared;
+use std::alloc::{AllocError, Global};
+
+/// Whether a proof is accepted.
+#[derive(Clone, Copy)]
+pub(crate) struct Verifying;
+
+impl Question for Verifying {
+    ghost says = { λ _. spec.IsVerifyAnswer };
+
+    ghost has_no_text = { λ _ _ _ _. ⊥ };
+
+    fn answer(&self, alloc: Global, prepared: Prepared, proof: &[u8]) -> Result<Answer, Failure> {
+        Ok(verdict_of(alloc, &prepared, proof)?)
+    }
+}
+
+/// Whether a proof is accepted for a build of these jobs, or the report of its fault.
+fn verdict_of(alloc: Global, prepared: &Prepared, proof: &[u8]) -> Result<Answer, AllocError>
+    ensures status { IfOk result (λ answer. answer.status ≢ Status.Failed) }
+    ensures answer { IfOk result (λ answer. (texts : Texts) (footprints : List ℕ)
+        → IsPrepared texts footprints (Ok prepared.now) → spec.IsVerifyAnswer texts
+        footprints proof.now answer.status answer.text.items) }
+{
+    match verify_prepared(alloc, prepared, proof) {
+        Ok(accepted) => verdict_answer(alloc, accepted),
+        Err(halt) => refused(alloc, halt),
+    }
+}
+
+/// Whether a proof is accepted, reported.
+pub(crate) fn verdict_answer(alloc: Global, accepted: bool) -> Result<Answer, AllocError>
+    ensures { IfOk result (λ answer. (answer.status ≡ spec.verdict_status accepted)
+        × (answer.text.items ≡ spec.verdict_text accepted)) }
+{
+    let (status, text) = if accepted {
+        (Status::Done, b"accepted\n".as_slice())
+    } else {
+        (Status::No, b"not accepted\n".as_slice())
+    };
+    Ok(Answer {
+        status,
+        text: Vec::from_slice(alloc, text)?,
+    })
+}

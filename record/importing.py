@@ -1,0 +1,152 @@
+"""What a trace and the words of makes come to: the builds of a record, what is taken for granted, and the holes.
+
+These modules are loaded while the build runs (main.py): that takes as long as Python's own start, in a time in which the recorder only waits.
+"""
+
+import argparse
+import gc
+import os
+from dataclasses import dataclass
+from itertools import chain
+from pathlib import Path
+from typing import List
+
+from record.assumptions import Assumptions
+from record.build import Builder
+from record.calls import Calls
+from record.configured import Configured, find_configured
+from record.exists import credit_makes, settle_exists
+from record.folder import Record, write_record
+from record.footprints import write_footprints
+from record.granted import add_granted, idle_targets
+from record.graph import Build
+from record.jvm import settle_machines
+from record.lives import Life
+from record.missing import write_missing
+from record.modules import settle_modules
+from record.names import Names
+from record.ninja_import import beside, import_ninjas
+from record.ninja_import import versions as ninja_versions
+from record.ninja_log import Kept
+from record.ninja_runs import Ninja
+from record.owners import Owners
+from record.past import Past, beginning
+from record.progress import watched
+from record.python import settle
+from record.skips import SYSTEM, unseen_changes
+from record.strace import read_trace
+from record.unasked import unasked
+from record.warm import stand_alone, warm_names
+from record.words import read_logs
+
+
+def replay_trace(spool: Path, names: Names, real: str, folder: str, tops: List[str]) -> Calls:
+    """The trace, played in the name space."""
+    mask = os.umask(0)
+    os.umask(mask)
+    replay = Calls(names, str(spool), os.path.realpath(real), folder, tops, mask)
+    trace = spool / ("sifted" if (spool / "sifted").exists() and not names.leads_to(SYSTEM) else "trace")
+    with open(trace, encoding="latin-1", newline="\n") as lines:
+        for event in read_trace(watched(lines, trace.stat().st_size)):
+            replay.play(event)
+    replay.holes += unseen_changes(replay.outside) if trace.name == "sifted" else []
+    return replay
+
+
+@dataclass
+class Imported:
+    """What a trace and the words of makes come to."""
+
+    builds: List[Build]
+    assumed: Assumptions
+    lives: List[Life]
+    ninjas: List[Ninja]
+    idle: List[str]  # targets of makes that had nothing to do
+    configured: Configured
+
+
+def settle_all(replay: Calls, spool: Path, assumed: Assumptions) -> Owners:
+    """Puts what is meant in the place of what known programs did; who did what."""
+    for kind, example in chain(settle(replay.all, replay.tops), settle_modules(replay.all)):
+        assumed.add(kind, example)
+    settle_machines(replay.all)
+    logs = list(read_logs(spool))
+    markers = settle_exists(replay.all, logs)
+    for name in sorted(markers.paths):
+        assumed.add("makers", name)
+    owners = Owners(replay.all, logs)
+    credit_makes(owners, markers)
+    return owners
+
+
+def import_record(spool: Path, names: Names, kept: Kept, real: str, folder: str, record: Record) -> Imported:
+    """Of a trace and make's words: the builds, the holes, and what was taken for granted."""
+    assumed = Assumptions()
+    replay = replay_trace(spool, names, real, folder, names.tops)
+    owners = settle_all(replay, spool, assumed)
+    if owners.makes:
+        assumed.add("serial", "")
+    record.holes += replay.holes + owners.holes
+    record.holes += ["nobody knows who started a process: " + one for one in replay.strays()]
+    record.holes += ["a make ran past the recorder: " + p for p in replay.past]
+    for path in sorted(spool.glob("*.past")):
+        record.holes += ["a make that prints its own words (-d, -p, --debug), or has nowhere to print them, ran past the recorder: " + t for t in path.read_text(errors="replace").splitlines()]
+    for kind, found in (("sockets", replay.sockets), ("processes", replay.watchers), ("read-times", replay.askers), ("locks", replay.locks),
+                        ("hard-links", replay.hard_links), ("ages", replay.rewritten())):
+        for example in found:
+            assumed.add(kind, example)
+    ninjas, of_ninja, holes = import_ninjas(replay.all, owners, names, kept, assumed, record.status == 0)
+    record.holes += holes
+    if not owners.makes and not ninjas:
+        record.holes.append("no make and no ninja ran")
+    for name in unasked(owners.makes, ninjas):
+        assumed.add("unasked", name)
+    for name in replay.outside:
+        assumed.add("outside", name)
+    for argv in replay.makers:
+        assumed.add("makers", argv)
+    for path in sorted(set(replay.progress)):
+        assumed.add("progress", path)
+    add_granted(owners, assumed, str(spool))
+    builds, past = [], Past(names.before, replay.changes)
+    for place, make, number in sorted(((beginning(m, n), m, n) for m in owners.makes for n in range(len(m.words.rounds))), key=lambda found: found[0]):
+        if make.words.rounds[number].jobs or any(n == number for n, _ in make.acts):
+            builder = Builder(make, number, names, assumed, past.until(place))
+            builds.append(builder.run())
+            record.holes += builder.holes
+    builds = sorted(builds + of_ninja, key=lambda build: build.make.life.born)
+    return Imported(builds, assumed, replay.all, ninjas, idle_targets(owners, names), find_configured(owners.makes, replay.all, names))
+
+
+def finish(record: Record, found: Imported, names: Names, warm: bool) -> None:
+    """What is known when all builds are: whether they were cold, and what ninja itself finds."""
+    there = {*warm_names(found.builds, found.ninjas, names), *found.idle}
+    made, shipped = found.configured.made() & there, found.configured.shipped(there)
+    record.warm, record.configured = sorted(there - made - shipped), sorted(made | shipped)
+    for kind, paths in (("configured", made), ("shipped", shipped)):
+        for name in sorted(paths):
+            found.assumed.add(kind, name)
+    record.stands_alone = bool(record.warm) and stand_alone(record.warm, found.builds, found.ninjas)
+    for name in record.warm if warm or record.stands_alone else ():
+        found.assumed.add("up-to-date", name)
+    if found.ninjas:
+        record.tools["ninja"] = ninja_versions(found.ninjas)
+        record.missingdeps, beyond = beside(found.ninjas, found.builds, names)
+        for one in beyond if not record.warm and record.status == 0 else []:
+            record.holes.append("ninja -t missingdeps finds that %s reads %s, and the record has no such race" % (one.user, one.path))
+        record.notes += ["ninja -t missingdeps, of earlier builds: %s reads %s, and waits for nobody who makes it" % (m.user, m.path) for m in beyond if record.warm]
+
+
+def complete(record: Record, spool: Path, names: Names, kept: Kept, real: str, out: Path, options: argparse.Namespace) -> Imported:
+    """Writes the record of a build that has ended."""
+    gc.disable()  # what is read is needed to the end: a search for garbage takes time and finds none
+    found = import_record(spool, names, kept, real, record.folder, record)
+    gc.enable()
+    finish(record, found, names, options.warm)
+    write_record(out, record, found.builds, found.assumed)
+    for number, build in zip(record.builds, found.builds if options.footprints else ()):
+        if build.tool == "make":
+            write_footprints(out / "builds" / number, build, names, str(out))
+    if options.missing:
+        record.missing = write_missing(out, record, found.builds, names, found.lives, spool)
+    return found

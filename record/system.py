@@ -1,0 +1,5 @@
+"""Which files come with the system. A project may be below `/usr/src`, `/usr/local` or `/dev/shm`: what is there belongs to no system."""
+
+import re
+
+OF_SYSTEM = re.compile(r"/(?:(?:usr/(?:local/)?)?(?:bin|sbin|lib(?:32|64|x32|exec)?|include|share)|etc|proc|sys|dev(?!/shm/))(?:/|$)")
