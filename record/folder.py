@@ -13,6 +13,8 @@ if TYPE_CHECKING:
     from record.assumptions import Assumptions
     from record.graph import Build
 
+NAMES = 12  # so many of the targets that were there before are named
+
 
 @dataclass
 class Record:
@@ -27,6 +29,7 @@ class Record:
     assumptions: List[Dict[str, Any]] = field(default_factory=list)
     builds: List[str] = field(default_factory=list)
     warm: List[str] = field(default_factory=list)  # files that the build makes and that were there before
+    configured: List[str] = field(default_factory=list)  # others that were there: what `./configure` made, and what came with the sources
     stands_alone: bool = False  # their recipes did not run, and can run beside no other
     notes: List[str] = field(default_factory=list)
     hints: List[str] = field(default_factory=list)  # of a build that failed: who looks for what others make
@@ -37,9 +40,10 @@ class Record:
         """As it is written."""
         found = {"version": VERSION, **asdict(self)}
         alone = found.pop("stands_alone")
+        del found["configured"]
         if self.missing is None:
             del found["missing"]
-        found["warm"] = {"count": len(self.warm), "example": shown(self.warm[0]) if self.warm else "", "alone": alone}
+        found["warm"] = {"count": len(self.warm), "example": shown(self.warm[0]) if self.warm else "", "names": [shown(name) for name in self.warm[:NAMES]], "alone": alone}
         return json.dumps(found, indent=1, ensure_ascii=True) + "\n"
 
 
@@ -82,6 +86,17 @@ def write_record(folder: Path, record: Record, builds: "List[Build]", assumed: "
 def rewrite(folder: Path, record: Record) -> None:
     """What is known of the record as a whole."""
     (folder / "record.json").write_text(record.text(), encoding="utf-8")
+
+
+def accept_warm(folder: Path, record: Dict[str, Any]) -> None:
+    """Takes for granted that builds start from the tree of a record that is there."""
+    from record.assumptions import TEXTS
+
+    warm = record["warm"]
+    record["holes"] = [hole for hole in record["holes"] if not hole.startswith("WARM")]
+    if warm["count"] and not any(one["kind"] == "up-to-date" for one in record["assumptions"]):
+        record["assumptions"].append({"kind": "up-to-date", "count": warm["count"], "example": warm["example"], "text": TEXTS["up-to-date"]})
+    (folder / "record.json").write_text(json.dumps(record, indent=1, ensure_ascii=True) + "\n", encoding="utf-8")
 
 
 def is_record(folder: Path) -> bool:

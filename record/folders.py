@@ -310,13 +310,16 @@ def mark(builder: "Builder", name: str, meaning: str, readers: Set[int], writers
 
 def add_listed(builder: "Builder", table: Dict[str, Makers]) -> None:
     """A listing sees the folders that recipes make in it."""
+    inside: Dict[str, List[str]] = {}
+    for name in table:
+        inside.setdefault(os.path.dirname(name), []).append(name)
     for at, path in ((at, path) for at, events in each(builder) for kind, path, _ in events if kind == "L"):
         where, pattern = path.split("\0")
-        for name, (made, gone) in table.items():
-            if os.path.dirname(name) == where and matches(os.path.basename(name), pattern):
-                makers = made | gone if builder.before.get(name) != "d" else gone
-                if at not in makers and (gone - {at} or not any(builder.build.is_before(m, at) for m in makers)):
-                    seen(builder, name, at, makers)
+        for name in (name for name in inside.get(where, ()) if matches(os.path.basename(name), pattern)):
+            made, gone = table[name]
+            makers = made | gone if builder.before.get(name) != "d" else gone
+            if at not in makers and (gone - {at} or not any(builder.build.is_before(m, at) for m in makers)):
+                seen(builder, name, at, makers)
 
 
 def matches(name: str, pattern: str) -> bool:

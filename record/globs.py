@@ -1,6 +1,7 @@
 """The patterns of `$(wildcard ..)` in makefiles: which names a listing of a folder by make can be about."""
 
 import re
+from functools import cached_property
 from typing import Dict, Iterable, Iterator, List, Optional, Set
 
 from record.shelltext import loose
@@ -10,6 +11,9 @@ CALLS = re.compile(r"\$([({])call[ \t]+")
 AUTOMATIC = re.compile(r"\$(?:[@<^+*?|%]|\([@<^+*?|%][DF]?\)|\{[@<^+*?|%][DF]?\})")  # names of targets and prerequisites
 ARGUMENT = re.compile(r"\$(?:\d|\(\d+\)|\{\d+\})")
 ASSIGNED = re.compile(r"(?m)^[ \t]*([\w.-]+)[ \t]*(?:\?|::?:?)?=((?:[^\n]*\\\n)*[^\n]*)")
+HEAD = re.compile(r"(?<![\w$({.%/-])([\w.-]+)[ \t]*(?:[+?!]|::?:?)?=")  # of an assignment, anywhere in a line
+VALUE = re.compile(r"(?:[^\n]*\\\n)*[^\n]*")
+BINDS = re.compile(r"\b(?:define|undefine|foreach|let)\s")
 REFERENCE = re.compile(r"\$(?:\(([\w.-]+)(?::[^$(){}*?\[]*)?\)|\{([\w.-]+)(?::[^$(){}*?\[]*)?\}|(\w))")
 MAGIC = re.compile(r"[*?\[]")
 # What gives a value to a name of a target or to an argument: a loop over such a name, or one that is computed, and an assignment.
@@ -37,6 +41,7 @@ class Macros:
         self.is_bound_otherwise = BOUND.search(text) is not None
         self.target = UNKNOWN if self.is_bound_otherwise or any(MAGIC.search(name) for name in names) else NAMED  # what stands for a target's name
         self.is_open = "eval" in text
+        self.bound = "\n".join(text[found.end():].partition("\n")[0] for found in BINDS.finditer(text))  # lines of names that have a value from there
         self.plain: Dict[str, bool] = {}
         self.are_plain: Optional[bool] = None  # whether no argument of a function is a pattern
 
@@ -49,11 +54,24 @@ class Macros:
 
     def assigned(self, name: str) -> List[str]:
         """The texts that makefiles assign to a macro, also for one target."""
-        return re.findall(r"(?<![\w$({.%%/-])%s[ \t]*(?:[+?!]|::?:?)?=((?:[^\n]*\\\n)*[^\n]*)" % re.escape(name), self.text)
+        return self.assignments.get(name, [])
+
+    @cached_property
+    def assignments(self) -> Dict[str, List[str]]:
+        """The same for all macros."""
+        found: Dict[str, List[str]] = {}
+        ends: Dict[str, int] = {}  # where the last value of a name ends: what stands in it is no other one
+        for head in HEAD.finditer(self.text):
+            name = head.group(1)
+            if head.start() >= ends.get(name, 0):
+                value = VALUE.match(self.text, head.end())
+                found.setdefault(name, []).append(value.group() if value else "")
+                ends[name] = value.end() if value else head.end()
+        return found
 
     def is_bound(self, name: str) -> bool:
         """Whether lines or a loop give a macro its value."""
-        return bool(re.search(r"\b(?:define|undefine|foreach|let)\s[^\n]*\b%s\b" % re.escape(name), self.text))
+        return bool(self.bound) and bool(re.search(r"\b%s\b" % re.escape(name), self.bound))
 
     def has_no_pattern(self, name: str) -> bool:
         """Whether no value that a macro may have holds a pattern."""

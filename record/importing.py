@@ -14,6 +14,7 @@ from typing import List
 from record.assumptions import Assumptions
 from record.build import Builder
 from record.calls import Calls
+from record.configured import Configured, find_configured
 from record.exists import credit_makes, settle_exists
 from record.folder import Record, write_record
 from record.footprints import write_footprints
@@ -61,6 +62,7 @@ class Imported:
     lives: List[Life]
     ninjas: List[Ninja]
     idle: List[str]  # targets of makes that had nothing to do
+    configured: Configured
 
 
 def settle_all(replay: Calls, spool: Path, assumed: Assumptions) -> Owners:
@@ -113,12 +115,17 @@ def import_record(spool: Path, names: Names, kept: Kept, real: str, folder: str,
             builds.append(builder.run())
             record.holes += builder.holes
     builds = sorted(builds + of_ninja, key=lambda build: build.make.life.born)
-    return Imported(builds, assumed, replay.all, ninjas, idle_targets(owners, names))
+    return Imported(builds, assumed, replay.all, ninjas, idle_targets(owners, names), find_configured(owners.makes, replay.all, names))
 
 
 def finish(record: Record, found: Imported, names: Names, warm: bool) -> None:
     """What is known when all builds are: whether they were cold, and what ninja itself finds."""
-    record.warm = sorted({*warm_names(found.builds, found.ninjas, names), *found.idle})
+    there = {*warm_names(found.builds, found.ninjas, names), *found.idle}
+    made, shipped = found.configured.made() & there, found.configured.shipped(there)
+    record.warm, record.configured = sorted(there - made - shipped), sorted(made | shipped)
+    for kind, paths in (("configured", made), ("shipped", shipped)):
+        for name in sorted(paths):
+            found.assumed.add(kind, name)
     record.stands_alone = bool(record.warm) and stand_alone(record.warm, found.builds, found.ninjas)
     for name in record.warm if warm or record.stands_alone else ():
         found.assumed.add("up-to-date", name)

@@ -4,9 +4,9 @@ import os
 import re
 from dataclasses import dataclass, field
 from fnmatch import fnmatchcase
-from functools import cached_property
+from functools import cached_property, lru_cache
 from pathlib import Path
-from typing import Dict, Iterable, Iterator, List, NamedTuple, Set
+from typing import Dict, Iterable, Iterator, List, NamedTuple, Set, Tuple
 
 from record.database import LINES_TEXT as LINES
 from record.database import Base
@@ -21,8 +21,10 @@ ASSIGNED = re.compile(r"([\w.-]+)[ \t]*(?:[+?!]|:{1,3})?=((?:[^\n]*\\\n)*[^\n]*)
 DEFINED = re.compile(r"(?ms)^[ \t]*define[ \t]+([\w.-]+)[^\n]*\n(.*?)^[ \t]*endef")
 # A line of a makefile that is a rule: what stands behind its colon, up to a recipe on the same line.
 RULE = re.compile(r"(?m)^(?!\t)[^\n=#]*?:(?![:=])((?:[^\n;#=]*\\\n)*[^\n;#]*)")
-# An export of a macro or of all, for one target too.
-EXPORT = r"(?m)^(?:[^\t\n#][^\n]*?:)?[ \t]*(?:(?:override|private)[ \t]+)*export\b(?:[ \t]*$|[^\n]*\b%s\b)|\.EXPORT_ALL_VARIABLES"
+# An export of a macro or of all, for one target too: the first of a line.
+EXPORT = r"(?m)^(?:[^\t\n#][^\n]*?:)??[ \t]*(?:(?:override|private)[ \t]+)*export\b"
+EXPORTED = re.compile(EXPORT + r"([^\n]*)")
+EXPORTS_ALL = re.compile(EXPORT + r"[ \t]*$|\.EXPORT_ALL_VARIABLES")
 BRACKETS = {"(": ")", "{": "}"}
 ANY = "*"  # macros that nobody can name
 # What each recipe asks for without a word: macros that make itself reads.
@@ -97,6 +99,12 @@ class Use:
     keeps: Set[str] = field(default_factory=set)  # macros that work out their value when it is first asked for
 
 
+@lru_cache(8)
+def assigned_in(text: str) -> List[Tuple[str, str]]:
+    """What makefiles assign to macros: many makes may read the same ones."""
+    return [(one.group(1), one.group(2)) for one in [*ASSIGNED.finditer(text), *DEFINED.finditer(text)]]
+
+
 class Macros:
     """The macros of one make, by its makefiles and its data base."""
 
@@ -115,8 +123,8 @@ class Macros:
     def texts(self) -> Dict[str, List[str]]:
         """All that each macro may be, as far as makefiles and the data base show it."""
         found: Dict[str, List[str]] = {name: [value] for name, value in self.base.values.items()}
-        for one in [*ASSIGNED.finditer(self.text), *DEFINED.finditer(self.text)]:
-            found.setdefault(one.group(1), []).append(one.group(2))
+        for name, value in assigned_in(self.text):
+            found.setdefault(name, []).append(value)
         return found
 
     @cached_property
@@ -158,7 +166,34 @@ class Macros:
 
     def is_named_in_export(self, name: str) -> bool:
         """Whether a makefile exports a macro, by its name or with all others, or for a target."""
-        return bool(re.search(EXPORT % re.escape(name), self.text))
+        return self.exports_all or bool(self.exported) and re.search(r"\b%s\b" % re.escape(name), self.exported) is not None
+
+    @cached_property
+    def exports_all(self) -> bool:
+        """Whether a makefile exports all macros."""
+        return EXPORTS_ALL.search(self.text) is not None
+
+    @cached_property
+    def exported(self) -> str:
+        """What stands behind `export` in lines of makefiles."""
+        return "\n".join(EXPORTED.findall(self.text))
+
+    def reaching(self, wanted: Set[str]) -> Set[str]:
+        """All macros that refer to one of some macros, also by way of others, and these."""
+        users: Dict[str, Set[str]] = {}
+        todo, seen = list(self.texts), set(self.texts)
+        while todo:
+            name = todo.pop()
+            for one in self.named_by(name):
+                users.setdefault(one, set()).add(name)
+                todo += [] if one in seen else [one]
+                seen.add(one)
+        found, todo = set(wanted), list(wanted)
+        while todo:
+            more = users.get(todo.pop(), set()) - found
+            found |= more
+            todo.extend(more)
+        return found & set(self.texts)
 
     def is_inherited(self, name: str) -> bool:
         """Whether make may have found a macro in its own environment: then it hands that on to each recipe."""

@@ -17,8 +17,9 @@ from importlib.util import find_spec
 from pathlib import Path
 from typing import Dict, List, Optional, Tuple
 
+from record import VERSION
 from record.again import JOBS, TRIES, by_name, hints, tops_of, undo, with_jobs
-from record.folder import Record, is_record, rewrite
+from record.folder import Record, accept_warm, is_record, rewrite
 from record.fresh import CannotClean, cold_copy, fresh_folder
 from record.judge import find_race, judge
 from record.names import Names
@@ -34,6 +35,7 @@ EXAMPLE = """examples:
   race-record -- make -C src all       one serial build, then the verdict
   race-record -- cmake --build build   the same where ninja builds
   race-record --missing -- make        also: which files recipes read and make does not know of
+  race-record --warm                   after WARM, where what it names is part of each clean tree: judge again, without a build
 statuses: 0 safe, with --missing also nothing missing, 1 races or missing inputs,
           2 no verdict on one of the two, 3 usage or a tool that is missing"""
 WRAPPER = ("record.options", "record.wrapper")
@@ -46,7 +48,8 @@ with open(%r, "rb") as file:
 module.main()
 """
 ASKED = min(4, os.cpu_count() or 1)  # how many builds `race` is asked about at once
-WARM = "WARM: what was up to date did not run; record a clean tree (--fresh, make clean), or say --warm if builds start from this one"
+WARM = ("WARM: what was up to date did not run; record a clean tree (make clean, or --fresh for ninja), or, if builds start from this one, "
+        "say race-record --warm: it judges this record again, and builds nothing")
 
 
 class Missing(Exception):
@@ -121,7 +124,8 @@ def parse(args: List[str]) -> argparse.Namespace:
     parser.add_argument("-o", "--output", default=".race", metavar="DIR", help="the folder of the record (.race)")
     parser.add_argument("--race", metavar="PROGRAM", help="the program race")
     parser.add_argument("--top", action="append", default=[], metavar="DIR", help="another folder that the build works in")
-    parser.add_argument("--warm", action="store_true", help="builds start from this tree, though some of what they make is there already")
+    parser.add_argument("--warm", action="store_true", help="builds start from this tree, though some of what they make is there already; "
+                        "without a command: the same of the record that is there")
     parser.add_argument("--fresh", action="store_true", help="record a clean copy in the place of the folder that ninja builds in")
     parser.add_argument("--keep-trace", action="store_true", help="keep the trace in the record")
     parser.add_argument("--footprints", action="store_true", help="keep a listing and footprints of each build, for race check --makefile")
@@ -130,7 +134,7 @@ def parse(args: List[str]) -> argparse.Namespace:
     found = parser.parse_args(args)
     if found.words[:1] == ["--"]:
         found.words = found.words[1:]
-    if not found.words:
+    if not found.words and not found.warm:
         parser.error("which command builds the project? (race-record -- make)")
     return found
 
@@ -229,6 +233,8 @@ def run(options: argparse.Namespace) -> int:
     out = Path(options.output).absolute()
     if not is_record(out):
         return stop("%s is there and is no record" % out)
+    if not options.words:
+        return judge_warm(out, race) if out.exists() else stop("there is no record in %s: which command builds the project? (race-record --warm -- make)" % out)
     if shutil.which(options.words[0]) is None:
         return stop("%s: no such command" % options.words[0])
     if out.exists():
@@ -242,8 +248,22 @@ def run(options: argparse.Namespace) -> int:
         ended = 2
         record.holes.append(WARM)
         rewrite(out, record)
+    return answer(out, race, ended, judged, options.missing)
+
+
+def judge_warm(out: Path, race: str) -> int:
+    """The verdict on a record that is there, about builds that start from its tree."""
+    record = read_json(out / "record.json")
+    if record.get("version") != VERSION:
+        return stop("%s is of another version of race-record: record again" % out)
+    accept_warm(out, record)
+    return answer(out, race, *judge_record(out, race), record.get("missing") is not None)
+
+
+def answer(out: Path, race: str, ended: int, judged: List[Judged], is_missing: bool) -> int:
+    """Prints what is known of a record; the status."""
     print("\n".join(report(read_json(out / "record.json"), judged)))
-    if not options.missing:
+    if not is_missing:
         return ended
     from record.missing_report import Question, missing_text
     question = Question.of(out, race)

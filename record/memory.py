@@ -32,7 +32,7 @@ def place_listings(builder: "Builder") -> None:
 def exported_lists(known: Macros) -> bool:
     """Whether make may look for names by `wildcard` for each recipe, to make the values of exported macros."""
     found = {name for name in known.texts if "wildcard" in known.text_of(name)}
-    return bool(found) and any(known.is_exported(name) for name in known.texts if name in found or found & known.reached_from(name))
+    return bool(found) and any(known.is_exported(name) for name in known.reaching(found))
 
 
 def own_folders(builder: "Builder", node: Node) -> Optional[Set[str]]:

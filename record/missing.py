@@ -37,8 +37,8 @@ def write_missing(out: Path, record: Record, builds: List[Build], names: Names, 
     laters, premises = Laters(spool), Assumptions()
     premises.add("later", "")
     premises.add("traces", "")
-    if record.warm:
-        premises.add("not-run", relative(record.folder, record.warm[0]), len(record.warm))
+    for name in record.warm + record.configured:
+        premises.add("not-run", relative(record.folder, name))
     holes: List[str] = []
     turned = Turned(builds, names, lives, str(out))
     judged = 0

@@ -31,6 +31,7 @@ JAVA_PARTS = re.compile(rb"""\"{3}(?:\\.|[^\\])*?\"{3}|\"(?:\\.|[^"\\\n])*\"|'(?
 LETTER = re.compile(rb"\\u+00([4-7][0-9a-fA-F])")  # a letter as Java may spell it
 SOURCES = (".ml", ".mli", ".mll", ".mly", ".java")
 KINDS = (*SOURCES, *LINKED, *MODULES)  # other files may hold words for the compiler (`-args`)
+BUILT_IN = re.compile(r"[cC]amlinternal\w*|[sS]tdlib|std_exit|lib(?:asm|caml)run\w*|(?:target_)?camlheader\w*")  # what OCaml looks for in any case
 GIVEN = ("-d", "-s", "-h")  # words before folders that must be there, for older versions
 OWN = ("module-info", "package-info")  # what Java looks for in any case
 LARGE = 1 << 24
@@ -192,9 +193,15 @@ def read_by(parts: List[Life], disk: Disk) -> List[str]:
     known = {id(part) for part in parts}
     own = {path for part in parts for kind, path in part.events if kind == "C" and disk.writers.get(path, known) <= known}
     links = {path for part in parts for kind, path in part.events if kind == "R" and os.path.islink(path)}
-    found = {path: place for part in parts for (kind, path), place in part.events.items() if kind == "R" and path not in own | links and not (OF_SYSTEM.match(path) or OF_COMPILER.match(path))}
+    found = {path: place for part in parts for (kind, path), place in part.events.items() if kind == "R" and path not in own | links and may_name(path)}
     is_same = all(disk.written.get(path, 0) <= place for path, place in found.items())
     return sorted(found) if is_same else [""]
+
+
+def may_name(path: str) -> bool:
+    """Whether a file may name a module of a project. So do OCaml's own: a module of the project that has the name of one in the standard
+    library hides that, whether or not a source names it, and what is compiled then says so."""
+    return not (OF_SYSTEM.match(path) or OF_COMPILER.match(path)) or path.endswith(COMPILED)
 
 
 def may_ask(life: Life, name: str, texts: List[str]) -> bool:
@@ -215,7 +222,7 @@ def asks_ocaml(life: Life, name: str, texts: List[str]) -> bool:
     module = stem[:1].upper() + stem[1:]
     spelled = {stem, module, stem[:1].lower() + stem[1:], *([stem[3:]] if stem.startswith(("lib", "dll")) else [])}
     words = life.argv[1:]
-    if name in map(os.path.basename, words):
+    if name in map(os.path.basename, words) or BUILT_IN.fullmatch(stem):
         return True
     program = program_of(life).replace(".opt", "")
     if suffix in LINKED and suffix not in MODULES:

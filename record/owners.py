@@ -105,6 +105,21 @@ class Make:
         return self.words.slots == "1" if self.words.slots else not (self.words.below or self.is_called or asks_jobs([], self.words.flags))
 
 
+def only_places(wanted: List[int], there: List[int]) -> Optional[List[int]]:
+    """The places at which numbers stand in a row in their order; nothing where they do not, or in more than one way."""
+    first, last = places_of(wanted, there), places_of(wanted[::-1], there[::-1])
+    return first if len(first) == len(wanted) and first == [len(there) - 1 - place for place in last[::-1]] else None
+
+
+def places_of(wanted: List[int], there: List[int]) -> List[int]:
+    """The first places at which they stand so; of some of them, if not all do."""
+    found: List[int] = []
+    for place, number in enumerate(there):
+        if len(found) < len(wanted) and number == wanted[len(found)]:
+            found.append(place)
+    return found
+
+
 def take_piece(work: Work, ran: Work, events: List[Tuple[str, str, int]]) -> None:
     """What make did by itself, and what it ran for that, belongs to a recipe."""
     work.lives += ran.lives
@@ -191,17 +206,14 @@ class Owners:
         return sorted(patterns(texts, make.words.values(), names)), sorted(listed(texts, make.words.values(), names))
 
     def match_jobs(self, make: Make) -> None:
-        """The k-th process of a number that make started is its k-th job of that number."""
-        kids: Dict[int, List[Life]] = {}
-        for life in make.life.children:
-            if life.pid in make.words.jobs:
-                kids.setdefault(life.pid, []).append(life)
-        for pid, jobs in make.words.jobs.items():
-            lives = kids.get(pid, [])
-            if len(lives) != len(jobs):
-                self.holes.append("a recipe that ran has no process: " + jobs[0].target if not lives else "a process number came again: %d" % pid)
-            for life, job in zip(lives, jobs):
-                self.jobs[id(life)] = job
+        """Make names the processes of its jobs in the order in which it starts them. Others that it starts may have had their numbers: in a
+        long build numbers come again."""
+        kids = sorted((life for life in make.life.children if life.pid in make.words.jobs), key=lambda life: life.born)
+        places = only_places([pid for pid, _ in make.words.processes], [life.pid for life in kids])
+        if places is None:
+            self.match_by_number(make, kids)
+        for place, (_, job) in zip(places or (), make.words.processes):
+            self.jobs[id(kids[place])] = job
         for life in make.life.children:
             job = self.jobs.get(id(life))
             if job is not None:
@@ -215,6 +227,15 @@ class Owners:
                 self.holes.append("the jobs of make are not in the order of the trace: make " + make.words.args)
         if SEVERAL + make.words.args not in make.words.holes and self.are_several(make):
             self.holes.append(SEVERAL + make.words.args)
+
+    def match_by_number(self, make: Make, kids: List[Life]) -> None:
+        """Where they do not fit, or in more than one way: the k-th process of a number is the k-th job of that number, and the record has a hole."""
+        for pid, jobs in make.words.jobs.items():
+            lives = [life for life in kids if life.pid == pid]
+            if len(lives) != len(jobs):
+                self.holes.append("a recipe that ran has no process: " + jobs[0].target if not lives else "a process number came again: %d" % pid)
+            for life, job in zip(lives, jobs):
+                self.jobs[id(life)] = job
 
     @staticmethod
     def are_several(make: Make) -> bool:

@@ -155,13 +155,15 @@ def report(record: Dict[str, Any], judged: List[Judged]) -> List[str]:
 
 
 def warm_text(record: Dict[str, Any], colour: Colours) -> List[str]:
-    """The first line where something that the build makes was there before."""
+    """The first lines where something that the build makes was there before."""
     warm = record.get("warm", {"count": 0})
     if not warm["count"]:
         return []
-    text = "%s that this build makes %s there before, such as %s: this is about builds from such a tree"
     was = "was" if warm["count"] == 1 else "were"
-    return [colour.bad + "WARM" + colour.end + "  " + text % (plural(warm["count"], "file"), was, os.path.relpath(warm["example"], record["folder"]))]
+    names = [os.path.relpath(name, record["folder"]) for name in warm.get("names", [warm["example"]])]
+    more = ["%d more" % (warm["count"] - len(names))] if warm["count"] > len(names) else []
+    first = "%sWARM%s  %s that this build makes %s there before: this is about builds from such a tree" % (colour.bad, colour.end, plural(warm["count"], "file"), was)
+    return [first] + textwrap.wrap(", ".join(names + more), 78, initial_indent="  ", subsequent_indent="  ", break_long_words=False, break_on_hyphens=False)
 
 
 def read_json(path: Path) -> Dict[str, Any]:

@@ -299,20 +299,20 @@ def shows_ages(argv: List[str]) -> bool:
 
 def asks_size(argv: List[str]) -> bool:
     """Whether a program shows how large a folder is: some file systems count its names."""
-    if base_name(argv) != "stat":
-        return False
     text = "".join(" " + word for word in argv[1:]) + " "
-    return not FORMAT_OF_STAT.search(text) or bool(re.search(r"%[-+ 0#'\d.]*[sbB]", text))
+    return base_name(argv) == "stat" and (not FORMAT_OF_STAT.search(text) or bool(re.search(r"%[-+ 0#'\d.]*[sbB]", text)))
 
 
 def asks_reads(argv: List[str], folder: str) -> bool:
     """Whether a program, or a script, may ask when a file was read last."""
-    if base_name(argv) not in SHELLS and base_name(argv) not in ("test", "[", "find", "stat", "ls"):
-        return False
-    text = " ".join(argv) + " "
-    if script_of(argv):
-        text += contents(os.path.join(folder, script_of(argv)))
-    return bool(READ_TIMES.search(text))
+    is_known = base_name(argv) in SHELLS or base_name(argv) in ("test", "[", "find", "stat", "ls")
+    return is_known and (bool(READ_TIMES.search(" ".join(argv) + " ")) or bool(script_of(argv)) and asks_reads_in(os.path.join(folder, script_of(argv))))
+
+
+@lru_cache(KEPT)
+def asks_reads_in(path: str) -> bool:
+    """Whether the text of a script may do so."""
+    return bool(READ_TIMES.search(contents(path)))
 
 
 @lru_cache(KEPT)

@@ -28,8 +28,8 @@ FLAGS = r"O_(?:WRONLY|RDWR|CREAT|TRUNC)"
 CHANGING = (
     r"\d+ +(?:open|openat2?)\(" + AT + r'"(?:(?:[^"\\]|\\.)*\.\.)?FOLDERS(?:[^"\\]|\\.)*", [^\n]*' + FLAGS + r"|\d+ +(?:open|openat2?)\([^\n]*" + FLAGS
     + r"[^\n]*= \d+<FOLDERS|\d+ +" + NAMES + r'[^\n]*(?:"(?:(?:[^"\\]|\\.)*\.\.)?|<)FOLDERS|\d+ +(?:chdir|fchdir)\([^\n]*(?:"(?:(?:[^"\\]|\\.)*\.\.)?|<)FOLDERS')
-# Texts of Python that do not come with it: python.py asks whether they list folders.
-MODULES = re.compile(rb"(?!.*/lib(?:32|64)?/python[\d.]*/(?!(?:site|dist)-packages/)).*\.pyc?$|.*/(?:site|dist)-packages/.*\.so$|.*\.(?:zip|egg|whl|pyz)$", re.S)
+# Texts of Python that do not come with it: python.py asks whether they list folders. Modules of OCaml: modules.py asks which names they hold.
+MODULES = re.compile(rb"(?!.*/lib(?:32|64)?/python[\d.]*/(?!(?:site|dist)-packages/)).*\.pyc?$|.*/(?:site|dist)-packages/.*\.so$|.*\.(?:zip|egg|whl|pyz|cm[iox])$", re.S)
 # What each line that changes something has: a look for these is quick, and few lines have one.
 MARKS = [re.compile(FLAGS.encode()), re.compile((r"\n\d+ +(?:" + NAMES + r"|f?chdir\()").encode())]
 
@@ -46,7 +46,7 @@ def has_change(lines: bytes, changes: "re.Pattern[bytes]") -> bool:
 
 
 class Skip:
-    """Looks at the system's folders by names of which no link leads to a top, and not at texts that a Python may take in."""
+    """Looks at the system's folders by names of which no link leads to a top, and not at modules that Python or OCaml may take in."""
 
     def __init__(self, looks: "re.Pattern[bytes]", changes: "re.Pattern[bytes]", tops: List[str]) -> None:
         self.looks, self.changes, self.tops = looks, changes, tops
@@ -54,7 +54,7 @@ class Skip:
         self.counting: Set[Optional[bytes]] = set()  # those of them that count
 
     def counts(self, spelling: bytes) -> bool:
-        """Whether a look by a name is read all the same: the name leads to a top, or a Python may take in what is there."""
+        """Whether a look by a name is read all the same: the name leads to a top, or Python or OCaml may take in what is there."""
         real = os.path.realpath(unescape(spelling.decode("latin-1")))
         return any((real + "/").startswith(top.rstrip("/") + "/") for top in self.tops) or bool(MODULES.match(spelling))
 

@@ -91,6 +91,7 @@ class Words:
     status: Optional[int] = None
     rounds: List[Round] = field(default_factory=list)
     jobs: Dict[int, List[Job]] = field(default_factory=dict)  # process number: its jobs, in order
+    processes: List[Tuple[int, Job]] = field(default_factory=list)  # of all jobs, in order: the number and the job
     read: List[List[str]] = field(default_factory=list)  # makefiles that each start read before it made anything
     included: List[str] = field(default_factory=list)  # makefiles that recipes include while make expands them
     holes: List[str] = field(default_factory=list)
@@ -137,10 +138,10 @@ class _Reader:
         if what == "Removing child":
             self.children.pop(pointer, None)
         if owner is not None:
-            known = self.words.jobs.setdefault(pid, [])
-            if not known or known[-1] is not owner:
-                known.append(owner)
+            if owner.pids[-1:] != [pid]:
                 owner.pids.append(pid)
+                self.words.jobs.setdefault(pid, []).append(owner)
+                self.words.processes.append((pid, owner))
             owner.is_ended = what == "Removing child"
 
     def considered(self, depth: int, name: str) -> None:

@@ -2,7 +2,7 @@
 
 from typing import List
 
-from guard_table import FALSE_RACE, UNSAID, YES, Guard
+from guard_table import FALSE_RACE, LOST_HOLE, LOST_RACE, UNSAID, YES, Guard
 
 
 def project(name: str) -> str:
@@ -30,7 +30,41 @@ def shells(name: str) -> str:
     return "test_shellvalues." + name
 
 
+def configured(name: str) -> str:
+    """A test of a project that `./configure` made ready."""
+    return "test_configured.Configured.test_" + name
+
+
+CONFIGURED_GUARDS: List[Guard] = [
+    Guard("configured: what it made", "configured.py", "return {path for status in self.statuses for path in status.made}", "return set()", configured("what_configure_made")),
+    Guard("configured: said", "importing.py", 'for kind, paths in (("configured", made), ("shipped", shipped)):', 'for kind, paths in (("shipped", shipped),):', configured("what_configure_made"), UNSAID),
+    Guard("shipped: said", "importing.py", 'for kind, paths in (("configured", made), ("shipped", shipped)):', 'for kind, paths in (("configured", made),):', configured("manual"), UNSAID),
+    Guard("configured: texts of autoconf", "configured.py", 'if text.split("\\n", 2)[1:2] != [WRITTEN] or not found:', "if not found:", configured("text_of_somebody_else"), LOST_HOLE),
+    Guard("configured: the makefile that is read", "configured.py", " and not read.isdisjoint(status.made)]", "]", configured("other_makefiles"), LOST_HOLE),
+    Guard("configured: names that it says", "configured.py", "status.made.add(made)", 'status.made.update((made, os.path.join(folder, "config.h")))', configured("header_that_it_does_not_make"), LOST_HOLE),
+    Guard("configured: names of commands", "configured.py", 'if kind != "commands" or name == "libtool":', "if True:", configured("commands_are_no_files"), LOST_HOLE),
+    Guard("configured: what the build changes", "configured.py", "and changed.isdisjoint(status.made) and", "and", configured("header_that_is_made_again"), LOST_HOLE),
+    Guard("configured: what was there before", "configured.py", 'for path, kind in names.before.items() if kind == "f" and os.path.basename(path) == STATUS]',
+          'for path, kind in {**names.before, **{os.path.join(make.folder, STATUS): "f" for make in makes}}.items() if kind == "f" and os.path.basename(path) == STATUS]',
+          configured("status_that_the_build_makes"), LOST_HOLE, ("configured.py", "and changed.isdisjoint(status.made) and", "and")),
+    Guard("shipped: what is newer", "configured.py", " and age(path) < oldest}", "}", configured("target_that_is_newer"), LOST_HOLE),
+    Guard("shipped: configured once", "configured.py", " or not all(status.is_first() for status in self.statuses):", ":", configured("project_that_was_built_before_with_the_same_header"), LOST_HOLE),
+    Guard("shipped: each header", "configured.py", "return bool(self.headers) and all(", "return bool(self.headers) and any(", configured("one_header_of_two_is_the_same"), LOST_HOLE),
+    Guard("shipped: some header", "configured.py", "return bool(self.headers) and all(", "return all(", configured("no_header"), LOST_HOLE),
+    Guard("shipped: recipes that ran", "configured.py", "there - self.other - self.changed - self.made()", "there - self.made()", configured("target_that_is_made_again"), LOST_HOLE),
+    Guard("shipped: what others write", "configured.py", "there - self.other - self.changed - self.made()", "there - self.other - self.made()", configured("target_that_another_recipe_writes"), LOST_HOLE),
+    Guard("shipped: links", "configured.py", "if name in done or os.path.islink(names.find(make.folder, spelled, False).path):", "if name in done:", configured("link"), LOST_HOLE),
+    Guard("shipped: second names", "configured.py", " and os.stat(path).st_nlink == 1", "", configured("link"), LOST_HOLE),
+]
+NUMBERS: List[Guard] = [
+    Guard("numbers: that come again", "owners.py", "return first if len(first) == len(wanted) and first == [len(there) - 1 - place for place in last[::-1]] else None", "return first if len(there) == len(wanted) == len(first) else None",
+          "test_owners.Holes.test_number_of_a_process_that_is_no_job"),
+    Guard("numbers: in one way alone", "owners.py", " and first == [len(there) - 1 - place for place in last[::-1]] else None", " else None", "test_owners.Holes.test_number_that_comes_again_between_two_jobs"),
+    Guard("numbers: all of them", "owners.py", "return first if len(first) == len(wanted) and", "return first if", "test_owners.Holes.test_processes_that_are_lost_between_two"),
+]
 PROJECT_GUARDS: List[Guard] = [
+    *NUMBERS,
+    *CONFIGURED_GUARDS,
     Guard("texts: macros that they set", "listed.py", " or patterns_in(life, where)", "", shells("Makefiles.test_rules_of_automake_for_info"), FALSE_RACE),
     Guard("texts: folders of patterns", "shellvalues.py", 'if not one.folder or not is_sure or fnmatchcase(where, "*/" + one.folder)', "if True", shells("Makefiles.test_rules_of_automake_for_info"), FALSE_RACE),
     Guard("texts: macros of the environment", "shellvalues.py", "        if not any(is_set(one, word) for one in settings):\n            return None\n", "", shells("Makefiles.test_loop_over_names_of_the_environment"), YES, ("shellvalues.py", "        if texts is None:\n            raise Unread\n", "")),
@@ -56,6 +90,9 @@ PROJECT_GUARDS: List[Guard] = [
     Guard("texts: folders at home", "shellvalues.py", 'field.startswith(("/", "~"))', 'field.startswith("/")', shells("Texts.test_folders_of_other_spellings")),
     Guard("texts: quoted signs", "shellvalues.py", "return [quoted(piece.text) if piece.quoted else piece.text]", "return [piece.text]", shells("Texts.test_known")),
     Guard("modules: names that were read", "modules.py", "        if may_ask(life, name, texts) or", "        if", compilers("Compilers.test_modules_of_ocaml")),
+    Guard("modules: the standard library", "modules.py", "return not (OF_SYSTEM.match(path) or OF_COMPILER.match(path)) or path.endswith(COMPILED)", "return not (OF_SYSTEM.match(path) or OF_COMPILER.match(path))", compilers("Compilers.test_modules_of_the_standard_library")),
+    Guard("modules: those of the system are read", "skips.py", "pyz|cm[iox])$", "pyz)$", "test_skips.Skips.test_modules_of_ocaml_are_read"),
+    Guard("modules: what each compiler looks for", "modules.py", " or BUILT_IN.fullmatch(stem)", "", compilers("Compilers.test_modules_that_every_compiler_looks_for")),
     Guard("modules: large letters", "modules.py", "    module = stem[:1].upper() + stem[1:]\n", "    module = stem\n", compilers("Compilers.test_modules_of_ocaml")),
     Guard("modules: words of the compiler", "modules.py", "return not linked.isdisjoint(spelled) or", "return", compilers("Compilers.test_modules_of_ocaml")),
     Guard("modules: files that are gone", "modules.py", "        if all(os.path.isfile(text) for text in texts) and", "        if", compilers("Compilers.test_texts_that_are_gone")),

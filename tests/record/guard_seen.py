@@ -97,7 +97,7 @@ SEEN_GUARDS: List[Guard] = [
     Guard("beside make: what is above it", "granted.py", "return any(top.born < place < top.died for place in places)", "return False", seen("script_beside_make"), UNSAID),
     Guard("beside make: not before it", "granted.py", "return any(top.born < place < top.died for place in places)", "return bool(places)", seen("script_before_make")),
     Guard("times of reading: said", "calls.py", "if shelltext.asks_reads(argv, life.folder):", "if False:", seen("times_of_reading"), UNSAID),
-    Guard("times of reading: by scripts", "shelltext.py", "text += contents(", "str(contents)[:0] + str(", seen("times_of_reading_by_a_script"), UNSAID),
+    Guard("times of reading: by scripts", "shelltext.py", " or bool(script_of(argv)) and asks_reads_in(", " or False and asks_reads_in(", seen("times_of_reading_by_a_script"), UNSAID),
     Guard("links: attributes of their own", "calls.py", '"removexattr", "lremovexattr", "fchmodat"', '"removexattr", "fchmodat"', trace("attributes_of_a_link")),
     Guard("programs by their numbers", "calls.py", ' or "".join(folders(call.args)[:1])', "", trace("a_program_by_its_number")),
     Guard("wrapper: words in one piece with a recipe's", "wrapper.py", "        if at > 0:\n", "        if False:\n", "test_wrapper.Splits.test_words_that_come_with_those_of_a_recipe"),

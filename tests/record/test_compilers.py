@@ -1,9 +1,11 @@
 """Compilers that list folders to find modules, Java's machines, and what libtool lists: what is left of their lists."""
 
+import re
 import tempfile
 import unittest
 from pathlib import Path
 from typing import Dict, List, Set, Tuple
+from unittest import mock
 
 import support  # noqa: F401
 from record.jvm import settle_machines
@@ -75,6 +77,19 @@ class Compilers(unittest.TestCase):
             Path(self.top, "c.cmi").write_bytes(text.encode("latin-1"))
             found = self.left("ocamlc -c a.ml", {"a.ml": ""}, [("L", ".\0*"), ("R", "a.ml"), ("R", "c.cmi")], ["./b.cmi"])
             self.assertEqual(is_asked, ("L", ".\0b.cmi") in found, text)
+
+    def test_modules_of_the_standard_library(self) -> None:
+        Path(self.top, "stdlib.cmi").write_bytes(b"\x24Bool")
+        Path(self.top, "stdlib.ml").write_bytes(b"module Bee = B")
+        events = [("L", ".\0*"), ("R", "a.ml"), ("R", "stdlib.cmi"), ("R", "stdlib.ml")]
+        with mock.patch("record.modules.OF_SYSTEM", re.compile(re.escape(self.top) + "/stdlib")):
+            found = self.left("ocamlc -c a.ml", {"a.ml": ""}, events, ["./bool.cmi", "./b.cmi", "./bool.cmo"])
+        self.assertEqual({("L", ".\0bool.cmi"), *events[1:]}, found)
+
+    def test_modules_that_every_compiler_looks_for(self) -> None:
+        for name in ("camlinternalLazy.cmi", "stdlib.cmi", "std_exit.cmo", "libasmrun.a"):
+            self.assertTrue(self.ocaml("", name), name)
+        self.assertFalse(self.ocaml("", "std.cmi"))
 
     def test_texts_that_are_gone(self) -> None:
         self.assertIn(("L", ".\0*"), self.left("ocamlc -c a.ml", {}, [("L", ".\0*"), ("R", "gone.ml")], ["./b.cmi"]))

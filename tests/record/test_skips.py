@@ -77,6 +77,10 @@ class Skips(unittest.TestCase):
                             ("/usr/lib/python3/dist-packages/x.so", 1), ("/usr/share/python-wheels/x.whl", 1), ("/usr/lib/python3.9/os.py", 0), ("/usr/lib/python3.9/lib-dynload/x.so", 0), ("/usr/lib/x.so", 0)):
             self.assertEqual(count, self.kept([self.LOOK.replace("/usr/lib/x.so", path), self.LOOK], ["/w"]), path)
 
+    def test_modules_of_ocaml_are_read(self) -> None:
+        for path, count in (("/usr/lib/ocaml/stdlib.cmi", 1), ("/usr/lib/ocaml/stdlib__Bool.cmx", 1), ("/usr/lib/ocaml/stdlib.cma", 0)):
+            self.assertEqual(count, self.kept([self.LOOK.replace("/usr/lib/x.so", path), self.LOOK], ["/w"]), path)
+
     def test_open_with_other_flags_is_read(self) -> None:
         self.assertEqual(1, self.kept([self.LOOK.replace("O_RDONLY", "O_RDONLY|O_DIRECT"), self.LOOK], ["/w"]))
 
