@@ -17,7 +17,7 @@ from pathlib import Path
 
 from confirm.races import CannotConfirm, Chosen
 from confirm.tree import copy, names_its_folder, remove
-from record.again import with_jobs
+from record.ninja.again import with_jobs
 from record.main import Missing, version_of
 
 HOLD = Path(__file__).resolve().parent / "hold.c"

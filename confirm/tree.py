@@ -11,10 +11,10 @@ from dataclasses import dataclass
 from pathlib import Path
 
 from confirm.races import CannotConfirm, written
-from record.again import OWN
-from record.ninja_manifest import Unreadable, read_manifest
-from record.ninja_log import text_of
-from record.ninja_runs import options_of
+from record.ninja.again import OWN
+from record.ninja.manifest import Unreadable, read_manifest
+from record.ninja.log import text_of
+from record.ninja.runs import options_of
 from report.model import BadRecord, read_json
 
 # Folders of version control: builds may refresh what is in them. Files of ninja: they hold times.

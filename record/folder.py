@@ -11,7 +11,7 @@ from record.tasks import labels_of, lines_of, relative, shown
 
 if TYPE_CHECKING:
     from record.assumptions import Assumptions
-    from record.graph import Build
+    from record.make.graph import Build
 
 NAMES = 12  # so many of the targets that were there before are named
 

@@ -5,10 +5,10 @@ import os
 from pathlib import Path
 from typing import Dict, Iterator, List, Set
 
-from record.build import CHANGES, Build
-from record.graph import Task
-from record.names import Names
+from record.make.build import CHANGES, Build
+from record.make.graph import Task
 from record.tasks import relative, shown
+from record.trace.names import Names
 
 
 def is_below(path: str, folder: str) -> bool:

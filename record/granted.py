@@ -5,14 +5,14 @@ import re
 from itertools import combinations
 from typing import Dict, Iterator, List, Optional, Tuple
 
-from record import shelltext
 from record.assumptions import Assumptions
-from record.lives import Life
-from record.names import Names
-from record.ninja_runs import Ninja
-from record.owners import Make, Owners, Work
+from record.make.owners import Make, Owners, Work
+from record.make.words import makefiles
+from record.ninja.runs import Ninja
+from record.tools import shelltext
+from record.trace.lives import Life
+from record.trace.names import Names
 from record.warm import is_beyond
-from record.words import makefiles
 
 FLAGS = re.compile(r"\bM(?:AKE)?FLAGS\b")
 ENVIRONMENT = re.compile(r"(^|[;&|(\n`]\s*)(printenv\b|env\s*($|[|>;&])|export\s+-p|set\s*($|[|>;&]))|\$\{?PATH\b|\b(which|command\s+-[vV]|type)\s+g?make\b")

@@ -12,32 +12,32 @@ from pathlib import Path
 from typing import List
 
 from record.assumptions import Assumptions
-from record.build import Builder
-from record.calls import Calls
 from record.configured import Configured, find_configured
-from record.exists import credit_makes, settle_exists
 from record.folder import Record, write_record
 from record.footprints import write_footprints
 from record.granted import add_granted, idle_targets
-from record.graph import Build
-from record.jvm import settle_machines
-from record.lives import Life
-from record.missing import write_missing
-from record.modules import settle_modules
-from record.names import Names
-from record.ninja_import import beside, import_ninjas
-from record.ninja_import import versions as ninja_versions
-from record.ninja_log import Kept
-from record.ninja_runs import Ninja
-from record.owners import Owners
-from record.past import Past, beginning
+from record.make.build import Builder
+from record.make.graph import Build
+from record.make.owners import Owners
+from record.make.unasked import unasked
+from record.make.words import read_logs
+from record.missing.inputs import write_missing
+from record.ninja.builds import beside, import_ninjas
+from record.ninja.builds import versions as ninja_versions
+from record.ninja.log import Kept
+from record.ninja.runs import Ninja
 from record.progress import watched
-from record.python import settle
-from record.skips import SYSTEM, unseen_changes
-from record.strace import read_trace
-from record.unasked import unasked
+from record.tools.exists import credit_makes, settle_exists
+from record.tools.jvm import settle_machines
+from record.tools.modules import settle_modules
+from record.tools.python import settle
+from record.trace.calls import Calls
+from record.trace.lives import Life
+from record.trace.names import Names
+from record.trace.past import Past, beginning
+from record.trace.skips import SYSTEM, unseen_changes
+from record.trace.strace import read_trace
 from record.warm import stand_alone, warm_names
-from record.words import read_logs
 
 
 def replay_trace(spool: Path, names: Names, real: str, folder: str, tops: List[str]) -> Calls:

@@ -18,15 +18,15 @@ from pathlib import Path
 from typing import Dict, List, Optional, Tuple
 
 from record import VERSION
-from record.again import JOBS, TRIES, by_name, hints, tops_of, undo, with_jobs
 from record.folder import Record, accept_warm, is_record, rewrite
-from record.fresh import CannotClean, cold_copy, fresh_folder
 from record.judge import find_race, judge
-from record.names import Names
-from record.ninja_log import Kept
+from record.make.wrapper import note_output
+from record.ninja.again import JOBS, TRIES, by_name, hints, tops_of, undo, with_jobs
+from record.ninja.fresh import CannotClean, cold_copy, fresh_folder
+from record.ninja.log import Kept
 from record.report import Judged, colours, read_json, report
-from record.skips import sift
-from record.wrapper import note_output
+from record.trace.names import Names
+from record.trace.skips import sift
 
 CALLS = ("%file,fchdir,getdents64,getdents,clone,clone3,fork,vfork,fchmod,fchown,ftruncate,fsetxattr,fremovexattr,connect,bind,flock,"
          "shmget,semget,msgget,mq_open,?add_key,?request_key,umask,unshare,ptrace,setns,open_by_handle_at,io_uring_setup,?fchown32,?ftruncate64")
@@ -38,7 +38,7 @@ EXAMPLE = """examples:
   race-record --warm                   after WARM, where what it names is part of each clean tree: judge again, without a build
 statuses: 0 safe, with --missing also nothing missing, 1 races or missing inputs,
           2 no verdict on one of the two, 3 usage or a tool that is missing"""
-WRAPPER = ("record.options", "record.wrapper")
+WRAPPER = ("record.make.options", "record.make.wrapper")
 PROGRAM = """#!%s -ISBXutf8
 import marshal, sys
 with open(%r, "rb") as file:
@@ -265,7 +265,7 @@ def answer(out: Path, race: str, ended: int, judged: List[Judged], is_missing: b
     print("\n".join(report(read_json(out / "record.json"), judged)))
     if not is_missing:
         return ended
-    from record.missing_report import Question, missing_text
+    from record.missing.report import Question, missing_text
     question = Question.of(out, race)
     print("\n" + "\n".join(missing_text(question, colours())))
     return 2 if 2 in (ended, question.status()) else max(ended, question.status())

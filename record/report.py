@@ -10,7 +10,7 @@ from pathlib import Path
 from typing import Any, Dict, List, Tuple
 
 from record.judge import Race, Verdict
-from record.ninja_fix import fix_text, pool_text
+from record.ninja.fix import fix_text, pool_text
 
 SHOWN_RACES = 30
 OWN_NAME = re.compile(r"(^|/)@(make|seen|gone|time|mode|links|age|macro|output)(/.*)?$")

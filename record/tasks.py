@@ -4,7 +4,7 @@ import json
 from typing import TYPE_CHECKING, Any, Dict, Iterator, List, Mapping, Sequence, Set, Tuple
 
 if TYPE_CHECKING:
-    from record.graph import Task
+    from record.make.graph import Task
 
 LABEL_LIMIT = 4096
 

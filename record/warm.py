@@ -4,10 +4,10 @@ import os
 import re
 from typing import Dict, Iterator, List, Set
 
-from record.graph import Build, Graph, Node, Task
-from record.looked import is_below
-from record.names import Names
-from record.ninja_runs import Ninja
+from record.make.graph import Build, Graph, Node, Task
+from record.missing.looked import is_below
+from record.ninja.runs import Ninja
+from record.trace.names import Names
 
 BUILDS = re.compile(r"make|ninja", re.I)  # a recipe that may run several others
 MAKES_FOLDER = re.compile(r"\s*[@+-]*\s*mkdir\s+(?:(?:-p|--parents)\s+)?(?:\$@|\$\(@\)|([^\s;&|<>`$*?\[]+?))/?\s*")

@@ -5,7 +5,7 @@ from __future__ import annotations
 from pathlib import Path
 
 from record.judge import judge as ask
-from record.missing_report import Question
+from record.missing.report import Question
 from report.model import Assumption, Report, read_build, read_json
 
 

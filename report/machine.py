@@ -6,8 +6,8 @@ import json
 from urllib.parse import quote
 
 from report import VERSION
-from record.missing import Found
-from record.missing_report import Judged, Question
+from record.missing.inputs import Found
+from record.missing.report import Judged, Question
 from report.kinds import KINDS
 from report.model import BadRecord, Race, Recipe, Report, Side
 from report.plain import summary

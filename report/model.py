@@ -10,8 +10,8 @@ from collections.abc import Iterator
 from dataclasses import dataclass, field
 from pathlib import Path
 
-from record.missing_report import Question
-from record.ninja_fix import fix_text
+from record.missing.report import Question
+from record.ninja.fix import fix_text
 from report.kinds import Kind, kind_of
 
 # What the recorder adds to a path that stands for something else than the file: its age, its folder, that it is gone.

@@ -6,7 +6,7 @@ from collections.abc import Iterator
 from html import escape
 from pathlib import PurePath
 
-from record.missing_report import missing_text
+from record.missing.report import missing_text
 from record.report import Colours
 from report.kinds import FORGOTTEN
 from report.model import Race, Report

@@ -5,7 +5,7 @@ from __future__ import annotations
 from collections.abc import Iterator
 from textwrap import wrap
 
-from record.missing_report import missing_text
+from record.missing.report import missing_text
 from record.report import Colours
 from report.model import Race, Report
 

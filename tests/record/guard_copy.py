@@ -24,7 +24,7 @@ COMPILED: Dict[bytes, CodeType] = {}
 
 def compile_all() -> None:
     """Compiles the recorder and its tests as they are, and lets `re` keep the patterns of the recorder."""
-    for path in [*(TOP / "record").glob("*.py"), *HERE.glob("*.py")]:
+    for path in [*(TOP / "record").rglob("*.py"), *HERE.glob("*.py")]:
         text = path.read_bytes()
         COMPILED[text] = compile(text, str(path), "exec", dont_inherit=True)
     import support  # noqa: F401  (with all modules of the recorder)

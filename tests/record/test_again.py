@@ -6,14 +6,14 @@ import unittest
 from typing import Dict
 
 import support
-from record.again import by_name, folders_of, source_of, tops_of, undo, with_jobs
-from record.lives import Life
-from record.names import Names
-from record.ninja_fix import fix_text, owner_of, pool_text
-from record.ninja_log import Missing, ends, new_outputs, read_missing
-from record.ninja_manifest import Manifest, read_manifest
-from record.ninja_log import Kept
-from record.ninja_runs import options_of
+from record.ninja.again import by_name, folders_of, source_of, tops_of, undo, with_jobs
+from record.ninja.fix import fix_text, owner_of, pool_text
+from record.ninja.log import Kept
+from record.ninja.log import Missing, ends, new_outputs, read_missing
+from record.ninja.manifest import Manifest, read_manifest
+from record.ninja.runs import options_of
+from record.trace.lives import Life
+from record.trace.names import Names
 
 HEAD = "# ninja log v5\n"
 

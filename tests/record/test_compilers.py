@@ -8,11 +8,11 @@ from typing import Dict, List, Set, Tuple
 from unittest import mock
 
 import support  # noqa: F401
-from record.jvm import settle_machines
-from record.listed import patterns
-from record.lives import Life
-from record.modules import contents, holds, is_compiler, settle_modules, without_comments
-from record.shelltext import Traits
+from record.tools.jvm import settle_machines
+from record.tools.listed import patterns
+from record.tools.modules import contents, holds, is_compiler, settle_modules, without_comments
+from record.tools.shelltext import Traits
+from record.trace.lives import Life
 from test_replay import TOP, events_of, lives_of, played
 
 Events = List[Tuple[str, str]]
@@ -82,7 +82,7 @@ class Compilers(unittest.TestCase):
         Path(self.top, "stdlib.cmi").write_bytes(b"\x24Bool")
         Path(self.top, "stdlib.ml").write_bytes(b"module Bee = B")
         events = [("L", ".\0*"), ("R", "a.ml"), ("R", "stdlib.cmi"), ("R", "stdlib.ml")]
-        with mock.patch("record.modules.OF_SYSTEM", re.compile(re.escape(self.top) + "/stdlib")):
+        with mock.patch("record.tools.modules.OF_SYSTEM", re.compile(re.escape(self.top) + "/stdlib")):
             found = self.left("ocamlc -c a.ml", {"a.ml": ""}, events, ["./bool.cmi", "./b.cmi", "./bool.cmo"])
         self.assertEqual({("L", ".\0bool.cmi"), *events[1:]}, found)
 

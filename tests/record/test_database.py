@@ -4,7 +4,7 @@ import unittest
 from typing import List
 
 import support  # noqa: F401
-from record.database import Base, Colons, read_base
+from record.make.database import Base, Colons, read_base
 
 TEXT = """# Make data base, printed on Monday
 # Implicit Rules

@@ -5,11 +5,11 @@ from typing import Dict, List, Mapping, Sequence, Tuple
 
 import support  # noqa: F401
 from record.assumptions import Assumptions
-from record.build import Build, Builder
-from record.lives import Life
-from record.names import Inode, Names
-from record.owners import Owners
-from record.words import read_words
+from record.make.build import Build, Builder
+from record.make.owners import Owners
+from record.make.words import read_words
+from record.trace.lives import Life
+from record.trace.names import Inode, Names
 
 TOP = "/w"
 Events = Sequence[Tuple[str, str]]

@@ -5,11 +5,11 @@ import unittest
 from typing import Callable, Dict, Tuple
 
 import support
-from record import searches, wrapper
-from record.considered import is_row
-from record.database import read_base
-from record.owners import Owners
-from record.words import Words
+from record.make import searches, wrapper
+from record.make.considered import is_row
+from record.make.database import read_base
+from record.make.owners import Owners
+from record.make.words import Words
 from test_owners import make_of, words_of
 from test_replay import events_of, lives_of, played
 from test_small import COMMANDS, Small, test_of

@@ -3,8 +3,8 @@
 import unittest
 
 import support  # noqa: F401
-from record.database import read_base
-from record.globs import patterns
+from record.make.database import read_base
+from record.make.globs import patterns
 
 
 class Globs(unittest.TestCase):

@@ -4,10 +4,10 @@ import unittest
 from typing import Dict, List, Set
 
 import support  # noqa: F401
-from record.graph import Graph, befores, order_tasks, Task, Node
-from record.lives import Life
-from record.owners import Make
-from record.words import read_words
+from record.make.graph import Graph, befores, order_tasks, Task, Node
+from record.make.owners import Make
+from record.make.words import read_words
+from record.trace.lives import Life
 
 
 def graph_of(considered: str, base: str, jobs: List[str]) -> Graph:

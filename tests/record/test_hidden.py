@@ -7,11 +7,11 @@ from typing import Dict
 
 import support
 from record.importing import replay_trace
-from record.names import Names
-from record.owners import Make
-from record.past import Past
-from record.skips import sift
-from record.words import Words
+from record.make.owners import Make
+from record.make.words import Words
+from record.trace.names import Names
+from record.trace.past import Past
+from record.trace.skips import sift
 from test_replay import TOP, events_of, lives_of, played
 from test_small import COMMANDS, Small, test_of
 

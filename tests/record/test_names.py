@@ -4,7 +4,7 @@ import os
 import unittest
 
 import support
-from record.names import Inode, Names, join
+from record.trace.names import Inode, Names, join
 
 
 class Paths(unittest.TestCase):

@@ -5,14 +5,14 @@ from typing import List, Sequence
 
 import support
 from record.assumptions import Assumptions
-from record.calls import Calls
-from record.lives import Act, Life
-from record.names import Names
-from record.ninja_build import NinjaBuilder
-from record.ninja_log import Kept
-from record.ninja_runs import Runs
-from record.owners import Owners
-from record.strace import read_trace
+from record.make.owners import Owners
+from record.ninja.build import NinjaBuilder
+from record.ninja.log import Kept
+from record.ninja.runs import Runs
+from record.trace.calls import Calls
+from record.trace.lives import Act, Life
+from record.trace.names import Names
+from record.trace.strace import read_trace
 
 MANIFEST = "rule r\n  command = $c\nbuild a: r\n  c = one\nbuild b: r\n  c = two\nbuild c: r\n  c = two\n"
 

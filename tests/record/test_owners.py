@@ -4,9 +4,9 @@ import unittest
 from typing import List, Optional, Tuple
 
 import support  # noqa: F401
-from record.lives import Life
-from record.owners import Owners
-from record.words import Words, read_words
+from record.make.owners import Owners
+from record.make.words import Words, read_words
+from record.trace.lives import Life
 
 BASE = ["# Make data base, printed on Monday", "# files hash-table stats:", "# Finished Make data base on Monday"]
 

@@ -6,7 +6,7 @@ import unittest
 from typing import Dict
 
 import support
-from record.makedirs import forms_of
+from record.tools.makedirs import forms_of
 from test_small import Small, test_of
 
 PAIR = "all: x y\nx: ; mkdir -p out; touch x\ny: ; %s; touch y\n"

@@ -6,8 +6,8 @@ import unittest
 from typing import Dict
 
 import support
-from record.lives import Life
-from record.python import is_of_python, lists_folders, own_sources, settle, settle_lists, sources_of
+from record.tools.python import is_of_python, lists_folders, own_sources, settle, settle_lists, sources_of
+from record.trace.lives import Life
 
 HELPER = {"t/lib.py": "def text():\n    return 'x'\n"}
 SCRIPT = "import sys, lib\nopen(sys.argv[1], 'w').write(lib.text())\n"

@@ -4,10 +4,10 @@ import unittest
 from typing import List, Set, Tuple
 
 import support  # noqa: F401
-from record.calls import Calls
-from record.lives import Life
-from record.names import Names
-from record.strace import read_trace
+from record.trace.calls import Calls
+from record.trace.lives import Life
+from record.trace.names import Names
+from record.trace.strace import read_trace
 
 TOP = "/no/such/project"
 SPOOL = "/no/such/spool"

@@ -4,7 +4,7 @@ import unittest
 from typing import Dict, Optional, Set
 
 import support
-from record.shellvalues import patterns_of
+from record.tools.shellvalues import patterns_of
 from test_small import Small, test_of
 
 KNOWN: Dict[str, str] = {

@@ -9,9 +9,9 @@ from typing import List
 
 import support  # noqa: F401
 from record.importing import replay_trace
-from record.names import Inode, Names
-from record.skips import PIECE, Skip, pieces, sift
-from record.strace import read_trace
+from record.trace.names import Inode, Names
+from record.trace.skips import PIECE, Skip, pieces, sift
+from record.trace.strace import read_trace
 
 
 class Skips(unittest.TestCase):

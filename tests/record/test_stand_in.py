@@ -11,7 +11,7 @@ from typing import List
 
 from support import STAND_IN, race_program
 
-from record.missing import knows_missing
+from record.missing.inputs import knows_missing
 
 LABELS = ["a", "b", "cc -c x.c", "d/e", "ä", "x\\", "lex.o", "t", "~"]
 PATHS = ["t", "u", "d/x", "d/y", "d/", "e/f/g", "e/", "../out", "w w"]

@@ -4,7 +4,7 @@ import unittest
 from typing import List
 
 import support  # noqa: F401
-from record.strace import Begun, Call, Ended, Event, Unread, folders, is_cut, read_trace, texts, unescape
+from record.trace.strace import Begun, Call, Ended, Event, Unread, folders, is_cut, read_trace, texts, unescape
 
 
 def events(*lines: str) -> List[Event]:

@@ -4,7 +4,7 @@ import unittest
 from typing import List
 
 import support  # noqa: F401
-from record.words import Words, read_words
+from record.make.words import Words, read_words
 
 HEAD = ["ARGS all", "FLAGS ", "BELOW 0", "Reading makefiles...", "Updating goal targets....", "Considering target file 'a'."]
 BASE = ["# Make data base, printed on Monday", "# Files", "a:", "", "# files hash-table stats:", "# Finished Make data base on Monday"]

@@ -6,7 +6,7 @@ import unittest
 from typing import Tuple
 
 import support  # noqa: F401
-from record import wrapper
+from record.make import wrapper
 
 MUST = b" Must remake target 'a'.\n"
 BEGIN = b"Putting child 0x5f (a) PID 7 on the chain.\n"

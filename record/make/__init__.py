@@ -1,0 +1,1 @@
+"""What make says and does: its words, its data base, the graph of one round, and its tasks."""

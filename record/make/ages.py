@@ -1,0 +1,125 @@
+"""Ages that are compared: where two tasks that nothing orders write two names, and somebody compares which is newer."""
+
+from itertools import combinations
+from typing import TYPE_CHECKING, Dict, Iterator, List, Set, Tuple
+
+from record.make.owners import Make, Work
+from record.tools import shelltext
+
+PACKERS = ("tar", "bsdtar", "cpio", "pax", "zip")
+
+if TYPE_CHECKING:
+    from record.make.build import Builder
+
+
+def add_ages(builder: "Builder") -> None:
+    """Adds a name of its own for each two ages whose order depends on the schedule."""
+    build = builder.build
+    note_sources(builder)
+    for label, at in list(builder.of_node.items()):
+        node = builder.graph.nodes[label]
+        if build.tasks[at].kind == "group":
+            continue
+        names = builder.looked_at(node, at)
+        for path in names[1:]:
+            compare(builder, at, names[0], path, node.name)
+        for who, work in works_of(builder, at):
+            inner_ages(builder, who, work)
+            ages_by_words(builder, who, work)
+
+
+def works_of(builder: "Builder", at: int) -> List[Tuple[int, Work]]:
+    """What a task ran, and what make itself ran for it, as by `$(shell ..)`, with the task that has that."""
+    task = builder.build.tasks[at]
+    acts = builder.acts_work(task.node) if builder.build.tool == "make" and task.kind == "recipe" else None
+    return [*((at, work) for work in task.works), *([(builder.look_of.get(task.label, at), acts)] if acts is not None else [])]
+
+
+def note_sources(builder: "Builder") -> None:
+    """Which names take over the age of which others: a file that is moved or linked, and one whose time a program sets, as `cp -p`
+    and `touch -r` do, from what it looked at. An archive keeps the ages of what was put in."""
+    for at in range(len(builder.build.tasks)):
+        for life in (life for _, work in works_of(builder, at) for life in work.lives):
+            looked = {path for kind, path in life.events if kind in "RS" and (path in builder.build.writers or path in builder.timers)}
+            packs = any(shelltext.base_name(argv) in PACKERS for argv in life.ran)
+            for kind, path in life.events:
+                name, _, source = path.partition("\0")
+                if kind == "c" or kind == "W" and packs:
+                    builder.sources.setdefault(name, []).append({source} if source else looked)
+
+
+def writers_of(builder: "Builder", path: str) -> Set[int]:
+    """Who settles the age of a name: for a folder whoever changes what is in it, for a copy with its age also who made what was copied."""
+    if path not in builder.aged:
+        seen, todo, found = {path}, [path], set()
+        while todo:
+            name = todo.pop()
+            found |= builder.build.writers.get(name, set()) | builder.timers.get(name, set())
+            new = set().union(*builder.sources.get(name, ())) - seen
+            seen |= new
+            todo.extend(new)
+        builder.aged[path] = found
+    return builder.aged[path]
+
+
+def compare(builder: "Builder", at: int, first: str, second: str, own: str = "") -> None:
+    """A task compares the ages of two names; what the rules of its own target write to the first make does not see."""
+    build = builder.build
+    one, two = writers_of(builder, first), writers_of(builder, second)
+    one = {a for a in one if not own or build.tasks[a].node.name != own}
+    if not one or not two or first == second:
+        return
+    for a in one:
+        for b in two:
+            if at not in (a, b) and build.unordered(a, b):
+                settle(builder, first, second, *sorted((a, b)))
+
+
+def settle(builder: "Builder", first: str, second: str, low: int, high: int) -> None:
+    """Two tasks settle which of two names is newer."""
+    name = "%s/@age/%d/%d" % (first, low, high)
+    builder.build.tasks[low].writes.add(name)
+    builder.build.tasks[high].writes.add(name)
+    builder.build.meanings[name] = "which of %s and %s is newer" % (first, second)
+
+
+def inner_ages(builder: "Builder", at: int, work: Work) -> None:
+    """The makes and ninjas of a recipe compare targets with their prerequisites."""
+    for ninja in work.ninjas:
+        for target, asked in ninja.compared():
+            first, second = (builder.names.find(ninja.folder, name, True).path for name in (target, asked))
+            compare(builder, at, first, second)
+    for make in work.makes:
+        for one in make.words.rounds:
+            paths = {n: inner_path(builder, make, one.vpath.get(n, n)) for n in one.nodes}
+            for name, node in one.nodes.items():
+                if paths[name] in builder.build.writers:
+                    for prerequisite in node.prerequisites:
+                        compare(builder, at, paths[name], paths[prerequisite])
+
+
+def inner_path(builder: "Builder", make: Make, name: str) -> str:
+    """The real path of a target of an inner make."""
+    return builder.names.find(make.folder, name, True).path
+
+
+def settled_by(builder: "Builder", at: int, work: Work, kind: str) -> Iterator[Tuple[int, int, str, str]]:
+    """Pairs of tasks that nothing orders and that settle the ages of two names which a recipe has looked at, with these names."""
+    writers, build = builder.build.writers, builder.build
+    wrote: Dict[int, List[str]] = {}
+    for path in sorted({p for k, p in work.events if k == kind and (p in writers or p in builder.timers or p in builder.sources)}):
+        for writer in writers_of(builder, path):
+            wrote.setdefault(writer, []).append(path)
+    for low, high in combinations(sorted(wrote), 2):
+        first, second = wrote[low][0], next((p for p in wrote[high] if p != wrote[low][0]), wrote[low][-1])
+        if first != second and at not in (low, high) and build.unordered(low, high):
+            yield low, high, first, second
+
+
+def ages_by_words(builder: "Builder", at: int, work: Work) -> None:
+    """Programs that compare ages: those of all names that they looked at, by who writes them. Of other programs nobody knows."""
+    for low, high, first, second in settled_by(builder, at, work, "A"):
+        settle(builder, first, second, low, high)
+    unknown = next(settled_by(builder, at, work, "a"), None)
+    if unknown is not None:
+        builder.assumed.add("ages", "%s looks at %s and %s" % (builder.build.tasks[at].node.name, unknown[2], unknown[3]))

@@ -1,0 +1,51 @@
+"""What make itself calls: processes of `$(shell ..)`, and what these and those who call a make decide before recipes run."""
+
+import os
+import re
+from pathlib import Path
+from typing import TYPE_CHECKING, Dict, Iterator, List, Sequence, Set
+
+from record.make.graph import Build
+from record.make.owners import Make
+from record.make.words import makefiles
+from record.missing.anew import hands_all
+from record.trace.lives import Life
+
+if TYPE_CHECKING:
+    from record.missing.turned import Turned
+
+MACRO = re.compile(r"^[^#\n]*=|^ *define\b|^\t", re.M)  # or a recipe: makefiles that compilers write have neither
+TARGETS = re.compile(r"^([^\s#:][^#:\n]*):", re.M)
+
+
+def called_by(make: Make) -> Iterator[Life]:
+    """The processes that make itself calls, as with `$(shell ..)`, and all below them."""
+    own = {id(life) for work in make.work.values() for life in work.lives}
+    todo = [life for life in make.life.children if id(life) not in own]
+    while todo:
+        life = todo.pop()
+        yield life
+        todo.extend(life.children)
+
+
+def called(builds: Sequence[Build], turned: "Turned") -> Set[str]:
+    """What decides on macros before recipes run: what makefiles read with `$(shell ..)` and `$(file ..)`, what is read by who calls a
+    make, and makefiles that the build makes."""
+    found = turned.settling()
+    for build in {id(one.make): one for one in builds if one.tool == "make"}.values():
+        make = build.make
+        names = {turned.names.find(build.folder, name, True).path for name in makefiles(make.words)}
+        first = min((life.born for work in make.work.values() for life in work.lives), default=1 << 60)
+        for life in called_by(make):
+            if life.born < first:
+                found.update(path for kind, path in life.events if kind == "R" and turned.is_file(path))
+        found.update(act.path for act in make.life.acts if act.kind == "R" and act.place < first and act.path not in names and turned.is_file(act.path))
+        found.update(path for path in names if turned.is_made(path) and settles(path, build))
+    return {path for path in found if path in turned.names.before or os.path.lexists(path)}
+
+
+def settles(path: str, build: Build) -> bool:
+    """Whether a makefile says more than dependencies: it sets macros, or names what a recipe is handed."""
+    text = Path(path).read_text(errors="replace") if os.path.isfile(path) else ""
+    recipes: Dict[str, List[str]] = build.graph.base.recipes
+    return bool(MACRO.search(text)) or any(hands_all(recipes.get(name, [])) for line in TARGETS.findall(text) for name in line.split())

@@ -1,0 +1,168 @@
+"""What make asks of the disk when it first considers a target: the names by which it searches for an implicit rule, those in folders of
+search paths, and what a second expansion of prerequisites reads.
+
+With several jobs it asks while recipes run that it considered before, though the serial build had run these first.
+"""
+
+import os
+from fnmatch import fnmatchcase
+from functools import cached_property
+from typing import TYPE_CHECKING, Dict, Iterator, List, Set, Tuple
+
+from record.make.database import Base
+from record.make.globs import MAGIC
+from record.make.graph import Node
+from record.make.searches import DEPTH, Searches, stems
+from record.make.words import Words
+from record.tools.shelltext import loose
+from record.trace.names import join
+
+if TYPE_CHECKING:
+    from record.make.build import Builder
+
+LATER = (4, 4)  # from this version on, make expands all prerequisites a second time when it considers their target, and knows rows of some targets
+
+
+def is_deep(base: Base, node: Node) -> bool:
+    """Whether a search went by way of other files: it found no rule, or one of those."""
+    return not node.has_recipe or not base.intermediate.isdisjoint(node.prerequisites)
+
+
+class Considered:
+    """What make asks for, target by target; only names that recipes write count."""
+
+    def __init__(self, builder: "Builder") -> None:
+        self.builder, self.base = builder, builder.graph.base
+        self.writers, self.late = builder.build.writers, builder.graph.late()
+        nodes = builder.graph.nodes.values()
+        self.looks = builder.make.first_looks.get(builder.graph.round.start, {})
+        self.first = {node.name: node.first for node in nodes if node.rule == 0}
+        self.expanding = [node for node in nodes if node.rule == 0 and self.is_expanded(node)]
+        self.searches, self.last_parts = Searches(self.base), {os.path.basename(path) for path in self.writers}
+        self.named = {name for one in (".INTERMEDIATE", ".SECONDARY") for name in self.base.prerequisites.get(one, ())}
+
+    def asked(self, node: Node) -> Set[str]:
+        """The names that some recipe writes, and that make asks for when it first considers a target."""
+        if node.rule or node.phony and node.name not in self.base.implicit or not self.writers:
+            return set()
+        names = self.searched_names(node)
+        found = {path for path in self.searched(names) if self.is_open(path)}
+        there = {path for name in {node.name, *names} for path in self.elsewhere(node, name)}
+        found |= {path for path in there if self.builder.before.get(path) or self.is_open(path)}  # what it finds in a search path it looks at
+        found |= self.expanded(node)
+        return {path for path in found if self.writers.get(path, set()) - self.own(node)}
+
+    def own(self, node: Node) -> Set[int]:
+        """Tasks that surely come after the look: the recipe of the target, and where the look may come late all that it waits for."""
+        builder = self.builder
+        labels = builder.graph.reached_from([node.label]) if node.label in self.late else {node.label}
+        return {at for label in labels for at in (builder.of_node.get(label, -1), builder.look_of.get(label, -1))}
+
+    def is_open(self, path: str) -> bool:
+        """Whether the folder of a name was first listed when a recipe had begun: else each schedule sees what was there before."""
+        if path not in self.writers:
+            return False
+        if self.builder.listed.get(os.path.dirname(path), (0, 1 << 60))[1] >= self.builder.first_birth():
+            return True
+        self.builder.assumed.add("search", path)
+        return False
+
+    # ---------------------------------------------------------------- implicit rules
+    def searched_names(self, node: Node) -> Set[str]:
+        """The names that the search for an implicit rule looks for: by way of other files only where it found no rule, or one of those. The
+        search for such a file was a part of that for its user."""
+        if node.name not in self.base.implicit or node.name in self.base.intermediate and node.name not in self.named:
+            return set()
+        found = self.searches.names(node.name, DEPTH if is_deep(self.base, node) else 1)
+        written = (name for name in found if os.path.basename(name) in self.last_parts or MAGIC.search(name))
+        return {name for name in written if not self.is_mentioned(name, node)}
+
+    def searched(self, names: Set[str]) -> Iterator[str]:
+        """The paths of names, and all that fit a pattern."""
+        for name in names:
+            if MAGIC.search(name):
+                pattern = os.path.normpath(join(self.builder.make.folder, loose(name)))
+                yield from (path for path in self.changed if fnmatchcase(path, pattern))
+            else:
+                yield self.path(name)
+
+    def is_mentioned(self, name: str, node: Node) -> bool:
+        """Whether make takes a name for a file without a look: makefiles have a rule for it, or it has considered it before."""
+        base = self.base
+        has_rule = name in base.prerequisites and (name not in base.implicit or bool(base.prerequisites[name]) and name not in base.recipes)
+        return has_rule or self.first.get(name, node.first) < node.first
+
+    @cached_property
+    def changed(self) -> Set[str]:
+        """The names that recipes create or remove."""
+        return {join(folder, name) for folder, names in self.builder.created().items() for name in names}
+
+    # ---------------------------------------------------------------- search paths
+    def path(self, name: str) -> str:
+        """Where a name leads now."""
+        return self.builder.names.find(self.builder.make.folder, name, True).path
+
+    def elsewhere(self, node: Node, name: str) -> List[str]:
+        """The paths of a name in the folders of search paths, where it is not there by itself."""
+        if name.startswith("/") or not self.base.search or node.phony or os.path.basename(name) not in self.last_parts:
+            return []
+        own = self.path(name)
+        if self.builder.before.get(own) and own not in self.writers:
+            return []
+        folders = [folder for pattern, folders in self.base.search if pattern == name or any(stems_of(pattern, name)) for folder in folders]
+        return [path for path in (self.path(os.path.join(folder, name)) for folder in folders) if path != own]
+
+    # ---------------------------------------------------------------- second expansions
+    def is_expanded(self, node: Node) -> bool:
+        """Whether make may expand prerequisites of a target a second time when it considers it."""
+        base = self.base
+        if ".SECONDEXPANSION" not in base.prerequisites:
+            return False
+        if version(self.builder.make.words.version) >= LATER:
+            return True
+        fits = (any(stems(target, node.name)) for targets, asked in base.patterns if "$" in " ".join(asked) for target in targets)
+        return node.name in base.implicit and any(fits)
+
+    @cached_property
+    def pieces(self) -> Dict[str, List[Tuple[str, str]]]:
+        """By target: what make did by itself while it considered it, or soon after."""
+        make, looks, found = self.builder.make, self.looks, {}
+        for place, events in make.pieces if self.expanding else ():
+            if place > self.builder.first_birth():
+                known = [(looks.get(node.name, 0), node) for node in self.expanding if self.end(node) > place]
+                since = max((look for look, _ in known if look <= place), default=-1)
+                for node in (node for look, node in known if look == since):
+                    found.setdefault(node.name, []).extend((kind, path) for kind, path, _ in events)
+        return found
+
+    def end(self, node: Node) -> int:
+        """When make surely had all prerequisites of a target: it looks at them, or starts its recipe."""
+        looks, works = self.looks, [self.builder.make.work[id(job)] for job in node.jobs if id(job) in self.builder.make.work]
+        after = [looks[one] for one in node.prerequisites if looks.get(one, 0) > looks.get(node.name, 0)]
+        return min([*after, *(life.born for work in works for life in work.lives)], default=1 << 60)
+
+    def expanded(self, node: Node) -> Set[str]:
+        """The paths that a second expansion of its prerequisites reads or lists."""
+        found: Set[str] = set()
+        for kind, path in self.pieces.get(node.name, ()):
+            if kind in "RSNPK":
+                found.add(path)
+            elif kind in "LQ":
+                folder, _, pattern = path.partition("\0")
+                found |= {one for one in self.changed if os.path.dirname(one) == folder and fnmatchcase(os.path.basename(one), pattern or "*")}
+        return {path for path in found if path in self.writers}
+
+
+def stems_of(pattern: str, name: str) -> Iterator[Tuple[str, str]]:
+    """The same of a pattern of `vpath`, which is about whole names; `%` alone fits all."""
+    return stems("/" + pattern, "/" + name) if pattern != "%" else iter([(name, "")])
+
+
+def is_row(base: Base, words: Words) -> bool:
+    """Whether a makefile says that its recipes run one at a time: from a version on `.NOTPARALLEL` with names is about these alone."""
+    return base.serial and (version(words.version) < LATER or not base.prerequisites.get(".NOTPARALLEL"))
+
+
+def version(text: str) -> Tuple[int, ...]:
+    """The numbers of a version."""
+    return tuple(int(part) for part in text.split(".") if part.isdigit())

@@ -1,0 +1,382 @@
+"""Folders that recipes make for themselves, and what is known of folders besides their names: times, modes, links.
+
+Quiet makers, which do not show who was first, do not conflict; each user needs one maker before it. A strict maker, a look at a
+folder that is not there yet, and a removal conflict with all that nothing orders.
+"""
+
+import fnmatch
+import os
+import re
+from dataclasses import dataclass, field
+from functools import lru_cache
+from typing import TYPE_CHECKING, Dict, FrozenSet, List, NamedTuple, Set, Tuple
+
+from record.make.owners import Work
+from record.tools import shelltext
+from record.trace.lives import Life
+
+if TYPE_CHECKING:
+    from record.make.build import Builder
+
+
+Events = List[Tuple[int, List[Tuple[str, str, int]]]]
+NO_BITS: FrozenSet[int] = frozenset()  # of a task without processes
+SEARCH = 0o100  # without this bit of a folder nobody but root finds what is in it
+dirname = lru_cache(1 << 14)(os.path.dirname)  # recipes have most of their paths in common
+
+
+@dataclass
+class Folder:
+    """What tasks did to one folder that some of them made or removed."""
+
+    strict: Set[int] = field(default_factory=set)
+    quiet: Set[int] = field(default_factory=set)
+    gone: Set[int] = field(default_factory=set)
+    tried: Set[int] = field(default_factory=set)
+    looks: Dict[int, int] = field(default_factory=dict)  # task: its first look at the folder by its own name
+    absent: Set[int] = field(default_factory=set)
+    users: Set[int] = field(default_factory=set)
+    first_used: Dict[int, int] = field(default_factory=dict)  # task: when it first used a name below, other than one that is there
+    first_asked: Dict[int, int] = field(default_factory=dict)  # task: when it first made the folder, or asked for it
+    scripts: Set[int] = field(default_factory=set)  # tasks with a script that makes it where it is not there
+    first_made: Dict[int, int] = field(default_factory=dict)
+    created: Set[int] = field(default_factory=set)
+    modes: Dict[str, Set[int]] = field(default_factory=dict)  # by mode: tasks that make it so
+
+
+class Makers(NamedTuple):
+    """Who makes a folder, and who removes it."""
+
+    made: Set[int]
+    gone: Set[int]
+
+
+def excused(builder: "Builder", at: int, folder: str) -> bool:
+    """Whether a recipe makes a folder in a quiet form, which does not show who was first."""
+    lives = [life for work in builder.build.tasks[at].works for life in work.lives]
+    if is_ignored(builder, at, folder):
+        return True
+    return any(shelltext.is_excused(argv, folder) and not keeps_errors(life, argv) for life in lives for argv in life.ran) and all(is_of_form(life, folder) for life in lives)
+
+
+def is_of_form(life: Life, folder: str) -> bool:
+    """Whether a process does not make a folder, or a shell starts it whose text makes that in a quiet form."""
+    if not life.events.keys() & {("M", folder), ("E", folder)}:
+        return True
+    starter = next((up for up in life.up() if up is not life and up.ran), life)
+    return any(shelltext.is_excused(argv, folder) for argv in starter.ran)
+
+
+def is_ignored(builder: "Builder", at: int, folder: str) -> bool:
+    """Whether it is `-mkdir d` that makes a folder in a recipe: make itself runs it, and goes on where the folder is there."""
+    task = builder.build.tasks[at]
+    if builder.build.tool != "make" or task.kind != "recipe":
+        return False
+    makers = [life for work in task.works for life in work.lives if life.events.keys() & {("M", folder), ("E", folder)}]
+    heeded = [line for line in builder.graph.base.recipes.get(task.node.name, []) if not re.match(r"\s*[@+]*-", line)]
+    return bool(makers) and all(is_plain_mkdir(life) for life in makers) and not any(re.match(r"\s*[@+]*\s*(\S*mkdir|\$)", line) for line in heeded)
+
+
+def is_plain_mkdir(life: Life) -> bool:
+    """Whether make itself runs `mkdir` with no option."""
+    above = next((up for up in life.up() if up is not life), None)
+    return above is not None and above.is_make and [shelltext.base_name(argv) for argv in life.ran] == ["mkdir"] and not any(w.startswith("-") for w in life.argv[1:])
+
+
+def keeps_errors(life: Life, own: List[str]) -> bool:
+    """Whether who started a shell may keep its errors: another text of the recipe, or a program that is no shell."""
+    for up in life.up():
+        if up.is_make or up.is_ninja:
+            return False
+        ran = up.ran[:up.ran.index(own)] if up is life else up.ran
+        if not all(shelltext.hands_on(argv) for argv in ran):
+            return True
+    return False
+
+
+def parents(path: str) -> List[str]:
+    """The folders above a path."""
+    found = []
+    while path not in ("/", ""):
+        path = os.path.dirname(path)
+        found.append(path)
+    return found
+
+
+def parents_of_all(paths: Dict[str, int]) -> Dict[str, int]:
+    """The folders above some paths, with the first place of what is below."""
+    found: Dict[str, int] = {}
+    for path, place in sorted(paths.items(), key=lambda one: one[1]):
+        while path not in ("/", ""):
+            path = dirname(path)
+            if path in found:
+                break
+            found[path] = place
+    return found
+
+
+def gather(builder: "Builder") -> Dict[str, Folder]:
+    """All folders that recipes make or remove, with who uses them."""
+    table = {p: Folder() for p in builder.made | builder.tried}
+    renamed, never, more = {p for p in builder.build.writers if p in builder.made}, 1 << 60, ""
+    for at, events in each(builder) if table else ():
+        touched: Dict[str, int] = {}
+        for kind, path, place in events:
+            if "\0" in path:
+                path, _, more = path.partition("\0")
+            folder = table.get(path)
+            if folder is not None and kind == "o":
+                folder.modes.setdefault(more, set()).add(at)
+            elif folder is not None and not path.endswith("/"):
+                note(folder, at, kind, place)
+            if kind in "RSWCDMTEXUL" and not path.endswith("/"):
+                touched[path] = min(never if kind in "RS" else place, touched.get(path, never))
+        for above, place in parents_of_all(touched).items():
+            if above in table:
+                table[above].users.add(at)
+                table[above].first_used[at] = min(place, table[above].first_used.get(at, never))
+    for path in renamed:
+        table[path].created |= set()
+    return table
+
+
+def each(builder: "Builder") -> Events:
+    """Tasks with their events, put together once."""
+    if builder.events_of_all is None:
+        builder.events_of_all = put_together(builder)
+    return builder.events_of_all
+
+
+def put_together(builder: "Builder") -> Events:
+    """Tasks with their events, acts of make with the task that has them. A decision asks only for a name (`s`): where that is
+    not there it makes no difference whether its folder is."""
+    found = []
+    for at, task in enumerate(builder.build.tasks):
+        if task.kind == "recipe":
+            found.append((at, [(k, p, s) for w in task.works for (k, p), s in w.events.items()]))
+            acts = builder.acts_work(task.node) if builder.build.tool == "make" else None
+            if acts is not None:
+                looker = builder.look_of.get(task.label, at)
+                found.append((looker, [(k, p, s) for (k, p), s in acts.events.items()]))
+        elif task.kind in ("decision", "look"):
+            own = builder.of_node.get(task.node.label, at)
+            found.append((at, [("s", p, 1 << 60) for p in builder.looked_at(task.node, own)]))
+    return found
+
+
+def note(folder: Folder, at: int, kind: str, place: int) -> None:
+    """One event on the folder's own name."""
+    if kind in "ME":
+        folder.strict.add(at)
+    elif kind == "T":
+        folder.quiet.add(at)
+    elif kind in "XD":
+        folder.gone.add(at)
+    elif kind == "x":
+        folder.tried.add(at)
+    elif kind in "SsRULW":
+        folder.users.add(at)
+    elif kind == "N":
+        folder.absent.add(at)
+    elif kind == "K":
+        folder.scripts.add(at)
+    if kind in "MT":
+        folder.created.add(at)
+    if kind in "MTE":
+        folder.first_made[at] = min(place, folder.first_made.get(at, place))
+    if kind in "SsN":
+        folder.looks[at] = min(place, folder.looks.get(at, place))
+    if kind in "MTEKSsN":
+        folder.first_asked[at] = min(place, folder.first_asked.get(at, place))
+
+
+def add_folders(builder: "Builder") -> None:
+    """Adds what folders ask for to the tasks."""
+    table = gather(builder)
+    makers = {path: Makers(folder.strict | folder.quiet, {*folder.gone}) for path, folder in table.items()}
+    for path, folder in table.items():
+        add_folder(builder, path, folder)
+    add_listed(builder, makers)
+    add_times(builder)
+    add_modes(builder)
+
+
+def add_folder(builder: "Builder", path: str, folder: Folder) -> None:
+    tasks = builder.build.tasks
+    if folder.created:
+        for at in folder.users | folder.absent | folder.scripts:
+            if at not in folder.strict | folder.quiet and (at in folder.scripts or excused(builder, at, path)):
+                folder.quiet.add(at)
+                folder.first_made[at] = -1
+    for at in [at for at in folder.users | folder.absent if makes_itself(builder, at, path)]:
+        folder.quiet.add(at)
+        folder.first_made[at] = -1
+    for at in list(folder.strict):
+        if excused(builder, at, path):
+            folder.strict.discard(at)
+            folder.quiet.add(at)
+            folder.looks.pop(at, None)
+    makers = folder.strict | folder.quiet
+    existed = builder.before.get(path) == "d"
+    if existed and not folder.gone:
+        makers = set()
+    part_modes(builder, path, folder, makers)
+    for at in folder.strict & makers:
+        mark(builder, path + "/@make", "who makes the folder %s first" % path, makers - {at}, {at})
+    for at in (folder.users | folder.absent) - makers:
+        if at in folder.absent or not any(builder.build.is_before(m, at) for m in makers):
+            seen(builder, path, at, makers)
+    for at in makers:
+        if shows_first(builder, path, folder, at, makers):
+            seen(builder, path, at, makers - {at})
+    everyone = makers | folder.users | folder.absent | folder.scripts | set(folder.looks) | folder.tried
+    for at in folder.gone:
+        mark(builder, path + "/@gone", "that the folder %s is there" % path, everyone - {at}, {at})
+    for at in folder.gone | folder.tried:
+        for who, events in each(builder):
+            if who != at:
+                for kind, name, _ in events:
+                    if kind in "CD" and os.path.dirname(name.rstrip("/")) == path:
+                        mark(builder, name.rstrip("/"), "", {at}, {who})
+
+
+def part_modes(builder: "Builder", path: str, folder: Folder, makers: Set[int]) -> None:
+    """Tasks that make a folder with other modes, or would do so where it is not there."""
+    name, meaning = path + "/@mode", "the mode of the folder " + path
+    for some in folder.modes.values() if makers else ():
+        for at in some:
+            apart(builder, name, meaning, at, set().union(*folder.modes.values()) - some)
+    found = makers.difference(*folder.modes.values())  # these would have made it by their own bits
+    own = {at: masks(builder, at, path) for at in (makers if found else ())}
+    others = {bits: {at for at in own if bits and own[at] not in (NO_BITS, bits)} for bits in set(own.values())}
+    for at in found:
+        apart(builder, name, meaning, at, others[own[at]])
+
+
+def masks(builder: "Builder", at: int, path: str) -> FrozenSet[int]:
+    """The bits without which the processes of a task make names: those that make a folder, else those that ask for it, else all."""
+    lives = [life for work in builder.build.tasks[at].works for life in work.lives]
+    makers, lookers = ([life for life in lives if any((kind, path) in life.events for kind in kinds)] for kinds in ("KMTE", "SN"))
+    return frozenset(bits(life) for life in makers or lookers or lives)
+
+
+def bits(life: Life) -> int:
+    """The bits without which a process makes names; programs such as `install` take no bits away, and set the mode themselves."""
+    is_own = shelltext.base_name(life.argv) in shelltext.SHELLS or shelltext.is_interpreter(life.argv)
+    return life.mask if life.mask or is_own or life.parent is None else life.parent.mask
+
+
+def shows_first(builder: "Builder", path: str, folder: Folder, at: int, makers: Set[int]) -> bool:
+    """Whether a maker shows whether the folder was there: it looked first, or made the folder too late for itself."""
+    look = folder.looks.get(at)
+    if look is not None and look < folder.first_made[at] and not excused(builder, at, path):
+        return True
+    return folder.first_used.get(at, 1 << 60) < folder.first_asked.get(at, 0) and not any(builder.build.is_before(m, at) for m in makers - {at})
+
+
+def makes_itself(builder: "Builder", at: int, path: str) -> bool:
+    """Whether a task is make's look at a folder that was there already, and its recipe, which did not run, is `mkdir -p` of the folder
+    alone: then whoever waits for this target finds the folder, and whether the recipe runs makes no difference."""
+    task = builder.build.tasks[at]
+    if builder.build.tool != "make" or task.kind != "decision" or task.node.path != path:
+        return False
+    lines = builder.graph.base.recipes.get(task.node.name, [])
+    only = re.compile(r"\s*[@+-]*\s*mkdir\s+(?:-p|--parents)\s+(?:\$@|\$\(@\)|%s)/?\s*" % re.escape(task.node.name))
+    return bool(lines) and all(only.fullmatch(line) for line in lines)
+
+
+def seen(builder: "Builder", path: str, at: int, makers: Set[int]) -> None:
+    """A task sees whether the folder is there already, and nothing orders it behind a maker."""
+    apart(builder, path + "/@seen", "that the folder %s is there" % path, at, makers)
+
+
+def apart(builder: "Builder", name: str, meaning: str, at: int, others: Set[int]) -> None:
+    """A name for a task and each other that nothing orders: one sees what the other changes."""
+    for other in sorted(others):
+        if builder.build.unordered(at, other):
+            mark(builder, "%s/%d/%d" % (name, at, other), meaning, {at}, {other})
+
+
+def mark(builder: "Builder", name: str, meaning: str, readers: Set[int], writers: Set[int]) -> None:
+    """A name that stands for something else."""
+    tasks = builder.build.tasks
+    for at in readers:
+        tasks[at].reads.add(name)
+    for at in writers:
+        tasks[at].writes.add(name)
+    if meaning:
+        builder.build.meanings[name] = meaning
+
+
+def add_listed(builder: "Builder", table: Dict[str, Makers]) -> None:
+    """A listing sees the folders that recipes make in it."""
+    inside: Dict[str, List[str]] = {}
+    for name in table:
+        inside.setdefault(os.path.dirname(name), []).append(name)
+    for at, path in ((at, path) for at, events in each(builder) for kind, path, _ in events if kind == "L"):
+        where, pattern = path.split("\0")
+        for name in (name for name in inside.get(where, ()) if matches(os.path.basename(name), pattern)):
+            made, gone = table[name]
+            makers = made | gone if builder.before.get(name) != "d" else gone
+            if at not in makers and (gone - {at} or not any(builder.build.is_before(m, at) for m in makers)):
+                seen(builder, name, at, makers)
+
+
+def matches(name: str, pattern: str) -> bool:
+    """Whether a pattern can match the name of a folder. `*/` is what Python asks for where it imports."""
+    return name != "__pycache__" if pattern == "*/" else fnmatch.fnmatchcase(name, pattern)
+
+
+def add_times(builder: "Builder") -> None:
+    """Names that are created in or removed from a folder change its time."""
+    wanted = builder.timed
+    for at, events in each(builder):
+        for kind, path, _ in events:
+            if kind not in "CDXt":
+                continue
+            where = path if kind == "t" else dirname(path.rstrip("/"))
+            if where in wanted:
+                builder.timers.setdefault(where, set()).add(at)
+    for where, changers in builder.timers.items():
+        for at in wanted[where]:
+            apart(builder, where + "/@time", "the time of the folder " + where, at, changers - {at})
+
+
+def add_modes(builder: "Builder") -> None:
+    """The mode of a folder, and how many folders are in it."""
+    table = each(builder)
+    modes = changed_modes(builder, table)
+    closed = {path for path, given in modes.items() if not all(mode and int(mode, 8) & SEARCH for mode in given)}
+    links = {p for _, events in table for k, p, _ in events if k == "h"}
+    for at, events in table if modes else ():
+        for kind, path, _ in events:
+            path = path.partition("\0")[0]
+            if kind == "m" and path in modes:
+                mark(builder, path + "/@mode", "the mode of the folder " + path, set(), {at})
+            elif path in modes and kind in "SUL":
+                mark(builder, path + "/@mode", "", {at}, set())
+            elif os.path.dirname(path.rstrip("/")) in (modes if kind in "WCD" else closed if kind in "RSN" else ()):
+                mark(builder, os.path.dirname(path.rstrip("/")) + "/@mode", "", {at}, set())
+    counted: Dict[str, Set[int]] = {}
+    for at, events in table if links else ():
+        for kind, path, _ in events:
+            if kind not in "HX" and not (kind == "C" and path.endswith("/")):
+                continue
+            where = path if kind == "H" else os.path.dirname(path.rstrip("/"))
+            if where in links:
+                counted.setdefault(where, set()).add(at)
+    for at, events in table if counted else ():
+        for kind, path, _ in events:
+            if kind == "h" and path in counted:
+                apart(builder, path + "/@links", "how many names %s has" % path, at, counted[path] - {at})
+
+
+def changed_modes(builder: "Builder", table: Events) -> Dict[str, Set[str]]:
+    """The folders whose mode a recipe changes, with the modes that it gives: to give one the mode that it was made with is no change."""
+    given: Dict[str, Set[str]] = {}
+    for kind, text in ((k, p) for _, events in table for k, p, _ in events if k == "m"):
+        path, _, mode = text.partition("\0")
+        given.setdefault(path, set()).add(mode)
+    made, known = gather(builder) if given else {}, builder.names.modes
+    first = {path: known.get(path, set()).union(made[path].modes if path in made else ()) for path in given}  # also those that a make above has made
+    return {path: modes for path, modes in given.items() if builder.names.before.get(path) == "d" or len(modes) > 1 or first[path] != modes}

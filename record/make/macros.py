@@ -1,0 +1,259 @@
+"""Macros that recipes change with `$(eval ..)`: make's own memory, by which one recipe can see another."""
+
+import os
+import re
+from dataclasses import dataclass, field
+from fnmatch import fnmatchcase
+from functools import cached_property, lru_cache
+from pathlib import Path
+from typing import Dict, Iterable, Iterator, List, NamedTuple, Set, Tuple
+
+from record.make.database import Base
+from record.make.database import LINES_TEXT as LINES
+from record.make.owners import Make
+from record.make.words import makefiles
+from record.tools.shelltext import shell_text
+
+BEGIN = re.compile(r"\$(?:[({](?:(?:call|value|origin|flavor)[ \t]+)?|(\w))")
+EVAL = re.compile(r"\$([({])eval[ \t]")
+SETS = re.compile(r"[ \t]*(?:override[ \t]+|export[ \t]+)*([\w.-]+)[ \t]*(\+|\?|!|:{0,3})=")
+ASSIGNED = re.compile(r"([\w.-]+)[ \t]*(?:[+?!]|:{1,3})?=((?:[^\n]*\\\n)*[^\n]*)")
+DEFINED = re.compile(r"(?ms)^[ \t]*define[ \t]+([\w.-]+)[^\n]*\n(.*?)^[ \t]*endef")
+# A line of a makefile that is a rule: what stands behind its colon, up to a recipe on the same line.
+RULE = re.compile(r"(?m)^(?!\t)[^\n=#]*?:(?![:=])((?:[^\n;#=]*\\\n)*[^\n;#]*)")
+# An export of a macro or of all, for one target too: the first of a line.
+EXPORT = r"(?m)^(?:[^\t\n#][^\n]*?:)??[ \t]*(?:(?:override|private)[ \t]+)*export\b"
+EXPORTED = re.compile(EXPORT + r"([^\n]*)")
+EXPORTS_ALL = re.compile(EXPORT + r"[ \t]*$|\.EXPORT_ALL_VARIABLES")
+BRACKETS = {"(": ")", "{": "}"}
+ANY = "*"  # macros that nobody can name
+# What each recipe asks for without a word: macros that make itself reads.
+IMPLIED = frozenset(("SHELL", ".SHELLFLAGS", "MAKEFLAGS", "MFLAGS", "GNUMAKEFLAGS", "MAKEOVERRIDES", "MAKE", "VPATH", "GPATH", ".LIBPATTERNS"))
+
+
+class Eval(NamedTuple):
+    """One `$(eval ..)`: where it stands, the macro that it sets, whether it sets it anew, whether it exports it."""
+
+    start: int
+    end: int
+    name: str
+    is_fresh: bool
+    is_exported: bool
+
+
+def evals(text: str) -> Iterator[Eval]:
+    """Those of a text."""
+    for call in EVAL.finditer(text):
+        depth, at = 1, call.end()
+        while depth and at < len(text):
+            depth += (text[at] == call.group(1)) - (text[at] == BRACKETS[call.group(1)])
+            at += 1
+        body = text[call.end():at - 1]
+        sets = SETS.match(body)
+        is_one = sets is not None and "\n" not in body
+        yield Eval(call.start(), at, sets.group(1) if sets is not None and is_one else ANY, sets is not None and is_one and sets.group(2) not in ("+", "?"), "export" in body)
+
+
+def named(text: str) -> Set[str]:
+    """The macros that a text refers to; a name that is made of other macros is a pattern, with `*` for each of them."""
+    text = text.replace("$$", "  ")
+    found = {one.group(1) or name_at(text, one.end()) for one in BEGIN.finditer(text)}
+    return {ANY if name == ".VARIABLES" else name for name in found if name}
+
+
+def name_at(text: str, at: int) -> str:
+    """The name that begins at a place, up to a blank, a colon, a comma or a bracket."""
+    found = ""
+    while at < len(text) and text[at] not in " \t\n:,(){}":
+        if text[at] != "$":
+            found, at = found + text[at], at + 1
+        else:
+            found, at = found + "*", end_of(text, at + 1)
+    return found
+
+
+def end_of(text: str, at: int) -> int:
+    """Where a reference ends whose sign stands before a place."""
+    if at >= len(text) or text[at] not in BRACKETS:
+        return at + 1
+    opening, depth = text[at], 0
+    while at < len(text):
+        depth += (text[at] == opening) - (text[at] == BRACKETS[opening])
+        at += 1
+        if not depth:
+            break
+    return at
+
+
+def matching(names: Iterable[str], pattern: str) -> List[str]:
+    """The names that a pattern of `named` fits."""
+    return [name for name in names if fnmatchcase(name, pattern)]
+
+
+@dataclass
+class Use:
+    """What the text of a recipe does with macros when make expands it."""
+
+    reads: Set[str] = field(default_factory=set)
+    writes: Set[str] = field(default_factory=set)
+    keeps: Set[str] = field(default_factory=set)  # macros that work out their value when it is first asked for
+
+
+@lru_cache(8)
+def assigned_in(text: str) -> List[Tuple[str, str]]:
+    """What makefiles assign to macros: many makes may read the same ones."""
+    return [(one.group(1), one.group(2)) for one in [*ASSIGNED.finditer(text), *DEFINED.finditer(text)]]
+
+
+class Macros:
+    """The macros of one make, by its makefiles and its data base."""
+
+    def __init__(self, make: Make, base: Base) -> None:
+        self.make, self.base = make, base
+        paths = [os.path.join(make.folder, name) for name in sorted(makefiles(make.words)) if not make.never_read(name)]
+        self.text = "\n".join(text_of(path) for path in paths)
+        self.is_lost = bool(make.stale) or not all(os.path.exists(path) for path in paths)  # then macros of several lines may hold anything
+        recipes = (line for lines in base.recipes.values() for line in lines)
+        self.is_used = self.is_lost and LINES in base.values.values() or any("eval" in text for text in (self.text, *base.values.values(), *recipes))
+        self.named: Dict[str, Set[str]] = {}
+        self.ways: Dict[str, Set[str]] = {}
+        self.changed: Set[str] = set()  # those that recipes change
+
+    @cached_property
+    def texts(self) -> Dict[str, List[str]]:
+        """All that each macro may be, as far as makefiles and the data base show it."""
+        found: Dict[str, List[str]] = {name: [value] for name, value in self.base.values.items()}
+        for name, value in assigned_in(self.text):
+            found.setdefault(name, []).append(value)
+        return found
+
+    @cached_property
+    def rule_words(self) -> Set[str]:
+        """The words that stand behind the colons of rules, and in macros that are named there."""
+        text = "\n".join(found.group(1) for found in RULE.finditer(self.text))
+        return {word for one in [text, *map(self.text_of, self.reached(text))] for word in one.split()}
+
+    def text_of(self, name: str) -> str:
+        """All texts that a macro may have."""
+        return "\n".join(self.texts.get(name, ()))
+
+    def named_by(self, name: str) -> Set[str]:
+        """The macros that a macro refers to; those that a pattern fits."""
+        if name not in self.named:
+            self.named[name] = set(matching(self.texts, name)) if "*" in name else named(self.text_of(name))
+        return self.named[name]
+
+    def reached(self, text: str) -> Set[str]:
+        """All macros that a text refers to, also by way of others."""
+        return {name for one in named(text) for name in self.reached_from(one)}
+
+    def reached_from(self, start: str) -> Set[str]:
+        """A macro, and all that it refers to, also by way of others."""
+        if start not in self.ways:
+            seen: Set[str] = set()
+            todo = [start]
+            while todo:
+                name = todo.pop()
+                if name not in seen:
+                    seen.add(name)
+                    todo.extend(self.named_by(name))
+            self.ways[start] = seen
+        return self.ways[start]
+
+    def is_exported(self, name: str) -> bool:
+        """Whether each process of a recipe finds a macro in its environment, or make itself reads it for each recipe."""
+        return self.is_lost or self.is_named_in_export(name) or name in IMPLIED or self.is_inherited(name)
+
+    def is_named_in_export(self, name: str) -> bool:
+        """Whether a makefile exports a macro, by its name or with all others, or for a target."""
+        return self.exports_all or bool(self.exported) and re.search(r"\b%s\b" % re.escape(name), self.exported) is not None
+
+    @cached_property
+    def exports_all(self) -> bool:
+        """Whether a makefile exports all macros."""
+        return EXPORTS_ALL.search(self.text) is not None
+
+    @cached_property
+    def exported(self) -> str:
+        """What stands behind `export` in lines of makefiles."""
+        return "\n".join(EXPORTED.findall(self.text))
+
+    def reaching(self, wanted: Set[str]) -> Set[str]:
+        """All macros that refer to one of some macros, also by way of others, and these."""
+        users: Dict[str, Set[str]] = {}
+        todo, seen = list(self.texts), set(self.texts)
+        while todo:
+            name = todo.pop()
+            for one in self.named_by(name):
+                users.setdefault(one, set()).add(name)
+                todo += [] if one in seen else [one]
+                seen.add(one)
+        found, todo = set(wanted), list(wanted)
+        while todo:
+            more = users.get(todo.pop(), set()) - found
+            found |= more
+            todo.extend(more)
+        return found & set(self.texts)
+
+    def is_inherited(self, name: str) -> bool:
+        """Whether make may have found a macro in its own environment: then it hands that on to each recipe."""
+        callers = [life.argv for life in self.make.life.up() if life is not self.make.life and not life.is_make and not life.is_wrapper]
+        return name in os.environ or any(not shell_text(argv) or name + "=" in shell_text(argv) for argv in callers)
+
+    def use(self, text: str) -> Use:
+        """What expanding a recipe reads and writes."""
+        found = Use()
+        own = list(evals(text))
+        found.reads = self.reached(text)
+        for name in found.reads:
+            for one in evals(self.text_of(name)):
+                (found.keeps if one.name == name and one.is_fresh else found.writes).add(one.name)
+        if self.is_lost and any(self.base.values.get(name) == LINES for name in found.reads):
+            found.writes.add(ANY)
+        for one in own:
+            found.writes.add(one.name)
+            before = self.reached(text[:one.end])
+            if one.is_fresh and one.name not in before:
+                found.reads.discard(one.name)
+        return found
+
+
+def text_of(path: str) -> str:
+    """A makefile's text; nothing where it is gone."""
+    try:
+        return Path(path).read_text(errors="replace")
+    except OSError:
+        return ""
+
+
+def uses(macros: Macros) -> Dict[str, Use]:
+    """For each target whose recipe takes part: what its recipe does with the macros that some recipe changes."""
+    base = macros.base
+    if not macros.is_used:
+        return {}
+    found = {name: macros.use("\n".join(lines)) for name, lines in base.recipes.items()}
+    changed = macros.changed = {name for use in found.values() for name in use.writes}
+    exported = {name for name in changed if name != ANY and macros.is_exported(name)}
+    exported |= {one.name for lines in base.recipes.values() for one in evals("\n".join(lines)) if one.is_exported}
+    for use in found.values():
+        patterns = [name for name in use.reads if "*" in name]
+        use.reads = set(changed) if ANY in changed else (use.reads & changed) | exported | {n for one in patterns for n in matching(changed, one)}
+    wanted = {name for use in found.values() for name in use.reads}
+    for use in found.values():
+        use.writes &= wanted
+    return {name: use for name, use in found.items() if use.reads or use.writes or use.keeps}
+
+
+def own_path(make: Make, name: str) -> str:
+    """What stands for something of a make among the paths of tasks: a name behind that of its makefile."""
+    first = next((name for start in make.words.read for name in start), "Makefile")
+    return os.path.normpath(os.path.join(make.folder, first)) + "/@" + name
+
+
+def keepers(found: Dict[str, Use]) -> Dict[str, List[str]]:
+    """For each macro that works out its value once: the targets whose recipes ask for it."""
+    table: Dict[str, List[str]] = {}
+    for target, use in found.items():
+        for name in use.keeps:
+            table.setdefault(name, []).append(target)
+    return table

@@ -1,0 +1,112 @@
+"""What make keeps in its memory from one target to the next: folders that it listed, and libraries that it looked for."""
+
+import os
+import re
+from typing import TYPE_CHECKING, Dict, Iterator, List, Optional, Set
+
+from record.make.globs import BOUND, MAGIC, arguments, with_values
+from record.make.graph import Node
+from record.make.macros import ANY, Macros
+from record.make.owners import Work
+from record.trace.names import Names
+
+if TYPE_CHECKING:
+    from record.make.build import Builder
+
+LIBRARIES = "lib%.so lib%.a"
+
+
+def place_listings(builder: "Builder") -> None:
+    """A folder that make lists while it makes a target is listed by the recipe, if that may ask for names there. Else make searches for a file."""
+    acts = {name: work for (number, name), work in builder.make.acts.items() if number == builder.number}
+    nodes = {node.name: node for node in builder.graph.nodes.values()}
+    open_names = exported_lists(builder.known)
+    for name, work in acts.items():
+        listed = [(path, place) for (kind, path), place in work.events.items() if kind == "Q"]
+        asked = own_folders(builder, nodes[name]) if listed and name in nodes and not open_names else None
+        for path, place in listed:
+            for pattern in builder.make.globs if asked is None or path in asked else ():
+                work.add("L", path + "\0" + pattern, place)
+
+
+def exported_lists(known: Macros) -> bool:
+    """Whether make may look for names by `wildcard` for each recipe, to make the values of exported macros."""
+    found = {name for name in known.texts if "wildcard" in known.text_of(name)}
+    return bool(found) and any(known.is_exported(name) for name in known.reaching(found))
+
+
+def own_folders(builder: "Builder", node: Node) -> Optional[Set[str]]:
+    """The folders in which a target's recipe looks for names; None where nobody can say which."""
+    base, known = builder.graph.base, builder.known
+    text = "\n".join(base.recipes.get(node.name, ()))
+    if ".SECONDEXPANSION" in base.prerequisites or any("eval" in one for one in (text, *map(known.text_of, known.reached(text)))):
+        return None
+    return folders_asked(known, builder.names, node)
+
+
+def share_listings(builder: "Builder") -> None:
+    """Make lists a folder once. A recipe that looks for names there later sees the same, and in another order it may be the first."""
+    make, began = builder.make, builder.first_birth()
+    late = {folder: first for folder, (first, last) in builder.listed.items() if last > began}
+    for node in builder.graph.nodes.values() if late else ():
+        asked = folders_asked(builder.known, builder.names, node) if node.jobs or node.must and node.has_recipe else set()
+        for folder, place in late.items():
+            if place < birth(builder, node) and (asked is None or folder in asked):
+                work = make.acts.setdefault((builder.number, node.name), Work())
+                for pattern in make.globs:
+                    work.add("L", folder + "\0" + pattern, place)
+
+
+def birth(builder: "Builder", node: Node) -> int:
+    """When the last process of a target's recipe began."""
+    works = [builder.make.work[id(job)] for job in node.jobs if id(job) in builder.make.work]
+    return max((life.born for work in works for life in work.lives), default=1 << 60)
+
+
+def words_asked(known: Macros, node: Node) -> Optional[List[str]]:
+    """The words of `wildcard` in the recipe of a target; None where nobody can say them."""
+    base = known.base
+    text = "\n".join(base.recipes.get(node.name, ()))
+    reached = known.reached(text)
+    texts = [text, *map(known.text_of, reached)]
+    calls = [call for one in texts for call in arguments(one)]
+    if ANY in reached or sum(one.count("wildcard") for one in texts) > len(calls) or None in calls or BOUND.search("\n".join(texts)):
+        return None
+    words = [word for call in calls for word in filled(call or "", node.name, base.values).split()]
+    if words and (base.scoped or known.changed) or any("$" in word or MAGIC.search(os.path.dirname(word)) for word in words):
+        return None
+    return words
+
+
+def folders_asked(known: Macros, names: Names, node: Node) -> Optional[Set[str]]:
+    """The folders in which the recipe of a target looks for names by `wildcard`; None where nobody can say which."""
+    words = words_asked(known, node)
+    return None if words is None else {names.find(known.make.folder, os.path.dirname(word) or ".", True).path for word in words}
+
+
+def filled(text: str, target: str, values: Dict[str, str]) -> str:
+    """A text of a target's recipe, with the macros that have a value in their places."""
+    text = re.sub(r"\$[({]@D[)}]", lambda _: os.path.dirname(target) or ".", text)
+    text = re.sub(r"\$(?:@|[({]@[)}])", lambda _: target, text)
+    return with_values(text, values)
+
+
+def libraries(builder: "Builder", node: Node) -> List[str]:
+    """The paths of a target's prerequisites that makefiles may call `-lNAME`: make looks for those when it first considers the target."""
+    nodes = builder.graph.nodes
+    names = [name for name in node.prerequisites if name in nodes and builder.build.writers.get(nodes[name].path)]
+    names = [name for name in names if not (os.path.dirname(name) and nodes[name].has_recipe)]  # a search path finds targets before they are there
+    stems = {name: stem for name in names for stem in stems_of(builder, name)}
+    if not stems or "-l" not in builder.known.text:
+        return []
+    words = builder.known.rule_words
+    return [nodes[name].path for name, stem in stems.items() if "-l" + stem in words or any(word.startswith("-l") and "$" in word for word in words)]
+
+
+def stems_of(builder: "Builder", name: str) -> Iterator[str]:
+    """What NAME may be where make has found a file for `-lNAME`."""
+    for pattern in builder.graph.base.values.get(".LIBPATTERNS", LIBRARIES).split():
+        head, _, tail = pattern.partition("%")
+        last = os.path.basename(name)
+        if last.startswith(head) and last.endswith(tail) and len(last) > len(head) + len(tail):
+            yield last[len(head): len(last) - len(tail)]

@@ -1,0 +1,378 @@
+"""Who did what: each process works for a recipe of each make above it; what make does itself between two jobs has an
+owner by its place among make's words."""
+
+import bisect
+import os
+import re
+from dataclasses import dataclass, field
+from functools import cached_property
+from pathlib import Path
+from typing import TYPE_CHECKING, Dict, Iterable, List, Optional, Set, Tuple
+
+from record.make.database import Base
+from record.make.globs import listed, patterns
+from record.make.options import asks_jobs
+from record.make.programs import Programs
+from record.make.words import SEVERAL, Job, Round, Words, makefiles
+from record.trace.lives import Act, Key, Life
+
+if TYPE_CHECKING:
+    from record.ninja.runs import Ninja
+
+
+@dataclass
+class Work:
+    """What a recipe did: its processes, their events, and the makes below it."""
+
+    events: Dict[Key, int] = field(default_factory=dict)
+    lives: List[Life] = field(default_factory=list)
+    makes: List["Make"] = field(default_factory=list)
+    ninjas: List["Ninja"] = field(default_factory=list)
+
+    def add(self, kind: str, path: str, place: int) -> None:
+        """Takes one event; its first place counts."""
+        key = (kind, path)
+        if key not in self.events or self.events[key] > place:
+            self.events[key] = place
+
+
+@dataclass(eq=False)
+class Make:
+    """A make process: its words, its life, its folder, and what each of its jobs did."""
+
+    words: Words
+    life: Life
+    folder: str
+    work: Dict[int, Work] = field(default_factory=dict)  # by id of the job
+    acts: Dict[Tuple[int, str], Work] = field(default_factory=dict)  # by number of the round and target
+    globs: List[str] = field(default_factory=list)  # patterns that it asks for by `wildcard`
+    listed_first: List[str] = field(default_factory=list)  # those of rules, and of lines that include makefiles
+    ready: List[int] = field(default_factory=list)  # for each start: when it had read its makefiles
+    is_called: bool = False  # a make above calls it by `$(shell ..)`: it has the environment with which that was started
+    listed: Dict[str, int] = field(default_factory=dict)  # folder: when it was first listed by make itself
+    looked: Dict[str, Dict[str, int]] = field(default_factory=dict)  # name as make spells it: the paths that it led to, and when first
+    lists: List[Tuple[int, str]] = field(default_factory=list)  # each list of a folder that it read by itself, or piece of one
+    first_looks: Dict[int, Dict[str, int]] = field(default_factory=dict)  # by start and target: when make first looked at it
+    stale: Set[str] = field(default_factory=set)  # makefiles that say something else by now
+    pieces: List[Tuple[int, List[Tuple[str, str, int]]]] = field(default_factory=list)  # what it did by itself, where it expands prerequisites late
+
+    @cached_property
+    def kinds(self) -> Dict[str, Set[str]]:
+        """By path: the kinds of its own acts."""
+        found: Dict[str, Set[str]] = {}
+        for act in self.life.acts:
+            found.setdefault(act.path, set()).add(act.kind)
+        return found
+
+    @cached_property
+    def reads(self) -> Dict[str, List[int]]:
+        """By path: when it read that by itself."""
+        found: Dict[str, List[int]] = {}
+        for act in self.life.acts:
+            if act.kind == "R":
+                found.setdefault(act.path, []).append(act.place)
+        return found
+
+    def is_stale(self, name: str, written: Dict[str, Tuple[int, int]]) -> bool:
+        """Whether the build has written a makefile before it read that, and after it. `written`: when each file was first and last written."""
+        path = os.path.normpath(os.path.join(self.folder, name))
+        first, last = written.get(path, (0, 0))
+        return any(first < place < last for place in self.reads.get(path, ()))
+
+    def never_read(self, name: str) -> bool:
+        """Whether it looked for a makefile, as for `-include`, and found none: that one says nothing."""
+        path = os.path.normpath(os.path.join(self.folder, name))
+        kinds = self.kinds.get(path, set())
+        return len(self.life.starts) < 2 and "N" in kinds and "R" not in kinds and not os.path.lexists(path)
+
+    def begin(self, start: int) -> int:
+        """When it began, or began again: then it knows nothing of what it has listed."""
+        return self.life.starts[start][0] if start < len(self.life.starts) else 1 << 60
+
+    def listed_in(self, start: int) -> Dict[str, Tuple[int, int]]:
+        """When each folder was listed after a start: when its list was begun, and when the last piece was read."""
+        found: Dict[str, Tuple[int, int]] = {}
+        for place, path in self.lists:
+            if self.begin(start) <= place < self.begin(start + 1):
+                found[path] = (found[path][0] if path in found else place, place)
+        return found
+
+    def has_one_slot(self) -> bool:
+        """Whether it runs one job at a time whatever the user says: by its words, or as no make above hands it jobs. The words of
+        a make that none is above are the user's own."""
+        if not any(life.is_make or life.is_ninja for life in self.life.up() if life is not self.life):
+            return False
+        return self.words.slots == "1" if self.words.slots else not (self.words.below or self.is_called or asks_jobs([], self.words.flags))
+
+
+def only_places(wanted: List[int], there: List[int]) -> Optional[List[int]]:
+    """The places at which numbers stand in a row in their order; nothing where they do not, or in more than one way."""
+    first, last = places_of(wanted, there), places_of(wanted[::-1], there[::-1])
+    return first if len(first) == len(wanted) and first == [len(there) - 1 - place for place in last[::-1]] else None
+
+
+def places_of(wanted: List[int], there: List[int]) -> List[int]:
+    """The first places at which they stand so; of some of them, if not all do."""
+    found: List[int] = []
+    for place, number in enumerate(there):
+        if len(found) < len(wanted) and number == wanted[len(found)]:
+            found.append(place)
+    return found
+
+
+def take_piece(work: Work, ran: Work, events: List[Tuple[str, str, int]]) -> None:
+    """What make did by itself, and what it ran for that, belongs to a recipe."""
+    work.lives += ran.lives
+    work.makes += ran.makes
+    for kind, path, place in events:
+        work.add(kind, path, place)
+
+
+def written_by(lives: List[Life]) -> Dict[str, Tuple[int, int]]:
+    """When each file was first and last written."""
+    found: Dict[str, Tuple[int, int]] = {}
+    for life in lives:
+        for path, last in life.changed.items():
+            first = min(life.events.get((kind, path), last) for kind in "WCD")
+            known = found.get(path, (first, last))
+            found[path] = (min(first, known[0]), max(last, known[1]))
+    return found
+
+
+class Owners:
+    """Brings the words of makes and the lives of processes together."""
+
+    def __init__(self, lives: List[Life], words: List[Words]) -> None:
+        self.lives = lives
+        self.holes: List[str] = []
+        self.makes: List[Make] = []
+        self.of_life: Dict[int, Make] = {}
+        self.written = written_by(lives)
+        self.jobs: Dict[int, Job] = {}  # by id of a life that make started
+        self.births: Dict[int, int] = {}  # by id of a job: when its first process was born
+        self.lasts: Dict[int, int] = {}  # by id of a job: when its last process was born
+        by_key = {(w.pid, w.life): w for w in words}
+        for life in lives:
+            if life.is_make and life.number >= 0:
+                found = by_key.pop((life.pid, life.number), None)
+                if found is None:
+                    self.holes.append("a make has no words: " + " ".join(life.argv)[:100])
+                else:
+                    self.add_make(life, found)
+        for (pid, _), found in by_key.items():
+            self.holes.append("a make has no process in the trace: %d %s" % (pid, found.args))
+        for make in self.makes:
+            self.holes.extend(make.words.holes)
+            self.match_jobs(make)
+        for make in self.makes:
+            make.is_called = self.is_called(make)
+            self.collect(make)
+
+    def add_make(self, life: Life, words: Words) -> None:
+        make = Make(words, life, self.folder_of(life, words))
+        make.stale = {name for name in makefiles(words) if make.is_stale(name, self.written)}
+        make.globs, make.listed_first = self.patterns_of(make)
+        self.makes.append(make)
+        self.of_life[id(life)] = make
+        if words.status is None:
+            self.holes.append("a make did not end: make " + words.args)
+        elif words.status != 0:
+            self.holes.append("a make failed: make %s" % words.args)
+
+    @staticmethod
+    def folder_of(life: Life, words: Words) -> str:
+        """The folder that make works in: `-C` moves it before it reads."""
+        folder = life.starts[0][1] if life.starts else life.folder
+        for act in life.acts:
+            if act.kind == "U":
+                folder = act.path
+            if act.kind == "R" and any(act.path.endswith("/" + os.path.basename(n)) for n in makefiles(words)):
+                break
+        return folder
+
+    @staticmethod
+    def patterns_of(make: Make) -> Tuple[List[str], List[str]]:
+        """The patterns of `$(wildcard ..)` in the makefiles that were read, and those of rules."""
+        texts = [make.words.args, make.words.flags]
+        if make.stale:
+            return ["*"], []
+        for name in makefiles(make.words):
+            try:
+                texts.append(Path(make.folder, name).read_text(errors="replace"))
+            except OSError:
+                if not make.never_read(name):
+                    return ["*"], []
+        names = [name for one in make.words.rounds for name in one.nodes]
+        return sorted(patterns(texts, make.words.values(), names)), sorted(listed(texts, make.words.values(), names))
+
+    def match_jobs(self, make: Make) -> None:
+        """Make names the processes of its jobs in the order in which it starts them. Others that it starts may have had their numbers: in a
+        long build numbers come again."""
+        kids = sorted((life for life in make.life.children if life.pid in make.words.jobs), key=lambda life: life.born)
+        places = only_places([pid for pid, _ in make.words.processes], [life.pid for life in kids])
+        if places is None:
+            self.match_by_number(make, kids)
+        for place, (_, job) in zip(places or (), make.words.processes):
+            self.jobs[id(kids[place])] = job
+        for life in make.life.children:
+            job = self.jobs.get(id(life))
+            if job is not None:
+                self.births[id(job)] = min(life.born, self.births.get(id(job), life.born))
+                self.lasts[id(job)] = max(life.born, self.lasts.get(id(job), life.born))
+        for one in make.words.rounds:
+            births = [self.births.get(id(job), -1) for job in one.jobs]
+            if any(b < 0 for b in births):
+                self.holes.append("a recipe that ran has no process: " + one.jobs[births.index(-1)].target)
+            elif births != sorted(births):
+                self.holes.append("the jobs of make are not in the order of the trace: make " + make.words.args)
+        if SEVERAL + make.words.args not in make.words.holes and self.are_several(make):
+            self.holes.append(SEVERAL + make.words.args)
+
+    def match_by_number(self, make: Make, kids: List[Life]) -> None:
+        """Where they do not fit, or in more than one way: the k-th process of a number is the k-th job of that number, and the record has a hole."""
+        for pid, jobs in make.words.jobs.items():
+            lives = [life for life in kids if life.pid == pid]
+            if len(lives) != len(jobs):
+                self.holes.append("a recipe that ran has no process: " + jobs[0].target if not lives else "a process number came again: %d" % pid)
+            for life, job in zip(lives, jobs):
+                self.jobs[id(life)] = job
+
+    @staticmethod
+    def are_several(make: Make) -> bool:
+        """Whether two processes that make started ran at once: it waits for each, unless it was asked for several jobs."""
+        children = sorted(make.life.children, key=lambda life: life.born)
+        return any(second.born < first.died for first, second in zip(children, children[1:]))
+
+    def is_called(self, make: Make) -> bool:
+        """Whether a make above calls a make by `$(shell ..)`, and leaves MAKEFLAGS as that make has found it: it may ask for several jobs."""
+        chain = list(make.life.up())
+        for child, up in zip(chain, chain[1:]):
+            if up.is_make or up.is_ninja:
+                return up.is_make and id(child) not in self.jobs and not any("MAKEFLAGS" in word for one in chain[:chain.index(up)] for argv in one.ran for word in argv)
+        return False
+
+    # ---------------------------------------------------------------- what jobs did
+    def below(self, life: Life) -> Iterable[Life]:
+        """A life and all that it started."""
+        todo = [life]
+        while todo:
+            one = todo.pop()
+            yield one
+            todo.extend(one.children)
+
+    def take(self, work: Work, life: Life) -> None:
+        """What a process and all below it did belongs to a recipe."""
+        for one in self.below(life):
+            work.lives.append(one)
+            make = self.of_life.get(id(one))
+            if make is not None and make not in work.makes:
+                work.makes.append(make)
+            for key, place in one.events.items():
+                if key[0] == "Q":
+                    for pattern in [*make.globs, *make.listed_first] if make is not None else ["*"]:
+                        work.add("L", key[1] + "\0" + pattern, place)
+                elif work.events.get(key, place + 1) > place:
+                    work.events[key] = place
+
+    def collect(self, make: Make) -> None:
+        """The work of all jobs of a make, and of make itself."""
+        for life in make.life.children:
+            job = self.jobs.get(id(life))
+            if job is not None:
+                self.take(make.work.setdefault(id(job), Work()), life)
+        for act in make.life.acts:
+            if act.kind == "Q":
+                make.listed.setdefault(act.path, act.place)
+                make.lists.append((act.place, act.path))
+            if act.word:
+                make.looked.setdefault(act.word, {}).setdefault(act.path, act.place)
+        for start, (begin, _) in enumerate(make.life.starts):
+            end = make.life.starts[start + 1][0] if start + 1 < len(make.life.starts) else 1 << 60
+            make.ready.append(self.read_by(make, start, begin, end))
+            self.place_acts(make, start, make.ready[-1], end)
+
+    def read_by(self, make: Make, start: int, begin: int, end: int) -> int:
+        """When make had read its makefiles, or found that they are not there: it looks at the first of them again."""
+        names = make.words.read[start] if start < len(make.words.read) else []
+        left = [os.path.basename(n) for n in names]
+        last = begin
+        for act in make.life.acts:
+            if begin <= act.place < end:
+                if left and act.kind in "RN" and os.path.basename(act.path) in left:
+                    left.remove(os.path.basename(act.path))
+                    last = act.place
+                elif not left and act.word in names:
+                    return act.place
+        return last
+
+    def place_acts(self, make: Make, start: int, ready: int, end: int) -> None:
+        """Gives what make did itself, after it had read, to the targets that were being made then."""
+        rounds = [(n, r) for n, r in enumerate(make.words.rounds) if r.start == start]
+        table = sorted((self.births.get(id(job), 0), number, job.number + 1) for number, one in rounds for job in one.jobs)  # the last: jobs of the round so far
+        births = [t[0] for t in table]
+        names = {n for _, r in rounds for n in r.nodes} | {v for _, r in rounds for v in r.vpath.values()}
+        apart = self.removed_last(make) | self.read_archives(make, names)
+        programs = Programs(make)
+        pieces: List[Tuple[int, List[Tuple[str, str, int]], Work]] = []
+        for act in make.life.acts:
+            if ready < act.place < end and (act.word not in names or programs.are_at(act.word)) and id(act) not in apart:
+                pieces.append((act.place, [(act.kind, act.path, act.place)], Work()))
+        for life in make.life.children:
+            if id(life) not in self.jobs and ready < life.born < end:
+                work = Work()
+                self.take(work, life)
+                pieces.append((life.born, [(k, p, s) for (k, p), s in work.events.items()], work))
+        looks = make.first_looks[start] = self.first_looks(make, names, make.begin(start), end)
+        if any(r.base is not None and ".SECONDEXPANSION" in r.base.prerequisites for _, r in rounds):
+            make.pieces += [(place, events) for place, events, _ in pieces]
+        for place, events, ran in pieces:
+            at = bisect.bisect_right(births, place)
+            before = make.words.rounds[table[at - 1][1]].jobs[table[at - 1][2] - 1] if at else None
+            last = self.lasts.get(id(before), 0)
+            if before is not None and (place < last or not before.is_ended):  # make starts a line of a recipe
+                take_piece(make.work.setdefault(id(before), Work()), ran, events)
+            if place > last:
+                owners = self.owners_at(make, rounds, table, at)
+                for number, target in {o for o in owners if looks.get(o[1], -1) < place} or owners:
+                    take_piece(make.acts.setdefault((number, target), Work()), ran, events)
+
+    def removed_last(self, make: Make) -> Set[int]:
+        """Where make removes intermediate files, once no recipe runs any more: that is beside nothing. The acts, by their ids."""
+        ended = max((life.died for life in make.life.children if id(life) in self.jobs), default=0)
+        names = {os.path.normpath(os.path.join(make.folder, name)) for r in make.words.rounds if r.base is not None for name in r.base.intermediate}
+        return {id(act) for act in make.life.acts if act.kind == "D" and act.place > ended and act.path in names}
+
+    @staticmethod
+    def read_archives(make: Make, names: Set[str]) -> Set[int]:
+        """Make's looks into archives, by which it finds the ages of members: they are looks at these targets. The acts, by their ids."""
+        archives = {os.path.normpath(os.path.join(make.folder, name.partition("(")[0])) for name in names if name.endswith(")")}
+        return {id(act) for act in make.life.acts if act.kind in "RSN" and act.path in archives}
+
+    @staticmethod
+    def first_looks(make: Make, names: Set[str], begin: int, end: int) -> Dict[str, int]:
+        """When make first looked at each target: its recipe is expanded behind that. None where its words say how old files are."""
+        found: Dict[str, int] = {}
+        if re.search(r"(^| )(-[a-zA-Z]*[oW]|--(old|new|what|assume))", make.words.args + " " + make.words.flags):
+            return found
+        for act in make.life.acts:
+            if act.word in names and begin <= act.place < end:
+                found.setdefault(act.word, act.place)
+        return found
+
+    @staticmethod
+    def owners_at(make: Make, rounds: List[Tuple[int, Round]], table: List[Tuple[int, int, int]], at: int) -> Set[Tuple[int, str]]:
+        """The targets that were being made when so many jobs had begun: those that had to be since the last job, and that of the next."""
+        owners: Set[Tuple[int, str]] = set()
+        before: Optional[Tuple[int, int]] = (table[at - 1][1], table[at - 1][2]) if at else None
+        if at < len(table):
+            _, number, done = table[at]
+            owners.add((number, make.words.rounds[number].jobs[done - 1].target))
+        for number, one in rounds:
+            done = before[1] if before and before[0] == number else 0
+            if before and number < before[0] or at < len(table) and number > table[at][1]:
+                continue
+            if before is None and at < len(table) and number != table[at][1] and one.jobs:
+                continue
+            base = one.base or Base()
+            owners.update((number, t) for t in one.due.get(done, ()) if t in base.recipes or t not in base.prerequisites)  # a name like `x:` may not be read
+        return owners

@@ -1,0 +1,42 @@
+"""The programs that make itself looks for in the folders of PATH, before it starts a line of a recipe that needs no shell.
+
+Where such a folder has a relative name, a program there may be a target: then the look is one of the recipe, and not make's look at the target.
+"""
+
+import os
+from typing import TYPE_CHECKING, Set
+
+from record.make.globs import with_values
+
+if TYPE_CHECKING:
+    from record.make.database import Base
+    from record.make.owners import Make
+
+
+class Programs:
+    """Where a make looks for programs, and for which."""
+
+    def __init__(self, make: "Make") -> None:
+        bases = [one.base for one in make.words.rounds if one.base is not None]
+        found = {folder for base in bases for folder in folders_of(base)}
+        self.is_open = any("$" in folder for folder in found)  # it stands in a macro that nobody can work out
+        self.folders = {os.path.normpath(folder) for folder in found}
+        started = {os.path.basename(argv[0]) for life in make.life.children for argv in life.ran[:1] if argv} if found else set()
+        self.names = started.union(*(names_in(base) for base in bases)) if found else set()
+
+    def are_at(self, word: str) -> bool:
+        """Whether a name, as make spells it, may be that of a program which it looks for."""
+        return os.path.basename(word) in self.names and (self.is_open or os.path.normpath(os.path.dirname(word)) in self.folders)
+
+
+def folders_of(base: "Base") -> Set[str]:
+    """The relative folders in all that PATH may be."""
+    values = [base.values.get("PATH", ""), *(line.partition("=")[2].strip() for line in base.bodies.get("PATH", ()))]
+    found = {folder or "." for value in values if value for folder in with_values(value, base.values).split(":")}
+    return {folder for folder in found if not folder.startswith("/")}
+
+
+def names_in(base: "Base") -> Set[str]:
+    """The programs with which lines of recipes begin."""
+    lines = (with_values(line, base.values).lstrip("@+- \t").split(None, 1) for recipe in base.recipes.values() for line in recipe)
+    return {os.path.basename(words[0]) for words in lines if words}

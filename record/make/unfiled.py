@@ -1,0 +1,113 @@
+"""What recipes share that is no file: macros of make that a recipe changes, and the order of what a make prints; and the order in
+which a folder shows its names, which is only counted."""
+
+import re
+from collections import Counter
+from itertools import islice
+from typing import TYPE_CHECKING, Dict, Iterator, List, Set, Tuple
+
+from record.make.folders import each, mark
+from record.make.macros import ANY, keepers, own_path
+
+if TYPE_CHECKING:
+    from record.make.build import Builder
+
+Created = Dict[str, Dict[str, Set[int]]]
+TARGET = re.compile(r"\$(?:[@*]|[({][@*])")
+
+
+def add_macros(builder: "Builder", created: Created) -> None:
+    """A recipe that changes a macro, and those that ask for it. Make expands the recipe of a leaf where it looks at the leaf."""
+    who: Dict[str, List[int]] = {}
+    for label, at in builder.of_node.items():
+        node = builder.graph.nodes[label]
+        use = builder.macros.get(node.name) if builder.build.tasks[at].kind == "recipe" else None
+        if use is None:
+            continue
+        looker = builder.look_of.get(label, at)
+        who.setdefault(node.name, []).append(looker)
+        for names, is_read in ((use.reads, True), (use.writes, False)):
+            for name in names:
+                about = "the macro %s of make" % name if name != ANY else "what $(eval ..) changes in make"
+                mark(builder, own_path(builder.make, "macro/" + name), about, {looker} if is_read else set(), set() if is_read else {looker})
+    if builder.known.changed and ".SECONDEXPANSION" in builder.graph.base.prerequisites:
+        builder.holes.append("a recipe changes a macro by $(eval ..), and make expands prerequisites a second time: make " + builder.build.words[:100])
+    for targets in keepers(builder.macros).values():
+        add_keepers(builder, [t for t in targets if t in who], who, created)
+    count_inherited(builder)
+    count_grouped(builder)
+
+
+def count_inherited(builder: "Builder") -> None:
+    """Targets with macros that they inherit of who asks first, where make looks at them at a time that the schedule settles."""
+    graph, users = builder.graph, Counter(one for node in builder.graph.nodes.values() for one in node.prerequisites)
+    scoped = graph.reached_from([node.label for node in graph.nodes.values() if node.name in graph.base.scoped])
+    late = graph.reached_from([node.label for node in graph.nodes.values() if node.rule]) | graph.base.intermediate if scoped else set()
+    for label in sorted(scoped & late):
+        if users[label] > 1 and graph.nodes[label].jobs and not graph.nodes[label].rule:
+            builder.assumed.add("inherited", graph.nodes[label].name)
+
+
+def count_grouped(builder: "Builder") -> None:
+    """Recipes of several targets that name the one for which they run, where the schedule may settle which that is."""
+    graph = builder.graph
+    for name, others in graph.base.also.items():
+        node = graph.nodes.get(name)
+        if node is not None and node.jobs and any(other in graph.nodes for other in others) and not builder.is_leaf(node):
+            text = "\n".join(graph.base.recipes.get(name, ()))
+            if any(TARGET.search(one) for one in (text, *map(builder.known.text_of, builder.known.reached(text)))):
+                builder.assumed.add("grouped", name)
+
+
+def add_keepers(builder: "Builder", targets: List[str], who: Dict[str, List[int]], created: Created) -> None:
+    """A macro that works out its value when it is first asked for: whoever asks may be the first, and then does what that takes."""
+    events: Set[Tuple[str, str]] = set()
+    for target in targets:
+        work = builder.make.acts.get((builder.number, target))
+        events.update(work.events if work is not None else ())
+    for target in targets:
+        for looker in who[target]:
+            builder.add_events(looker, events, created)
+
+
+def add_outputs(builder: "Builder") -> None:
+    """The lines of a make whose output is kept in a file come in the order of its recipes; another program may drop that order."""
+    words = builder.make.words
+    if not words.output and not words.errors:
+        return
+    tasks = builder.build.tasks
+    said = [at for at in builder.of_node.values() if any(job.is_said for job in tasks[at].node.jobs)]
+    if words.output == "file":
+        mark(builder, own_path(builder.make, "output"), "the order of what make prints, which is kept in a file", set(), set(said))
+    unseen = [at for at in builder.of_node.values() if tasks[at].node.jobs] if words.errors else said if words.output == "pipe" else []
+    if next(unordered(builder, sorted(unseen)), None) is not None:
+        builder.assumed.add("output", "make " + words.args if words.args else "make")
+
+
+def unordered(builder: "Builder", tasks: List[int]) -> Iterator[Tuple[int, int]]:
+    """Those that follow each other in the serial order, where nothing orders them. None: all are in one row."""
+    return ((low, high) for low, high in zip(tasks, tasks[1:]) if builder.build.unordered(low, high))
+
+
+def count_listings(builder: "Builder", created: Created) -> None:
+    """Programs that may show the names of a folder in the order in which they were made, where the schedule settles that order."""
+    table: Dict[str, Tuple[List[int], List[Tuple[int, int]]]] = {}
+    moves = [path.split("\0") for _, events in each(builder) for kind, path, _ in events if kind == "c" and path.partition("\0")[0] in builder.made]
+    for at, events in each(builder):
+        for path in (path for kind, path, _ in events if kind == "l"):
+            if path not in table:
+                makers = sorted({who for one in places_of(path, moves) for names in created.get(one, {}).values() for who in names})
+                table[path] = makers, list(islice(unordered(builder, makers), 3))
+            makers, loose = table[path]
+            if any(at not in pair for pair in loose) or loose and next(unordered(builder, [who for who in makers if who != at]), None):
+                builder.assumed.add("listings", "%s lists %s" % (builder.build.tasks[at].node.name, path))
+
+
+def places_of(path: str, moves: List[List[str]]) -> List[str]:
+    """A folder, and where it was before it was moved, or one above it."""
+    found = [path]
+    for place in found:
+        for new, old in moves:
+            before = old + place[len(new):] if old and (place + "/").startswith(new + "/") else place
+            found += [before] if before not in found else []
+    return found

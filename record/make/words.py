@@ -1,0 +1,293 @@
+"""The reader of make's words: rounds, the targets that it considered in each, and its jobs."""
+
+import re
+from dataclasses import dataclass, field
+from functools import cached_property, lru_cache
+from pathlib import Path
+from typing import Dict, Iterable, Iterator, List, Optional, Set, Tuple
+
+from record.make.database import Base, read_base
+
+KEPT = 1 << 14  # how many lines are remembered: most come again for each target that needs the same
+CHILD = re.compile(r"(Putting child|Live child|Reaping (?:winning|losing) child|Removing child) (0x[0-9a-f]+) (?:\((.*)\) )?PID (\d+)")
+CONSIDERED = re.compile(r"^( *)(Considering target file|Pruning file) '(.*)'\.$|^( *)File '(.*)' was considered already\.$")
+VPATH = re.compile(r"^ *No need to remake target '(.*)'; using VPATH name '(.*)'\.$")
+FINISHED = re.compile(r"^ *Finished prerequisites of target file '(.*)'\.$")
+MUST = re.compile(r"^ *Must remake target '(.*)'\.$")
+FAILED = re.compile(r"^ *(?:Failed to remake|Giving up on) target file '(.*)'\.$")
+RUNNING = re.compile(r" *Recipe of '")  # make says so where it does not wait for a recipe
+SEVERAL = "a makefile or GNUMAKEFLAGS asks for several jobs, and so they ran; say -j1: make "
+READING = re.compile(r"^Reading makefile '(.*)'((?: \([^)]*\))*)\.\.\.$")
+
+
+@dataclass
+class Job:
+    """A recipe that make ran: its target, and how many jobs of the round came before it."""
+
+    target: str
+    number: int
+    pids: List[int] = field(default_factory=list)
+    is_said: bool = False  # it printed something, or make did so for it, and somebody keeps that
+    is_ended: bool = False  # make has said so; it does not where the last line names a program that is not there, and may fail
+
+
+@dataclass
+class Considered:
+    """A target that make looked at: when first, when it had looked at its prerequisites, and which these are."""
+
+    name: str
+    index: int
+    done: int
+    prerequisites: Dict[str, None] = field(default_factory=dict)  # in order
+
+
+@dataclass
+class Round:
+    """`makefiles` or `goals` of one start of make."""
+
+    stage: str
+    start: int
+    nodes: Dict[str, Considered] = field(default_factory=dict)
+    goals: List[str] = field(default_factory=list)
+    jobs: List[Job] = field(default_factory=list)
+    must: Dict[str, int] = field(default_factory=dict)  # target: jobs before its line
+    failed: List[str] = field(default_factory=list)
+    vpath: Dict[str, str] = field(default_factory=dict)
+    base: Optional[Base] = None
+
+    @cached_property
+    def due(self) -> Dict[int, List[str]]:
+        """By how many jobs came before: the targets that had to be made since the last of them. Asked when all words are read."""
+        found: Dict[int, List[str]] = {}
+        for target, count in self.must.items():
+            found.setdefault(count, []).append(target)
+        return found
+
+    def below(self, name: str) -> Set[str]:
+        """A target, and all that it needs, by way of others too."""
+        found, todo = {name}, [name]
+        while todo:
+            node = self.nodes.get(todo.pop())
+            fresh = set(node.prerequisites) - found if node is not None else set()
+            found |= fresh
+            todo.extend(fresh)
+        return found
+
+
+@dataclass
+class Words:
+    """All that one make process said."""
+
+    pid: int
+    life: int
+    args: str = ""
+    flags: str = ""
+    below: bool = False  # the words of a make above came with MAKEFLAGS
+    slots: str = ""  # how many jobs its own words ask for: digits, or `all`
+    output: str = ""  # where its output goes, if that is not the build's own: `file` or `pipe`
+    errors: str = ""  # the same of standard error, where that is not with its output
+    spoken: bool = False  # it would have spoken another language than English
+    version: str = ""
+    status: Optional[int] = None
+    rounds: List[Round] = field(default_factory=list)
+    jobs: Dict[int, List[Job]] = field(default_factory=dict)  # process number: its jobs, in order
+    processes: List[Tuple[int, Job]] = field(default_factory=list)  # of all jobs, in order: the number and the job
+    read: List[List[str]] = field(default_factory=list)  # makefiles that each start read before it made anything
+    included: List[str] = field(default_factory=list)  # makefiles that recipes include while make expands them
+    holes: List[str] = field(default_factory=list)
+
+    def values(self) -> Dict[str, str]:
+        """The macros of its data bases; one that differs between them may be anything."""
+        found: Dict[str, str] = {}
+        for base in (one.base for one in self.rounds if one.base is not None):
+            for name, value in base.values.items():
+                found[name] = value if found.get(name, value) == value else "$(other)*"
+        return found
+
+
+@lru_cache(KEPT)
+def considered_in(text: str) -> Optional[Tuple[int, str]]:
+    """How deep make was when it considered a target, and which, by a line of its words."""
+    match = CONSIDERED.match(text)
+    if match is None:
+        return None
+    shallow, _, name, deep, again = match.groups()
+    return (len(deep), again) if name is None else (len(shallow), name)
+
+
+class _Reader:
+    def __init__(self, words: Words) -> None:
+        self.words = words
+        self.round: Optional[Round] = None
+        self.stack: List[Tuple[int, str]] = []  # depths and names of the targets that are being looked at
+        self.children: Dict[str, Job] = {}
+        self.clock = 0
+
+    def begin(self, stage: str) -> None:
+        self.round = Round(stage, len(self.words.read) - 1)
+        self.words.rounds.append(self.round)
+        self.stack, self.children = [], {}
+
+    def child(self, what: str, pointer: str, name: str, pid: int) -> None:
+        if self.round is None:
+            return
+        owner = self.children.get(pointer)
+        if what == "Putting child" or what == "Live child" and (owner is None or owner.target != name):  # the first line that ran was not the first
+            owner = self.children[pointer] = Job(name, len(self.round.jobs))
+            self.round.jobs.append(owner)
+        if what == "Removing child":
+            self.children.pop(pointer, None)
+        if owner is not None:
+            if owner.pids[-1:] != [pid]:
+                owner.pids.append(pid)
+                self.words.jobs.setdefault(pid, []).append(owner)
+                self.words.processes.append((pid, owner))
+            owner.is_ended = what == "Removing child"
+
+    def considered(self, depth: int, name: str) -> None:
+        assert self.round is not None
+        while self.stack and self.stack[-1][0] >= depth:
+            self.stack.pop()
+        nodes = self.round.nodes
+        if name not in nodes:
+            nodes[name] = Considered(name, self.clock, -1)
+        if self.stack:
+            parent = self.stack[-1][1]
+            if name != parent:
+                nodes[parent].prerequisites.setdefault(name)
+        elif name not in self.round.goals:
+            self.round.goals.append(name)
+        self.stack.append((depth, name))
+
+    def line(self, text: str) -> None:
+        words = self.words
+        considered = considered_in(text) if self.round is not None else None
+        child = CHILD.match(text) if considered is None else None
+        if considered is not None:  # as nearly all lines are
+            self.clock += 1
+            self.considered(*considered)
+        elif child:
+            self.child(child.group(1), child.group(2), child.group(3) or "", int(child.group(4)))
+        elif text.startswith("Reading makefiles..."):
+            words.read.append([])
+        elif text.startswith("Updating makefiles"):
+            self.begin("makefiles")
+        elif text.startswith("Updating goal targets"):
+            self.begin("goals")
+        elif text.startswith("# GNU Make ") and not words.version:
+            words.version = text[len("# GNU Make "):]
+        elif text.startswith("ARGS "):
+            words.args = text[5:]
+        elif text.startswith("FLAGS "):
+            words.flags = text[6:]
+        elif text.startswith("BELOW "):
+            words.below = text == "BELOW 1"
+        elif text.startswith("JOBS "):
+            words.slots = text[5:]
+        elif text.startswith("OUTPUT "):
+            words.output = text[7:]
+        elif text.startswith("ERRORS "):
+            words.errors = text[7:]
+        elif text.startswith("SPOKEN "):
+            words.spoken = text == "SPOKEN 1"
+        elif text.startswith("SAID ") and text[5:] in self.children:
+            self.children[text[5:]].is_said = True
+        elif text.startswith("Need a job token; ") or RUNNING.match(text):
+            words.holes += [SEVERAL + words.args] if SEVERAL + words.args not in words.holes else []
+        elif text.startswith("EXIT "):
+            words.status = int(text[5:])
+        elif READING.match(text) and words.read:
+            is_making = self.round is not None and self.round.start == len(words.read) - 1
+            (words.included if is_making else words.read[-1]).append(READING.match(text).group(1))  # type: ignore[union-attr]
+        elif self.round is not None:
+            self.target(text)
+
+    def target(self, text: str) -> None:
+        assert self.round is not None
+        self.clock += 1
+        finished, vpath, must = FINISHED.match(text), VPATH.match(text), MUST.match(text)
+        if finished:
+            seen = self.round.nodes.get(finished.group(1))
+            if seen is not None and seen.done < 0:
+                seen.done = self.clock
+        elif vpath:
+            self.round.vpath[vpath.group(1)] = vpath.group(2)
+        elif must:
+            self.round.must.setdefault(must.group(1), len(self.round.jobs))
+        elif FAILED.match(text):
+            self.round.failed.append(FAILED.match(text).group(1))  # type: ignore[union-attr]
+
+
+def base_hole(lines: List[str]) -> str:
+    """Why lines are not the whole data base of a make; nothing where they are."""
+    if any(text.startswith("# Make data base") for text in lines[1:]):
+        return "begins twice"
+    if not any(text.startswith("# files hash-table stats") for text in lines):
+        return "lists no targets"
+    return "" if is_end(lines) else "has no end"
+
+
+def is_end(base: List[str]) -> bool:
+    """Whether a data base has its last line."""
+    return base[-1].startswith("# Finished Make data base")
+
+
+def take_base(words: Words, lines: List[str]) -> None:
+    """One data base: that of all rounds since the last."""
+    hole = base_hole(lines)
+    if hole:
+        words.holes.append("the data base of a make %s: make %s" % (hole, words.args))
+    found = read_base(lines)
+    for one in words.rounds:
+        one.base = one.base or found
+
+
+def failures(words: Words) -> Iterator[str]:
+    """Recipes that failed, or targets that were given up when recipes had run for them, and make went on, since no makefile has to be there
+    that needs them. Of what such a makefile needs besides, one job runs nothing more, and several run it."""
+    for one in words.rounds:
+        ran, needed = {job.target for job in one.jobs}, {name for node in one.nodes.values() for name in node.prerequisites}
+        for name in one.failed if one.stage == "makefiles" else ():
+            if name in needed and not ran.isdisjoint(one.below(name)):
+                yield "a recipe failed for a makefile that need not be there, and what stands behind it did not run: %s" % name
+
+
+def read_words(pid: int, life: int, lines: Iterable[str]) -> Words:
+    """What a make process said, of the lines that the wrapper kept: each of its starts ends in a data base."""
+    words = Words(pid, life)
+    reader = _Reader(words)
+    bases, base = 0, []  # how many data bases it printed, and the lines of the one that has not ended
+    for raw in lines:
+        text = raw.rstrip("\n")
+        if base:
+            base.append(text)
+            if is_end(base):
+                take_base(words, base)
+                base = []
+        elif text.startswith("# Make data base"):
+            bases, base = bases + 1, [text]
+        else:
+            reader.line(text)
+    if base:
+        take_base(words, base)
+    words.holes += failures(words)
+    if not words.read:
+        words.holes.append("a make says nothing that the recorder knows, as in another language: make " + words.args)
+    if bases != len(words.read):
+        words.holes.append("a make that began %d times printed %d data bases: make %s" % (len(words.read), bases, words.args))
+    return words
+
+
+def read_logs(spool: Path) -> List[Words]:
+    """The words of all makes of a recorded build."""
+    logs = []
+    for path in sorted(spool.glob("*.make")):
+        pid, life, _ = path.name.split(".")
+        with open(path, encoding="utf-8", errors="surrogateescape") as lines:
+            logs.append(read_words(int(pid), int(life), lines))
+    return logs
+
+
+def makefiles(words: Words) -> Set[str]:
+    """All makefiles that a make read."""
+    return {name for names in (*words.read, words.included) for name in names}

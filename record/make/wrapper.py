@@ -1,0 +1,397 @@
+"""Stands in front of GNU make while a build is recorded.
+
+`race-record` compiles options.py and this file for SPOOL/bin/make, first on PATH, a program of its own. It runs the real make (named
+in SPOOL/real) with words that let it say what it considers, takes make's own lines out of standard output again, into
+SPOOL/PID.make, and passes everything else on byte for byte. Queries (`make -n`, `-q`, `-t`, `-p`, `-v`, `-h`) and makes
+that were asked for debug words run untouched.
+"""
+
+import os
+import re
+import select
+import signal
+import stat
+import sys
+
+from record.make.options import WORDS, asked, asks_jobs, jobs_of_call, plain_args, speak_english, without_words
+
+VERSION_LINE = re.compile(rb"# (GNU Make \d|Built for |Copyright \(C\)|License |This is free software|There is NO WARR)")
+QUOTED = rb"'[^\n]*'"
+WORD_LINE = re.compile(
+    rb" *(Reading makefiles\.\.\.$|Reading makefile " + QUOTED + rb"( \([^)]*\))*\.\.\.$|Updating makefiles\.\.\.\.$"
+    rb"|Updating goal targets\.\.\.\.$|(Considering target file|Pruning file|Finished prerequisites of target file"
+    rb"|Must remake target|Successfully remade target file|Failed to remake target file|Still updating file"
+    rb"|Finished updating file|Giving up on target file|Recently tried and failed to update file|Ignoring VPATH name) "
+    + QUOTED + rb"\.$|File " + QUOTED + rb" (does not exist|was considered already)\.$|No need to remake target "
+    + QUOTED + rb"\.$|Prerequisite " + QUOTED + rb" (is (newer than|older than|order-only for)|of) target " + QUOTED
+    + rb"( does not exist)?\.$|(The prerequisites|Recipe) of " + QUOTED + rb" (are being made|is being run)\.$"
+    rb"|No recipe for " + QUOTED + rb" and no prerequisites actually changed\.$|Target " + QUOTED
+    + rb" is double-colon and has no prerequisites\.$|Making " + QUOTED + rb" due to always-make flag\.$"
+    rb"|Makefile " + QUOTED + rb" might loop; not remaking it\.$|Re-executing\[\d+\]:"
+    rb"|Removing intermediate files\.\.\.$|Got a SIGCHLD; \d+ unreaped|(Putting|Live|Reaping winning|Reaping losing|Removing) child 0x[0-9a-f]+ "
+    rb"|(Released|Obtained) token for child 0x|Need a job token; we |Jobserver (setup|client) \()")
+LOOKED = re.compile(rb" *(?:Considering target file|Pruning file) '[^\n]*'\.\n\Z")
+TOKEN = re.compile(rb"Need a job token; we |Obtained token for child 0x|Jobserver setup \(")
+RUNNING = re.compile(rb" *Recipe of '(.*)' is being run\.\n")  # make does not wait for it: with no bound on jobs it asks for no token
+MUST = re.compile(rb" *Must remake target '(.*)'\.\n")
+STARTED = re.compile(rb"(?:Putting|Live) child (0x[0-9a-f]+) \((.*)\) PID ")  # no line is put where the first names a program that is not there
+REMADE = re.compile(rb" *(?:Successfully remade|Failed to remake) target file '(.*)'\.\n")
+OF_JOB = re.compile(rb"(Live|Reaping winning|Reaping losing|Removing) child (0x[0-9a-f]+) |Got a SIGCHLD; \d+ unreaped")
+INCLUDED = re.compile(rb"Reading makefile " + QUOTED + rb"( \([^)]*\))+\.\.\.\n")
+ENDS_OF_RECIPE = re.compile(rb"(?:Got a SIGCHLD; \d+ unreaped children\.\n)*(?:Live|Reaping winning|Reaping losing|Removing)\Z")
+BASE = b"# Make data base, printed on"
+DIRECTORY = re.compile(rb"# ([^\n]*: (Entering|Leaving) (directory|an unknown directory))")
+
+
+def goes_to(spool, number):
+    """Where what is written to a descriptor goes: `file`, `pipe`, or nothing where the build's own output or a device stands there."""
+    try:
+        found = os.fstat(number)
+    except OSError:
+        return ""
+    if stat.S_ISCHR(found.st_mode):
+        return ""
+    try:
+        with open("%s/outputs/%d.%d" % (spool, found.st_dev, found.st_ino)) as file:
+            return file.read()
+    except OSError:
+        return "file" if stat.S_ISREG(found.st_mode) else "pipe"
+
+
+def note_output(spool, number, where):
+    """Keeps where what is written to a descriptor goes, for the makes below."""
+    found = os.fstat(number)
+    with open("%s/outputs/%d.%d" % (spool, found.st_dev, found.st_ino), "w") as file:
+        file.write(where)
+
+
+class Splitter:
+    """Takes what make and its recipes write, a packet a write: make's own words go to the log, the rest goes on.
+
+    Make runs one recipe at a time and says nothing but job lines until it has ended: what else is written meanwhile is
+    the recipe's, though it looks like make's words.
+    """
+
+    def __init__(self, log, out, says=False):
+        self.log, self.out = log, out
+        self.start = True  # nothing but make's version was written yet
+        self.base = False  # inside of the data base
+        self.blank = False  # an empty line that may belong to the data base is held back
+        self.tail = False  # the empty line behind the data base is due
+        self.next = None  # the target that make is about to remake
+        self.job = b""  # the recipe that runs, by make's number for it
+        self.target = b""  # its target
+        self.is_between = False  # one of its lines has ended, and make has not started the next
+        self.unclear = []  # what looks like the data base, and may be the first words of a recipe
+        self.several = False  # make runs several recipes at once, against the recorder's words: there is no verdict
+        self.says = says  # the log says which recipes print something
+        self.has_said = False  # it says so of the recipe that runs
+        self.is_said = False  # make has printed something for the recipe that is about to run
+
+    def pass_on(self, data):
+        """Writes all of it to standard output."""
+        view = memoryview(data)
+        while view:
+            view = view[os.write(self.out, view):]
+
+    def note_said(self):
+        """Says in the log, once, that a recipe, or make for it, has printed something: where somebody keeps that, it matters."""
+        if not self.job:
+            self.is_said = self.is_said or self.next is not None
+        elif self.says and not self.has_said:
+            self.has_said = True
+            self.log.write(b"SAID " + self.job + b"\n")
+
+    def begin(self, job):
+        """Make has started a recipe."""
+        self.job, self.target, self.next, self.has_said, self.is_between = job, self.next, None, False, False
+
+    def is_of_recipe(self, packet):
+        """Whether a write comes while a recipe runs, and is not one of make's lines about it."""
+        running = RUNNING.match(packet) if self.job else None
+        if TOKEN.match(packet) or running and running.group(1) == self.target:
+            self.several, self.job, self.next = True, b"", None
+        if self.several:
+            return False
+        if not self.job:
+            return self.is_early(packet)
+        about = OF_JOB.match(packet)
+        if about is None or about.group(2) not in (None, self.job):
+            return not self.is_last(packet)
+        self.is_between = about.group(1) != b"Live"
+        if about.group(1) == b"Removing":
+            self.job = b""
+        return False
+
+    def is_last(self, packet):
+        """Whether make goes on without a line about the end of the recipe: its last line names a program that is not there, and may fail."""
+        remade = REMADE.match(packet) if self.is_between else None
+        if remade is None or remade.group(1) != self.target:
+            return False
+        self.job = b""
+        return True
+
+    def is_early(self, packet):
+        """The same where no recipe runs for all that make has said: its first words may come before make's line about it.
+
+        An included makefile is make's own word there: a recipe may include one while make expands it.
+        """
+        must, begun, remade = MUST.match(packet), STARTED.match(packet), REMADE.match(packet)
+        if self.next is None:
+            self.next, self.is_said = must.group(1) if must else None, False
+        elif begun and begun.group(2) == self.next:
+            self.begin(begun.group(1))
+        elif remade and remade.group(1) == self.next:
+            self.next = None
+        else:
+            return bool(WORD_LINE.match(packet)) and not INCLUDED.match(packet)
+        return False
+
+    def take(self, data):
+        """What was read: one write of make or of a recipe. Where a recipe has opened /dev/stdout anew, what make writes behind its words may
+        come with them."""
+        if self.next is None and not (self.job or self.unclear or self.base or self.blank) and LOOKED.match(data):  # as nearly all are
+            self.start = self.tail = self.is_said = False
+            self.log.write(data)
+            return
+        first, data = self.cut(data, False)
+        self.take_one(first)
+        while data:
+            first, data = self.cut(data, True)
+            self.take_one(first)
+
+    def cut(self, data, goes_on):
+        """The first part of what was read, and the rest: the words of a recipe end where make names its own number of it, and what make
+        writes in one piece has one line a write."""
+        at = self.own_line(data)
+        if at > 0:
+            return data[:at], data[at:]
+        end = data.find(b"\n") + 1
+        is_own = not self.job and (goes_on or 0 < end < len(data) and not self.base and WORD_LINE.match(data[:end]))
+        end = end if at == 0 or is_own else 0
+        return (data[:end], data[end:]) if end else (data, b"")
+
+    def own_line(self, data):
+        """Where the first of make's lines about the recipe that runs stands, or its line about the one that it starts; -1 where there is none."""
+        if self.job:
+            at = data.find(b" child " + self.job + b" ")
+            found = ENDS_OF_RECIPE.search(data[:at]) if at >= 0 else None
+            return -1 if found is None else found.start()
+        if self.next is not None:
+            return next((found.start() for found in STARTED.finditer(data) if found.group(2) == self.next), -1)
+        return -1
+
+    def take_one(self, packet):
+        """One write of make or of a recipe."""
+        if self.unclear:
+            self.take_unclear(packet)
+        elif not self.base and self.is_of_recipe(packet):
+            self.release()
+            self.pass_on(packet)
+            self.note_said()
+        elif self.next is not None and self.blank and packet.startswith(BASE):
+            self.blank, self.unclear = False, [b"\n", packet]
+        else:
+            self.take_own(packet)
+            if self.is_said and self.job:
+                self.is_said = False
+                self.note_said()
+
+    def take_unclear(self, packet):
+        """The data base is the last that make says: what looked like it was a recipe's where make starts that recipe now."""
+        begun = STARTED.match(packet)
+        if begun and begun.group(2) == self.next:
+            held, self.unclear = self.unclear, []
+            self.pass_on(b"".join(held))
+            self.begin(begun.group(1))
+            self.log.write(packet)
+            self.note_said()
+        else:
+            self.unclear.append(packet)
+
+    def take_own(self, packet):
+        """One write of make, or of nobody that is known."""
+        if self.blank:
+            self.blank = False
+            self.base = packet.startswith(BASE)
+            if not self.base:
+                self.pass_on(b"\n")
+        tail, self.tail = self.tail, False
+        if self.base:
+            self.log.write(packet)
+            self.base = not packet.lstrip(b"\n").startswith(b"# Finished Make data base on")
+            self.tail = not self.base and not packet.endswith(b"\n\n")
+        elif packet == b"\n":
+            self.blank = not tail
+        elif self.start and VERSION_LINE.match(packet):
+            self.log.write(packet)
+        elif WORD_LINE.match(packet):
+            self.start = packet.startswith(b"Re-executing[")
+            self.log.write(packet)
+        else:
+            self.start = False
+            self.note_said()
+            self.pass_on(packet[2:] if DIRECTORY.match(packet) else packet)
+
+    def release(self):
+        """Passes on what is held back."""
+        if self.blank:
+            self.pass_on(b"\n")
+        self.blank = self.tail = self.start = False
+
+    def end(self):
+        """Nothing more is written: what is still unclear is the data base."""
+        held, self.unclear, self.next = self.unclear, [], None
+        for packet in held:
+            self.take_own(packet)
+        self.release()
+
+
+def open_log(spool, pid):
+    """The file for the words of one life of a process number: numbers come again."""
+    number = 0
+    while True:
+        try:
+            return open("%s/%d.%d.make" % (spool, pid, number), "xb")
+        except FileExistsError:
+            number += 1
+
+
+def note_start(log, real, name, args):
+    """Keeps how this make was started, beside its log, where the recorder asks it again after the build: SPOOL/again says so."""
+    if os.path.exists(os.path.dirname(log) + "/again"):
+        words = [real, name, os.getcwd(), "%d" % len(args), *args, *("%s=%s" % pair for pair in os.environ.items())]
+        with open(log[:-len("make")] + "start", "wb") as file:
+            file.write(b"\0".join(os.fsencode(word) for word in words))
+
+
+def note_past(spool, args):
+    """A make that prints its own words, and yet runs recipes: nobody can say what they do."""
+    with open("%s/%d.past" % (spool, os.getpid()), "a", encoding="utf-8", errors="surrogateescape") as file:
+        file.write("make " + " ".join(args).replace("\n", " ") + "\n")
+
+
+def relay(splitter, reading):
+    """Passes on what processes write that outlive make."""
+    if os.fork() == 0:
+        try:
+            while packet := os.read(reading, 65536):
+                splitter.pass_on(packet)
+        finally:
+            os._exit(0)
+
+
+def serve(splitter, child, reading):
+    """Reads what make writes until it has ended; gives its raw status."""
+    watch = os.pidfd_open(child)
+    poller = select.poll()
+    poller.register(reading, select.POLLIN)
+    poller.register(watch, select.POLLIN)
+    os.set_blocking(reading, False)
+    ended = False
+    while True:
+        if not ended:
+            ended = watch in [fd for fd, _ in poller.poll()]
+        try:
+            packet = os.read(reading, 65536)
+        except BlockingIOError:
+            if not ended:
+                continue
+            splitter.end()
+            os.set_blocking(reading, True)
+            relay(splitter, reading)
+            break
+        if not packet:
+            splitter.end()
+            break
+        splitter.take(packet)
+    return os.waitpid(child, 0)[1]
+
+
+def is_one_file(first, second):
+    """Whether two descriptors lead to one file or pipe: what is written to both then stays in its order."""
+    try:
+        return os.path.samestat(os.fstat(first), os.fstat(second))
+    except OSError:
+        return False
+
+
+def is_closed(number):
+    """Whether a descriptor is closed."""
+    try:
+        os.fstat(number)
+    except OSError:
+        return True
+    return False
+
+
+def head_of(args, flags, below, slots, where, errors, spoken):
+    """The first lines of a log: the words of make, where its output goes, and whether it speaks English for the recorder alone."""
+    lines = (("ARGS", " ".join(args)), ("FLAGS", flags), ("BELOW", "%d" % below), ("JOBS", slots), ("OUTPUT", where), ("ERRORS", errors), ("SPOKEN", "%d" % spoken))
+    return "".join("%s %s\n" % (key, text.replace("\n", " ")) for key, text in lines).encode("utf-8", "surrogateescape")
+
+
+def as_usual():
+    """Signals that Python or this program ignores do what they do without them."""
+    for one in (signal.SIGPIPE, signal.SIGXFSZ, signal.SIGINT):
+        signal.signal(one, signal.SIG_DFL)
+
+
+def run_logged(spool, name, real, args, flags, below, slots):
+    """Runs make with the recorder's words and keeps what it says; gives its raw status."""
+    extra, spoken = WORDS + (["-j1"] if asks_jobs(args, flags) else []), speak_english(os.environ)
+    where, errors = goes_to(spool, 1), "" if is_one_file(1, 2) else goes_to(spool, 2)
+    split = args.index("--") if "--" in args else len(args)
+    reading, writing = os.pipe2(os.O_DIRECT | os.O_CLOEXEC)
+    note_output(spool, writing, where)
+    child = os.fork()
+    if child == 0:
+        as_usual()
+        if is_one_file(1, 2):
+            os.dup2(writing, 2)
+        os.dup2(writing, 1)
+        os.execv(real, [name] + args[:split] + extra + args[split:])
+    os.close(writing)
+    signal.signal(signal.SIGTERM, lambda *_: os.kill(child, signal.SIGTERM))
+    with open_log(spool, child) as log:
+        note_start(log.name, real, name, args)
+        log.write(head_of(args, flags, below, slots, where, errors, spoken))
+        try:
+            raw = serve(Splitter(log, 1, where != ""), child, reading)
+        except OSError:  # nobody reads it, or the device is full: make finds that out by itself
+            os.close(reading)
+            raw = os.waitpid(child, 0)[1]
+        log.write(b"EXIT %d\n" % raw)
+    return raw
+
+
+def main():
+    """Runs the real make, as the caller asked."""
+    signal.signal(signal.SIGINT, signal.SIG_IGN)
+    me = os.path.abspath(sys.argv[0])
+    spool, name, args = os.path.dirname(os.path.dirname(me)), os.path.basename(me), sys.argv[1:]
+    with open(spool + "/real") as file:
+        real = file.read()
+    if WORDS[0] in args and "MAKE_RESTARTS" in os.environ:  # make has remade a makefile and begins again
+        os.execv(real, [name] + args)
+    below = any(WORDS[0] in text for text in [*args, os.environ.get("MAKEFLAGS", "")])
+    slots, args = jobs_of_call(args), plain_args(args)
+    flags = without_words(os.environ.get("MAKEFLAGS", ""))
+    if "MAKEFLAGS" in os.environ:
+        os.environ["MAKEFLAGS"] = flags
+    if os.environ.get("MFLAGS", "").startswith("-"):
+        words = without_words(os.environ["MFLAGS"][1:])
+        os.environ["MFLAGS"] = "-" + words if words and not words.startswith("-") else words
+    query = asked(args, flags)
+    if query or is_closed(1):
+        if not query & set("vhnqt"):
+            note_past(spool, args + ["(its standard output is closed)"] * (not query))
+        as_usual()
+        os.execv(real, [name] + args)
+    raw = run_logged(spool, name, real, args, flags, below, slots)
+    if os.WIFSIGNALED(raw):
+        if os.WTERMSIG(raw) != signal.SIGKILL:
+            signal.signal(os.WTERMSIG(raw), signal.SIG_DFL)
+        os.kill(os.getpid(), os.WTERMSIG(raw))
+    sys.exit(os.WEXITSTATUS(raw))
+

@@ -1,0 +1,282 @@
+"""The tasks of an old tree, for `race missing`: what each recipe reads and writes, which file it makes, and which files make it run.
+
+A task that makes a file and whose prerequisites are known says both. Each other task always runs, so it misses nothing: it is counted.
+"""
+
+import os
+from typing import Any, Dict, Iterator, List, Mapping, Optional, Set
+
+from record.assumptions import Assumptions
+from record.make.database import Base
+from record.make.graph import Build, Node, Task, order_tasks
+from record.make.macros import Macros
+from record.missing.keeping import asks_what_is_newer, expands_by_files, keeps
+from record.missing.later import needs_of, phony_of
+from record.missing.looked import Footprints
+from record.tasks import labels_of, lines_of, relative
+from record.trace.names import Names
+
+NEVER = "@never"  # folders that no project has: names below this one stand for targets that never have a file,
+KEPT = "@kept"  # and below this one for the run of a recipe that leaves its target alone where nothing has changed
+NODES, EDGES, PATHS = 20_000, 200_000, 1_000_000  # what a text of tasks may hold
+
+
+class OldTree:
+    """Makes the text; see the module."""
+
+    def __init__(self, build: Build, names: Names, later: Base, premises: Assumptions, out: str, turned: Mapping[int, Set[str]] = {}) -> None:
+        self.build, self.names, self.later, self.premises = build, names, later, premises
+        self.first = build.graph.base
+        self.phony = phony_of(self.first, later)
+        self.foot = Footprints(build, names, out, turned)
+        self.known = Macros(build.make, self.first)
+        self.tasks = [Task(t.label, t.node, t.kind, set(t.after), r, w) for t, r, w in zip(build.tasks, self.foot.reads, self.foot.writes)]
+        self.labels = labels_of(build.tasks)
+        self.writers = self.names_of_writers()
+        self.makes: Dict[int, str] = {}
+        self.needs: Dict[int, List[str]] = {}
+        self.paths: Dict[str, List[str]] = {}  # by prerequisite
+        self.owners: Dict[int, str] = {}  # of a task that stands for an output: the label of the recipe
+        self.kept: Set[int] = set()  # recipes that may leave their target alone where nothing has changed
+        self.fresh: Set[str] = set()  # what is made anew in each build
+        self.choose()
+        self.lend_names()
+        self.drop_lonely()
+        if self.is_too_large():
+            self.drop_named()
+        self.sort()
+        self.count()
+
+    # ---------------------------------------------------------------- which tasks say when they run
+    def spelled(self, name: str) -> str:
+        """A target as make looks for it: by `VPATH`, and of a member the archive."""
+        found = self.build.graph.round.vpath.get(name, name)
+        return found.partition("(")[0] if found.endswith(")") and "(" in found else found
+
+    def own_path(self, node: Node) -> str:
+        """The target's own name: a link is not followed."""
+        return self.names.find(self.build.folder, self.spelled(node.name), False).path
+
+    def choose(self) -> None:
+        """The tasks that make a file, and what they need."""
+        found: Dict[str, List[int]] = {}
+        for at, task in enumerate(self.tasks):
+            if task.kind == "recipe":
+                path, needs = self.own_path(task.node), self.paths_needed(task.node)
+                why = self.why_not(at, path, needs)
+                if why:
+                    self.premises.add(why, task.node.name)
+                else:
+                    self.needs[at] = [one for one in needs or () if one != path]
+                    self.note_run(at, path)
+                    stand_in = self.stand_in(KEPT, relative(self.build.folder, path))
+                    found.setdefault(stand_in if at in self.kept else path, []).append(at)
+        for path, who in found.items():
+            if len(who) == 1:
+                self.makes[who[0]] = path
+                self.tasks[who[0]].writes.add(path)
+            else:
+                self.premises.add("unjudged", self.tasks[who[0]].node.name, len(who))
+        self.needs = {at: self.needs[at] for at in self.makes}
+        own = {path for at, needs in self.needs.items() for path in self.foot.both[at].difference(needs)}
+        for path in sorted(own):
+            self.premises.add("own", relative(self.build.folder, path))
+
+    def why_not(self, at: int, path: str, needs: Optional[List[str]]) -> str:
+        """Why a task has no file that says when it runs: the premise that counts it, or nothing."""
+        node = self.tasks[at].node
+        if node.name in self.phony or node.phony:
+            return "always"
+        if node.name in self.first.double or node.name.endswith(")") or not self.foot.is_inside(path):
+            return "unjudged"
+        if not self.is_there(node.name, path):
+            return "always"
+        return "unjudged" if needs is None or path not in self.tasks[at].writes | self.foot.folders[at] else ""
+
+    def is_there(self, name: str, path: str) -> bool:
+        """Whether a target has a file when the build has ended; an intermediate one is removed by make alone."""
+        return os.path.lexists(path) or name in self.first.intermediate
+
+    def stand_in(self, kind: str, name: str) -> str:
+        """A name that no file has, in the place of another."""
+        return "%s/%s/%s" % (self.build.folder.rstrip("/"), kind, name.strip("/") or "root")
+
+    def note_run(self, at: int, path: str) -> None:
+        """Notes whether a recipe may leave its target alone, or makes it anew in each build."""
+        task, never = self.build.tasks[at], self.stand_in(NEVER, "/")[: -len("root")]
+        is_forced = any(one in self.fresh or one.startswith(never) for one in self.needs[at])
+        asks = asks_what_is_newer(task.node.name, self.known)
+        acts = self.build.make.acts.get((self.build.graph.number, task.node.name))
+        if asks:
+            self.premises.add("newer", task.node.name)
+        if asks and is_forced:
+            self.needs[at] = [one for one in self.needs[at] if not one.startswith(never)]
+        if asks and is_forced or keeps(task, path, self.first, is_forced) or is_forced and expands_by_files(task, self.known, acts):
+            self.kept.add(at)
+        elif is_forced:
+            self.fresh.update({path}, self.tasks[at].writes)
+
+    def paths_needed(self, node: Node) -> Optional[List[str]]:
+        """The files that make a target run, those of all targets of its recipe."""
+        found: Dict[str, None] = {}
+        for name in (node.name, *self.first.also.get(node.name, [])):
+            needs = needs_of(name, self.first, self.later, self.build.graph.round.vpath)
+            if needs is None or any(self.is_lost(one) for one in needs):
+                return None
+            for one in needs:
+                if one not in self.paths:
+                    self.paths[one] = list(self.paths_of(one))
+                found.update(dict.fromkeys(self.paths[one]))
+        return list(found)
+
+    def paths_of(self, name: str) -> Iterator[str]:
+        """The names on whose ages a prerequisite comes down: its own, and what it leads to. None of them is outside of the project."""
+        if name.startswith("-l") and name not in self.build.graph.round.vpath:
+            return
+        paths = [self.names.find(self.build.folder, self.spelled(name), follow).path for follow in (False, True)]
+        if name in self.phony or not self.is_there(name, paths[0]):
+            yield self.stand_in(NEVER, name)
+        else:
+            yield from (path for path in dict.fromkeys(paths) if self.foot.is_inside(path) and self.is_behind(name, path))
+
+    def is_lost(self, name: str) -> bool:
+        """Whether a prerequisite is one that this build has not met, and is not there under its own name: make may search for it."""
+        return name not in self.build.graph.round.nodes and name not in self.phony and not self.is_there(name, self.names.find(self.build.folder, name, False).path)
+
+    def names_of_writers(self) -> Dict[str, Set[str]]:
+        """For each path that a recipe writes the targets of these recipes."""
+        found: Dict[str, Set[str]] = {}
+        for task in self.tasks:
+            for path in task.writes if task.kind == "recipe" else ():
+                found.setdefault(path, set()).update((task.node.name, *self.first.also.get(task.node.name, ())))
+        return found
+
+    def is_behind(self, name: str, path: str) -> bool:
+        """Whether make looks at a path by this name when a recipe that writes it has ended: the name is the target of that recipe, or
+        has one of its own, be it empty, that runs behind it. Else make takes the age of the file as it was before."""
+        writers, seen = self.writers.get(path) if path not in self.names.before else None, set()
+        todo = [name, self.build.graph.round.vpath.get(name, name)]
+        while todo and writers:
+            one = todo.pop()
+            if one in writers or self.first.recipes.get(one) in [text for text in map(self.first.recipes.get, writers) if text]:
+                return True  # its own recipe, or one of `a b: c`
+            if one not in seen and any(one in base.recipes or one in base.places for base in (self.first, self.later)):
+                todo += [*self.first.prerequisites.get(one, ()), *self.later.prerequisites.get(one, ())]
+            seen.add(one)
+        return not writers
+
+    # ---------------------------------------------------------------- one maker for each name
+    def lend_names(self) -> None:
+        """What is needed and is another output of a recipe gets a task of its own behind that recipe; each target has one writer."""
+        makers, writing = {path: at for at, path in self.makes.items()}, self.writing()
+        for path in sorted({*makers, *(one for needs in self.needs.values() for one in needs)}):
+            writers = [at for at in writing.get(path, ()) if makers.get(path) != at]
+            for at in writers:
+                self.tasks[at].writes.discard(path)
+                if path in makers and path in self.foot.changes[at]:
+                    self.tasks[at].reads.add(path)
+            also = [at for at in writers if path in makers or path in self.needs.get(at, ())]
+            if also:
+                self.premises.add("rewritten", relative(self.build.folder, path))
+            if len(writers) > len(also):
+                self.lend(path, [at for at in writers if at not in also])
+
+    def writing(self) -> Dict[str, List[int]]:
+        """For each name the tasks that write it."""
+        found: Dict[str, List[int]] = {}
+        for at, task in enumerate(self.tasks):
+            for path in task.writes:
+                found.setdefault(path, []).append(at)
+        return found
+
+    def lend(self, path: str, writers: List[int]) -> None:
+        """A task that stands for one more output of a recipe."""
+        at, is_before = len(self.tasks), self.build.is_before
+        for user, task in enumerate(self.tasks[: len(self.build.tasks)]):
+            if (path in task.reads or path in self.needs.get(user, ())) and all(is_before(one, user) for one in writers):
+                task.after.add(at)
+        label = self.tasks[writers[-1]].label + "@also"
+        self.tasks.append(Task(label, self.tasks[writers[-1]].node, "file", set(writers), set(), {path}))
+        while label in self.labels:
+            label += "+"
+        self.labels.append(label)
+        self.makes[at], self.needs[at] = path, [self.makes[one] for one in writers if one in self.makes and one not in self.kept]
+        self.owners[at] = self.labels[writers[-1]]
+        self.premises.add("outputs", relative(self.build.folder, path))
+
+    def drop_lonely(self) -> None:
+        """Names that one task alone touches say nothing, except that of its own file."""
+        count: Dict[str, int] = {}
+        for task in self.tasks:
+            for path in task.reads | task.writes:
+                count[path] = count.get(path, 0) + 1
+        for at, task in enumerate(self.tasks):
+            task.writes = {path for path in task.writes if count[path] > 1 or self.makes.get(at) == path}
+
+    def is_too_large(self) -> bool:
+        """Whether the text would pass a limit: files that are needed, and waiting for others, are nodes as well."""
+        files = {one for needs in self.needs.values() for one in needs} - set(self.makes.values())
+        edges = sum(len(needs) for needs in self.needs.values()) + sum(len(task.after) + 1 for task in self.tasks)
+        paths = sum(len(task.reads) + len(task.writes) for task in self.tasks)
+        return 2 * len(self.tasks) + len(files) > NODES or edges > EDGES or paths > PATHS
+
+    def drop_named(self) -> None:
+        """Leaves out the sources that each of their readers names: nobody misses them, and they wake nobody else."""
+        written = {*self.makes.values(), *(path for task in self.tasks for path in task.writes)}
+        unnamed = {path for at, task in enumerate(self.tasks) for path in task.reads.difference(self.needs.get(at, ())) if at in self.makes}
+        needed = {one for needs in self.needs.values() for one in needs if os.path.lexists(one)}
+        named = {*needed, *(path for task in self.tasks for path in task.reads)} - written - unnamed
+        self.premises.add("named", relative(self.build.folder, min(named, default="")), len(named))
+        for task in self.tasks:
+            task.reads -= named
+        self.needs = {at: [one for one in needs if one not in named] for at, needs in self.needs.items()}
+
+    def sort(self) -> None:
+        """Brings the tasks in an order in which each file is made before it is needed."""
+        makers = {path: at for at, path in self.makes.items()}
+        edges = [task.after | {makers[one] for one in self.needs.get(at, ()) if one in makers} for at, task in enumerate(self.tasks)]
+        keys = [(at, 0) if at < len(self.build.tasks) else (max(task.after), 1) for at, task in enumerate(self.tasks)]
+        order, dropped = order_tasks(self.tasks, edges, keys)
+        if dropped:
+            self.premises.add("later-ring", "make %s" % self.build.words, dropped)
+        place = {old: new for new, old in enumerate(order)}
+        for at, task in enumerate(self.tasks):
+            task.after = {place[one] for one in task.after if place[one] < place[at]}
+        self.needs = {place[at]: [one for one in needs if one not in makers or place[makers[one]] < place[at]] for at, needs in self.needs.items()}
+        self.makes = {place[at]: path for at, path in self.makes.items()}
+        self.owners = {place[at]: label for at, label in self.owners.items()}
+        self.tasks, self.labels = [self.tasks[at] for at in order], [self.labels[at] for at in order]
+
+    # ---------------------------------------------------------------- what comes out
+    def count(self) -> None:
+        """What is taken for granted of all that was looked at."""
+        seen = self.foot.seen
+        for kind, names in (("beyond", seen.outside), ("looks", seen.looks), ("unlisted", seen.absent)):
+            if names:
+                example = min(names, key=lambda path: (os.path.isdir(path) and not os.path.islink(path), not os.path.lexists(path), path))
+                self.premises.add(kind, relative(self.build.folder, example), len(names))
+        timed = self.foot.set_back & {*self.makes.values(), *(one for needs in self.needs.values() for one in needs)}
+        for path in sorted(timed):
+            self.premises.add("times", relative(self.build.folder, path))
+
+    def judged(self) -> int:
+        """How many recipes say when they run."""
+        return sum(1 for at in self.makes if self.tasks[at].kind == "recipe")
+
+    def lines(self) -> Iterator[str]:
+        """The text of tasks."""
+        root = self.build.folder
+        more: Dict[int, Dict[str, Any]] = {}
+        for at, path in self.makes.items():
+            more[at] = {"makes": relative(root, path), "needs": list(dict.fromkeys(relative(root, one) for one in self.needs[at]))}
+            more[at].update({"of": self.owners[at]} if at in self.owners else {})
+            outputs = {relative(root, one): one for one in (self.tasks[at].writes if at in self.owners or KEPT in path else ()) if KEPT not in one}
+            loose = sorted(name for name, one in outputs.items() if not self.is_behind(name, one))
+            more[at].update({"loose": loose} if loose else {})
+        return (line for _, line in lines_of(self.tasks, root, self.labels, more))
+
+    def listing(self) -> List[str]:
+        """The files that tasks read or need, are there, and are made by none of them."""
+        made = {*self.makes.values(), *(path for task in self.tasks for path in task.writes)}
+        named = {*(path for task in self.tasks for path in task.reads), *(one for needs in self.needs.values() for one in needs)} - made
+        return sorted(relative(self.build.folder, path) for path in named if path in self.names.before or path in self.foot.gone or os.path.lexists(path))

@@ -1,0 +1,178 @@
+"""What make knows in a later build: it is asked once more when the build has ended, with the same words, folder and environment.
+
+The dependency files that the build wrote (`-include *.d`) are part of that. Make reads its makefiles and one more behind them, which
+stops it: it prints its data base, and considers, runs and remakes nothing. Only what a makefile calls while it is read, such as
+`$(shell ..)`, runs again, as it does in each build.
+"""
+
+import os
+import re
+import subprocess
+from dataclasses import dataclass
+from pathlib import Path
+from typing import Dict, List, Optional, Set
+
+from record.make.database import Base, read_base
+from record.make.options import CLUSTER, LONG_WITH_WORD
+from record.make.owners import Make
+from record.make.words import makefiles
+
+STOP = "race-record: the makefiles are read"
+DEFAULTS = ("GNUmakefile", "makefile", "Makefile")
+SECONDS = 120
+OF_CMAKE = "/compiler_depend.make"
+
+
+class Unknown(Exception):
+    """Why nobody can say what a make knows in a later build."""
+
+
+@dataclass
+class Start:
+    """How a make was started."""
+
+    real: str
+    name: str
+    folder: str
+    args: List[str]
+    environment: Dict[str, str]
+
+
+def read_start(path: Path) -> Start:
+    """What the wrapper kept of a make."""
+    words = [os.fsdecode(word) for word in path.read_bytes().split(b"\0")]
+    count = 4 + int(words[3])
+    pairs = (word.partition("=") for word in words[count:])
+    return Start(words[0], words[1], words[2], words[4:count], {name: value for name, _, value in pairs})
+
+
+def makefiles_in(args: List[str]) -> List[str]:
+    """The makefiles that the words of a command line name."""
+    found: List[str] = []
+    skip = False
+    for word, following in zip(args, args[1:] + [""]):
+        if skip:
+            skip = False
+            continue
+        if word == "--":
+            break
+        begun, equals, value = word.partition("=")
+        if word.startswith("--"):
+            is_file = len(begun) > 3 and any(name.startswith(begun) for name in ("--file", "--makefile"))
+            skip = not equals and len(begun) > 3 and any(name.startswith(begun) for name in LONG_WITH_WORD)
+        else:
+            cluster = CLUSTER.match(word)
+            letter, value = cluster.group(2, 3) if cluster else ("", "")
+            is_file = letter == "f"
+            skip = letter != "" and letter in "CfIoWE" and value == ""
+        if is_file:
+            found.append(following if skip else value)
+    return found
+
+
+def words_again(args: List[str], folder: str, stop: str) -> List[str]:
+    """The words that let make read its makefiles and then the one that stops it."""
+    named = makefiles_in(args)
+    if "-" in named:
+        raise Unknown("its makefile came from standard input")
+    if not named:
+        named = [name for name in DEFAULTS if os.path.exists(os.path.join(folder, name))][:1]
+        extra = [word for name in named for word in ("-f", name)]
+    else:
+        extra = []
+    split = args.index("--") if "--" in args else len(args)
+    return [*args[:split], "-p", "-q", *extra, "-f", stop, *args[split:]]
+
+
+def environment_of(start: Start, spool: Path) -> Dict[str, str]:
+    """The environment without the recorder's folder in front of PATH."""
+    own = str(spool / "bin") + ":"
+    found = dict(start.environment)
+    if found.get("PATH", "").startswith(own):
+        found["PATH"] = found["PATH"][len(own):]
+    return found
+
+
+def ask(make: Make, spool: Path) -> Base:
+    """The data base of a make as a later build has it."""
+    path = spool / ("%d.%d.start" % (make.words.pid, make.words.life))
+    if not path.exists():
+        raise Unknown("nobody kept how it was started")
+    start = read_start(path)
+    stop = spool / "stop.mk"
+    stop.write_text("$(error %s)\n" % STOP)
+    words = [start.name, *words_again(start.args, make.folder, str(stop))]
+    try:
+        ran = subprocess.run(words, executable=start.real, cwd=start.folder, env=environment_of(start, spool), capture_output=True,
+                             stdin=subprocess.DEVNULL, timeout=SECONDS, check=False)
+    except (OSError, subprocess.TimeoutExpired) as fault:
+        raise Unknown(str(fault)) from fault
+    said = ran.stderr.decode("utf-8", "surrogateescape")
+    if STOP not in said:
+        raise Unknown("it cannot read its makefiles again: " + " ".join(said.split())[-200:])
+    found = read_base(ran.stdout.decode("utf-8", "surrogateescape").splitlines())
+    if any(name.endswith(OF_CMAKE) for name in makefiles(make.words)):
+        add_headers(found, make.folder)
+    return found
+
+
+def add_headers(base: Base, folder: str) -> None:
+    """CMake takes the compiler's dependency files into its makefiles when the next build begins: they count as they are now."""
+    for name in list(base.prerequisites):
+        path = Path(folder, name + ".d")
+        if path.is_file():
+            words = (short(one, folder) for one in words_of(path.read_text(errors="surrogateescape")))
+            new = [one for one in dict.fromkeys(words) if one not in base.prerequisites[name]]
+            base.prerequisites[name] += new
+            for one in new:
+                base.prerequisites.setdefault(one, [])
+
+
+def short(name: str, folder: str) -> str:
+    """A name as CMake writes it in its makefiles: from the folder that make works in, where it is below that."""
+    return name[len(folder.rstrip("/")) + 1:] if name.startswith(folder.rstrip("/") + "/") else name
+
+
+def words_of(text: str) -> List[str]:
+    """The prerequisites of a dependency file as compilers write it, of its first rule."""
+    rule = text.replace("\\\n", " ").split("\n", 1)[0].partition(": ")[2]
+    return [re.sub(r"\\([ #])", r"\1", word).replace("$$", "$") for word in re.findall(r"(?:\\.|\S)+", rule)]
+
+
+class Laters:
+    """What the makes of a record know in a later build; each is asked once."""
+
+    def __init__(self, spool: Path) -> None:
+        self.spool = spool
+        self.known: Dict[int, Base] = {}
+        self.faults: Dict[int, str] = {}
+
+    def base(self, make: Make) -> Optional[Base]:
+        """The data base of a make; None where it cannot be known, and `faults` then says why."""
+        key = id(make)
+        if key not in self.known and key not in self.faults:
+            try:
+                self.known[key] = ask(make, self.spool)
+            except Unknown as fault:
+                self.faults[key] = "make %s in %s: %s" % (make.words.args, make.folder, fault)
+        return self.known.get(key)
+
+
+def phony_of(*bases: Base) -> Set[str]:
+    """The phony targets of some data bases: one that was stopped early has only what `.PHONY` names."""
+    return {name for base in bases for name in (*base.phony, *base.prerequisites.get(".PHONY", []))}
+
+
+def needs_of(name: str, first: Base, later: Base, vpath: Dict[str, str]) -> Optional[List[str]]:
+    """The prerequisites of a target whose ages count, in a later build. None where the makefiles then say less than they did, or
+    where a name is none of the data base: blanks in names cut them.
+
+    What an implicit rule adds is known from the build itself: a make that was stopped did not search.
+    """
+    then, now = first.prerequisites.get(name, []), later.prerequisites.get(name, [])
+    spelled = {*now, *(vpath.get(one, one) for one in now)}
+    is_searched = name in first.implicit or ".SECONDEXPANSION" in first.prerequisites
+    if not is_searched and not spelled.issuperset(then):
+        return None
+    found = list(dict.fromkeys([*then, *now]))
+    return found if all(one in first.prerequisites or one in later.prerequisites for one in found) else None

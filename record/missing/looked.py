@@ -1,0 +1,143 @@
+"""What each recipe of a build reads and writes in the project, for the tasks of an old tree."""
+
+import os
+import re
+from dataclasses import dataclass
+from fnmatch import fnmatchcase
+from typing import Dict, Iterable, List, Mapping, Set, Tuple
+
+from record.make.called import called_by
+from record.make.graph import Build, Task
+from record.tools.shelltext import is_removal
+from record.trace.names import Names
+
+CHANGES = "WCD"
+BYTE_CODE = re.compile(r"(.*/)__pycache__/([^/.]+)\.[^/]*$", re.S)
+FIXED = re.compile(r"/\.git/objects/|/CMakeFiles/[^/]+\.dir/cmake_clean_target\.cmake$")  # no edit changes what git names by its sum, or CMake writes
+
+
+def is_below(path: str, folder: str) -> bool:
+    """Whether a path is a folder or below it."""
+    return path == folder or path.startswith(folder.rstrip("/") + "/")
+
+
+@dataclass
+class Seen:
+    """What the recipes of a build looked at and no task holds: it is taken that it stays as it is."""
+
+    outside: Set[str]
+    looks: Set[str]  # asked for, and not read; links; folders that were listed
+    absent: Set[str]
+
+
+class Footprints:
+    """What each recipe of a build reads and writes in the project."""
+
+    def __init__(self, build: Build, names: Names, out: str, turned: Mapping[int, Set[str]] = {}) -> None:
+        self.build, self.names, self.out = build, names, out
+        self.reads: List[Set[str]] = [set() for _ in build.tasks]
+        self.writes: List[Set[str]] = [set() for _ in build.tasks]
+        self.removes: List[Set[str]] = [set() for _ in build.tasks]
+        self.folders: List[Set[str]] = [set() for _ in build.tasks]  # that it makes, or finds made
+        self.own_looks: List[Set[str]] = [set() for _ in build.tasks]
+        self.seen = Seen(set(), set(), set())
+        self.set_back: Set[str] = set()  # names whose time a recipe sets
+        self.gone: Set[str] = set()  # files that are read, and that somebody else makes and removes
+        self.known: Dict[str, bool] = {}  # names that are read: whether they can change and matter
+        for at, task in enumerate(build.tasks):
+            for kind, path in self.events(task) if task.kind == "recipe" else ():
+                self.take(at, kind, path)
+        for at, paths in turned.items():
+            self.reads[at] |= paths  # looks that a later build answers otherwise
+        self.written = set().union(*self.writes)
+        for at, task in enumerate(build.tasks):
+            self.writes[at] |= self.removed_later(at, task)
+        self.drop_temporaries()
+        self.changes = [{path for path in self.reads[at] & self.writes[at] if self.is_read_first(task, path)} for at, task in enumerate(build.tasks)]
+        self.both = [{path for path in reads & writes if names.before.get(path) == "f"} for reads, writes in zip(self.reads, self.writes)]  # sources that it changes
+        for at in range(len(build.tasks)):
+            self.reads[at] = {path for path in self.reads[at] - self.writes[at] if self.is_input(path)}
+            self.seen.looks |= self.own_looks[at] - self.reads[at] - self.written
+        self.seen.looks |= {path for path in self.written if os.path.islink(path)}
+        self.seen.absent -= self.written
+
+    def events(self, task: Task) -> Iterable[Tuple[str, str]]:
+        """What a recipe did, and what make did for it."""
+        for work in task.works:
+            yield from work.events
+        acts = self.build.make.acts.get((self.build.graph.number, task.node.name)) if task.node.rule == 0 else None
+        looks = self.build.make.looked.get(task.node.name, {})
+        seen = min(looks.values(), default=0)  # what came earlier is what the makefiles call while they are read
+        if acts is not None:
+            born = min((life.born for work in task.works for life in work.lives), default=1 << 60)
+            again = self.called_between(seen, born) if min(acts.events.values(), default=seen + 1) <= seen else set()
+            yield from (event for event, place in acts.events.items() if place > seen or event in again)
+
+    def called_between(self, seen: int, born: int) -> Set[Tuple[str, str]]:
+        """What make itself calls before a recipe starts: a file may be read for the recipe though it was read earlier too."""
+        return {event for life in called_by(self.build.make) if seen < life.born < born for event in life.events}
+
+    def is_inside(self, path: str) -> bool:
+        """Whether a name is in the project, and not in the record."""
+        return any(is_below(path, top) for top in self.names.tops) and not is_below(path, self.out)
+
+    def take(self, at: int, kind: str, path: str) -> None:
+        """One event."""
+        name, mark, other = path.rstrip("/").partition("\0")
+        if kind == "c" and mark and not other:
+            self.set_back.add(name)
+        if kind not in "RSNLWCDMTE":
+            return
+        code = BYTE_CODE.match(name)
+        if code and kind != "R":
+            return  # Python keeps what it has compiled, and holds it against the source
+        name = code.group(1) + code.group(2) + ".py" if code else name
+        if not self.is_inside(name):
+            if kind == "R":
+                self.seen.outside.add(name)
+        elif kind in "MTE" or path.endswith("/"):
+            self.folders[at].add(name)
+        elif kind in CHANGES:
+            self.writes[at].add(name)
+            if kind == "D":
+                self.removes[at].add(name)
+        elif kind == "R":
+            self.reads[at].add(name)
+        else:
+            (self.seen.absent if kind == "N" else self.own_looks[at]).add(name)
+
+    def removed_later(self, at: int, task: Task) -> Set[str]:
+        """What a recipe finds nothing to remove of in this build, and what another recipe makes: a later build has it when the first one runs."""
+        asked = {path.rstrip("/") for work in task.works for life in work.lives if is_removal(life.argv) for kind, path in life.events if kind in "NL"}
+        plain, listed = {path for path in asked if "\0" not in path}, [path.split("\0") for path in asked if "\0" in path]
+        others = set().union(*(writes for other, writes in enumerate(self.writes) if other != at)) - self.writes[at] if asked else set()
+        return {path for path in others if any(is_below(path, name) for name in plain)
+                or any(os.path.dirname(path) == folder and fnmatchcase(os.path.basename(path), pattern) for folder, pattern in listed)}
+
+    @staticmethod
+    def is_read_first(task: Task, path: str) -> bool:
+        """Whether a recipe reads a file before it writes it."""
+        never = 1 << 60
+        read, written = (min((work.events.get((kind, path), never) for work in task.works for kind in kinds), default=never) for kinds in ("R", "WC"))
+        return read <= written
+
+    def drop_temporaries(self) -> None:
+        """Names that are gone before and after the build, where each recipe that touches them makes and removes them itself."""
+        gone = {path for path in self.written if path not in self.names.before and not os.path.lexists(path)}
+        for at, (reads, writes) in enumerate(zip(self.reads, self.writes)):
+            gone -= (reads | writes) - self.removes[at]
+        for at in range(len(self.reads)):
+            self.reads[at] -= gone
+            self.writes[at] -= gone
+        self.written -= gone
+
+    def is_input(self, path: str) -> bool:
+        """Whether a name that is read can change and matter: a file that is written here, or that is there."""
+        if path not in self.known:
+            is_link = self.names.before.get(path) == "l"
+            if path not in self.names.before and not os.path.lexists(path) and path not in self.written:
+                self.gone.add(path)
+            self.known[path] = path in self.written or not os.path.isdir(path) and not is_link and not FIXED.search(path)
+            if is_link and not self.known[path]:
+                self.seen.looks.add(path)
+        return self.known[path]

@@ -1,0 +1,180 @@
+"""The answer on missing inputs as text: what each recipe reads that make does not know of, the line to add, and the premises."""
+
+import hashlib
+import os
+import textwrap
+from dataclasses import dataclass
+from pathlib import Path
+from typing import Any, Dict, Iterator, List, Tuple
+
+from record.missing.inputs import Answer, Found, judge_missing
+from record.report import Colours, place, plural, read_json, target
+
+SHOWN_FILES, SHOWN_TARGETS = 40, 5
+HEADERS = (".h", ".hh", ".hpp", ".hxx", ".inc", ".def")
+ADVICE = "advice: let the compiler name headers itself: -MMD in its words, and -include of the .d files that it writes"
+
+
+@dataclass(frozen=True)
+class Judged:
+    """One build of the record, with what `race missing` says of it."""
+
+    number: str
+    about: Dict[str, Any]
+    answer: Answer
+    project: str  # the folder that was recorded
+
+    def in_project(self, path: str) -> str:
+        """A path from the folder that was recorded; whole where it is not below it."""
+        whole = os.path.normpath(os.path.join(self.about["folder"], path))
+        below = os.path.relpath(whole, self.project)
+        return whole if below.startswith("..") else below
+
+    def rule(self, label: str) -> Tuple[str, int]:
+        """The makefile and the line of a recipe."""
+        found = self.about["labels"].get(label, {})
+        return (self.in_project(found["file"]), found["line"]) if found.get("file") else ("", 0)
+
+    def target(self, label: str) -> str:
+        """The target of a task."""
+        return target(self.about, label)
+
+    def name(self, path: str) -> str:
+        """A path as a makefile spells it: from the folder of its make."""
+        return os.path.relpath(path, self.about["folder"]) if path.startswith("/") else path
+
+    def late(self, one: Found) -> str:
+        """The target that gets a prerequisite."""
+        return self.target(one.writer if one.kind == "shared" else one.reader)
+
+    def early(self, one: Found) -> str:
+        """That prerequisite; nothing where there is no line to add. A source that nobody makes can always be one."""
+        if one.kind == "missing" and not one.writer:
+            return self.name(one.path)
+        if not one.add:
+            return ""
+        return self.target(one.reader) if one.kind == "shared" else self.name(one.needed)
+
+    def fingerprint(self, one: Found) -> str:
+        """What stays the same where lines move: the kind, the path and the targets."""
+        parts = (one.kind, self.in_project(one.path), self.in_project(self.target(one.reader)), self.target(one.writer) if one.writer else "")
+        return hashlib.sha256("\0".join(parts).encode("utf-8", "surrogateescape")).hexdigest()[:32]
+
+
+@dataclass
+class Question:
+    """All that is known of the missing inputs of a record."""
+
+    record: Dict[str, Any]
+    judged: List[Judged]
+
+    @staticmethod
+    def of(out: Path, race: str) -> "Question":
+        """Asks `race` about each build of a record."""
+        record = read_json(out / "record.json")
+        judged = []
+        for number in record["builds"]:
+            about = read_json(out / "builds" / number / "build.json")
+            judged.append(Judged(number, about, judge_missing(race, out / "builds" / number, about["folder"]), record["folder"]))
+        return Question(record, judged)
+
+    def holes(self) -> List[str]:
+        """Why there is no answer: a recipe that was not seen, or a graph that is not known, may have missing inputs."""
+        own = list(self.record["missing"]["holes"])
+        own += ["build %s: %s" % (one.number, one.answer.refused) for one in self.judged if one.answer.refused]
+        is_broken = bool(self.record["holes"])
+        warm = self.record["warm"]["count"] and not any(one["kind"] == "up-to-date" for one in self.record["assumptions"])
+        own += ["the record has holes"] if is_broken else ["what was up to date did not run (WARM)"] if warm else []
+        return own
+
+    def all(self) -> Iterator[Tuple[Judged, Found]]:
+        """All violations."""
+        return ((judged, one) for judged in self.judged for one in judged.answer.found)
+
+    def races(self) -> int:
+        """How many pairs of recipes race in old trees: without one of them nothing that is missing is an answer about all builds."""
+        return sum(one.answer.races for one in self.judged)
+
+    def verdict(self) -> str:
+        """`nothing` is missing, `missing` where something is, `none` where there is no verdict."""
+        return "none" if self.holes() else "missing" if any(True for _ in self.all()) else "nothing"
+
+    def status(self) -> int:
+        """0 nothing is missing and no recipes race, 1 something is missing, or they do, 2 no verdict."""
+        return {"nothing": 1 if self.races() else 0, "missing": 1, "none": 2}[self.verdict()]
+
+
+def rows_of(judged: Judged, found: List[Found]) -> List[str]:
+    """The recipes that a group of violations is about, with their places; the writer last."""
+    about = judged.about
+    verb = {"missing": "reads it, and is not made again", "late": "reads it", "shared": "writes it", "present": "was there before the build"}
+    rows = [(judged.target(one.reader), place(about, one.reader), verb[one.kind]) for one in found[:SHOWN_TARGETS]]
+    writer, kind = found[0].writer, found[0].kind
+    if writer:
+        last = {"missing": "makes it", "late": "writes it, and need not come first", "shared": "writes it too, later, and may not run then"}
+        rows.append((judged.target(writer), place(about, writer), last[kind]))
+    wide = [max(len(row[at]) for row in rows) for at in (0, 1)]
+    lines = ["  %s  %s  %s" % (row[0].ljust(wide[0]), row[1].ljust(wide[1]), row[2]) for row in rows]
+    if len(found) > SHOWN_TARGETS:
+        lines.insert(SHOWN_TARGETS, "  and %d more read it" % (len(found) - SHOWN_TARGETS) if kind != "shared" else "  and %d more" % (len(found) - SHOWN_TARGETS))
+    return lines
+
+
+def add_line(judged: Judged, found: List[Found]) -> List[str]:
+    """The line for the makefile, for those targets that have one."""
+    adding = [one for one in found if judged.early(one)]
+    late, early = (" ".join(dict.fromkeys(side(one) for one in adding)) for side in (judged.late, judged.early))
+    if not adding and any(one.is_loose for one in found):
+        return ["  no line helps alone: %s has no rule, and %s may stay as it is when its recipe runs" % (judged.name(found[0].path), judged.target(found[0].writer))]
+    if not adding and found[0].kind == "missing" and found[0].writer:
+        path, readers = judged.name(found[0].path), " ".join(dict.fromkeys(judged.late(one) for one in found))
+        return ["  add: %s: %s" % (readers, path), "  add: %s: %s ;" % (path, judged.target(found[0].writer))]
+    return ["  add: %s: %s" % (late, early)] if adding else []
+
+
+def groups_of(judged: Judged) -> List[List[Found]]:
+    """The violations of a build by kind, path and writer."""
+    groups: Dict[Tuple[str, str, str], List[Found]] = {}
+    for one in judged.answer.found:
+        groups.setdefault((one.kind, one.path, one.writer), []).append(one)
+    return list(groups.values())
+
+
+def build_text(judged: Judged, is_alone: bool, colour: Colours) -> List[str]:
+    """All that one build misses."""
+    groups = groups_of(judged)
+    lines = [] if is_alone or not groups else ["make %s  in %s" % (judged.about["words"], judged.about["folder"])]
+    for found in groups[:SHOWN_FILES]:
+        lines.append("%s%s%s  %s" % (colour.bad, found[0].kind.upper(), colour.end, judged.name(found[0].path)))
+        lines += [*rows_of(judged, found), *add_line(judged, found), ""]
+    if len(groups) > SHOWN_FILES:
+        lines += ["%d more files are in the record" % (len(groups) - SHOWN_FILES), ""]
+    return lines
+
+
+def premises_text(question: Question) -> List[str]:
+    """What the answer takes for granted."""
+    racing = "when no recipes race, " if question.races() else ""
+    lines = [racing + "no `make clean` is needed after an edit, if:" if question.verdict() == "nothing" else "Assumed:"]
+    for one in question.record["missing"]["premises"]:
+        example = " (%d, such as %s)" % (one["count"], one["example"][:60]) if one["example"] else ""
+        lines += textwrap.wrap(one["text"] + example, 78, initial_indent="  - ", subsequent_indent="    ", break_long_words=False, break_on_hyphens=False)
+    return lines
+
+
+def missing_text(question: Question, colour: Colours) -> List[str]:
+    """The whole section."""
+    holes, found = question.holes(), list(question.all())
+    lines = ["Missing inputs", ""]
+    for one in question.judged:
+        lines += build_text(one, len(question.judged) == 1, colour)
+    looked = plural(question.record["missing"]["judged"], "recipe") + " looked at"
+    if holes:
+        lines += [colour.bad + "NO VERDICT" + colour.end + "  on missing inputs:", *("  - " + hole for hole in holes[:20])]
+    if found:
+        targets = len({(judged.number, one.reader) for judged, one in found})
+        lines.append("%s of %s. %s" % (plural(len(found), "missing input"), plural(targets, "target"), looked))
+        lines += [ADVICE] if any(one.kind == "missing" and one.path.endswith(HEADERS) for _, one in found) else []
+    elif not holes:
+        lines.append(colour.good + "NOTHING MISSING" + colour.end + "  " + looked)
+    return lines + premises_text(question)

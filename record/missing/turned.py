@@ -1,0 +1,211 @@
+"""What a recipe finds otherwise in a later build, with no edit at all: files that a later recipe made, changed or removed.
+
+Where one build holds both recipes such a look counts as a read, and `race missing` says that the writer comes too late. Else it is a hole.
+What make itself looks for is no part of it: anew.py compares what it knows.
+"""
+
+import os
+from fnmatch import fnmatchcase
+from typing import Dict, Iterator, List, Optional, Sequence, Set, Tuple
+
+from record.make.called import called_by
+from record.make.globs import MAGIC, arguments
+from record.make.graph import Build, Task
+from record.make.macros import Macros
+from record.make.memory import folders_asked
+from record.make.owners import Make, Work
+from record.missing.looked import BYTE_CODE, is_below
+from record.tools.shelltext import base_name, is_removal, shell_text
+from record.trace.lives import Key, Life
+from record.trace.names import Names
+
+MODULES = (".py", ".pyc", ".so")
+BUILDER = "cmake"  # it keeps its own account of what compilers read, which counts as it is at the end
+
+
+def found_by(argv: List[str]) -> str:
+    """The pattern that each name has which `find` prints; nothing where nobody can say it, or where this is not `find`."""
+    names = [word for before, word in zip(argv, argv[1:]) if before == "-name"]
+    is_plain = base_name(argv) == "find" and not any(word in ("-o", "-or", "!", "-not", ",", "-fprint", "-path", "-prune") for word in argv)
+    return names[0] if is_plain and len(names) == 1 and not set("[\\") & set(names[0]) else ""
+
+
+def is_idle(argv: List[str]) -> bool:
+    """Whether a process does no more with what it finds than to remove it, or is CMake's own."""
+    return is_removal(argv) or base_name(argv) == BUILDER
+
+
+def words_said(texts: List[str]) -> Set[str]:
+    """The words of `wildcard` in some texts, as far as they stand there."""
+    return {word for text in texts for call in arguments(text) for word in (call or "").split() if "$" not in word}
+
+
+def makes_of(builds: Sequence[Build]) -> List[Make]:
+    """The makes of some builds, those above first."""
+    found = {id(build.make): build.make for build in builds if build.tool == "make"}
+    return sorted(found.values(), key=lambda make: sum(life.is_make for life in make.life.up()))
+
+
+class Turned:
+    """All looks of recipes that a later build answers otherwise."""
+
+    def __init__(self, builds: Sequence[Build], names: Names, lives: Sequence[Life], out: str) -> None:
+        self.names, self.out = names, out
+        self.makes = makes_of(builds)
+        self.chains: Dict[int, List[Work]] = {}  # by id of a life: the recipes that it works for, the innermost last
+        for make in self.makes:
+            for work in make.work.values():
+                for life in work.lives:
+                    self.chains.setdefault(id(life), []).append(work)
+        self.tasks = {id(work): (build, at) for build in builds if build.tool == "make" for at, task in enumerate(build.tasks) for work in task.works}
+        self.changes: Dict[str, List[Tuple[int, Life]]] = {}  # by name: who changed it, and when last
+        self.there: Dict[str, bool] = {}  # by name: whether it is there at the end
+        self.created: Dict[str, int] = {}  # by name: when it was first made
+        self.folders: Dict[str, Set[str]] = {}  # by folder: the names in it that changed
+        self.reads: Dict[int, Dict[int, Set[str]]] = {}  # by id of a build, and task: names that count as read
+        self.holes: Dict[str, str] = {}  # by name: who looks for it
+        self.again: Dict[str, None] = {}  # looked for by who calls a make
+        self.calls: Dict[int, int] = {}  # by recipe: when it called its last make
+        for make in self.makes:
+            key = innermost(self.chain(make.life))
+            self.calls[key] = max(make.life.born, self.calls.get(key, 0))
+        own = [life for life in lives if not (life.is_make or life.is_wrapper or life.is_ninja)]
+        of_makes = {id(life) for make in self.makes for life in called_by(make) if same(self.chain(life), self.chain(make.life))}
+        self.lives = [life for life in own if life.argv and not is_idle(life.argv) and id(life) not in of_makes]
+        for life in own:
+            self.note_changes(life)
+        for life in self.lives:
+            self.note_looks(life, self.chain(life), life.events)
+        for build in builds:
+            self.note_expanding(build)
+
+    def chain(self, life: Life) -> List[Work]:
+        """The recipes that a process works for, the innermost last."""
+        return self.chains.get(id(life), [])
+
+    def is_inside(self, path: str) -> bool:
+        """Whether a name is in the project, and not in the record."""
+        return any(is_below(path, top) for top in self.names.tops) and not is_below(path, self.out) and not BYTE_CODE.match(path)
+
+    def note_changes(self, life: Life) -> None:
+        """What a process changes."""
+        for spelled, last in life.changed.items():
+            path = spelled.rstrip("/")
+            if self.is_inside(path):
+                self.changes.setdefault(path, []).append((last, life))
+                self.folders.setdefault(os.path.dirname(path), set()).add(path)
+        for (kind, spelled), place in life.events.items():
+            if kind == "C":
+                path = spelled.rstrip("/")
+                self.created[path] = min(place, self.created.get(path, place))
+
+    def note_looks(self, life: Life, mine: List[Work], events: Dict[Key, int]) -> None:
+        """What a process looks for, and finds otherwise than it is at the end. Python lists the folder of its script, to find modules."""
+        ends = MODULES if base_name(life.argv).startswith("python") else ("",)
+        for (kind, path), place in events.items():
+            if kind in "NSR" and path in self.changes and self.differs(kind, path):
+                self.compare(life, mine, path, place)
+            elif kind == "L":
+                folder, _, pattern = path.partition("\0")
+                pattern = found_by(life.argv) or pattern
+                for name in self.below(folder, shell_text(life.argv) == ""):
+                    if self.is_there(name) != self.was_there(name, place) and name.endswith(ends) and fnmatchcase(os.path.basename(name), pattern):
+                        self.compare(life, mine, name, place)
+
+    def below(self, folder: str, deep: bool) -> Iterator[str]:
+        """The names that change in a folder; `deep`: those in new folders below it too, which a program finds as well."""
+        yield from self.folders.get(folder, ())
+        for one in self.folders if deep else ():
+            if one != folder and is_below(one, folder) and one not in self.names.before:
+                yield from self.folders[one]
+
+    def note_expanding(self, build: Build) -> None:
+        """What processes look for that make calls when it expands a recipe, and the folders that a recipe lists by `$(wildcard ..)`."""
+        if build.tool != "make":
+            return
+        make, base = build.make, build.graph.base
+        seen = {event for life in called_by(make) for event in life.events}
+        known = Macros(make, base)
+        for task in build.tasks:
+            if task.works and task.node.rule == 0:
+                acts = make.acts.get((build.graph.number, task.node.name))
+                events = {event: place for event, place in acts.events.items() if event in seen} if acts is not None else {}
+                events.update(self.expanded_lists(build, known, task))
+                self.note_looks(make.life, [*self.chain(make.life), task.works[0]], events)
+
+    def expanded_lists(self, build: Build, known: Macros, task: Task) -> Iterator[Tuple[Key, int]]:
+        """What a recipe asks for by `$(wildcard ..)`. Make keeps a list once it has read it: that of a later build may say more."""
+        base, make = build.graph.base, build.make
+        text = "\n".join(base.recipes.get(task.node.name, ()))
+        values = [one for name in known.reached(text) for one in (base.values.get(name, ""), *base.bodies.get(name, ()))]
+        if any("wildcard" in one for one in (text, *values)):
+            asked = folders_asked(known, self.names, task.node)
+            born = min((life.born for life in task.works[0].lives), default=0)
+            for folder, place in make.listed.items():
+                if asked is None or folder in asked:
+                    yield from ((("L", folder + "\0" + pattern), place) for pattern in make.globs)
+            for path in {self.names.find(make.folder, word, True).path for word in words_said([text, *values, known.text]) if not MAGIC.search(word)}:
+                yield ("S" if self.was_there(path, born) else "N", path), born
+
+    def differs(self, kind: str, path: str) -> bool:
+        """Whether a look has another answer at the end; what was read, and is there, may have changed."""
+        return self.is_there(path) == (kind in "NR")
+
+    def is_there(self, path: str) -> bool:
+        """Whether a name is there at the end."""
+        if path not in self.there:
+            self.there[path] = os.path.lexists(path)
+        return self.there[path]
+
+    def was_there(self, path: str, place: int) -> bool:
+        """Whether a name was there at a place of the trace, as far as it was not removed meanwhile."""
+        return path in self.names.before or self.created.get(path, place) < place
+
+    def compare(self, life: Life, mine: List[Work], path: str, place: int) -> None:
+        """One look, and who changes that name later."""
+        later = [self.chain(other) for last, other in self.changes[path] if last > place]
+        if any(same(chain, mine) for chain in later):
+            if self.is_there(path) and not self.was_there(path, place) and place < self.calls.get(innermost(mine), 0):
+                self.again[path] = None
+            return
+        for chain in later:
+            task = None if os.path.isdir(path) else self.task_apart(mine, chain)
+            if task is None:
+                self.holes[path] = " ".join(life.argv)[:60]
+            else:
+                self.reads.setdefault(id(task[0]), {}).setdefault(task[1], set()).add(path)
+
+    def task_apart(self, mine: List[Work], theirs: List[Work]) -> Optional[Tuple[Build, int]]:
+        """The task of whom looks, in the build that has both as tasks of their own."""
+        for one, other in zip(mine, theirs):
+            if one is not other:
+                task, maker = self.tasks.get(id(one)), self.tasks.get(id(other))
+                return task if task and maker and task[0] is maker[0] else None
+        return None
+
+    def settling(self) -> Set[str]:
+        """Files that are read, before a make is called, by who calls it: they may settle its words."""
+        found: Set[str] = set()
+        for life in self.lives:
+            end = self.calls.get(innermost(self.chain(life)), 0)
+            if life.born < end:
+                found.update(path for (kind, path), place in life.events.items() if kind == "R" and place < end and self.is_file(path))
+        return found
+
+    def is_made(self, path: str) -> bool:
+        """Whether the build makes or changes a file."""
+        return self.is_inside(path) and (path in self.changes or path not in self.names.before)
+
+    def is_file(self, path: str) -> bool:
+        """Whether a name is a file of the project."""
+        return self.is_inside(path) and not os.path.isdir(path)
+
+
+def innermost(chain: List[Work]) -> int:
+    """The id of the recipe that a process works for; 0 outside of all recipes."""
+    return id(chain[-1]) if chain else 0
+
+
+def same(first: List[Work], second: List[Work]) -> bool:
+    """Whether two processes work for the same recipe."""
+    return innermost(first) == innermost(second)

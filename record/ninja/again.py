@@ -1,0 +1,166 @@
+"""What is done where ninja fails with one command at a time: hints, and the same build again with several at once.
+
+The graph of ninja is read from its manifest, so a record of commands side by side serves as well as a serial one.
+"""
+
+import json
+import os
+import re
+import shutil
+from pathlib import Path
+from typing import TYPE_CHECKING, Dict, List, Optional, Set
+
+from record.ninja.log import Kept
+from record.tools.shelltext import first_words
+from record.trace.names import Names
+
+if TYPE_CHECKING:
+    from record.trace.lives import Life
+    from record.ninja.manifest import Edge, Manifest
+    from record.ninja.runs import Ninja
+
+TRIES = 3
+JOBS = 4
+HINTS = 5
+OWN = (".ninja_log", ".ninja_deps", ".ninja_lock")
+
+
+def with_jobs(words: List[str], jobs: int, folder: str = "") -> List[str]:
+    """The words of a command that surely runs ninja, with a number of commands at once; of any other as they are."""
+    name = os.path.basename(words[0])
+    own = ["-j%d" % jobs]
+    if re.fullmatch(r"ninja(-build)?|samu", name) or name == "meson" and words[1:2] == ["compile"]:
+        split = words.index("--") if "--" in words else len(words)
+        return words[:split] + own + words[split:]
+    if name == "cmake" and words[1:2] == ["--build"] and len(words) > 2 and cached(os.path.join(folder, words[2]), "CMAKE_GENERATOR").startswith("Ninja"):
+        if "--" not in words:
+            return words + own
+        split = words.index("--")
+        has_own = any(re.match(r"-j|--jobs", w) for w in words[split:])
+        return words[:split] + own + words[split:] + (own if has_own else [])
+    return words
+
+
+def by_name(words: List[str], real: str, folder: str = "") -> List[str]:
+    """A command that runs make by its whole path, so that it runs make by name: a script of make, such as debian/rules, and
+    `cmake --build` where CMake made makefiles. Any other as it is."""
+    script = shutil.which(words[0]) or words[0]
+    first = first_words(script)
+    if first and os.path.realpath(first[0]) == os.path.realpath(real):
+        return ["make", *([" ".join(first[1:])] if first[1:] else []), script, *words[1:]]
+    is_cmake = os.path.basename(words[0]) == "cmake" and words[1:2] == ["--build"] and len(words) > 2
+    if is_cmake and cached(os.path.join(folder, words[2]), "CMAKE_GENERATOR") == "Unix Makefiles":
+        found = words_of_cmake(words[3:])
+        if found is not None:
+            return ["sh", "-c", 'cd "$0" && exec make -f Makefile "$@"', words[2], *found]
+    return words
+
+
+def words_of_cmake(words: List[str]) -> Optional[List[str]]:
+    """What make gets of the words behind `cmake --build DIR`; None where they ask for more than that."""
+    found: List[str] = []
+    split = words.index("--") if "--" in words else len(words)
+    kind = ""
+    for word in words[:split]:
+        name, equals, value = word.partition("=")
+        if word in ("-v", "--verbose"):
+            kind, found = "", found + ["VERBOSE=1"]
+        elif name in ("-t", "--target", "--config", "-j", "--parallel"):
+            kind = name
+            found += [value] if equals and name == "--target" else []
+        elif re.fullmatch(r"-j\d+", word) or kind in ("-j", "--parallel") and word.isdigit() or kind == "--config":
+            kind = ""
+        elif kind in ("-t", "--target") and not word.startswith("-"):
+            found.append(word)
+        else:
+            return None
+    return found + words[split + 1:]
+
+
+def folders_of(words: List[str]) -> List[str]:
+    """The folders that a command names to work in."""
+    named = [words[at + 1] for at, word in enumerate(words[:-1]) if word in ("-C", "--build", "--directory")]
+    named += [word[2:] for word in words if word.startswith("-C") and len(word) > 2]
+    named += [word.partition("=")[2] for word in words if word.startswith("--directory=")]
+    return [name for name in named if os.path.isdir(name)]
+
+
+def tops_of(words: List[str], others: List[str]) -> List[str]:
+    """The folders that a build works in: where it starts, those that its words name, and the sources that they belong to."""
+    found = [os.path.realpath(name) for name in [".", *others, *folders_of(words)]]
+    found += [os.path.realpath(source) for name in list(found) for source in (source_of(name),) if source]
+    return [top for top in dict.fromkeys(found) if not any(top.startswith(other.rstrip("/") + "/") for other in found)]
+
+
+def cached(folder: str, name: str) -> str:
+    """What CMake's cache in a folder says; nothing where there is none."""
+    try:
+        text = Path(folder, "CMakeCache.txt").read_text(errors="surrogateescape")
+    except OSError:
+        return ""
+    match = re.search(r"(?m)^%s:INTERNAL=(.*)$" % name, text)
+    return match.group(1) if match else ""
+
+
+def source_of(folder: str) -> str:
+    """The sources of a folder that CMake or Meson configured; nothing where neither did."""
+    source = cached(folder, "CMAKE_HOME_DIRECTORY")
+    if source:
+        return source
+    try:
+        found = json.loads(Path(folder, "meson-info", "meson-info.json").read_text())["directories"]["source"]
+        return found if isinstance(found, str) else ""
+    except (OSError, ValueError, KeyError, TypeError):
+        return ""
+
+
+def hints(ninjas: "List[Ninja]", names: Names) -> List[str]:
+    """Who looks for what another statement makes, and does not wait for it: the files that were absent first."""
+    found: Dict[str, int] = {}
+    for ninja in ninjas:
+        for stage in ninja.stages:
+            below: Dict[int, Set[int]] = {}
+            made = {names.find(ninja.folder, path, True).path: edge for edge in stage.manifest.edges if not edge.is_phony for path in edge.makes()}
+            for job in stage.jobs:
+                if job.edge is None:
+                    continue
+                for kind, path in job.work.events:
+                    maker = made.get(path)
+                    if maker is not None and kind in "RSN" and is_loose(stage.manifest, maker, job.edge, below):
+                        text = "%s looks for %s, which %s makes, and does not wait for it" % (job.edge.label, os.path.relpath(path, ninja.folder), maker.label)
+                        found[text] = min(found.get(text, 2), 0 if kind == "N" else 1)
+    return sorted(found, key=lambda text: (found[text], text))[:HINTS]
+
+
+def is_loose(manifest: "Manifest", first: "Edge", second: "Edge", below: Dict[int, Set[int]]) -> bool:
+    """Whether nothing orders two statements; `below` keeps what was worked out."""
+    for edge in (first, second):
+        if edge.number not in below:
+            below[edge.number] = manifest.below([edge])
+    return first is not second and first.number not in below[second.number] and second.number not in below[first.number]
+
+
+def undo(names: Names, lives: "List[Life]", kept: Kept) -> List[str]:
+    """Takes away what a build has made, so that the tree is as it was; the names that cannot be set right again."""
+    made: Set[str] = set()
+    lost: Set[str] = set()
+    for life in lives:
+        for kind, path in life.events:
+            path = path.rstrip("/")
+            if not any(path.startswith(top.rstrip("/") + "/") for top in names.tops):
+                continue
+            if kind in "CWMT" and path not in names.before:
+                made.add(path)
+            elif kind in "WDX" and path in names.before and os.path.basename(path) not in OWN:
+                lost.add(path)
+    if lost:
+        return sorted(lost)
+    for path in sorted(made, key=lambda name: -name.count("/")):
+        if os.path.islink(path) or os.path.isfile(path):
+            os.unlink(path)
+        elif os.path.isdir(path) and not os.listdir(path):
+            os.rmdir(path)
+    for path, text in kept.texts.items():
+        if os.path.basename(path) in OWN:
+            Path(path).write_bytes(text.encode("utf-8", "surrogateescape"))
+    return []

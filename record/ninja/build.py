@@ -1,0 +1,223 @@
+"""One stage of a ninja as a build: a task for each build statement whose command ran, and for each that passes order on."""
+
+import os
+from typing import Any, Dict, Iterable, List, Set, Tuple
+
+from record.assumptions import Assumptions
+from record.make.ages import ages_by_words, inner_ages, note_sources
+from record.make.build import Builder
+from record.make.folders import add_folders, parents
+from record.make.graph import Build, Node, Task, befores, order_tasks
+from record.make.inner import add_inner
+from record.make.owners import Work
+from record.make.unfiled import count_listings
+from record.ninja.fix import owner_of
+from record.ninja.manifest import Edge
+from record.ninja.runs import NEVER, Job, Ninja, Stage
+from record.trace.names import Names, join
+
+TEXT_LIMIT = 400
+FIRST, PRIME, BITS = 14695981039346656037, 1099511628211, (1 << 64) - 1
+
+
+def command_sum(text: str) -> str:
+    """What `race-confirm` knows a command by: the sum FNV-1a of its bytes, in 16 digits."""
+    found = FIRST
+    for byte in text.encode("utf-8", "surrogateescape"):
+        found = (found ^ byte) * PRIME & BITS
+    return "%016x" % found
+
+
+class NinjaBuild(Build):
+    """The tasks of one stage."""
+
+    tool = "ninja"
+
+    def __init__(self, ninja: Ninja, stage: Stage, name: str) -> None:
+        super().__init__(ninja, name, None)  # type: ignore[arg-type]
+        self.ninja, self.from_manifest = ninja, stage
+        self.edges: List[Edge] = []  # of each task
+
+    @property
+    def folder(self) -> str:
+        return self.ninja.folder
+
+    @property
+    def words(self) -> str:
+        return self.ninja.args
+
+    @property
+    def considered(self) -> int:
+        return len(self.ninja.wanted() if self.stage == "goals" else self.from_manifest.manifest.edges)
+
+    def about(self, at: int) -> Dict[str, Any]:
+        edge = self.edges[at]
+        pool = edge.value("pool")
+        depth = "1" if pool == "console" else self.from_manifest.manifest.pools.get(pool, "")
+        has_run = self.tasks[at].kind == "recipe"
+        return {"file": edge.file, "line": edge.line, "recipe": edge.command[:TEXT_LIMIT], "rule": edge.rule, "pool": pool, "depth": depth,
+                "sum": command_sum(edge.command) if has_run else "", "owner": owner_of(edge, self.from_manifest.manifest)}
+
+
+class NinjaBuilder(Builder):
+    """Makes the tasks of a stage; footprints, folders and ages are those of make's builds."""
+
+    def __init__(self, ninja: Ninja, number: int, removed: Set[str], names: Names, assumed: Assumptions) -> None:
+        self.ninja, self.stage = ninja, ninja.stages[number]
+        self.make, self.number, self.names, self.assumed = ninja, number, names, assumed  # type: ignore[assignment]
+        is_last = number == len(ninja.stages) - 1
+        self.build = NinjaBuild(ninja, self.stage, "goals" if is_last else "manifest")
+        self.before, self.removed = names.before, removed
+        self.holes: List[str] = []
+        self.of_node: Dict[str, int] = {}
+        self.look_of: Dict[str, int] = {}
+        self.made: Set[str] = set()
+        self.tried: Set[str] = set()
+        self.timed: Dict[str, Set[int]] = {}
+        self.timers: Dict[str, Set[int]] = {}
+        self.aged: Dict[str, Set[int]] = {}
+        self.sources: Dict[str, List[Set[str]]] = {}
+
+    def run(self) -> Build:
+        """All steps."""
+        self.make_tasks()
+        self.check_order()
+        self.check_folders()
+        self.note_writers()
+        self.fill()
+        self.put_makers_first()
+        return self.build
+
+    # ---------------------------------------------------------------- tasks
+    def make_tasks(self) -> None:
+        """The statements that ran, and all between them, in an order in which they could run one after the other."""
+        manifest = self.stage.manifest
+        jobs = {job.edge.number: job for job in self.stage.jobs if job.edge is not None}
+        kept = self.kept(jobs)
+        place = {edge.number: at for at, edge in enumerate(kept)}
+        after = [{place[m.number] for m in manifest.makers_of(edge) if m.number in place} for edge in kept]
+        keys = [(jobs[edge.number].life.died if edge.number in jobs else 0, edge.number) for edge in kept]
+        order, dropped = order_tasks([Task(e.label, Node(e.label, e.label, 0, 0), "group") for e in kept], after, keys)
+        if dropped:
+            self.holes.append("build statements of %s wait for each other in a cycle" % self.ninja.file)
+        number = {old: new for new, old in enumerate(order)}
+        for old in order:
+            edge = kept[old]
+            job = jobs.get(edge.number)
+            task = Task(edge.label, Node(edge.label, edge.label, 0, 0), "recipe" if job else "group", {number[a] for a in after[old]})
+            if job is not None:
+                self.add_own(job, edge)
+                task.works = [job.work]
+            self.of_node[edge.label] = len(self.build.tasks)
+            self.build.tasks.append(task)
+            self.build.edges.append(edge)
+        self.build.bits = befores([t.after for t in self.build.tasks], list(range(len(order))))
+
+    def kept(self, jobs: Dict[int, Job]) -> List[Edge]:
+        """Statements that ran, and those without a command that ran which lead from one of them to another."""
+        manifest = self.stage.manifest
+        below = manifest.below([job.edge for job in jobs.values() if job.edge is not None])
+        users: Dict[int, List[Edge]] = {}
+        for edge in manifest.edges:
+            if edge.number in below:
+                for one in manifest.makers_of(edge):
+                    users.setdefault(one.number, []).append(edge)
+        above: Set[int] = set(jobs)
+        todo = [manifest.edges[n] for n in jobs]
+        while todo:
+            for user in users.get(todo.pop().number, []):
+                if user.number not in above:
+                    above.add(user.number)
+                    todo.append(user)
+        return [edge for edge in manifest.edges if edge.number in above]
+
+    def check_order(self) -> None:
+        """The recorded run is one of those that the tasks allow."""
+        tasks, ended = self.build.tasks, [0] * len(self.build.tasks)
+        for at, task in enumerate(tasks):
+            lives = [work.lives[0] for work in task.works if work.lives]
+            ready = max((ended[a] for a in task.after), default=0)
+            if lives and lives[0].born < ready:
+                self.holes.append("the order of the trace is not that of the manifest: " + task.label)
+            ended[at] = max([ready] + [life.died for life in lives if life.died < NEVER])
+
+    # ---------------------------------------------------------------- what ninja itself does
+    def full(self, path: str, follow: bool = True) -> str:
+        """The real path of a name of the manifest."""
+        return self.names.find(self.ninja.folder, path, follow).path
+
+    def add_own(self, job: Job, edge: Edge) -> None:
+        """What ninja does for a statement before its command starts, and when it has ended."""
+        work, begin, end = job.work, job.life.born, job.life.died
+        for path in edge.makes():
+            folder = self.full(os.path.dirname(path) or ".")
+            self.add_folder(work, folder, begin)
+            if edge.is_restat or edge.is_generator or edge.value("deps"):
+                work.add("S", join(folder, os.path.basename(path)), end)
+        response, found = edge.path("rspfile"), edge.path("depfile")
+        folder = self.full(os.path.dirname(found) or ".")
+        if found and ("M", folder) in self.ninja.life.events:  # later ninjas make it too
+            self.add_folder(work, folder, begin)
+        if response:
+            for kind in "CWRD":
+                work.add(kind, self.full(response), begin)
+        if found and edge.value("deps") == "gcc":
+            for kind in "RD":
+                work.add(kind, self.full(found), end)
+        dyndep = edge.path("dyndep")
+        if dyndep:
+            for path in [dyndep] + edge.waits() + edge.makes():
+                work.add("S", self.full(path), begin)
+
+    def add_folder(self, work: Work, folder: str, place: int) -> None:
+        """Ninja makes a folder, and those above it, if they are not there."""
+        for above in [folder] + parents(folder):
+            if self.is_known(above) and (self.before.get(above) != "d" or above in self.removed):
+                work.add("T", above, place)
+
+    def check_folders(self) -> None:
+        """Each folder that ninja made while commands ran is one of a statement."""
+        end = min((other.opened for other in self.ninja.stages if other.opened > self.stage.opened), default=NEVER)
+        begin = min(job.life.born for job in self.stage.jobs)
+        owned = {path for job in self.stage.jobs for kind, path in job.work.events if kind == "T"}
+        for (kind, path), place in self.ninja.life.events.items():
+            if kind in "MT" and begin < place < end and path not in owned and self.is_known(path):
+                self.holes.append("ninja made the folder %s, and no statement needs it" % path)
+
+    # ---------------------------------------------------------------- footprints
+    def events(self, task: Task) -> Iterable[Tuple[str, str]]:
+        for work in task.works:
+            yield from work.events
+
+    def fill(self) -> None:
+        """What each task reads and writes."""
+        created = self.created()
+        for at, task in enumerate(self.build.tasks):
+            self.add_events(at, self.events(task), created)
+        add_inner(self, created)
+        count_listings(self, created)
+        add_folders(self)
+        note_sources(self)
+        for at, task in enumerate(self.build.tasks):
+            for work in task.works:
+                inner_ages(self, at, work)
+                ages_by_words(self, at, work)
+        self.drop_lonely()
+
+    def put_makers_first(self) -> None:
+        """Lists who makes a declared output before who reads it, where nothing orders the two: a fix then lets the reader wait."""
+        tasks, edges = self.build.tasks, self.build.edges
+        makers = {self.full(path): at for at, edge in enumerate(edges) if tasks[at].works for path in edge.makes()}
+        after = [set(task.after) for task in tasks]
+        for at, task in enumerate(tasks):
+            found = {makers[path] for path in task.reads if path in makers}
+            after[at] |= {maker for maker in found if self.build.unordered(maker, at)}
+        order, dropped = order_tasks(tasks, after, [(at, 0) for at in range(len(tasks))])
+        if dropped:
+            return
+        number = {old: new for new, old in enumerate(order)}
+        for task in tasks:
+            task.after = {number[one] for one in task.after}
+        self.build.tasks = [tasks[old] for old in order]
+        self.build.edges = [edges[old] for old in order]
+        self.build.bits = befores([task.after for task in self.build.tasks], list(range(len(order))))

@@ -1,0 +1,76 @@
+"""The ninjas of a trace as builds, with their holes and what they take for granted."""
+
+import os
+from typing import List, Tuple
+
+from record.assumptions import Assumptions
+from record.granted import add_granted_by_ninja
+from record.make.graph import Build
+from record.make.owners import Owners
+from record.ninja.build import NinjaBuild, NinjaBuilder
+from record.ninja.log import Kept, Missing, ask_missing, version_of
+from record.ninja.manifest import Unreadable
+from record.ninja.runs import Ninja, Runs, removed_names
+from record.trace.lives import Life
+from record.trace.names import Names
+
+
+def import_ninjas(lives: List[Life], owners: Owners, names: Names, kept: Kept, assumed: Assumptions, has_ended: bool) -> Tuple[List[Ninja], List[Build], List[str]]:
+    """All ninjas that ran, a build for each stage in which commands ran, and the holes; `has_ended`: the whole build did, well."""
+    try:
+        runs = Runs(lives, owners, names, kept, has_ended)
+    except Unreadable as fault:
+        return [], [], ["the manifest that ninja read cannot be read again: %s" % fault]
+    holes, builds = runs.holes, []
+    for text in runs.ties:
+        assumed.add("ties", text[:60])
+    for argv in side_by_side(runs.ninjas, owners):
+        assumed.add("tops", " ".join(argv)[:60])
+    add_granted_by_ninja(runs.ninjas, owners, assumed)
+    removed = removed_names(lives) if runs.ninjas else set()
+    if runs.ninjas:
+        assumed.add("ninja", "")
+    for ninja in runs.ninjas:
+        for number, stage in enumerate(ninja.stages):
+            if stage.jobs and stage.is_read:
+                builder = NinjaBuilder(ninja, number, removed, names, assumed)
+                builds.append(builder.run())
+                holes += builder.holes
+    return runs.ninjas, builds, holes
+
+
+def side_by_side(ninjas: List[Ninja], owners: Owners) -> List[List[str]]:
+    """The words of ninjas and makes that ran beside a ninja, where no make or ninja started them."""
+    lives = [n.life for n in ninjas] + [m.life for m in owners.makes]
+    lives = [l for l in lives if not any(up.is_make or up.is_ninja for up in l.up() if up is not l)]
+    lives.sort(key=lambda life: life.born)
+    pairs = [(a, b) for a, b in zip(lives, lives[1:]) if b.born < a.died and (a.is_ninja or b.is_ninja)]
+    return [second.argv for _, second in pairs]
+
+
+def versions(ninjas: List[Ninja]) -> str:
+    """The versions of all ninjas that ran."""
+    return ", ".join(dict.fromkeys(version_of(ninja.life.program) for ninja in ninjas))
+
+
+def beside(ninjas: List[Ninja], builds: List[Build], names: Names) -> "Tuple[int, List[Missing]]":
+    """What `ninja -t missingdeps` finds, how many, and what of it no race of the builds says."""
+    found, beyond = 0, []
+    asked = set()
+    for ninja in ninjas:
+        key = (ninja.life.program, ninja.folder, ninja.file)
+        missing = ask_missing(*key) if key not in asked and any(stage.jobs for stage in ninja.stages) else None
+        asked.add(key)
+        for one in sorted(missing or (), key=lambda m: (m.user, m.path)):
+            found += 1
+            if not any(is_race(build, one, names) for build in builds if isinstance(build, NinjaBuild) and build.folder == ninja.folder):
+                beyond.append(one)
+    return found, beyond
+
+
+def is_race(build: NinjaBuild, one: Missing, names: Names) -> bool:
+    """Whether a build has two tasks that nothing orders, one with that output, one that writes the path."""
+    path = names.find(build.folder, one.path, True).path
+    users = [at for at, edge in enumerate(build.edges) if os.path.normpath(one.user) in edge.makes()]
+    writers = [at for at, task in enumerate(build.tasks) if path in task.writes]
+    return any(build.unordered(user, writer) for user in users for writer in writers)

@@ -1,0 +1,86 @@
+"""The fix of a race between build statements, in the words of what wrote the manifest: CMake, Meson, or a person."""
+
+import re
+from typing import Any, Dict, List, Tuple
+
+from record.ninja.manifest import Edge, Manifest
+
+CMAKE_OBJECT = re.compile(r"(?:^|/)CMakeFiles/([^/]+)\.dir/")
+CMAKE_LINK = re.compile(r"[A-Z]+_(?:EXECUTABLE|STATIC_LIBRARY|SHARED_LIBRARY|MODULE_LIBRARY)_LINKER__(.+)_[A-Za-z]*$")
+CMAKE_TARGET = re.compile(r"(?:(?:^|/)CMakeFiles/([^/]+?)(?:\.util)?|cmake_object_order_depends_target_(.+))$")
+MESON_OBJECT = re.compile(r"(?:^|/)([^/]+)\.p/")
+LIBRARY = re.compile(r"lib(.+?)\.(?:a|so|dylib)(?:\.[\d.]+)?$")
+
+
+def generator_of(manifest: Manifest) -> str:
+    """`cmake`, `meson`, or nothing."""
+    if manifest.top.value("cmake_ninja_workdir") or any(name.endswith("CMakeFiles/rules.ninja") for name in manifest.files):
+        return "cmake"
+    return "meson" if "REGENERATE_BUILD" in manifest.top.rules else ""
+
+
+def users_of(edge: Edge, manifest: Manifest) -> List[Edge]:
+    """The statements that wait for a statement."""
+    found = [user for path in edge.makes() for user in manifest.users().get(path, [])]
+    return [user for user in found if user is not edge]
+
+
+def cmake_target(edge: Edge, manifest: Manifest) -> str:
+    """The target of CMakeLists.txt that a statement belongs to."""
+    for path in edge.makes():
+        match = CMAKE_OBJECT.search(path) or CMAKE_TARGET.search(path)
+        if match:
+            return match.group(1) or match.group(match.lastindex or 1)
+    link = CMAKE_LINK.match(edge.rule)
+    if link:
+        return link.group(1)
+    for user in users_of(edge, manifest):
+        for path in user.makes():
+            match = CMAKE_TARGET.search(path)
+            if match:
+                return match.group(1) or match.group(2)
+    return ""
+
+
+def meson_target(edge: Edge) -> str:
+    """The target of meson.build that a statement belongs to, by the folder of its objects."""
+    for path in edge.makes():
+        match = MESON_OBJECT.search(path)
+        if match:
+            library = LIBRARY.match(match.group(1))
+            return library.group(1) if library else match.group(1)
+    return ""
+
+
+def owner_of(edge: Edge, manifest: Manifest) -> Dict[str, str]:
+    """What wrote the manifest, and the name of the target there."""
+    by = generator_of(manifest)
+    return {"by": by, "target": cmake_target(edge, manifest) if by == "cmake" else meson_target(edge) if by == "meson" else ""}
+
+
+def fix_text(labels: Dict[str, Any], first: str, second: str, path: str) -> str:
+    """What to write so that `second` waits for `first`."""
+    early, late = owner(labels, first), owner(labels, second)
+    if late[0] == "cmake" and late[1]:
+        if early[1] and early[1] != late[1]:
+            return "add_dependencies(%s %s)" % (late[1], early[1])
+        return "target_sources(%s PRIVATE %s), with %s among the outputs of the command that writes it" % (late[1], path, path)
+    if late[0] == "meson" and late[1]:
+        return "in meson.build, put the target that makes %s into the sources of '%s'" % (first, late[1])
+    return "build %s: .. || %s" % (second, first)
+
+
+def owner(labels: Dict[str, Any], label: str) -> Tuple[str, str]:
+    """Generator and target of a label."""
+    found = labels.get(label, {}).get("owner", {})
+    return found.get("by", ""), found.get("target", "")
+
+
+def pool_text(labels: Dict[str, Any], first: str, second: str) -> str:
+    """Where both are in one pool, what that pool promises."""
+    one, two = labels.get(first, {}), labels.get(second, {})
+    if not one.get("pool") or one.get("pool") != two.get("pool"):
+        return ""
+    if one.get("depth") == "1":
+        return "both are in the pool %s, which runs one at a time, in an order that nothing promises" % one["pool"]
+    return "both are in the pool %s of depth %s" % (one["pool"], one.get("depth"))

@@ -1,0 +1,293 @@
+"""Which ninjas ran in a trace, and which process worked for which build statement."""
+
+import getopt
+import os
+from collections import Counter
+from dataclasses import dataclass, field
+from typing import Callable, Dict, Iterator, List, Optional, Set, Tuple
+
+from record.make.owners import Owners, Work
+from record.ninja.log import Kept, ends, new_outputs, text_of
+from record.ninja.manifest import Edge, Manifest, Unreadable, read_dyndep, read_manifest
+from record.trace.lives import Life
+from record.trace.names import Names
+
+SHORT = "d:f:j:k:l:nt:vw:C:h"
+LONG = ["help", "version", "verbose", "quiet"]
+LOG_TOOLS = {"restat", "recompact", "cleandead", "clean"}
+NEVER = 1 << 60
+
+
+@dataclass(eq=False)
+class Job:
+    """A command that ninja ran."""
+
+    life: Life
+    text: str
+    edge: Optional[Edge] = None
+    work: Work = field(default_factory=Work)
+
+
+@dataclass(eq=False)
+class Stage:
+    """What ninja did with one state of its manifest: it reads the manifest again where it was remade."""
+
+    opened: int
+    manifest: Manifest
+    jobs: List[Job] = field(default_factory=list)
+    is_read: bool = True  # else the manifest is empty, and a hole says why
+
+    def ran(self) -> List[Edge]:
+        """The statements whose commands ran."""
+        return [job.edge for job in self.jobs if job.edge is not None]
+
+
+@dataclass(eq=False)
+class Ninja:
+    """One ninja process."""
+
+    life: Life
+    folder: str
+    file: str
+    goals: List[str]
+    stages: List[Stage] = field(default_factory=list)
+    acts: Dict[Tuple[int, str], Work] = field(default_factory=dict)  # none: what ninja does has its place in the jobs
+    log: str = ""
+
+    @property
+    def args(self) -> str:
+        """Its words."""
+        return " ".join(self.life.argv[1:])
+
+    def wanted(self) -> List[Edge]:
+        """The statements that its goals need, of the manifest that it read last; all where a goal is not known."""
+        if not self.stages:
+            return []
+        manifest = self.stages[-1].manifest
+        goals = manifest.goals(self.goals)
+        numbers = manifest.below(goals) if goals is not None else {edge.number for edge in manifest.edges}
+        return [edge for edge in manifest.edges if edge.number in numbers]
+
+    def compared(self) -> Iterator[Tuple[str, str]]:
+        """Outputs, each with the inputs whose ages ninja compares with its own."""
+        for stage in self.stages:
+            for edge in stage.manifest.edges:
+                if not edge.is_phony:
+                    yield from ((target, asked) for asked in stage.manifest.aged(edge) for target in edge.makes())
+
+
+def options_of(argv: List[str]) -> "Optional[Tuple[Dict[str, str], List[str]]]":
+    """The options and goals of a ninja that builds; None where it only looks, or cannot read its words."""
+    try:
+        found, goals = getopt.gnu_getopt(argv[1:], SHORT, LONG)
+    except getopt.GetoptError:
+        return None
+    options = dict(found)
+    if any(name in options for name in ("-n", "-t", "-h", "--help", "--version")):
+        return None
+    return options, goals
+
+
+class Runs:
+    """Finds the ninjas of a trace, reads their manifests, and gives each process to a statement."""
+
+    def __init__(self, lives: List[Life], owners: Owners, names: Names, kept: Kept, has_ended: bool) -> None:
+        self.lives, self.owners, self.names, self.kept = lives, owners, names, kept
+        self.has_ended = has_ended  # well: else the log says nothing of what failed
+        self.holes: List[str] = []
+        self.ties: List[str] = []
+        self.ninjas: List[Ninja] = []
+        for life in lives:
+            if life.is_ninja:
+                self.add(life)
+        for log in dict.fromkeys(ninja.log for ninja in self.ninjas):
+            self.attribute(log)
+        self.note_inner()
+
+    def note_inner(self) -> None:
+        """Which ninjas ran below which recipe or command."""
+        by_life = {id(ninja.life): ninja for ninja in self.ninjas}
+        works = [work for make in self.owners.makes for work in make.work.values()]
+        works += [job.work for ninja in self.ninjas for stage in ninja.stages for job in stage.jobs]
+        for work in works if by_life else []:
+            work.ninjas = [by_life[id(life)] for life in work.lives if id(life) in by_life]
+
+    # ---------------------------------------------------------------- processes
+    def add(self, life: Life) -> None:
+        """One ninja, if it builds."""
+        asked = options_of(life.argv)
+        if asked is None:
+            if "-t" not in life.argv and any(self.job_of(child) for child in life.children if child.born > life.starts[-1][0]):
+                self.holes.append("ninja ran commands, and its words cannot be read: " + " ".join(life.argv)[:100])
+            return
+        options, goals = asked
+        file = options.get("-f", "build.ninja")
+        folder, opened = self.opened(life, file)
+        ninja = Ninja(life, folder, file, goals)
+        self.ninjas.append(ninja)
+        for start, end in zip(opened, opened[1:] + [NEVER]):
+            self.add_stage(ninja, start, end)
+        if not opened:
+            self.holes.append("a ninja read no manifest: " + " ".join(life.argv)[:100])
+        else:
+            ninja.log = self.names.find(folder, os.path.join(ninja.stages[-1].manifest.top.value("builddir"), ".ninja_log"), True).path
+
+    def opened(self, life: Life, file: str) -> Tuple[str, List[int]]:
+        """The folder that a ninja works in (`-C` moves it), and where in the trace it opened its manifest."""
+        begin, folder = life.starts[-1]
+        places: List[int] = []
+        target = self.names.find(folder, file, True).path
+        for act in life.acts:
+            if act.place > begin and act.kind == "U" and not places:
+                folder = act.path
+                target = self.names.find(folder, file, True).path
+            elif act.place > begin and act.kind == "R" and act.path == target:
+                places.append(act.place)
+        return folder, places
+
+    def add_stage(self, ninja: Ninja, start: int, end: int) -> None:
+        own = [life for life in ninja.life.children if start <= life.born < end]
+        jobs = [job for job in map(self.job_of, own) if job is not None]
+        stage = Stage(start, Manifest(ninja.folder), jobs)
+        ninja.stages.append(stage)
+        try:
+            stage.manifest = read_manifest(ninja.folder, ninja.file, self.texts_at(start))
+            self.read_dyndeps(stage.manifest, self.reads(ninja.life, start, end))
+        except Unreadable as fault:
+            stage.is_read = False
+            if jobs:
+                self.holes.append("the manifest that ninja read cannot be read again: %s" % fault)
+
+    def job_of(self, life: Life) -> Optional[Job]:
+        """The command that a child of ninja runs."""
+        if not life.ran:
+            return None
+        first = life.ran[0]
+        if len(first) != 3 or os.path.basename(first[0]) != "sh" or first[1] != "-c":
+            self.holes.append("ninja started what is no command: " + " ".join(first)[:100])
+            return None
+        return Job(life, first[2])
+
+    # ---------------------------------------------------------------- manifests
+    def texts_at(self, place: int) -> Callable[[str], str]:
+        """Gives files as they were at a place of the trace."""
+
+        def text(path: str) -> str:
+            path = self.names.find("/", path, True).path
+            first, last = self.changes(path)
+            if last < place:
+                return text_of(path)
+            if path in self.kept.texts and first > place:
+                return self.kept.texts[path]
+            raise Unreadable("nobody kept %s as it was when ninja read it" % path)
+
+        return text
+
+    def changes(self, path: str) -> Tuple[int, int]:
+        """Where in the trace a file was first changed, and where last."""
+        firsts = [life.events.get((kind, path), NEVER) for life in self.lives for kind in "WCD"]
+        return min(firsts, default=NEVER), max((life.changed.get(path, -1) for life in self.lives), default=-1)
+
+    @staticmethod
+    def reads(life: Life, start: int, end: int) -> Dict[str, int]:
+        """Where a process last opened each file in a part of the trace."""
+        return {act.path: act.place for act in life.acts if act.kind == "R" and start <= act.place < end}
+
+    def read_dyndeps(self, manifest: Manifest, reads: Dict[str, int]) -> None:
+        """Adds what dyndep files say, as they were when ninja read them."""
+        for edge in manifest.edges:
+            name = "" if edge.is_phony else edge.path("dyndep")
+            path = os.path.join(manifest.folder, name)
+            real = self.names.find("/", path, True).path
+            if not name or real not in reads and not os.path.isfile(path):
+                continue
+            try:
+                for one in read_dyndep(self.texts_at(reads.get(real, NEVER - 1))(path)):
+                    if manifest.makers.get(one.output) is edge:
+                        edge.implicit += one.inputs
+                        edge.implicit_outputs += [p for p in one.outputs if manifest.add_output(edge, p)]
+                        edge.restat_by_file = edge.restat_by_file or one.restat
+            except Unreadable as fault:
+                self.holes.append("%s: %s" % (path, fault))
+
+    # ---------------------------------------------------------------- who ran for whom
+    def attribute(self, log: str) -> None:
+        """Gives the jobs of all ninjas with one log to statements."""
+        ninjas = [ninja for ninja in self.ninjas if ninja.log == log and any(stage.jobs for stage in ninja.stages)]
+        if not ninjas:
+            return
+        logged = self.logged(ninjas, log)
+        for ninja in ninjas:
+            for stage in ninja.stages:
+                if stage.is_read:
+                    self.attribute_stage(stage, logged)
+        if logged is not None and self.has_ended and all(stage.is_read for ninja in ninjas for stage in ninja.stages):
+            self.compare_log(ninjas, logged)
+
+    def logged(self, ninjas: List[Ninja], log: str) -> Optional[List[str]]:
+        """The outputs that these ninjas logged; None where other tools have changed the log, or there is none."""
+        for life in self.lives:
+            if life.is_ninja and "-t" in life.argv and LOG_TOOLS & set(life.argv):
+                return None
+        try:
+            return new_outputs(self.kept.texts.get(log, ""), text_of(log))
+        except OSError:
+            if self.has_ended:
+                self.holes.append("ninja left no log: " + log)
+            return None
+
+    def attribute_stage(self, stage: Stage, logged: Optional[List[str]]) -> None:
+        by_text: Dict[str, List[Edge]] = {}
+        for edge in stage.manifest.edges:
+            if not edge.is_phony:
+                by_text.setdefault(edge.command, []).append(edge)
+        groups: Dict[str, List[Job]] = {}
+        for job in stage.jobs:
+            groups.setdefault(job.text, []).append(job)
+        for text, jobs in sorted(groups.items()):
+            edges = by_text.get(text, [])
+            if not edges or any(job.life.cut for job in jobs):
+                self.holes.append("ninja ran a command that no build statement has: " + text[:200])
+            elif len(edges) == 1 and len(jobs) == 1:
+                jobs[0].edge = edges[0]
+            else:
+                self.break_tie(text, jobs, edges, logged)
+        for job in stage.jobs:
+            self.owners.take(job.work, job.life)
+        for text, jobs in sorted(groups.items()):
+            self.check_tie(text, jobs)
+
+    def break_tie(self, text: str, jobs: List[Job], edges: List[Edge], logged: Optional[List[str]]) -> None:
+        """Statements with one command: the log names them in the order in which they ended."""
+        place = ends(logged or [])
+        found = sorted((e for e in edges if place.get(e.label, (0, 0))[1] == 1), key=lambda e: place[e.label])
+        if len(jobs) == len(edges) == 1:
+            found = edges
+        if len(found) != len(jobs):
+            self.holes.append("several build statements have one command, and the log of ninja does not say which ran: " + text[:200])
+            return
+        for job, edge in zip(sorted(jobs, key=lambda j: j.life.died), found):
+            job.edge = edge
+        self.ties.append(text)
+
+    def check_tie(self, text: str, jobs: List[Job]) -> None:
+        """Where two with one command, which nothing distinguishes, ran at once, it must not matter which was which."""
+        rows = sorted(jobs, key=lambda j: j.life.born)
+        for first, second in zip(rows, rows[1:]):
+            if second.life.born < first.life.died and set(first.work.events) != set(second.work.events):
+                self.holes.append("two build statements with one command ran at once: " + text[:200])
+                return
+
+    def compare_log(self, ninjas: List[Ninja], logged: List[str]) -> None:
+        """Each statement that ran has its lines in the log, and each line a statement that ran."""
+        ran = Counter(path for ninja in ninjas for stage in ninja.stages for edge in stage.ran() for path in edge.makes())
+        counted = Counter(logged)
+        for path in sorted((counted - ran).keys())[:3]:
+            self.holes.append("the log of ninja names %s, and no process of the trace made it" % path)
+        for path in sorted((ran - counted).keys())[:3]:
+            self.holes.append("a command ran for %s, and the log of ninja does not name it" % path)
+
+
+def removed_names(lives: List[Life]) -> Set[str]:
+    """Names that some process removed."""
+    return {path for life in lives for kind, path in life.events if kind in "XD"}

@@ -1,0 +1,105 @@
+"""The `.exists` files of Perl's makefiles, which say that a folder is there: several makes have one rule each for the same file.
+
+The rule makes the folder, sets its mode, and touches the file, which stays empty. So it makes no difference which of these recipes runs,
+or whether all do, where nothing compares the age of the file.
+"""
+
+import os
+import re
+from dataclasses import dataclass
+from typing import Dict, Iterable, List, Optional, Set, Tuple
+
+from record.make.database import Base
+from record.make.owners import Owners, Work
+from record.make.words import Round, Words
+from record.tools.shelltext import contents
+from record.trace.lives import Life
+
+NAME = ".exists"
+TOUCHES = ["-MExtUtils::Command", "-e", "touch", "--"]
+LINE = re.compile(r"\s*\$\(NOECHO\) \$\((?:MKPATH|CHMOD|TOUCH)\) (?:\$\(PERM_DIR\) )?\$\(\w+\)(?:\$\(DFSEP\)\.exists)?\s*")
+
+LOOKS = re.compile(r"\$[({](?:wildcard|realpath)\s")  # functions by which make looks at any file
+
+
+@dataclass
+class Markers:
+    """The files that are left out, and when each make looked at one."""
+
+    paths: Set[str]
+    looks: Dict[Tuple[int, str], int]  # by id of the make's life, and path
+
+
+def settle_exists(lives: List[Life], logs: Iterable[Words]) -> Markers:
+    """Leaves out such files, and says which they are."""
+    users: Dict[str, List[Life]] = {}
+    for life in lives:
+        for _, path in life.events:
+            if path.endswith(NAME) and os.path.basename(path) == NAME:
+                users.setdefault(path, []).append(life)
+    bases = [one.base for words in logs for one in words.rounds if one.base is not None] if users else []
+    listed = {os.path.dirname(path) for path in users} & {path.partition("\0")[0] for life in lives if users for kind, path in life.events if kind == "L"}
+    plain = {path for path in users if os.path.dirname(path) not in listed and all(is_plain(base, path) for base in bases)}
+    found = {path for path in plain if all(is_marker(life, path) for life in users[path])}
+    looks: Dict[Tuple[int, str], int] = {}
+    for life in lives if found else ():
+        for key in [key for key in life.events if key[1] in found]:
+            looks[id(life), key[1]] = min(life.events.pop(key), looks.get((id(life), key[1]), 1 << 60))
+        life.acts = [act for act in life.acts if act.path not in found]
+    return Markers(found, looks)
+
+
+def credit_makes(owners: Owners, markers: Markers) -> None:
+    """A make that found such a file would have made its folder: it counts as one that does, if its recipes there wait for that rule."""
+    for make in owners.makes if markers.paths else ():
+        for one in make.words.rounds:
+            for name in [name for name in one.nodes if name.endswith(NAME) and name not in one.must]:
+                path = next((path for path in markers.paths if is_name(name, path)), "")
+                place, folder = markers.looks.get((id(make.life), path), -1), os.path.dirname(path)
+                if place >= 0 and all(waits(one, job.target, name) for job in one.jobs if is_used(make.work.get(id(job)), folder)):
+                    for work in (work for above in owners.makes for work in above.work.values() if make in work.makes):
+                        work.add("K", folder, place)
+
+
+def is_used(work: Optional[Work], folder: str) -> bool:
+    """Whether a recipe does something in a folder."""
+    return work is not None and any(path.startswith(folder + "/") for _, path in work.events)
+
+
+def waits(one: Round, target: str, name: str) -> bool:
+    """Whether a target needs another, by way of others too."""
+    seen, todo = {target}, [target]
+    while todo:
+        node = one.nodes.get(todo.pop())
+        fresh = set(node.prerequisites) - seen if node is not None else set()
+        seen |= fresh
+        todo.extend(fresh)
+    return name in seen
+
+
+def is_marker(life: Life, path: str) -> bool:
+    """Whether a process does no more with such a file than to touch it, or is a make that looks at it, by no function."""
+    if life.is_make:
+        is_read = {("R", path), ("W", path), ("D", path)} & life.events.keys()
+        return not is_read and not any(asks(contents(one)) for kind, one in life.events if kind == "R")
+    name = os.path.basename("".join(life.argv[:1]))
+    is_touch = name == "perl" and life.argv[1:5] == TOUCHES or name == "touch" and len(life.argv) == 2
+    return is_touch and ("D", path) not in life.events
+
+
+def asks(text: str) -> bool:
+    """Whether a makefile looks at files by functions; make's own program is read too, and is none."""
+    return "\0" not in text and LOOKS.search(text) is not None
+
+
+def is_plain(base: Base, path: str) -> bool:
+    """Whether the rules of a make for such a file are Perl's, and it is needed by targets that are no files."""
+    for name, lines in base.recipes.items():
+        if is_name(name, path) and not all(LINE.fullmatch(line) for line in lines):
+            return False
+    return not any(target not in base.phony and any(is_name(one, path) for one in names) for target, names in base.prerequisites.items())
+
+
+def is_name(name: str, path: str) -> bool:
+    """Whether a name as make spells it may be that of a file."""
+    return name.endswith(NAME) and path.endswith("/" + re.sub(r"^(\.{0,2}/)+", "", name))

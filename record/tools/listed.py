@@ -1,0 +1,39 @@
+"""What a list of a folder is about: the names that a program can ask for there."""
+
+import os
+import re
+from typing import List, Set
+
+from record.tools import shelltext
+from record.tools.shellvalues import patterns_in
+from record.trace.lives import Life
+
+LIBTOOL, BEGINS, LARGE = "libtool", "library-building support", 4096  # what each of its scripts says of itself, near the beginning
+ODD = "*[!-A-Za-z0-9._+]*"  # names with a sign that is in no usual one
+
+
+def patterns(life: Life, where: str, is_open_shell: bool) -> List[str]:
+    """The patterns of names that a program lists a folder for. Options of shells in the environment may change what patterns say."""
+    if is_open_shell or life.taken or life.cut:
+        return ["*"]
+    return libtool_patterns(life) or patterns_in(life, where) or list(shelltext.patterns(life.argv, False))
+
+
+def libtool_patterns(life: Life) -> List[str]:
+    """What libtool lists folders for where it compiles or links: older outputs of the same library, and what its words say. Its commands are
+    taken for patterns too, but these hold blanks, quotes and backslashes."""
+    script = shelltext.script_of(life.argv)
+    if os.path.basename(script) != LIBTOOL or not {"--mode=link", "--mode=compile"} & {*life.argv}:
+        return []
+    text = shelltext.contents(os.path.join(life.folder, script))
+    if "ltmain.sh" not in text or BEGINS not in text[:LARGE]:
+        return []
+    found: Set[str] = {ODD}
+    releases = [value for word, value in zip(life.argv, life.argv[1:]) if word == "-release"]
+    for word, value in zip(life.argv, life.argv[1:]):
+        if word == "-o":
+            name = re.sub(r"\.[^.]*$", "", os.path.basename(value))
+            found.update((os.path.basename(value), name + ".*", *("%s-%s.*" % (name, release) for release in releases)))
+    for word in life.argv[1:]:
+        found.update(shelltext.loose(part) for part in word.split("/") if re.search(r"[*?\[]", part))
+    return sorted("*" if re.search(r"[{}]", one) else one for one in found)

@@ -1,0 +1,155 @@
+"""What Python does by itself: it lists the folders of its modules, keeps byte code in `__pycache__`, and makes folders.
+
+Byte code counts as its source. A list of a folder in which a program finds modules is about modules and folders alone, where no text
+of the program lists folders.
+"""
+
+import os
+import re
+from typing import Dict, Iterator, List, Sequence, Set, Tuple
+
+from record.missing.looked import BYTE_CODE
+from record.tools import shelltext
+from record.tools.makedirs import settle_made
+from record.trace.lives import Life
+
+PYTHON = re.compile(r"(?:.*/)?python[\d.]*$")
+CACHE = "__pycache__"
+LISTS = re.compile(r"listdir|scandir|glob|walk|iterdir|\bPath\b|pathlib|\bexec\b|\beval\b|__import__|importlib|pkgutil|runpy|copytree|rmtree|archive|zip|tarfile"
+                   r"|filecmp|mailbox|tabnanny|modulefinder|pydoc|lib2to3|addsitedir|logging.handlers|compileall|unittest|pytest|setuptools|distutils|pkg_resources|metadata|ctypes|\bstat\b|getmtime"
+                   r"|pickle|marshal|shelve|timeit|doctest|zoneinfo|codeop|Interactive|\bvars\b|__dict__|__builtins__|getattr\(\s*(?:os|posix|sys)\b")
+SYSTEM = re.compile(r"/etc/|(?:/usr)?/lib(?:32|64)?/(?!python)")
+PACKAGES = re.compile(r"/(?:site|dist)-packages/(?!_distutils_hack/|apport_python_hook\.)")  # the exceptions are what setuptools and Ubuntu run at each start
+TEXTS = (".py", ".pyc", ".so", ".zip", ".egg", ".whl", ".pyz")  # how the names of files end that modules may come from
+MODULES = ("*.py", "*.pyc", "*.so", "*.pth", "*/")  # what an import, or the start of Python, looks for in a list; the last is any folder
+
+
+def is_python(life: Life) -> bool:
+    """Whether a life ends as Python. What it did as another program, such as a script that finds Python, stays as it is."""
+    return bool(life.ran and life.ran[-1] and PYTHON.match(life.ran[-1][0]))
+
+
+def settle(lives: List[Life], tops: Sequence[str] = ()) -> Iterator[Tuple[str, str]]:
+    """Puts what is meant in the place of what each Python did by itself; what that assumes, with its words. Where another program looks
+    into a folder of byte code, all of that stays as it is."""
+    known = [life for life in lives if is_python(life)]
+    written: Dict[str, int] = {}
+    for path, place in ((path, place) for life in lives for path, place in life.changed.items() if path.endswith(".py")) if known else ():
+        written[path] = max(place, written.get(path, 0))
+    others = {cache_of(path) for life in lives if not is_python(life) for _, path in life.events if CACHE in path}
+    for life in known:
+        names = [path for _, path in life.events if CACHE in path and cache_of(path) not in others and not is_of_system(path, tops)]
+        sources = sources_of(life)
+        own = own_sources(life, sources)
+        settle_lists(life, sources, own, written)
+        settle_code(life, others)
+        is_quiet = settle_made(life, own if sources else sorted(modules_of(life)), read_at(life, sources), written)
+        if names:
+            yield "bytecode", "%s: %s" % (" ".join(life.argv)[:60], names[0])
+        if is_quiet:
+            yield "makers", " ".join(life.argv)[:100]
+
+
+def is_of_system(path: str, tops: Sequence[str]) -> bool:
+    """Whether byte code came with the system: no recipe writes it."""
+    return path.startswith(("/usr/", "/lib")) and not any(path.startswith(top.rstrip("/") + "/") for top in tops)
+
+
+def cache_of(path: str) -> str:
+    """The folder of byte code that a path leads to."""
+    return path.partition(CACHE)[0]
+
+
+def settle_code(life: Life, others: Set[str]) -> None:
+    """Byte code that is read, and a folder of byte code that is asked for or made."""
+    for (kind, path), place in list(life.events.items()):
+        match = BYTE_CODE.match(path)
+        source = match.group(1) + match.group(2) + ".py" if match is not None else ""
+        is_cache = os.path.basename(path) == CACHE
+        if cache_of(path) in others or place <= life.begun:
+            continue
+        if kind in "RSNA" and ({("S", source), ("R", source)} & life.events.keys() or is_cache) or kind == "P" and is_cache:
+            del life.events[kind, path]
+            life.events.setdefault(("K", path) if is_cache else ("R", source), place)
+        elif kind in "ME" and is_cache:
+            del life.events[kind, path]
+            life.events.setdefault(("T", path), place)
+
+
+def sources_of(life: Life) -> Dict[str, int]:
+    """The modules that it reads; none where its script is not among them."""
+    found = modules_of(life)
+    return found if script_of(life) in map(os.path.basename, found) else {}
+
+
+def modules_of(life: Life) -> Dict[str, int]:
+    """The modules that it reads, except those that come with Python itself, with when it did."""
+    library = library_of(life)
+    found: Dict[str, int] = {}
+    events = (event for one in life.threads or (life,) for event in one.events.items())
+    for (kind, path), place in events:
+        source = BYTE_CODE.sub(r"\1\2.py", path)
+        if kind == "R" and source.endswith(TEXTS) and not is_of_python(source, library):
+            found[source] = min(place, found.get(source, place))
+    return found
+
+
+def read_at(life: Life, sources: Dict[str, int]) -> int:
+    """When it read its script."""
+    return min((place for path, place in sources.items() if os.path.basename(path) == script_of(life)), default=life.begun)
+
+
+def own_sources(life: Life, sources: Dict[str, int]) -> List[str]:
+    """The script and the modules that it may use: what a site starts with each Python, and no text names, does nothing any more."""
+    begun = read_at(life, sources)
+    texts = [shelltext.contents(path) for path, place in sources.items() if place >= begun]
+    is_whole = all(len(text) < shelltext.LARGE for text in texts)
+    return [path for path, place in sources.items() if place >= begun or not is_whole or is_named(path, " ".join(texts))]
+
+
+def is_named(path: str, texts: str) -> bool:
+    """Whether a text may use a module: one that is in no package folder, or whose package it names."""
+    match = PACKAGES.search(path)
+    package = path[match.end():].split("/")[0].split(".")[0] if match is not None else ""
+    return not package or re.search(r"\b%s\b" % re.escape(package), texts) is not None
+
+
+def settle_lists(life: Life, sources: Dict[str, int], own: List[str], written: Dict[str, int]) -> None:
+    """Lists of folders in which it finds modules. A text that was written later may have listed folders."""
+    begun = read_at(life, sources)
+    lists = {path: place for (kind, path), place in life.events.items() if kind == "L" and path.endswith("\0*") and place > life.begun}
+    if not lists or not sources or any(lists_folders(path) or written.get(path, 0) > begun for path in own):
+        return
+    is_all = not any(lists_folders(path) for path in sources if path not in own)
+    for path, place in lists.items():
+        folder = path.partition("\0")[0]
+        if (place > begun or is_all) and any(os.path.dirname(source) == folder for source in sources):
+            del life.events["L", path]
+            for pattern in MODULES:
+                life.events.setdefault(("L", folder + "\0" + pattern), place)
+
+
+def library_of(life: Life) -> str:
+    """How the folders of modules begin that come with this Python."""
+    return os.path.join(os.path.dirname(os.path.dirname(os.path.realpath(life.program or "/"))), "lib", "python")
+
+
+def is_of_python(path: str, library: str) -> bool:
+    """Whether a file comes with the system or with Python itself, and is of no package that was added: the text of one may list folders."""
+    return bool(SYSTEM.match(path)) or path.startswith(library) and not PACKAGES.search(path)
+
+
+def script_of(life: Life) -> str:
+    """The name of the script that Python runs, else nothing."""
+    return os.path.basename(next((word for word in life.argv[1:] if not word.startswith("-")), ""))
+
+
+def lists_folders(path: str) -> bool:
+    """Whether the text of a module may list a folder, or run another text; so may one that cannot be read."""
+    if not path.endswith(".py"):
+        return True
+    try:
+        with open(path, errors="replace") as file:
+            return bool(LISTS.search(file.read()))
+    except OSError:
+        return True

@@ -1,0 +1,394 @@
+"""What the words of a process say: folders made for oneself, patterns of names, ages that are compared."""
+
+import os
+import re
+from functools import lru_cache
+from typing import Iterable, List, Optional, Set, Tuple
+
+from record.trace.system import OF_SYSTEM
+
+SHELLS = ("sh", "dash", "bash", "ksh", "zsh", "ash")
+NAMES_NEXT = re.compile(r"[-+]\w*[oO]\w*|--rcfile|--init-file")  # options of a shell whose value is the next word
+LETTERS = re.compile(r"-\w")
+NINJA = re.compile(r"(?:ninja|ninja-build|samu|samurai)(?:[-.\d]*)$")
+# Programs that look at files by name, and not to compare their ages, where AGES finds no word for that.
+AGELESS = frozenset((
+    "make gmake ninja rm cp mv ln ls cat test [ mkdir rmdir touch chmod chown install ginstall env dirname basename readlink realpath pwd head tail"
+    " sort uniq wc cmp diff grep egrep fgrep sed awk gawk mawk nawk find xargs tar gzip gunzip xz bzip2 tee tr cut paste od du df stat date sha256sum md5sum"
+    " mktemp flock which cc gcc c++ g++ cpp clang clang++ cc1 cc1plus collect2 lto1 as ld ld.bfd ld.gold gold lld ar ranlib nm strip objcopy objdump").split())
+VERSIONED = re.compile(r"(?:[\w.]+-linux-gnu-)?([a-z+\[.][a-z0-9+.]*?)(?:-[\d.]+)?$")
+PROGRESS = ("cmake_progress_start", "cmake_progress_report", "cmake_echo_color")
+SORTERS = ("make", "gmake", "rm", "chmod", "chown", "rmdir", "git")  # a folder that `cp` or `mv` copies gets its names in that order
+COMPRESSORS = ("gzip", "pigz", "bzip2", "xz", "lzma", "lzip", "zstd", "compress")  # they refuse a file that has two names
+MAKERS = ("install-sh", "mkinstalldirs", "libtool")
+EXTUTILS = re.compile(r"-MExtUtils::Command -e mkpath$|-MExtUtils::Install -e pm_to_blib\(")  # what Perl's makefiles make folders by
+TOOLS = re.compile(r"/usr/(?:local/)?bin/(?:makeinfo|texi2any|pod2man|pod2text|help2man)$")  # scripts of the system that compare no ages
+INTERPRETERS = re.compile(r"(python|perl|ruby|node|lua|tclsh|php)[\d.]*$")
+TAKES_IN = re.compile(r"(^|[;&|({\n`!]\s*|\b(then|do|else|elif|if|while|until|time|command|builtin)\s+|\b\w+=\S*\s+)(\.|source|eval)\s")  # text of another file
+OPTIONS = re.compile(r"\b(shopt|compgen|GLOBIGNORE)\b|\s[-+]O\s")  # of bash, by which patterns say something else, or nothing
+# Macros in the environment that give bash other options, and functions there: then the words of a shell do not say what it does.
+SHELL_MACROS = {"BASHOPTS", "SHELLOPTS"}
+SETS_OPTIONS = re.compile(r"\b(BASHOPTS|SHELLOPTS|BASH_FUNC_)|\bexport\s+-\w*f|\b(declare|typeset)\s+-(?=\w*x)\w*f")
+READ_TIMES = re.compile(r"(?:\btest|\[)\s[^;&|\n]*-N\s|\bfind\b[^;|\n]*\s-(?:anewer|amin|atime|used|newera\w|newer\wa)\s|\bstat\b[^;|&\n]*%[-+ 0#'\d.]*[xX]"
+                        r"|\bls\s([^;|&\n]*?\s)?(?:-\w*u|--time=(?:a|u))")
+QUALIFIED = re.compile(r"[\w*?\])/>]\(")  # a pattern of zsh that may ask for ages, as `*(om)` does
+KEPT = 4096  # how many files are remembered
+LARGE = 1 << 18  # how much of a script is read
+PASSING = ("env", "nice", "ionice", "setsid", "timeout", "flock", "time", "stdbuf")  # they leave errors to who runs in their place
+WORD = re.compile(r"[^\s;|&<>()'\"`]+")  # a text without a word may be long: each sign is looked at once
+MAGIC = re.compile(r"[*?\[]")
+TIME_OF_STAT = re.compile(r"%[-+ 0#'\d.]*[WXYZwxyz]|\s(-\w*t|--t)")
+FORMAT_OF_STAT = re.compile(r"\s(-\w*c|--f|--p)")
+# The words by which a program shows or compares ages, by its name.
+SHOWS_AGES = {
+    "ls": re.compile(r"\s(-\w*[tlcugon]|--(fu|fo|so|ti))"),
+    "date": re.compile(r"\s(-\w*r|--ref)"),
+    "tar": re.compile(r"^\s\w*[uN]|\s(-\w*[uN]|--(ne|af|up|keep-n))"),
+    "find": re.compile(r"\s-(f?ls|used)\s"),
+    "cp": re.compile(r"\s(-\w*u|--u)"),
+    "mv": re.compile(r"\s(-\w*u|--u)"),
+}
+# `ar` with `u` is not among them: it compares a file with the member's date in the archive, and a date that this build put
+# there was read from the file.
+AGES = re.compile(
+    r"(^|\s|\[)[\"'\\]*-[\"'\\]*-?([no][\"'\\]*t|[ac]?newer[\w-]*|mtime|mmin|atime|amin|cmin|ctime|f?printf)[\"'\\]*[\s=]|\b(cp|mv|rsync|tar)\s+([^;|&\n]*?\s)?(-\w*u|--update)"
+    r"|(?:\btest|\[)\s+(?:!\s+)?(?![-!])\S+\s+\"?-?\$\S+\s+[^\s;&|\])]|\btar\s+\w*u|\bls\s+([^;|&\n]*?\s)?-\w*[tlc]|\bstat\b[^;|&\n]*%[WXYZwxyz]|--sort[= ]t|\bdate\s+[^;|&\n]*-r")
+TAKEN = re.compile(r"(?m)(?:^|[;&|{(!]|\b(?:then|do|else|elif|if|while|until|time|command|builtin)\b|\w=\S*[ \t])[ \t]*(?:\.|source)[ \t]+([^\s;&|)#]+)")  # scripts that a script takes in
+COMPUTED = re.compile(r"\beval[ \t]+[\"']?(?:\$\(|`)")  # the text that a program prints
+# What is thrown away, and errors that are not: a folder that is there already is reported there.
+NOWHERE = re.compile(r"(?:\b2\s*|&)?>>?\s*/dev/null(?:\s*2>&1)?")
+KEPT_ERRORS = re.compile(r"\b2\s*>|&>|>\s*&|\|&")
+REMOVES = re.compile(r"\s*rm\s[^;&|<>`$()\n]*$")  # a text that runs nothing else
+DIRECTORY = r"(?:\"[^\"]*\"|'[^']*'|[^\s;|&<>()'\"`]+)"
+
+
+def base_name(argv: List[str]) -> str:
+    """The program's name without its folder."""
+    return argv[0].rpartition("/")[2] if argv else ""
+
+
+def is_removal(argv: List[str]) -> bool:
+    """Whether a process does no more with what it finds than to remove it."""
+    name = base_name(argv)
+    return name in ("rm", "rmdir") or bool(REMOVES.match(shell_text(argv))) or name == "find" and "-delete" in argv
+
+
+def shell_words(argv: List[str]) -> Tuple[str, str]:
+    """The text of `sh -c TEXT`, and the script of `sh SCRIPT`: the first word that is no option of the shell. Where it has neither
+    it reads its standard input."""
+    if base_name(argv) not in SHELLS:
+        return "", ""
+    options, at = "", 1
+    while at < len(argv) and argv[at][:1] in ("-", "+"):
+        word, at = argv[at], at + 1
+        if word in ("-", "--"):
+            break
+        options += word if LETTERS.match(word) else ""
+        at += bool(NAMES_NEXT.fullmatch(word))
+    first = argv[at] if at < len(argv) else ""
+    return (first, "") if "c" in options else ("", "" if "s" in options else first)
+
+
+def shell_text(argv: List[str]) -> str:
+    """The text of `sh -c TEXT`, else nothing."""
+    return shell_words(argv)[0]
+
+
+def script_of(argv: List[str]) -> str:
+    """The file that a shell runs, else nothing."""
+    return shell_words(argv)[1]
+
+
+def first_words(path: str) -> List[str]:
+    """The words of a script's first line: the interpreter that the kernel runs, by its own look, and a word for it."""
+    try:
+        with open(path, "rb") as file:
+            first = file.readline(256)
+    except OSError:
+        return []
+    return first[2:].decode("utf-8", "surrogateescape").split() if first.startswith(b"#!") else []
+
+
+def with_interpreter(argv: List[str], path: str, words: List[str]) -> List[str]:
+    """The words of a script, as those of its first line let an interpreter run it."""
+    if words and os.path.basename(words[0]) == "env":
+        words = [w for w in words[1:] if not w.startswith("-") and "=" not in w][:1]
+    return words[:1] + [path] + argv[1:] if words else argv
+
+
+def patterns(argv: List[str], cut: bool) -> Iterable[str]:
+    """The patterns that a listing of a folder by this process can be about."""
+    text = shell_text(argv)
+    if not text or cut or "$" in text or "`" in text or re.search(r"\beval\b", text):
+        return ["*"]
+    if OPTIONS.search(" ".join(argv)) or TAKES_IN.search(text) or base_name(argv) in ("ksh", "zsh"):
+        return ["*"]
+    words = glob_words(text)
+    last = {os.path.basename(word.rstrip("/")) for word in words}
+    middle = {part for word in words for part in word.split("/") if re.search(r"[*?]", part)}
+    return sorted((last | middle) - {""}) or ["*"]
+
+
+def glob_words(text: str) -> List[str]:
+    """The words of a shell's text with patterns, as loose patterns. A word that goes on behind a quote, or behind a backslash and a blank,
+    may hold any text there."""
+    found = []
+    for match in WORD.finditer(text):
+        sign = MAGIC.search(match.group())
+        if sign is None:
+            continue
+        start = match.start() + match.group().rfind("=", 0, sign.start()) + 1  # behind an assignment
+        word, before, behind = text[start:match.end()], text[max(0, start - 2):start], text[match.end():match.end() + 1]
+        bare = word.rstrip("\\")
+        begins = "*" if before[-1:] in ("'", '"', "=") or before[-2:-1] == "\\" else ""
+        ends = "*" if behind[:1] in ("'", '"') or bare != word else ""
+        pattern = begins + loose(bare) + ends
+        found.append("*" if re.search(r"[{}]", pattern) else pattern)
+    return found
+
+
+def loose(pattern: str) -> str:
+    """A pattern of `*` and `?` alone that matches all that a shell's pattern does: one of several characters, and one that is quoted,
+    are any character, and several words in braces are any text."""
+    pattern, count = re.sub(r"\\.", "?", pattern), 1
+    while count:
+        pattern, count = re.subn(r"\{[^{}]*\}", "*", pattern)
+    return re.sub(r"\[[!^]?\]?(?:\[[:.=][^\]]*[:.=]\]|[^\]/])*\]|\[", "?", pattern)
+
+
+def is_quiet_mkdir(argv: List[str]) -> bool:
+    """`mkdir -p` or `install -d`, which do not show whether the folder was there."""
+    name, words = base_name(argv), argv[1:]
+    loud = any(w.startswith("--v") or re.match(r"-[a-zA-Z]*v", w) for w in words)
+    if name == "mkdir":
+        return not loud and any(w == "--parents" or re.match(r"-[a-zA-Z]*p", w) for w in words)
+    return name in ("install", "ginstall") and not loud and any(w == "--directory" or re.match(r"-[a-zA-Z]*[dD]", w) for w in words)
+
+
+def maker_at(argv: List[str]) -> int:
+    """Where the words behind the first name a script that builds carry, which makes folders for itself; -1 where none does."""
+    name, words = base_name(argv), argv[1:]
+    if name == "perl":
+        return 2 if EXTUTILS.match(" ".join(words[:3])) else -1
+    if name not in SHELLS and name != "cmake":
+        return -1
+    if name == "cmake" and words[:2] == ["-E", "make_directory"]:
+        return 1
+    return next((n for n, w in enumerate(words) if os.path.basename(w) in MAKERS), -1)
+
+
+def makes(argv: List[str], folder: str) -> bool:
+    """Whether such a script makes this folder for itself, and needs no more than that it is there."""
+    at, words = maker_at(argv), argv[1:]
+    if at < 0:
+        return False
+    if os.path.basename(words[at]) == "libtool":
+        return os.path.basename(folder) in (".libs", "_libs")
+    if os.path.basename(words[at]) == "install-sh" and "-d" not in words:
+        return False
+    names, filled = [word for word in words[at + 1:] if not word.startswith("-")], re.findall(r"'([^']*)'", words[at])
+    if words[at].startswith("pm_to_blib"):
+        names = [os.path.dirname(name) for name in names] + filled
+    return any(is_on_the_way(folder, name) for name in names) or any("/" + os.path.normpath(name) + "/" in folder for name in filled)
+
+
+def above(argv: List[str], folder: str) -> List[str]:
+    """The folders above one that Perl's makers ask for: they make these too, and ask for them only where it is not there."""
+    found = []
+    while base_name(argv) == "perl" and makes(argv, os.path.dirname(folder)):
+        folder = os.path.dirname(folder)
+        found.append(folder)
+    return found
+
+
+def is_on_the_way(folder: str, word: str) -> bool:
+    """Whether a folder is the one that a word names, or one above it."""
+    parts = [p for p in os.path.normpath(word).split("/") if p not in ("", ".", "..")]
+    return any(folder.endswith("/" + "/".join(parts[:count])) for count in range(1, len(parts) + 1))
+
+
+@lru_cache(KEPT)
+def quiet_folders(text: str) -> Set[str]:
+    """The folders that a shell's text makes in one of the quiet forms, as it spells them."""
+    if "mkdir" not in text and "install" not in text:
+        return set()
+    quiet = r"(?:\s*(?:2\s*)?>\s*/dev/null|\s*2>&1)*"
+    ends, asked = r"\s*(?:;|&&|\n|$|\))", r"\s+-[de]\s+(?P<d>" + DIRECTORY + r")(?:\s+\])?" + quiet
+    made = r"(?:mkdir\s+-p|install\s+-d)\s+(?P<made>" + DIRECTORY + ")" + quiet
+    forms = (
+        r"mkdir\s+(?P<d>" + DIRECTORY + ")" + quiet + r"\s*\|\|\s*(?:true|:|test\s+-d\s+(?P=d)|\[\s+-d\s+(?P=d)\s+\])" + quiet + ends,
+        r"(?:test|\[)" + asked + r"\s*\|\|\s*" + made + ends,
+        r"if\s+(?:(?:test|\[)\s+!|!\s+(?:test|\[))" + asked + r"\s*;\s*then\s+" + made + r"\s*;\s*fi" + ends,
+    )
+    begin = r"(?:^|[;\n({&]|\bthen|\bdo)\s*"
+    found = [m for form in forms for m in re.finditer(begin + form, text) if "/dev/null" in m.group() or not KEPT_ERRORS.search(NOWHERE.sub(" ", text))]
+    return {s for m in found if makes_it(m) for s in spelled_by(m)}
+
+
+def is_excused(argv: List[str], folder: str) -> bool:
+    """Whether a shell's text makes a folder in one of the quiet forms, which do not show who was first."""
+    text = shell_text(argv)
+    if not any(folder.endswith("/" + s.lstrip("./")) for s in quiet_folders(text)):
+        return False
+    looks, name = re.sub(r"\binstall\s+-d\b", "install", text), re.escape(os.path.basename(folder)) + r"(?![\w./-])"
+    return all(len(re.findall(begins + name, looks)) <= 1 for begins in (r"(?:-[defrwxs]\s+|\bls\s+|\bstat\s+)\S*", r"\bmkdir\s+(?!-p\b|--p)[^;&|\n]*?"))
+
+
+def spelled_by(form: "re.Match[str]") -> List[str]:
+    """The folders that are there behind a quiet form: the one that it asks for, and those above where it makes them too."""
+    name = os.path.normpath(form.group("d").strip("'\""))
+    parts = name.split("/")
+    return [name] if "made" not in form.groupdict() else ["/".join(parts[:count]) for count in range(1, len(parts) + 1) if parts[count - 1] not in ("", ".", "..")]
+
+
+def makes_it(form: "re.Match[str]") -> bool:
+    """Whether a quiet form makes the folder that it asks for, or one below it."""
+    made = form.groupdict().get("made")
+    return made is None or (os.path.normpath(made.strip("'\"")) + "/").startswith(os.path.normpath(form.group("d").strip("'\"")) + "/")
+
+
+def is_ageless(argv: List[str]) -> bool:
+    """Whether a program is known to compare no ages but by the words that say so."""
+    match = VERSIONED.match(base_name(argv))
+    return match is not None and match.group(1) in AGELESS or base_name(argv) in SHELLS
+
+
+def shows_progress(argv: List[str]) -> bool:
+    """Whether CMake counts what is built, to print how much of it there is."""
+    return base_name(argv) == "cmake" and argv[1:2] == ["-E"] and argv[2:3] != [] and argv[2] in PROGRESS
+
+
+def sorts_names(argv: List[str]) -> bool:
+    """Whether a program that lists a folder sorts what it finds, or does the same with each name."""
+    name = base_name(argv)
+    if name == "ls":
+        return not any(re.match(r"-[a-zA-Z]*[Uf]|--sort=none", word) for word in argv[1:])
+    return name in SHELLS or name in SORTERS
+
+
+def is_interpreter(argv: List[str]) -> bool:
+    """Whether a program of unknown words runs."""
+    return bool(INTERPRETERS.match(base_name(argv)))
+
+
+def names_here(argv: List[str]) -> bool:
+    """Whether the words name the folder that a process is in; shells look at it anyway."""
+    return bool(re.search(r"\s(\./?|\$PWD)(\s|$)", " ".join(argv)))
+
+
+def script_compares(path: str, folder: str, depth: int = 0) -> bool:
+    """Whether the text of a script compares ages, or that of a script that it takes in; so may one that cannot be read."""
+    try:
+        with open(path, errors="replace") as file:
+            text = file.read(LARGE)
+    except OSError:
+        return True
+    taken = [name.strip("'\"") for name in TAKEN.findall(text)]
+    return bool(AGES.search(text) or COMPUTED.search(text)) or depth > 3 or any("$" in n or script_compares(os.path.join(folder, n), folder, depth + 1) for n in taken)
+
+
+def shows_ages(argv: List[str]) -> bool:
+    """Whether a program shows or compares ages, by words that are its own."""
+    name, text = base_name(argv), "".join(" " + word for word in argv[1:]) + " "
+    if name == "zsh":
+        return bool(QUALIFIED.search(text))
+    if name == "stat":
+        return not FORMAT_OF_STAT.search(text) or bool(TIME_OF_STAT.search(text))
+    return name in SHOWS_AGES and bool(SHOWS_AGES[name].search(text))
+
+
+def asks_size(argv: List[str]) -> bool:
+    """Whether a program shows how large a folder is: some file systems count its names."""
+    text = "".join(" " + word for word in argv[1:]) + " "
+    return base_name(argv) == "stat" and (not FORMAT_OF_STAT.search(text) or bool(re.search(r"%[-+ 0#'\d.]*[sbB]", text)))
+
+
+def asks_reads(argv: List[str], folder: str) -> bool:
+    """Whether a program, or a script, may ask when a file was read last."""
+    is_known = base_name(argv) in SHELLS or base_name(argv) in ("test", "[", "find", "stat", "ls")
+    return is_known and (bool(READ_TIMES.search(" ".join(argv) + " ")) or bool(script_of(argv)) and asks_reads_in(os.path.join(folder, script_of(argv))))
+
+
+@lru_cache(KEPT)
+def asks_reads_in(path: str) -> bool:
+    """Whether the text of a script may do so."""
+    return bool(READ_TIMES.search(contents(path)))
+
+
+@lru_cache(KEPT)
+def contents(path: str) -> str:
+    """The text of a script; nothing where it is gone."""
+    try:
+        with open(path, errors="replace") as file:
+            return file.read(LARGE)
+    except OSError:
+        return ""
+
+
+def compares_ages(argv: List[str], folder: str) -> bool:
+    """Whether a process may depend on which of two files is newer."""
+    if shows_ages(argv):
+        return True
+    text, script = shell_words(argv)
+    if base_name(argv) in SHELLS and not text and not script:
+        return True  # its script comes from standard input, and nobody can read it
+    if script and "libtool" not in script:
+        return script_compares(os.path.join(folder, script), folder)
+    return bool(AGES.search(" ".join(argv) + " ")) or bool(TAKES_IN.search(text))
+
+
+def looks_at_links(argv: List[str]) -> bool:
+    """Whether a process may depend on how many names a file or folder has."""
+    name, text = base_name(argv), " ".join(argv)
+    if name == "stat":
+        return "%h" in text or not re.search(r"-c|--format|--printf", text)
+    if name == "ls":
+        return bool(re.search(r"\s(-\w*[lnogs]|--(fo|fu))", text))
+    if name in ("find", "tar", "rsync", "cpio", *COMPRESSORS):
+        return name != "find" or bool(re.search(r"-links|-printf|-ls|-samefile", text))
+    return bool(INTERPRETERS.match(name)) and "-c" not in argv[:1] and ("stat" in text)
+
+
+def sets_options(argv: List[str], folder: str) -> bool:
+    """Whether the words of a process give shells that it starts options or functions by way of the environment."""
+    return bool(SETS_OPTIONS.search(" ".join(argv))) or bool(script_of(argv)) and sets_options_in(os.path.join(folder, script_of(argv)))
+
+
+@lru_cache(KEPT)
+def sets_options_in(path: str) -> bool:
+    """Whether a makefile or a script does so."""
+    try:
+        with open(path, errors="replace") as file:
+            return bool(SETS_OPTIONS.search(file.read(1 << 22)))
+    except OSError:
+        return False
+
+
+def takes_in(argv: List[str], path: str) -> bool:
+    """Whether a shell with a text of its own that reads a file may take it in, as by `BASH_ENV`: its text does not name it as input."""
+    text = shell_text(argv)
+    if not text or OF_SYSTEM.match(path):
+        return False
+    return not re.search(r"<\s*[^\s;|&<>()]*" + re.escape(os.path.basename(path)), text)
+
+
+def hands_on(argv: List[str]) -> bool:
+    """Whether a program leaves the errors of what it starts to the place where its own go."""
+    text = shell_text(argv)
+    return not KEPT_ERRORS.search(NOWHERE.sub(" ", text)) if text else base_name(argv) in PASSING
+
+
+class Traits:
+    """What the words of a process say of all its looks, found once for the words."""
+
+    def __init__(self, argv: List[str]) -> None:
+        self.argv = argv
+        self.makes_folders = maker_at(argv) >= 0
+        self.looks_at_links = looks_at_links(argv)
+        self.is_interpreter = is_interpreter(argv)
+        self.is_tool = self.is_interpreter and TOOLS.match("".join(argv[1:2])) is not None
+        self.is_ageless = is_ageless(argv)
+        self.asks_size = asks_size(argv)
+        self.is_shell = base_name(argv) in SHELLS
+        self.shows_progress = shows_progress(argv)
+        self.ages: Optional[bool] = None  # whether it compares ages, as far as that was asked

@@ -1,0 +1,377 @@
+"""What each system call does to the name space, and which events it is."""
+
+import os
+import re
+from typing import Callable, Dict, List, Tuple
+
+from record.make.copies import is_other_make
+from record.tools import listed, shelltext
+from record.trace.arguments import TEXT_END, opening, spelled
+from record.trace.lives import Life
+from record.trace.loader import interpreter_words
+from record.trace.moves import Moves
+from record.trace.names import Found, Inode
+from record.trace.processes import Processes
+from record.trace.replay import DEVICES
+from record.trace.strace import MAKES_PROCESS, Call, first_text, folders, is_cut, texts, unescape
+
+LOOKS = {"stat", "lstat", "access", "getxattr", "lgetxattr", "listxattr", "llistxattr", "statfs", "newfstatat",
+         "faccessat", "faccessat2", "name_to_handle_at", "statx", "fstatat64", "readlink", "readlinkat", "statfs64", "stat64", "lstat64"}
+NOFOLLOW = {"lstat", "lstat64", "lgetxattr", "llistxattr", "readlink", "readlinkat", "unlink", "rmdir", "lchown", "lchown32", "lsetxattr",
+            "lremovexattr"}
+CHANGES = {"chmod", "chown", "lchown", "utime", "utimes", "truncate", "setxattr", "lsetxattr", "removexattr", "lremovexattr", "fchmodat",
+           "fchmodat2", "fchownat", "utimensat", "futimesat", "fchmod", "fchown", "ftruncate", "fsetxattr", "fremovexattr",
+           "truncate64", "ftruncate64", "chown32", "lchown32", "fchown32", "utimensat_time64"}
+TIMES = {"utime", "utimes", "utimensat", "futimesat", "utimensat_time64"}
+# After these, what a process opens is not what the trace names, or is not in the trace at all.
+OF_PROCESS = re.compile(r"/proc/(?:(\d+)/|loadavg$)")
+SHARING = {"shmget", "semget", "msgget", "mq_open", "add_key", "request_key"}
+SOCKET = re.compile(r'sun_path="((?:[^"\\]|\\.)*)"')
+HIDING = {"chroot", "pivot_root", "mount", "move_mount", "umount", "umount2", "setns", "open_by_handle_at", "io_uring_setup"}
+OF_WRAPPER = {"execve", *MAKES_PROCESS}  # what counts of the recorder's own wrapper
+SCRIPTS = 5  # how many scripts may be the interpreter of one another; the kernel allows no more
+BY_NUMBER = {"fchmod", "fchown", "fchown32", "ftruncate", "ftruncate64", "fsetxattr", "fremovexattr"}
+GIVEN_TIME = re.compile(r"tv_[nu]sec=\d+\}(?: /\*[^*]*\*/)?\]|modtime=")
+MODE = re.compile(r", (0[0-7]*)$")
+TIMED = re.compile(r"\s(-\w*w|--(wait|timeout))")  # `flock -w SECONDS`
+ANY_PORT = re.compile(r"_port=htons\(0\)")
+
+
+class Calls(Processes):
+    """The calls, one method each."""
+
+    def call(self, life: Life, call: Call) -> None:
+        """One finished call."""
+        name, ok = call.name, not call.error
+        handler = HANDLERS.get(name)
+        if life.is_wrapper and name not in OF_WRAPPER:
+            return
+        if handler is not None:
+            handler(self, life, call, ok)
+        elif name in HIDING and ok:
+            self.holes.append("files that are opened after %s are not seen: %s" % (name, " ".join(life.argv)[:100]))
+        elif name in SHARING and ok:
+            self.sockets.append(" ".join(life.argv)[:100])
+
+    def on_bind(self, life: Life, call: Call, ok: bool) -> None:
+        """A socket with a name is a file, which whoever talks to it opens."""
+        path = SOCKET.search(call.args)
+        if "AF_UNIX" in call.args and (ok or path is None) or "AF_INET" in call.args and not ANY_PORT.search(call.args):
+            self.sockets.append(" ".join(life.argv)[:100])
+        found = self.found(life, unescape(path.group(1)), True) if path is not None else None
+        if found is not None and call.name == "bind" and ok:
+            self.write(life, found, True)
+        elif found is not None and call.name == "bind":
+            self.put_absent(life, found, "N" if call.error in ("ENOENT", "ENOTDIR") else "R")
+        elif found is not None:
+            self.put_look(life, found, call.error not in ("ENOENT", "ENOTDIR"), "R")
+
+    on_connect = on_bind
+
+    def on_flock(self, life: Life, call: Call, ok: bool) -> None:
+        """Who waits for a lock does the same whoever has it; who does not wait sees whether another has it."""
+        waits = "LOCK_NB" not in call.args and not TIMED.search(" ".join(life.argv))
+        if not (ok and (waits or "LOCK_UN" in call.args)):
+            self.locks.append("%s locks %s" % (" ".join(life.argv)[:60], "".join(folders(call.args)[:1])))
+
+    def base_and_path(self, life: Life, call: Call) -> Tuple[str, str]:
+        """The folder that the first path of an *at-call starts from, and the path."""
+        found = spelled(call.args)
+        if found.folder:
+            life.folder = found.folder
+        return found.base, found.path
+
+    def on_look(self, life: Life, call: Call, ok: bool) -> None:
+        base, path, folder, is_open, at_link = spelled(call.args)
+        if folder:
+            life.folder = folder
+        if not path or is_open:
+            return
+        follow = not at_link and call.name not in NOFOLLOW
+        plain = path if call.name == "stat" or (call.name == "newfstatat" and follow and not path.startswith("/")) else ""
+        link = call.name.startswith("readlink") and ok
+        found = self.look(life, path, ok or call.error == "EINVAL", follow, "R" if link else "S", base, plain)
+        traits = life.traits()
+        if traits.looks_at_links:
+            self.put(life, "h", found.path)
+        if traits.is_tool and not life.is_query:
+            return
+        if life.is_query or traits.is_interpreter and not (traits.makes_folders and shelltext.makes(life.argv, found.path)) or self.ages(life):
+            is_folder = found.inode is not None and found.inode.kind == "d"
+            if not is_folder or not self.is_own(life, path, found) or shelltext.names_here(life.argv):
+                self.put(life, "A", found.path)
+        elif traits.asks_size and found.inode is not None and found.inode.kind == "d":
+            self.put(life, "A", found.path)
+        elif self.is_unknown(life) and "access" not in call.name and "readlink" not in call.name:
+            self.put(life, "a", found.path)
+
+    def is_unknown(self, life: Life) -> bool:
+        """Whether nobody knows if a program compares the ages of what it looks at, or of what it has opened."""
+        return not life.is_make and (not life.traits().is_ageless or self.is_inside(life.program))
+
+    @staticmethod
+    def is_own(life: Life, path: str, found: Found) -> bool:
+        """Whether a process looks at the folder that it is in, or at one above, as shells do by themselves; interpreters also at those
+        in which they look for modules."""
+        above = life.traits().is_interpreter or (life.folder.rstrip("/") + "/").startswith(found.path.rstrip("/") + "/")
+        return path == "." or path.startswith("/") and above
+
+    def on_execve(self, life: Life, call: Call, ok: bool) -> None:
+        program = first_text(call.args) or "".join(folders(call.args)[:1])
+        if not program:
+            return
+        if not ok:
+            if not life.is_wrapper:
+                self.look(life, program, False, True)
+                self.look_at_interpreters(life, program)
+            return
+        words = [program, *texts(call.args)[1:]]
+        argv = words[1:]
+        was_wrapper, was_make = life.is_wrapper, life.is_make
+        forked = was_wrapper and not life.ran
+        life.taken = ()
+        found = self.names.find(life.folder, words[0], True)
+        life.is_wrapper = words[0].startswith(self.spool + "/bin/")
+        argv = argv if life.is_wrapper else shelltext.with_interpreter(argv, found.path, self.first_words(found.path))
+        life.program = found.path
+        life.is_ninja = argv == words[1:] and bool(shelltext.NINJA.match(os.path.basename(found.path)))
+        if life.is_ninja:
+            life.starts.append((self.place, life.folder))
+        life.argv, life.cut, life.begun = argv, is_cut(call.args), self.place
+        life.ran.append(argv)
+        if life.is_wrapper:
+            return
+        self.note_rights(life, found.path)
+        self.is_open_shell = self.is_open_shell or shelltext.sets_options(argv, life.folder)
+        if shelltext.asks_reads(argv, life.folder):
+            self.askers.append(" ".join(argv)[:100])
+        if self.is_real_make(found.path):
+            self.begin_make(life, was_wrapper, was_make, forked)
+        else:
+            life.is_make = life.is_make and life.number >= 0 and was_make
+            if is_other_make(found.path, self.real):
+                self.past.append(" ".join(life.argv)[:200])
+        self.look(life, words[0], True, True, "R")
+        self.look_at_interpreters(life, words[0])
+
+    def first_words(self, path: str) -> List[str]:
+        """The words of a script's first line, read once: the build has ended."""
+        if path not in self.firsts:
+            self.firsts[path] = shelltext.first_words(path)
+        return self.firsts[path]
+
+    def is_real_make(self, path: str) -> bool:
+        """Whether a program is the make that the recorder knows."""
+        if path not in self.makes_by_path:
+            self.makes_by_path[path] = path == self.real or os.path.realpath(path) == self.real
+        return self.makes_by_path[path]
+
+    def look_at_interpreters(self, life: Life, program: str) -> None:
+        """The kernel reads the interpreter of a script by itself, and that of an interpreter which is a script; so it does with the loader of a program."""
+        for _ in range(SCRIPTS):
+            path = self.names.find(life.folder, program, True).path
+            words = interpreter_words(path) if self.is_inside(path) else self.first_words(path)
+            if not words:
+                return
+            program = words[0]
+            found = self.names.find(life.folder, program, True)
+            if found.path == self.real:  # the kernel runs make in the script's place
+                self.past.append(" ".join(life.argv)[:200])
+            self.put_links(life, found)
+            self.put_look(life, found, found.inode is not None, "R")
+
+    def begin_make(self, life: Life, was_wrapper: bool, was_make: bool, forked: bool) -> None:
+        life.is_make = True
+        if was_make and life.number >= 0:
+            life.starts.append((self.place, life.folder))
+        elif forked:
+            life.number = self.makes.get(life.pid, 0)
+            self.makes[life.pid] = life.number + 1
+            life.starts.append((self.place, life.folder))
+        elif was_wrapper:
+            life.is_query = True
+        else:
+            self.past.append(" ".join(life.argv)[:200])
+
+    on_execveat = on_execve
+
+    def on_chdir(self, life: Life, call: Call, ok: bool) -> None:
+        found = self.look(life, texts(call.args)[0], ok, True)
+        if ok:
+            life.enter(found.path)
+            self.put(life, "U", found.path)
+
+    def on_fchdir(self, life: Life, call: Call, ok: bool) -> None:
+        where = folders(call.args)
+        if ok and where:
+            life.enter(where[0])
+
+    def on_open(self, life: Life, call: Call, ok: bool) -> None:
+        base, path, folder, flags, changes, follow = opening(call.args)
+        if folder:
+            life.folder = folder
+        if ok and DEVICES.match(path):
+            if not call.opened.startswith("/") or DEVICES.match(call.opened) and not self.is_inside(call.opened):
+                self.note_watcher(life, path)
+                return  # a pipe, a terminal or the like
+            base, path = "", call.opened
+        changes = changes or call.name == "creat"
+        if not path:
+            return
+        if "O_TMPFILE" in flags:  # a file without a name, in a folder that must be there
+            self.look(life, path, ok, follow, base=base)
+            return
+        if not ok:
+            found = self.look(life, path, call.error in ("EEXIST", "EISDIR", "ENXIO", "EACCES", "ENOTEMPTY"), follow, base=base)
+            if changes and call.error == "ENOENT" and found.missing != found.path:
+                self.put(life, "N", found.missing)
+            return
+        found = self.found(life, path, follow, base)
+        if call.opened.startswith("/") and call.opened != found.path and not DEVICES.match(call.opened):
+            self.holes.append("a name leads to another file than the record says: %s is %s, and not %s" % (path, call.opened, found.path))
+        life.handle = (call.result, found.path) if "O_PATH" in flags else (-1, "")
+        if not changes:
+            self.on_read(life, found)
+            return
+        if "O_EXCL" in flags:
+            self.fresh.add(found.path)
+        if "O_CREAT" in flags and not self.is_inside(found.path):
+            self.put(life, "C", found.path)  # the disk has it after the build: nobody knows whether it was there before
+        if "O_WRONLY" not in flags and "O_TRUNC" not in flags and call.name != "creat":
+            self.put(life, "R", found.path)
+        self.write(life, found, False)
+
+    on_openat = on_openat2 = on_creat = on_open
+
+    def note_watcher(self, life: Life, path: str) -> None:
+        """What the kernel shows of another process, or of all of them."""
+        match = OF_PROCESS.match(path)
+        if match is not None and not life.is_make and match.group(1) not in {str(one.pid) for one in life.threads or (life,)}:
+            self.watchers.append(" ".join(life.argv)[:100])
+
+    def on_inotify_add_watch(self, life: Life, call: Call, ok: bool) -> None:
+        """Who waits for changes sees what runs beside it."""
+        self.look(life, "".join(texts(call.args)[:1]), ok, True)
+        self.watchers.append(" ".join(life.argv)[:100])
+
+    on_fanotify_mark = on_inotify_add_watch
+
+    def on_read(self, life: Life, found: Found) -> None:
+        """A file or a folder is opened, and not to change it."""
+        is_folder = found.inode is not None and found.inode.kind == "d"
+        self.put_links(life, found)
+        self.put_look(life, found, True, "S" if is_folder else "R")
+        traits = life.traits()
+        if traits.looks_at_links:
+            self.put(life, "h", found.path)
+        if is_folder or life.is_query:
+            return
+        if life.is_make:
+            self.is_open_shell = self.is_open_shell or shelltext.sets_options_in(found.path)
+        elif traits.is_shell:
+            life.taken += (found.path,) if shelltext.takes_in(life.argv, found.path) else ()
+        elif not traits.is_interpreter and (self.ages(life) or self.is_unknown(life)):
+            self.put(life, "A" if self.ages(life) else "a", found.path)
+
+    def on_getdents64(self, life: Life, call: Call, ok: bool) -> None:
+        where = folders(call.args)
+        if not ok or not where:
+            return
+        if life.is_make:
+            self.put(life, "Q", where[0])
+        elif where[0] == "/proc":
+            self.watchers.append(" ".join(life.argv)[:100])
+        else:
+            for pattern in listed.patterns(life, where[0], self.is_open_shell):
+                self.put(life, "L", where[0] + "\0" + pattern)
+            if not shelltext.sorts_names(life.argv):
+                self.put(life, "l", where[0])
+
+    on_getdents = on_getdents64
+
+    def on_mkdir(self, life: Life, call: Call, ok: bool) -> None:
+        base, path = self.base_and_path(life, call)
+        found = self.found(life, path.rstrip("/") or "/", False, base)
+        quiet = shelltext.is_quiet_mkdir(life.argv)
+        script = next((up.argv for up in life.up() if not up.is_make and shelltext.makes(up.argv, found.path)), [])
+        if script and not quiet:
+            self.makers.append(" ".join(script)[:60])
+            quiet = True
+        if ok:
+            self.fresh.add(found.path)
+            if found.folder is not None and found.inode is None:
+                child = Inode("d")
+                child.walked = True
+                self.names.put(found.folder, found.name, child)
+            self.put(life, "T" if quiet else "M", found.path)
+            self.put(life, "C", found.path + "/")
+        elif call.error == "EEXIST":
+            self.put(life, "T" if quiet else "E", found.path)
+        if ok or call.error == "EEXIST":
+            mode = MODE.search(call.args)
+            given = "%o" % (int(mode.group(1), 8) & ~life.mask if mode else -1)
+            self.put(life, "o", found.path + "\0" + given)
+            self.names.modes.setdefault(found.path, set()).add(given)
+        else:
+            self.look(life, path, False, False, base=base)
+            if found.missing:
+                self.put(life, "N", found.missing)
+
+    on_mkdirat = on_mkdir
+
+    def on_mknod(self, life: Life, call: Call, ok: bool) -> None:
+        base, path = self.base_and_path(life, call)
+        found = self.found(life, path, False, base)
+        if ok:
+            self.write(life, found, True)
+        else:
+            self.put_absent(life, found, "S" if call.error == "EEXIST" else "N")
+
+    on_mknodat = on_mknod
+
+    def on_unlink(self, life: Life, call: Call, ok: bool) -> None:
+        base, path = self.base_and_path(life, call)
+        found = self.found(life, path.rstrip("/"), False, base)
+        folder = call.name == "rmdir" or "AT_REMOVEDIR" in call.args
+        if not ok:
+            there = call.error != "ENOENT"
+            self.look(life, path, there, False, base=base)
+            if folder and there:
+                self.put(life, "x", found.path)
+            return
+        others = [a for a in self.names.aliases(found.inode) if a != found.path]
+        if found.folder is not None:
+            self.names.take(found.folder, found.name)
+        self.put(life, "X" if folder else "D", found.path)
+        self.hard_links += others[:1]
+        for other in others:
+            self.put(life, "H", other)
+
+    on_rmdir = on_unlinkat = on_unlink
+
+    def on_change(self, life: Life, call: Call, ok: bool) -> None:
+        base, path = self.base_and_path(life, call)
+        if not path:
+            where = folders(call.args)
+            path = where[0] if where else ""
+        if not path or not path.startswith("/") and call.name in BY_NUMBER:
+            return
+        if not ok:
+            self.look(life, path, False, True, base=base)
+            return
+        found = self.found(life, path, call.name not in NOFOLLOW and "NOFOLLOW" not in call.args, base)
+        if call.name in TIMES and GIVEN_TIME.search(TEXT_END.sub("", call.args)):
+            self.put(life, "c", found.path + "\0")
+        if found.inode is not None and found.inode.kind == "d":
+            mode = MODE.search(call.args)
+            self.put(life, *(("t", found.path) if call.name in TIMES else ("m", "%s\0%o" % (found.path, int(mode.group(1), 8) if mode else -1))))
+        else:
+            self.write(life, found, False)
+
+
+Handler = Callable[[Calls, Life, Call, bool], None]
+HANDLERS: Dict[str, Handler] = {
+    **dict.fromkeys(CHANGES, Calls.on_change),
+    **dict.fromkeys(LOOKS, Calls.on_look),
+    **{name[len("on_"):]: handler for kind in (Moves, Processes, Calls) for name, handler in vars(kind).items() if name.startswith("on_")},
+}

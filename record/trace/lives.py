@@ -1,0 +1,97 @@
+"""The tree of processes, and what each life of a process did to files.
+
+A process number comes again, so a life is what counts. An event is a kind and a path; its first place in the order of
+the trace is kept. Kinds:
+
+    R read    S looked at, there    N looked at, absent    P a folder on the way is absent    U a folder was entered
+    W write   C name created        D name removed         M mkdir   T quiet mkdir         E mkdir, there already
+    X rmdir   x rmdir that failed   L listed               m mode of a folder    t time of a folder
+    H number of links changed       h number of links looked at           Q listed by make
+    A looked at by a process that compares ages         K folder looked at by a script that makes it for itself
+    a looked at by a program of which nobody knows whether it compares ages
+    l listed in an order that the file system gives
+    o mode that a folder is made with                   c age taken over from another name, or from one that was looked at
+"""
+
+from dataclasses import dataclass, field
+from typing import Dict, Iterable, List, Optional, Tuple
+
+from record.tools.shelltext import Traits
+
+Key = Tuple[str, str]
+
+
+@dataclass
+class Act:
+    """What make itself did, with its place in the trace."""
+
+    place: int
+    kind: str
+    path: str
+    word: str = ""  # the path as make spelled it, where it looked with `stat`
+
+
+@dataclass(eq=False)
+class Life:
+    """One life of a process."""
+
+    pid: int
+    parent: Optional["Life"] = None
+    born: int = 0
+    died: int = 1 << 60
+    folder: str = ""
+    argv: List[str] = field(default_factory=list)
+    ran: List[List[str]] = field(default_factory=list)
+    cut: bool = False
+    events: Dict[Key, int] = field(default_factory=dict)
+    changed: Dict[str, int] = field(default_factory=dict)  # names: where it last changed what stands there
+    acts: List[Act] = field(default_factory=list)
+    starts: List[Tuple[int, str]] = field(default_factory=list)  # where make began (again), and its folder
+    is_wrapper: bool = False
+    is_make: bool = False
+    is_ninja: bool = False
+    program: str = ""  # the file that runs
+    is_query: bool = False
+    number: int = -1  # which life of this number among the makes with words
+    adopted: bool = False
+    children: List["Life"] = field(default_factory=list)
+    threads: List["Life"] = field(default_factory=list)  # those that change their folder together, with this one
+    mask: int = 0  # the bits that names are made without
+    handle: Tuple[int, str] = (-1, "")  # the descriptor that it got last, and what stands behind it, where that only stands for a name
+    taken: Tuple[str, ...] = ()  # files that a shell read which its text does not name as its input
+    known: Optional[Traits] = None
+    begun: int = 0  # where the program began that runs now
+
+    def traits(self) -> Traits:
+        """What the words say of its looks."""
+        if self.known is None or self.known.argv is not self.argv:
+            self.known = Traits(self.argv)
+        return self.known
+
+    def join_threads(self, other: "Life") -> None:
+        """Another life is a thread of this one."""
+        self.threads = other.threads = self.threads or [self]
+        self.threads.append(other)
+
+    def leave_threads(self) -> None:
+        """Has a folder of its own from now on."""
+        for life in self.threads:
+            life.threads = [other for other in self.threads if other is not self]
+        self.threads = []
+
+    def enter(self, folder: str) -> None:
+        """Changes the folder, that of all threads with it."""
+        for life in self.threads or (self,):
+            life.folder = folder
+
+    def set_mask(self, mask: int) -> None:
+        """Changes the bits that names are made without, for all threads."""
+        for life in self.threads or (self,):
+            life.mask = mask
+
+    def up(self) -> Iterable["Life"]:
+        """This life, its parent, and so on."""
+        life: Optional[Life] = self
+        while life is not None:
+            yield life
+            life = life.parent

@@ -1,0 +1,100 @@
+"""What calls that give a file another name do to the name space."""
+
+from typing import Tuple
+
+from record.trace.lives import Life
+from record.trace.names import Found, Inode
+from record.trace.replay import Replay
+from record.trace.strace import Call, folders, texts
+
+
+class Moves(Replay):
+    """The calls, one method each."""
+
+    def two(self, life: Life, call: Call) -> Tuple[Found, Found]:
+        words = texts(call.args)
+        where = folders(call.args)
+        bases = where if len(where) == 2 else [life.folder, life.folder]
+        follow = "AT_SYMLINK_FOLLOW" in call.args
+        return (self.found(life, words[0].rstrip("/"), follow, bases[0]), self.found(life, words[1].rstrip("/"), False, bases[1]))
+
+    def on_rename(self, life: Life, call: Call, ok: bool) -> None:
+        if len(texts(call.args)) < 2:
+            return
+        old, new = self.two(life, call)
+        if not ok:
+            self.put(life, "N" if old.inode is None else "S", old.path)
+            self.put_absent(life, new, "N" if new.inode is None else "S")
+            if call.error in ("ENOTEMPTY", "EEXIST"):
+                self.put(life, "x", new.path)  # that it holds something counts
+            return
+        self.put(life, "R", old.path)
+        self.put(life, "c", new.path + "\0" + old.path)
+        if "RENAME_EXCHANGE" in call.args:
+            self.holes.append("two names were exchanged in one step: " + old.path)
+        if old.folder is None or new.folder is None:
+            return
+        if old.inode is not None and old.inode is new.inode:
+            return  # two names of one file: nothing happens
+        inode = self.names.take(old.folder, old.name) or Inode("f")
+        gone = self.names.take(new.folder, new.name)
+        self.put(life, "D", old.path)
+        self.put(life, "C", new.path)
+        self.put(life, "W", new.path)
+        for other in self.names.aliases(gone):
+            self.put(life, "H", other)
+        if inode.kind == "d":
+            self.move_folder(life, old.path, new.path)
+            for name, child in self.names.below(inode, ""):
+                self.put(life, "D", old.path + name)
+                self.put(life, "C", new.path + name)
+                self.put(life, "W", new.path + name)
+                if child.kind == "d":
+                    self.move_folder(life, old.path + name, new.path + name)
+        self.names.put(new.folder, new.name, inode)
+
+    on_renameat = on_renameat2 = on_rename
+
+    def move_folder(self, life: Life, old: str, new: str) -> None:
+        """A folder that is moved goes in one place and comes in another, and the processes that are in it go with it."""
+        self.put(life, "X", old)
+        self.put(life, "M", new)
+        for one in self.lives.values():
+            one.folder = new if one.folder == old else one.folder
+
+    def on_link(self, life: Life, call: Call, ok: bool) -> None:
+        if len(texts(call.args)) < 2:
+            return
+        old, new = self.two(life, call)
+        self.put(life, "R" if ok else "S" if old.inode else "N", old.path)
+        if not ok:
+            self.put_absent(life, new, "S" if call.error == "EEXIST" else "N")
+            return
+        inode = old.inode or Inode("f")
+        self.fresh.add(new.path)
+        self.put(life, "C", new.path)
+        self.put(life, "W", new.path)
+        self.put(life, "c", new.path + "\0" + old.path)
+        for other in self.names.aliases(inode):
+            self.put(life, "H", other)
+        if new.folder is not None:
+            self.names.put(new.folder, new.name, inode)
+        self.hard_links.append(new.path)
+
+    on_linkat = on_link
+
+    def on_symlink(self, life: Life, call: Call, ok: bool) -> None:
+        words, where = texts(call.args), folders(call.args)
+        if len(words) < 2:
+            return
+        found = self.found(life, words[1].rstrip("/"), False, where[-1] if where else life.folder)
+        if not ok:
+            self.put_absent(life, found, "S" if call.error == "EEXIST" else "N")
+            return
+        self.fresh.add(found.path)
+        self.put(life, "C", found.path)
+        self.put(life, "W", found.path)
+        if found.folder is not None:
+            self.names.put(found.folder, found.name, Inode("l", words[0]))
+
+    on_symlinkat = on_symlink

@@ -1,0 +1,44 @@
+"""Which names are there when a build begins: what came before it in the same recording, such as another make, has made and removed some."""
+
+from typing import Dict, List, Tuple
+
+from record.make.owners import Make
+
+Change = Tuple[int, str, str]  # the place in the trace, the kind of event, the path
+KINDS = {"C": "f", "M": "d", "D": "", "X": ""}
+
+
+class Past:
+    """The names that are there at a place of the trace; it is asked for later and later places, or else begins anew."""
+
+    def __init__(self, before: Dict[str, str], changes: List[Change]) -> None:
+        self.before, self.changes = before, changes
+        self.now, self.at, self.place = dict(before), 0, 0
+
+    def until(self, place: int) -> Dict[str, str]:
+        """All names and their kinds at a place. The answer holds until the next question."""
+        if place < self.place:
+            self.now, self.at = dict(self.before), 0
+        self.place = place
+        while self.at < len(self.changes) and self.changes[self.at][0] < place:
+            self.take(*self.changes[self.at][1:])
+            self.at += 1
+        return self.now
+
+    def take(self, kind: str, path: str) -> None:
+        """One change."""
+        name = path.rstrip("/")
+        found = "d" if name != path else KINDS[kind]
+        if not found:
+            self.now.pop(name, None)
+        elif found == "d" or name not in self.now:
+            self.now[name] = found
+
+
+def beginning(make: Make, number: int) -> int:
+    """When a round of a make begins: the makefiles are read, and the recipes of the round before have ended."""
+    rounds = make.words.rounds
+    jobs = [job for one in rounds[:number] for job in one.jobs]
+    ended = (life.died for job in jobs if id(job) in make.work for life in make.work[id(job)].lives[:1])
+    start = rounds[number].start
+    return max([make.ready[start] if start < len(make.ready) else make.life.born, *ended])

@@ -1,0 +1,57 @@
+"""What calls say of processes themselves: who starts whom, what they make names without, and what the trace does not see of them."""
+
+import os
+import re
+import stat
+from functools import lru_cache
+
+from record.trace.lives import Life
+from record.trace.moves import Moves
+from record.trace.strace import Call
+
+
+@lru_cache(None)
+def lends_rights(program: str, user: int) -> bool:
+    """Whether the kernel runs a program with the rights of its owner or group. It does not where the process is traced, except for root."""
+    try:
+        found = os.stat(program)
+    except OSError:
+        return False
+    return user != 0 and bool(found.st_mode & stat.S_ISUID and found.st_uid != user or found.st_mode & stat.S_ISGID and found.st_mode & stat.S_IXGRP)
+
+
+class Processes(Moves):
+    """The calls, one method each."""
+
+    def on_fork(self, life: Life, call: Call, ok: bool) -> None:
+        """A process, or a thread, has started."""
+        if life.pid in self.begun:
+            self.begun.remove(life.pid)
+        if ok and "CLONE_UNTRACED" in call.args:
+            self.holes.append("a process runs unseen (CLONE_UNTRACED, as that of LeakSanitizer does): " + " ".join(life.argv)[:100])
+        elif ok and call.result > 0:
+            self.child(life, call.result, "CLONE_FS" in call.args)
+
+    on_vfork = on_clone = on_clone3 = on_fork
+
+    def on_core(self, life: Life, call: Call, ok: bool) -> None:
+        """The kernel keeps the memory of a process that a signal ends, in a file of whose name the trace says nothing."""
+        self.holes.append("a process left its memory in a file that nobody saw (core dumped): " + " ".join(life.argv)[:100])
+
+    def on_ptrace(self, life: Life, call: Call, ok: bool) -> None:
+        """A process is traced once, and here by the recorder: a debugger fails that works in a build by itself."""
+        if call.error == "EPERM":
+            self.holes.append("a program traces another one (a debugger), which fails while a build is recorded: " + " ".join(life.argv)[:100])
+
+    def note_rights(self, life: Life, program: str) -> None:
+        """A program such as `sudo` has been started, and does not get the rights that it has in a build by itself."""
+        if lends_rights(program, os.geteuid()):
+            self.holes.append("a program does not get the rights of its owner while a build is recorded: " + " ".join(life.argv)[:100])
+
+    def on_umask(self, life: Life, call: Call, ok: bool) -> None:
+        life.set_mask(int(call.args, 8))
+
+    def on_unshare(self, life: Life, call: Call, ok: bool) -> None:
+        """A thread that asks for a folder of its own, or for what includes that."""
+        if ok and re.search(r"CLONE_(?:FS|NEWNS|NEWUSER)\b", call.args):
+            life.leave_threads()

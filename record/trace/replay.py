@@ -1,0 +1,223 @@
+"""Plays the events of a trace, in its order, in the name space, and keeps what each life of a process did."""
+
+import os
+import re
+from typing import Dict, List, Set, Tuple
+
+from record.tools import shelltext
+from record.trace.lives import Act, Life
+from record.trace.names import Found, Inode, Names
+from record.trace.proc import NUMBER, is_hidden, plain_path
+from record.trace.strace import Begun, Call, Ended, Event, Unread
+
+DEVICES = re.compile(r"/dev/(null|zero|full|u?random|tty\w*|ptmx|console|std(in|out|err)|fd(/.*)?|pts(/.*)?)$|/proc(/|$)|/sys(/|$)")
+
+PROGRESS = "/CMakeFiles/Progress"
+KERNEL = ("/dev/", "/proc", "/sys")  # how a name begins that is a device, or that the kernel shows
+
+
+class Replay:
+    """Plays the events of a trace in the name space and keeps what each life did."""
+
+    def __init__(self, names: Names, spool: str, real: str, folder: str, tops: List[str], mask: int = 0o22) -> None:
+        self.mask = mask
+        self.names, self.spool, self.real, self.tops = names, spool, real, tops
+        self.below_tops = tuple(top.rstrip("/") + "/" for top in tops)
+        self.first_folder = folder
+        self.lives: Dict[int, Life] = {}
+        self.all: List[Life] = []
+        self.place = 0
+        self.begun: List[int] = []
+        self.waiting: Dict[int, List[Event]] = {}
+        self.makes: Dict[int, int] = {}
+        self.holes: List[str] = []
+        self.past: List[str] = []
+        self.sockets: List[str] = []
+        self.locks: List[str] = []  # what was locked by somebody who does not wait for it, or not for long
+        self.hard_links: List[str] = []
+        self.outside: Dict[str, None] = {}  # names that changed, and of which the disk alone says what they were before
+        self.fresh: Set[str] = set()  # names that were surely absent when they were made
+        self.makers: List[str] = []
+        self.progress: List[str] = []  # folders in which CMake counts what is built
+        self.aged: Dict[str, bool] = {}
+        self.firsts: Dict[str, List[str]] = {}  # by program: the words of its first line, where it is a script
+        self.makes_by_path: Dict[str, bool] = {}  # by program: whether it is the make that the recorder knows
+        self.scripts: Dict[str, int] = {}  # those whose text compares no ages, and when they were first asked
+        self.watchers: List[str] = []  # who lists the processes that run, or waits for changes of files
+        self.changes: List[Tuple[int, str, str]] = []  # names that come and go, in order
+        self.askers: List[str] = []  # who asks when a file was read last
+        self.is_open_shell = bool(shelltext.SHELL_MACROS & {*os.environ})  # shells may have other options than their words say
+
+    # ---------------------------------------------------------------- processes
+    def life(self, pid: int) -> Life:
+        life = self.lives.get(pid)
+        if life is None or life.died <= self.place:
+            life = Life(pid, born=self.place, folder=self.first_folder)
+            if self.all:
+                parents = [self.lives[p] for p in self.begun if p in self.lives and p != pid]
+                if parents:
+                    self.inherit(life, parents[-1])
+                    life.parent = parents[0] if len(parents) == 1 else None
+            else:
+                life.adopted, life.mask = True, self.mask
+            self.lives[pid] = life
+            self.all.append(life)
+        return life
+
+    def ages(self, life: Life) -> bool:
+        """Whether the process may compare ages."""
+        traits = life.traits()
+        if traits.is_shell and (self.is_open_shell or any(shelltext.script_compares(path, life.folder) for path in life.taken)):
+            return True
+        if traits.ages is None:
+            key = "\0".join([life.folder, *life.argv])
+            if key not in self.aged:
+                self.aged[key] = shelltext.compares_ages(life.argv, life.folder)
+            script = shelltext.script_of(life.argv)
+            if not self.aged[key] and script:
+                self.scripts.setdefault(self.names.find(life.folder, script, True).path, self.place)
+            traits.ages = self.aged[key]
+        return traits.ages
+
+    def rewritten(self) -> List[str]:
+        """Scripts that were changed when they had run: what is read of them now is not what ran."""
+        return [path for life in self.all for path, place in life.changed.items() if place > self.scripts.get(path, 1 << 60)]
+
+    def strays(self) -> List[str]:
+        """Processes of which nobody knows who started them: in a name space of its own a process has another number than in the trace."""
+        return [" ".join(life.argv)[:100] for life in self.all[1:] if not life.adopted] + ["number %d" % pid for pid in self.waiting]
+
+    @staticmethod
+    def inherit(child: Life, parent: Life) -> None:
+        child.folder, child.cut, child.mask, child.taken = parent.folder, parent.cut, parent.mask, parent.taken
+        child.argv = child.argv or parent.argv
+        child.is_wrapper = parent.is_wrapper if not child.ran else child.is_wrapper
+
+    def play(self, event: Event) -> None:
+        """One event of the trace; those of a process wait until it is known who started it."""
+        self.place += 1
+        if isinstance(event, Call) and not self.waiting:
+            life = self.lives.get(event.pid)
+            if life is not None and life.died > self.place:  # nearly always
+                self.call(life, event)
+                return
+        pid = getattr(event, "pid", -1)
+        if pid >= 0 and (pid in self.waiting or self.is_unclear(pid)):
+            self.waiting.setdefault(pid, []).append(event)
+        else:
+            self.take(event)
+
+    def is_unclear(self, pid: int) -> bool:
+        """Whether a process is new, and several that differ may have started it."""
+        life = self.lives.get(pid)
+        if life is not None and life.died > self.place or not self.all:
+            return False
+        parents = [self.lives[p] for p in self.begun if p in self.lives and p != pid]
+        return len({(p.folder, p.is_wrapper, p.mask) for p in parents}) > 1
+
+    def take(self, event: Event) -> None:
+        """One event of a process that is known."""
+        if isinstance(event, Call):
+            self.call(self.life(event.pid), event)
+        elif isinstance(event, Unread):
+            self.holes.append("a line of the trace cannot be read: " + event.text[:200])
+        elif isinstance(event, Begun):
+            self.life(event.pid)
+            self.begun.append(event.pid)
+        else:
+            self.life(event.pid).died = self.place
+
+    def child(self, parent: Life, pid: int, is_thread: bool) -> None:
+        """A process has started another, or a thread, which is in one folder with it at all times."""
+        child = self.lives.get(pid)
+        if child is None or child.adopted:
+            child = Life(pid, born=self.place)
+            self.lives[pid] = child
+            self.all.append(child)
+        if not child.ran:
+            self.inherit(child, parent)
+        child.parent, child.adopted = parent, True
+        parent.children.append(child)
+        if is_thread:
+            parent.join_threads(child)
+        for event in self.waiting.pop(pid, []):
+            self.take(event)
+
+    # ---------------------------------------------------------------- events
+    def put(self, life: Life, kind: str, path: str, word: str = "") -> None:
+        if path.startswith(KERNEL) and DEVICES.match(path) and not self.is_inside(path):
+            if is_hidden(kind, path):
+                self.holes.append("a file is known by the number of its descriptor alone: %s of %s" % (path, " ".join(life.argv)[:60]))
+            return
+        if path.startswith(self.spool):
+            return
+        if PROGRESS in path and life.traits().shows_progress:
+            self.progress.append(path[:path.index(PROGRESS) + len(PROGRESS)])
+            return
+        if kind in "WCDMTX" and path.rstrip("/") not in self.fresh and not self.is_inside(path):
+            self.outside[path.rstrip("/")] = None
+        if life.is_make and life.number >= 0 or life.is_ninja and kind in "RU":
+            life.acts.append(Act(self.place, kind, path, word))
+        if (kind, path) not in life.events:
+            life.events[kind, path] = self.place
+        if kind in "WCD":
+            life.changed[path] = self.place
+        if kind in "CDMX":
+            self.changes.append((self.place, kind, path))
+
+    def is_inside(self, path: str) -> bool:
+        """Whether a path is in one of the folders that the build works in."""
+        return path.startswith(self.below_tops) or path in self.tops
+
+    def found(self, life: Life, path: str, follow: bool, base: str = "", word: str = "") -> Found:
+        if path.startswith(KERNEL):
+            plain = plain_path(life, path, self.lives)
+            found = Found(plain, None, None, "") if NUMBER.match(plain) else self.names.find(base or life.folder, plain, follow)
+        else:
+            found = self.names.find(base or life.folder, path, follow)
+        if found.links:
+            self.put_links(life, found, word)
+        return found
+
+    def put_links(self, life: Life, found: Found, word: str = "") -> None:
+        """Links on the way are read."""
+        for link in found.links:
+            self.put(life, "R", link, word)
+
+    def look(self, life: Life, path: str, ok: bool, follow: bool, kind: str = "S", base: str = "", word: str = "") -> Found:
+        found = self.found(life, path, follow, base, word)
+        self.put_look(life, found, ok, kind, word)
+        return found
+
+    def put_look(self, life: Life, found: Found, ok: bool, kind: str, word: str = "") -> None:
+        """A look at what was found."""
+        if ok and found.inode is None and found.folder is not None and self.names.is_walked(found.folder):
+            self.names.put(found.folder, found.name, Inode("f"))
+        if kind == "S" and not life.is_make and life.traits().makes_folders and shelltext.makes(life.argv, found.path):
+            for path in (found.path, *shelltext.above(life.argv, found.path)):
+                self.put(life, "K", path)
+        else:
+            self.put(life, kind if ok else "N", found.path, word)
+        if not ok and found.missing and found.missing != found.path:
+            self.put(life, "P", found.missing)
+
+    def put_absent(self, life: Life, found: Found, kind: str) -> None:
+        """A name that could not be made: that its folder is absent counts too."""
+        self.put(life, kind, found.path)
+        if found.missing and found.missing != found.path:
+            self.put(life, "N", found.missing)
+
+    def write(self, life: Life, found: Found, created: bool) -> None:
+        if found.inode is None and found.folder is not None:
+            found.inode = Inode("f")
+            self.names.put(found.folder, found.name, found.inode)
+            created = True
+            self.put(life, "C", found.path)
+        self.put(life, "W", found.path)
+        if found.inode is not None and len(found.inode.names) > 1:
+            for other in self.names.aliases(found.inode):
+                self.put(life, "W", other)
+
+    def call(self, life: Life, call: Call) -> None:
+        """One finished call."""
+        raise NotImplementedError

@@ -1,0 +1,117 @@
+"""What of a trace need not be read: looks at the system's folders, where nobody changes a name there. A trace is sifted once, a piece at
+a time and by bytes: most of its lines are such looks, and one regular expression passes over them. That is done while the build runs.
+"""
+
+import os
+import re
+from pathlib import Path
+from typing import Callable, Iterable, Iterator, List, Optional, Set
+
+from record.trace.arguments import read_ahead
+from record.trace.strace import unescape
+
+PIECE, WAIT = 1 << 18, 0.05  # bytes of a piece; seconds until more may be there
+SYSTEM = ["usr", "lib", "lib32", "lib64", "etc", "bin", "sbin"]
+AT = r"(?:AT_FDCWD<[^>\n]*>, |)"
+RESULT = r"(?:\d|-1 E(?:NO|INVAL))[^\n]*"
+# An open that can change nothing. Other flags may: a line that has them is read.
+READS = r", O_RDONLY(?:\|O_(?:CLOEXEC|NOCTTY|NONBLOCK|DIRECTORY|LARGEFILE|NOFOLLOW|NOATIME|PATH))*\) += "
+# Each line stands behind a newline, so that a search goes on from line to line. Common calls stand first, and a line with one text is
+# tried before one with two. What may be absent is an empty choice: Python is slower where it counts.
+LOOKING = (
+    r"\n\d+ +(?:(?:readlink|openat|newfstatat|access|faccessat2|readlinkat|open|faccessat|stat|statx|lstat|statfs)\(" + AT + r'"(FOLDERS[^"\n]*)"'
+    r"(?:" + READS + r'|(?!, O_)[^"\n={]*(?:\{[^"\n]*\}[^"\n=]*|)= |, "[^"\n]*"[^"\n={]*= )' + RESULT
+    + r'|newfstatat\(\d+<[^>\n]*>, "", [^"\n]* = 0(?=\n|$))')
+NAMES = r"(?:creat|rename\w*|unlink\w*|rmdir|mkdir\w*|mknod\w*|link\w*|symlink\w*|truncate|[fl]?ch(?:mod|own)\w*|utime\w*|futimesat)\("
+FLAGS = r"O_(?:WRONLY|RDWR|CREAT|TRUNC)"
+# A name may be relative to a folder of the system: strace shows which file was opened, and where a call with a folder starts from.
+CHANGING = (
+    r"\d+ +(?:open|openat2?)\(" + AT + r'"(?:(?:[^"\\]|\\.)*\.\.)?FOLDERS(?:[^"\\]|\\.)*", [^\n]*' + FLAGS + r"|\d+ +(?:open|openat2?)\([^\n]*" + FLAGS
+    + r"[^\n]*= \d+<FOLDERS|\d+ +" + NAMES + r'[^\n]*(?:"(?:(?:[^"\\]|\\.)*\.\.)?|<)FOLDERS|\d+ +(?:chdir|fchdir)\([^\n]*(?:"(?:(?:[^"\\]|\\.)*\.\.)?|<)FOLDERS')
+# Texts of Python that do not come with it: python.py asks whether they list folders. Modules of OCaml: modules.py asks which names they hold.
+MODULES = re.compile(rb"(?!.*/lib(?:32|64)?/python[\d.]*/(?!(?:site|dist)-packages/)).*\.pyc?$|.*/(?:site|dist)-packages/.*\.so$|.*\.(?:zip|egg|whl|pyz|cm[iox])$", re.S)
+# What each line that changes something has: a look for these is quick, and few lines have one.
+MARKS = [re.compile(FLAGS.encode()), re.compile((r"\n\d+ +(?:" + NAMES + r"|f?chdir\()").encode())]
+
+
+def line_at(lines: bytes, at: int) -> bytes:
+    """The line around a place."""
+    end = lines.find(b"\n", at)
+    return lines[lines.rfind(b"\n", 0, at) + 1:end if end >= 0 else len(lines)]
+
+
+def has_change(lines: bytes, changes: "re.Pattern[bytes]") -> bool:
+    """Whether one of the lines, each behind a newline, matches `changes`."""
+    return any(changes.match(line_at(lines, mark.end() - 1)) for marks in MARKS for mark in marks.finditer(lines))
+
+
+class Skip:
+    """Looks at the system's folders by names of which no link leads to a top, and not at modules that Python or OCaml may take in."""
+
+    def __init__(self, looks: "re.Pattern[bytes]", changes: "re.Pattern[bytes]", tops: List[str]) -> None:
+        self.looks, self.changes, self.tops = looks, changes, tops
+        self.known: Set[Optional[bytes]] = {None}  # spellings that were looked up; a look at an open file has none
+        self.counting: Set[Optional[bytes]] = set()  # those of them that count
+
+    def counts(self, spelling: bytes) -> bool:
+        """Whether a look by a name is read all the same: the name leads to a top, or Python or OCaml may take in what is there."""
+        real = os.path.realpath(unescape(spelling.decode("latin-1")))
+        return any((real + "/").startswith(top.rstrip("/") + "/") for top in self.tops) or bool(MODULES.match(spelling))
+
+    def rest(self, lines: bytes) -> bytes:
+        """What is left of some lines, each behind a newline, without such looks."""
+        parts = self.looks.split(lines)
+        spellings = {*parts[1::2]}
+        self.counting.update(one for one in spellings - self.known if self.counts(one))
+        self.known |= spellings
+        if self.counting.isdisjoint(spellings):
+            return b"".join(parts[::2])
+        return self.looks.sub(lambda found: found.group() if found.group(1) in self.counting else b"", lines)
+
+
+def skipping(tops: List[str]) -> Optional[Skip]:
+    """What need not be read where nobody changes a name of the system's folders; nothing of those in which a top is."""
+    safe = [p for p in SYSTEM if not any((t + "/").startswith("/%s/" % p) for t in tops)]
+    if not safe:
+        return None
+    folders_of_system = "/(?:%s)(?=[/\">])" % "|".join(safe)
+    return Skip(*(re.compile(text.replace("FOLDERS", folders_of_system).encode()) for text in (LOOKING, CHANGING)), tops)
+
+
+def unseen_changes(changed: Iterable[str]) -> List[str]:
+    """What is wrong with a trace that was sifted: a name of the system's folders changed, and no line shows both the name and the change,
+    as where a link leads there and the call was interrupted."""
+    return ["who looks at %s is not known, and it changed" % name for name in changed if name.startswith(tuple("/%s/" % p for p in SYSTEM))][:1]
+
+
+def pieces(trace: Path, has_ended: Callable[[float], object]) -> Iterator[bytes]:
+    """The bytes of a trace, some whole lines at a time; until the build has ended, which is waited for so many seconds, more may come."""
+    with open(trace, "rb") as file:
+        rest, is_last, read = b"", False, b""
+        while read or not is_last:
+            is_last = bool(has_ended(0))  # asked before the read: what is written until then is read
+            read = file.read(PIECE)
+            whole, newline, last = (rest + read).rpartition(b"\n")
+            rest = last
+            if whole:
+                yield whole + newline
+            elif not is_last:
+                has_ended(WAIT)
+        yield rest
+
+
+def sift(trace: Path, tops: List[str], to: Path, has_ended: Callable[[float], object] = lambda seconds: True) -> None:
+    """Writes what has to be read of a trace, also while that is written, and then reads ahead in it. No file is there where somebody
+    changes a name of the system's folders: then all of the trace has to be read."""
+    skip, part = skipping(tops), to.with_suffix(".part")
+    if skip is None:
+        return
+    with open(part, "wb") as file:
+        for piece in pieces(trace, has_ended):
+            left = skip.rest(b"\n" + piece.rstrip(b"\n"))
+            if has_change(left, skip.changes):
+                return
+            file.write(left)
+            if not has_ended(0):
+                read_ahead(left.decode("latin-1").split("\n"))
+    part.rename(to)
