@@ -224,7 +224,7 @@ def run(options: argparse.Namespace) -> int:
     race = find_race(options.race)
     if race is None:
         return stop("the program race is missing (--race PROGRAM, $RACE, or on PATH)")
-    if options.missing and not import_module("record.missing").knows_missing(race):
+    if options.missing and not import_module("record.missing.inputs").knows_missing(race):
         return stop("%s does not answer `race missing --tasks`: --missing needs a later version of race" % race)
     try:
         tools = versions()
