@@ -9,7 +9,6 @@ TEXTS = {
     "ties": "build statements with one command were distinguished by ninja's log",
     "up-to-date": "builds start from this tree: targets that were up to date stay so",
     "configured": "builds start when ./configure has run: what it makes is there and up to date",
-    "shipped": "targets that are older than config.status came with the sources: they are there and up to date when a build starts",
     "unasked": "builds have the same goals: recipes that nothing asked for are not judged",
     "unwritten": "all processes of recipes that do not write their own target were seen",
     "at-once": "two processes of one recipe touch a file at the same time",

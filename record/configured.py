@@ -1,11 +1,7 @@
-"""What was there before the first make of a project: what `./configure` of autoconf made, and what came with the sources.
+"""What was there before the first make of a project, since `./configure` of autoconf made it.
 
 A `config.status` says what it makes: makefiles, headers, and the stamps of these. They count as configured only where the build changes
 none of them, and where a makefile that make reads is among them: who has not configured cannot run this make.
-
-A target that is older than `config.status` was there when that was written, so it came with the sources (a manual, a parser), unless the
-project was built, and then configured once more. Then the header of `config.status` is older than it, since a header that would stay as it
-is is left alone; or the header is new, and then make makes again who includes it.
 """
 
 import os
@@ -32,59 +28,15 @@ class Status:
 
     path: str
     made: Set[str] = field(default_factory=set)  # what it makes, their stamps, and what all of these and it itself are made of
-    headers: Set[str] = field(default_factory=set)
-
-    def is_first(self) -> bool:
-        """Whether its headers were written behind it, and are as new as it is."""
-        return bool(self.headers) and all(age(path) >= age(self.path) for path in self.headers)
 
 
-@dataclass
-class Configured:
-    """What was there before the first make."""
-
-    statuses: List[Status]
-    changed: Set[str]  # paths that the build changed
-    other: Set[str]  # targets that a make had to remake, and what links lead to that are targets
-
-    def made(self) -> Set[str]:
-        """What configuring made."""
-        return {path for status in self.statuses for path in status.made}
-
-    def shipped(self, there: Set[str]) -> Set[str]:
-        """Of targets that were there before: those that came with the sources, and that no recipe was run for."""
-        if not self.statuses or not all(status.is_first() for status in self.statuses):
-            return set()
-        oldest = min(age(status.path) for status in self.statuses)
-        return {path for path in there - self.other - self.changed - self.made() if os.path.isfile(path) and os.stat(path).st_nlink == 1 and age(path) < oldest}
-
-
-def find_configured(makes: List[Make], lives: List[Life], names: Names) -> Configured:
-    """What a recorded build shows of it."""
+def find_configured(makes: List[Make], lives: List[Life], names: Names) -> Set[str]:
+    """What configuring made, as a recorded build shows it."""
     changed = {path for life in lives for kind, path in life.events if kind in CHANGES}
     read = {names.find(make.folder, name, True).path for make in makes for name in makefiles(make.words)}
     found = [status_of(path) for path, kind in names.before.items() if kind == "f" and os.path.basename(path) == STATUS]
     statuses = [status for status in found if status is not None and changed.isdisjoint(status.made) and not read.isdisjoint(status.made)]
-    return Configured(statuses, changed, set(others(makes, names)))
-
-
-def others(makes: List[Make], names: Names) -> Iterator[str]:
-    """The targets that a make had to remake, and what links lead to that are targets: such a link may be newer."""
-    for make in makes:
-        for one in make.words.rounds:
-            done = {*one.must, *(job.target for job in one.jobs)}
-            for name in {*one.nodes, *done}:
-                spelled = one.vpath.get(name, name)
-                if name in done or os.path.islink(names.find(make.folder, spelled, False).path):
-                    yield names.find(make.folder, spelled, True).path
-
-
-def age(path: str) -> int:
-    """When a file was written; before all others where it is not there."""
-    try:
-        return os.stat(path).st_mtime_ns
-    except OSError:
-        return 0
+    return {path for status in statuses for path in status.made}
 
 
 def status_of(path: str) -> Optional[Status]:
@@ -108,7 +60,6 @@ def status_of(path: str) -> Optional[Status]:
             if kind in ("files", "headers"):
                 status.made.update(os.path.realpath(os.path.join(sources, one)) for one in templates or [name + ".in"])
             if kind == "headers":
-                status.headers.add(made)
                 status.made.update(stamps(os.path.dirname(made)))
     return status
 

@@ -29,7 +29,7 @@ class Record:
     assumptions: List[Dict[str, Any]] = field(default_factory=list)
     builds: List[str] = field(default_factory=list)
     warm: List[str] = field(default_factory=list)  # files that the build makes and that were there before
-    configured: List[str] = field(default_factory=list)  # others that were there: what `./configure` made, and what came with the sources
+    configured: List[str] = field(default_factory=list)  # others that were there: what `./configure` made
     stands_alone: bool = False  # their recipes did not run, and can run beside no other
     notes: List[str] = field(default_factory=list)
     hints: List[str] = field(default_factory=list)  # of a build that failed: who looks for what others make

@@ -9,10 +9,10 @@ import os
 from dataclasses import dataclass
 from itertools import chain
 from pathlib import Path
-from typing import List
+from typing import List, Set
 
 from record.assumptions import Assumptions
-from record.configured import Configured, find_configured
+from record.configured import find_configured
 from record.folder import Record, write_record
 from record.footprints import write_footprints
 from record.granted import add_granted, idle_targets
@@ -62,7 +62,7 @@ class Imported:
     lives: List[Life]
     ninjas: List[Ninja]
     idle: List[str]  # targets of makes that had nothing to do
-    configured: Configured
+    configured: Set[str]  # what configuring made
 
 
 def settle_all(replay: Calls, spool: Path, assumed: Assumptions) -> Owners:
@@ -121,11 +121,9 @@ def import_record(spool: Path, names: Names, kept: Kept, real: str, folder: str,
 def finish(record: Record, found: Imported, names: Names, warm: bool) -> None:
     """What is known when all builds are: whether they were cold, and what ninja itself finds."""
     there = {*warm_names(found.builds, found.ninjas, names), *found.idle}
-    made, shipped = found.configured.made() & there, found.configured.shipped(there)
-    record.warm, record.configured = sorted(there - made - shipped), sorted(made | shipped)
-    for kind, paths in (("configured", made), ("shipped", shipped)):
-        for name in sorted(paths):
-            found.assumed.add(kind, name)
+    record.warm, record.configured = sorted(there - found.configured), sorted(there & found.configured)
+    for name in record.configured:
+        found.assumed.add("configured", name)
     record.stands_alone = bool(record.warm) and stand_alone(record.warm, found.builds, found.ninjas)
     for name in record.warm if warm or record.stands_alone else ():
         found.assumed.add("up-to-date", name)

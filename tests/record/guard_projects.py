@@ -36,9 +36,8 @@ def configured(name: str) -> str:
 
 
 CONFIGURED_GUARDS: List[Guard] = [
-    Guard("configured: what it made", "configured.py", "return {path for status in self.statuses for path in status.made}", "return set()", configured("what_configure_made")),
-    Guard("configured: said", "importing.py", 'for kind, paths in (("configured", made), ("shipped", shipped)):', 'for kind, paths in (("shipped", shipped),):', configured("what_configure_made"), UNSAID),
-    Guard("shipped: said", "importing.py", 'for kind, paths in (("configured", made), ("shipped", shipped)):', 'for kind, paths in (("configured", made),):', configured("manual"), UNSAID),
+    Guard("configured: what it made", "configured.py", "return {path for status in statuses for path in status.made}", "return set()", configured("what_configure_made")),
+    Guard("configured: said", "importing.py", 'found.assumed.add("configured", name)', "pass", configured("what_configure_made"), UNSAID),
     Guard("configured: texts of autoconf", "configured.py", 'if text.split("\\n", 2)[1:2] != [WRITTEN] or not found:', "if not found:", configured("text_of_somebody_else"), LOST_HOLE),
     Guard("configured: the makefile that is read", "configured.py", " and not read.isdisjoint(status.made)]", "]", configured("other_makefiles"), LOST_HOLE),
     Guard("configured: names that it says", "configured.py", "status.made.add(made)", 'status.made.update((made, os.path.join(folder, "config.h")))', configured("header_that_it_does_not_make"), LOST_HOLE),
@@ -47,14 +46,6 @@ CONFIGURED_GUARDS: List[Guard] = [
     Guard("configured: what was there before", "configured.py", 'for path, kind in names.before.items() if kind == "f" and os.path.basename(path) == STATUS]',
           'for path, kind in {**names.before, **{os.path.join(make.folder, STATUS): "f" for make in makes}}.items() if kind == "f" and os.path.basename(path) == STATUS]',
           configured("status_that_the_build_makes"), LOST_HOLE, ("configured.py", "and changed.isdisjoint(status.made) and", "and")),
-    Guard("shipped: what is newer", "configured.py", " and age(path) < oldest}", "}", configured("target_that_is_newer"), LOST_HOLE),
-    Guard("shipped: configured once", "configured.py", " or not all(status.is_first() for status in self.statuses):", ":", configured("project_that_was_built_before_with_the_same_header"), LOST_HOLE),
-    Guard("shipped: each header", "configured.py", "return bool(self.headers) and all(", "return bool(self.headers) and any(", configured("one_header_of_two_is_the_same"), LOST_HOLE),
-    Guard("shipped: some header", "configured.py", "return bool(self.headers) and all(", "return all(", configured("no_header"), LOST_HOLE),
-    Guard("shipped: recipes that ran", "configured.py", "there - self.other - self.changed - self.made()", "there - self.made()", configured("target_that_is_made_again"), LOST_HOLE),
-    Guard("shipped: what others write", "configured.py", "there - self.other - self.changed - self.made()", "there - self.other - self.made()", configured("target_that_another_recipe_writes"), LOST_HOLE),
-    Guard("shipped: links", "configured.py", "if name in done or os.path.islink(names.find(make.folder, spelled, False).path):", "if name in done:", configured("link"), LOST_HOLE),
-    Guard("shipped: second names", "configured.py", " and os.stat(path).st_nlink == 1", "", configured("link"), LOST_HOLE),
 ]
 NUMBERS: List[Guard] = [
     Guard("numbers: that come again", "make/owners.py", "return first if len(first) == len(wanted) and first == [len(there) - 1 - place for place in last[::-1]] else None", "return first if len(there) == len(wanted) == len(first) else None",

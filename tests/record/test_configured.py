@@ -1,4 +1,4 @@
-"""Targets that `./configure` made, or that came with the sources: they withhold no yes, and the yes says so."""
+"""Targets that `./configure` made: they withhold no yes, and the yes says so."""
 
 import unittest
 from typing import Dict
@@ -22,7 +22,6 @@ stamp-h1: config.in config.status ; ./config.status config.h
 config.in: configure.ac ; touch config.in
 config.status: configure ; ./config.status --recheck
 """
-MANUAL = "all: m\nm: m.txt ; cp m.txt m; echo x > t; rm t\n"
 PARSER = "all: c\nc: ; sleep 0.1; cp lex.c c\nlex.c: lex.l ; cp lex.l lex.c\n"
 TREE: Dict[str, str] = {
     "configure.ac": "x", "configure": CONFIGURE, "config.in": "x", "config.h": "x", "sub/other.h": "x", "stamp-h1": "", "config.status": STATUS,
@@ -49,7 +48,7 @@ class Configured(unittest.TestCase):
         self.status(0, says="when ./configure has run: what it makes is there and up to", lacks="WARM")
 
     def test_how_many(self) -> None:
-        self.status(0, says="date (4, such", lacks="came with the sources")
+        self.status(0, says="date (4, such")
 
     def test_inner_makes(self) -> None:
         self.status(0, "all: config.h ; $(MAKE) -f Makefile.in\nMakefile.in: s ; touch $@\n" + MAKEFILE[MAKEFILE.index("config.h: stamp"):], Makefile_in=MAKEFILE.replace("all:", "all: Makefile.in "))
@@ -87,42 +86,6 @@ class Configured(unittest.TestCase):
 
     def test_status_that_the_build_changes(self) -> None:
         self.status(2, MAKEFILE + "all: c\nc: ; cat a.c > t; cp t config.status; touch c\n", says="WARM  4 files")
-
-    # What came with the sources.
-    def test_manual(self) -> None:
-        self.status(0, MAKEFILE + MANUAL, "touch -d 2002-06-01 m; ", says="came with the sources", lacks="WARM", m="m")
-
-    def test_parser_that_nobody_waits_for(self) -> None:
-        self.status(0, MAKEFILE + "all: lex.c\n" + PARSER, "touch -d 2002-06-01 lex.c; ", says="came with the sources", lex_c="l")
-
-    def test_same_parser_without_it(self) -> None:
-        self.status(1, MAKEFILE + "all: lex.c\n" + PARSER, says="RACE  lex.c")
-
-    def test_target_that_is_newer(self) -> None:
-        self.status(2, MAKEFILE + MANUAL, "touch m; ", says="  m\n", m="m")
-
-    def test_project_that_was_built_before_with_the_same_header(self) -> None:
-        self.status(2, MAKEFILE, "touch -d 2002-06-01 config.h sub/other.h; touch -d 2002-06-02 a b; ", a="a", b="b")
-
-    def test_project_that_was_built_before_with_another_header(self) -> None:
-        self.status(2, MAKEFILE + MANUAL, "touch -d 2002-06-02 a b m; ", a="a", b="b", m="m")
-
-    def test_one_header_of_two_is_the_same(self) -> None:
-        self.status(2, MAKEFILE + MANUAL, "touch -d 2002-06-01 sub/other.h; touch -d 2002-06-02 m; ", m="m")
-
-    def test_no_header(self) -> None:
-        self.status(2, "all: a m\na: a.c Makefile ; cp a.c a\nMakefile: config.status\nm: m.txt ; cp m.txt m\n", "touch -d 2002-06-02 m; ", m="m",
-                    config_status=STATUS.replace("config_headers", "config_others"))
-
-    def test_target_that_is_made_again(self) -> None:
-        self.status(2, MAKEFILE + MANUAL + "all: n\nn: s ; cp -p kept n\n", "touch -d 2002-06-01 m n kept; touch s; ", says="  n\n", m="m", n="n", kept="n")
-
-    def test_target_that_another_recipe_writes(self) -> None:
-        self.status(2, MAKEFILE + MANUAL + "all: n\nn: s ; cp -p kept m; touch n\n", "touch -d 2002-06-01 m kept; ", says="  m\n", m="m", kept="n")
-
-    def test_link(self) -> None:
-        self.status(2, MAKEFILE + MANUAL, "ln -s m.txt m; ")
-        self.status(2, MAKEFILE + MANUAL, "ln m.txt m; ")
 
 
 def again(project: support.Project, *options: str) -> support.Outcome:
