@@ -1,16 +1,16 @@
 //! The plan of a graph by numbers: its nodes in serial order, each with its name, its maker and what it needs.
-ghost use Rattle.std.specs.Prelude.{◌≡◌, ◌<◌, ◌≤◌, ℕ, length, map, get_or, nat_eq, IsTrue, IfOk};
+ghost use Rattle.std.specs.Prelude.{◌≡◌, ◌<◌, ◌≤◌, List, ℕ, length, map, get_or, nat_eq, IsTrue, IfOk};
 ghost use Rattle.std.specs.List.{sum_by};
-ghost use Rattle.mk_name.specs.Names.{has, IsDistinct};
+ghost use Rattle.mk_name.specs.Names.{Name, has, IsDistinct};
 ghost use Rattle.mk_jobs.specs.Numbered.{name_at};
-ghost use Rattle.mk_jobs.specs.Plan.{edge_limit, node_limit};
+ghost use Rattle.mk_jobs.specs.Plan.{HaveNames, edge_limit, node_limit, with_name, with_names};
 ghost use Rattle.mk_graph.specs.Assembled.{node_of, IsAssembled, IsNumbering};
 ghost use Rattle.mk_graph.specs.Makers.{maker_of};
 ghost use Rattle.mk_graph.specs.Rows.{row, IsRising};
 
 use crate::graph::Graph;
 use mk_jobs::maker::Maker;
-use mk_jobs::plan::{Plan, PlanNode};
+use mk_jobs::plan::{NumberedNode, Plan};
 use mk_name::name::Name;
 use mk_rules::rulebook::Rulebook;
 use mk_text::listing::Listing;
@@ -43,26 +43,27 @@ fn placed(alloc: Global, numbers: &[usize], places: &[u32]) -> Result<Vec<u32>, 
     Ok(found)
 }
 
-/// The node of a name.
+/// The node of a name that has this number in a table.
 fn node(
-    alloc: Global,
     book: &Rulebook,
     listing: &Listing,
     name: &Name,
+    number: usize,
     maker: Maker,
     prerequisites: Vec<u32>,
-) -> Result<PlanNode, AllocError>
+) -> NumberedNode
     requires { maker ≡ maker_of book.now listing.now name.now }
-    ensures { IfOk result
-        (λ node. node ≡ node_of book.now listing.now name.now prerequisites.items) }
+    ensures node { (names : List Name) → name_at names number ≡ name.now
+        → with_name names result ≡ node_of book.now listing.now name.now prerequisites.items }
+    ensures number { result.name ≡ number }
 {
-    Ok(PlanNode {
-        name: name.copy(alloc)?,
+    NumberedNode {
+        name: number,
         prerequisites,
         maker,
         phony: book.is_phony(name),
         listed: listing.contains(name),
-    })
+    }
 }
 
 /// The nodes of a graph in an order.
@@ -73,25 +74,27 @@ fn nodes_of(
     graph: &Graph,
     places: &[u32],
     order: &[usize],
-) -> Result<Vec<PlanNode>, AllocError>
+) -> Result<Vec<NumberedNode>, AllocError>
     requires within { (n : ℕ) → IsTrue (has nat_eq order.now n) → n < length graph.now.names }
     requires makers { graph.now.makers.items ≡ map (maker_of book.now listing.now) graph.now.names }
     requires rows { length graph.now.rows.items ≡ length graph.now.names }
     requires places { (i n : ℕ) → IsTrue (has nat_eq (row graph.now.rows.items i) n) → n < length places.now }
-    ensures { IfOk result
-        (λ nodes. nodes.items ≡ map
+    ensures nodes { IfOk result
+        (λ nodes. with_names graph.now.names nodes.items ≡ map
         (λ n. node_of book.now listing.now (name_at graph.now.names n)
         (map (λ p. get_or places.now p 0) (row graph.now.rows.items n))) order.now) }
+    ensures named { IfOk result (λ nodes. HaveNames graph.now.names nodes.items) }
 {
     let names = &graph.names;
     let rows = graph.rows.as_slice();
     let makers = graph.makers.as_slice();
     let mut nodes = Vec::new(alloc);
     for number in order {
-        let prerequisites = placed(alloc, rows[*number].as_slice(), places)?;
-        let name = names.name(*number);
-        let maker = makers[*number];
-        nodes.push(node(alloc, book, listing, name, maker, prerequisites)?)?;
+        let number = *number;
+        let prerequisites = placed(alloc, rows[number].as_slice(), places)?;
+        let name = names.name(number);
+        let maker = makers[number];
+        nodes.push(node(book, listing, name, number, maker, prerequisites))?;
     }
     Ok(nodes)
 }

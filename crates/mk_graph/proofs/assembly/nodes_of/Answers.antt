@@ -1,9 +1,11 @@
 use Rattle.std.proofs.Common.{◌∙◌, ap, sym, [], subst, rules, arith, get_or, ◌<◌, length, map, List, ℕ}
 use Rattle.std.proofs.lemmas.List.{length-map, get_or-map}
+use Rattle.std.proofs.lemmas.List.Elements.{All-push}
 use Rattle.mk_graph.specs.Assembled.{node_of}
 use Rattle.mk_graph.specs.Makers.{maker_of}
 use Rattle.mk_jobs.specs.declared.maker.Maker.TheVariants.{Rule}
 use Rattle.mk_jobs.specs.Numbered.{name_at}
+use Rattle.mk_jobs.specs.Plan.{HaveNames, NumberedNode}
 use Rattle.mk_graph.specs.Rows.{row}
 use Rattle.mk_graph.proofs.Measure.{row_read}
 use Rattle.mk_graph.proofs.Rowing.{in_at}
@@ -34,9 +36,15 @@ loop-number-preserved c =
     let w = c.requires.within _ (in_at c.args.order.now c.loop-number.number-index c.loop-number-test.true) in
     let is = c.as_slice.ensures.value ∙ row_read c.as_slice-rows.result.now (get_or c.args.order.now c.loop-number.number-index 0) c.index-rows-number.result (omega (arith, w, c.requires.rows, ap length c.as_slice-rows.ensures.value)) c.index-rows-number.is
     ∙ ap (λ rs. row rs (get_or c.args.order.now c.loop-number.number-index 0)) c.as_slice-rows.ensures.value in
-    nodes_more (λ n. node_of c.args.book.now c.args.listing.now (name_at c.args.graph.now.names n) (map (λ p. get_or c.args.places.now p 0) (row c.args.graph.now.rows.items n))) c.args.order.now c.loop-number.number-index c.loop-number.nodes.items c.push.new.self.items c.in_ok-node.field-0 c.loop-number-test.true c.loop-number.invariant c.in_ok-push.ensures.items
-    (c.in_ok-node.ensures ∙ ap (λ t. node_of c.args.book.now c.args.listing.now t c.in_ok-prerequisites.prerequisites.items) c.name-name.ensures
-    ∙ ap (λ ps. node_of c.args.book.now c.args.listing.now (name_at c.args.graph.now.names (get_or c.args.order.now c.loop-number.number-index 0)) ps) (c.in_ok-prerequisites.ensures ∙ ap (map (λ p. get_or c.args.places.now p 0)) is))
+    let number = get_or c.args.order.now c.loop-number.number-index 0 in
+    let names = c.args.graph.now.names in
+    record {
+      nodes = nodes_more names (λ n. node_of c.args.book.now c.args.listing.now (name_at names n) (map (λ p. get_or c.args.places.now p 0) (row c.args.graph.now.rows.items n))) c.args.order.now c.loop-number.number-index c.loop-number.nodes.items c.push.new.self.items c.node.result c.loop-number-test.true c.loop-number.invariant.nodes c.in_ok-push.ensures.items
+          (c.node.ensures.node names (sym c.name-name.ensures) ∙ ap (λ t. node_of c.args.book.now c.args.listing.now t c.in_ok-prerequisites.prerequisites.items) c.name-name.ensures
+          ∙ ap (λ ps. node_of c.args.book.now c.args.listing.now (name_at names number) ps) (c.in_ok-prerequisites.ensures ∙ ap (map (λ p. get_or c.args.places.now p 0)) is));
+      named = subst (HaveNames names) (sym c.in_ok-push.ensures.items)
+          (All-push (λ (d : NumberedNode). d.name < length names) c.loop-number.nodes.items c.node.result c.loop-number.invariant.named (subst (λ (n : ℕ). n < length names) (sym c.node.ensures.number) w));
+    }
 
 pub bounds-makers-number : goal.bounds-makers-number
 bounds-makers-number c =
