@@ -73,6 +73,24 @@ goals_fault root operands i d names reported within so_far next =
     ∙ ap (λ n. given root 1 (take i operands) ++ goals_at root (n, x.now) ∷ given root (1 + length (take i operands) + 1) rest) (place_is operands i within))
     ∙ behind (given root 1 (take i operands)) (goals_at root (i + 1, x.now)) (given root (1 + length (take i operands) + 1) rest) names reported so_far next
 
+-- a fault has no others in front of it
+fault_alone : (names : List Name) (more : Result (List Name) Reported) (reported : Reported) → in_front names more ≡ Err reported → more ≡ Err reported
+fault_alone names (Ok others) reported e = absurd (cc e)
+fault_alone names (Err fault) reported e = e
+
+fault_first : (xs ys : List (Result (List Name) Reported)) (reported : Reported) → all_or_fault xs ≡ Err reported → all_or_fault (xs ++ ys) ≡ Err reported
+fault_first [] ys reported e = absurd (cc e)
+fault_first (Ok x ∷ xs) ys reported e = ap (in_front x) (fault_first xs ys reported (fault_alone x (all_or_fault xs) reported e))
+fault_first (Err t ∷ xs) ys reported e = e
+
+-- the fault of the operands to the left is that of all
+pub fault_to_the_left : (root : Name) (operands : List (Bor Name)) (n : ℕ) (reported : Reported)
+    → all_or_fault (given root 1 (take n operands)) ≡ Err reported → all_or_fault (given root 1 operands) ≡ Err reported
+fault_to_the_left root operands n reported e =
+    ap (λ (l : List (Bor Name)). all_or_fault (given root 1 l)) (sym (take-append-drop n operands))
+    ∙ ap all_or_fault (given-append root 1 (take n operands) (drop n operands))
+    ∙ fault_first (given root 1 (take n operands)) (given root (1 + length (take n operands)) (drop n operands)) reported e
+
 -- a halt for one answer is one for another with the same faults
 pub Halts-along : {X Y : Type 0} (halt : Halt) (small : Result X Reported) (big : Result Y Reported) → ((reported : Reported) → small ≡ Err reported → big ≡ Err reported)
     → Halts halt small → Halts halt big

@@ -1,6 +1,7 @@
 mod Ahead
 mod Alike
 mod AsClean
+mod BadOperands
 mod Behind
 mod FixedTasks
 mod Fixings

@@ -9,7 +9,7 @@ ghost use Rattle.mk_race.specs.Parts.{IsPlannedWith};
 ghost use Rattle.mk_race.specs.Stages.{IsBookOf, IsGraphed, IsPlanned, texts_of, reported_in};
 
 use crate::input::Input;
-use crate::settings::goals_of;
+use crate::settings::Operands;
 use mk_graph::planning::plan;
 use mk_include::includes::Includes;
 use mk_jobs::plan::Plan;
@@ -68,8 +68,8 @@ pub(crate) fn plan_ahead(
     ensures { Answers result (IsPlannedWith (texts_of input.now) listing) }
 {
     let root = Root::read(alloc, input.root)?;
-    let goals = goals_of(alloc, input.operands, &root)?;
-    let mut macros = Macros::new(alloc, input.operands)?;
+    let Operands { goals, macros } = Operands::read(alloc, input.operands, &root)?;
+    let mut macros = macros;
     let includes = Includes::read(alloc, input.includes, &root)?;
     match listing {
         Ok(listing) => {

@@ -1,7 +1,7 @@
 use Rattle.std.proofs.Common.{◌∙◌, ap, sym, Ok, arith}
 use Rattle.std.proofs.lemmas.Result.{err_from_is_err_and}
 use Rattle.mk_race.proofs.GoalsLemmas.{Halts-along, goals_fault, goals_more}
-use Rattle.mk_race.proofs.settings.goals_of.Goals as goal
+use Rattle.mk_race.proofs.settings.goals_among.Goals as goal
 
 pub returns-in_err-goal-clause-fault : goal.returns-in_err-goal-clause-fault
 returns-in_err-goal-clause-fault c =
