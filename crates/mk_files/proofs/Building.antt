@@ -5,13 +5,14 @@ use Rattle.std.specs.List.{All}
 use Rattle.std.specs.Prelude.{IfSome}
 use Rattle.std.specs.Option.{option_to_list}
 use Rattle.std.specs.Borrow.{Bor}
-use Rattle.mk_files.specs.Builds.{AreRead, IsGiven, IsReadAs, all_marks, other_text, path_mark, path_marks, stated_at}
+use Rattle.mk_files.specs.Builds.{AreRead, IsGiven, IsPlanRead, IsPlanReadAs, IsReadAs, all_marks, other_text, path_mark, path_marks, plan_marks, plan_path_marks, plan_stated_at, stated_at}
 use Rattle.mk_files.specs.Files.{Files}
 use Rattle.mk_files.specs.Inputs.{Hold, IsFirstToFail, IsLeftOut, IsShortOr, Mark, MayWork, marks}
 use Rattle.mk_files.specs.declared.builds.ReadBuild.{ReadBuild}
+use Rattle.mk_files.specs.declared.builds.ReadPlan.{ReadPlan}
 use Rattle.mk_files.specs.declared.failures.Failure.{Failure}
 use Rattle.mk_files.specs.declared.failures.Failure.TheVariants as failures
-use Rattle.mk_request.specs.Requests.{base_input, input_at, job_inputs}
+use Rattle.mk_request.specs.Requests.{base_input, build_inputs, input_at, job_inputs}
 use Rattle.mk_request.specs.declared.inputs.InputFile.{InputFile}
 use Rattle.mk_request.specs.declared.inputs.InputFile.TheVariants as inputs
 use Rattle.mk_request.specs.declared.inputs.InputPath.{InputPath}
@@ -88,20 +89,46 @@ abbrev at : InputFile → Bor (List ℕ) → InputPath
 at input path = record { input = input; path = path }
 
 -- no input behind the base is the base
-no_base : (makefile listing footprints : Bor (List ℕ)) (other : Option InputPath) → IfSome other (λ known. known.input ≢ inputs.Base)
-    → IsLeftOut (at inputs.Makefile makefile ∷ at inputs.Listing listing ∷ at inputs.Footprints footprints ∷ option_to_list other) inputs.Base
-no_base makefile listing footprints other none =
-    All-cons not_base (at inputs.Makefile makefile) (at inputs.Listing listing ∷ at inputs.Footprints footprints ∷ option_to_list other)
-    (λ (is : inputs.Makefile ≡ inputs.Base). cc)
-    (All-cons not_base (at inputs.Listing listing) (at inputs.Footprints footprints ∷ option_to_list other) (λ (is : inputs.Listing ≡ inputs.Base). cc)
-    (All-cons not_base (at inputs.Footprints footprints) (option_to_list other) (λ (is : inputs.Footprints ≡ inputs.Base). cc) (last_no_base other none)))
+no_base : (makefile listing : Bor (List ℕ)) (more : List InputPath) → All not_base more
+    → IsLeftOut (at inputs.Makefile makefile ∷ at inputs.Listing listing ∷ more) inputs.Base
+no_base makefile listing more none =
+    All-cons not_base (at inputs.Makefile makefile) (at inputs.Listing listing ∷ more) (λ (is : inputs.Makefile ≡ inputs.Base). cc)
+    (All-cons not_base (at inputs.Listing listing) more (λ (is : inputs.Listing ≡ inputs.Base). cc) none)
+
+no_base_behind : (footprints : Bor (List ℕ)) (other : Option InputPath) → IfSome other (λ known. known.input ≢ inputs.Base)
+    → All not_base (at inputs.Footprints footprints ∷ option_to_list other)
+no_base_behind footprints other none =
+    All-cons not_base (at inputs.Footprints footprints) (option_to_list other) (λ (is : inputs.Footprints ≡ inputs.Base). cc) (last_no_base other none)
+
+-- the inputs of a build, one behind another
+inputs_of_plan : (base : Option (Bor (List ℕ))) (makefile listing : Bor (List ℕ))
+    → base_input base ++ input_at inputs.Makefile makefile ++ input_at inputs.Listing listing
+    ≡ base_input base ++ at inputs.Makefile makefile ∷ at inputs.Listing listing ∷ []
+inputs_of_plan None makefile listing = refl
+inputs_of_plan (Some base) makefile listing = refl
+
+inputs_of_all : (base : Option (Bor (List ℕ))) (makefile listing footprints : Bor (List ℕ)) (other : Option InputPath)
+    → (base_input base ++ input_at inputs.Makefile makefile ++ input_at inputs.Listing listing)
+    ++ input_at inputs.Footprints footprints ++ option_to_list other
+    ≡ base_input base ++ at inputs.Makefile makefile ∷ at inputs.Listing listing ∷ at inputs.Footprints footprints ∷ option_to_list other
+inputs_of_all None makefile listing footprints other = refl
+inputs_of_all (Some base) makefile listing footprints other = refl
 
 -- the marks of a build's inputs are those of the files that are opened
+marks_of_plan : (works : List ℕ → Option Bool) (base : Option (Bor (List ℕ))) (makefile listing : Bor (List ℕ))
+    → marks works (base_input base ++ input_at inputs.Makefile makefile ++ input_at inputs.Listing listing)
+    ≡ plan_marks (option_map (λ path. (inputs.Base, works path.now)) base) (inputs.Makefile, works makefile.now) (inputs.Listing, works listing.now)
+marks_of_plan works None makefile listing = refl
+marks_of_plan works (Some base) makefile listing = refl
+
+pub plan_marks_are : (works : List ℕ → Option Bool) (build : BuildArgs) → marks works (build_inputs build) ≡ plan_path_marks works build
+plan_marks_are works build = marks_of_plan works build.base build.makefile build.listing
+
 marks_of_each : (works : List ℕ → Option Bool) (base : Option (Bor (List ℕ))) (makefile listing footprints : Bor (List ℕ)) (other : Option InputPath)
     → marks works ((base_input base ++ input_at inputs.Makefile makefile ++ input_at inputs.Listing listing)
     ++ input_at inputs.Footprints footprints ++ option_to_list other)
-    ≡ all_marks (option_map (λ path. (inputs.Base, works path.now)) base) (inputs.Makefile, works makefile.now) (inputs.Listing, works listing.now)
-    (inputs.Footprints, works footprints.now) (option_map (path_mark works) other)
+    ≡ all_marks (plan_marks (option_map (λ path. (inputs.Base, works path.now)) base) (inputs.Makefile, works makefile.now)
+    (inputs.Listing, works listing.now)) (inputs.Footprints, works footprints.now) (option_map (path_mark works) other)
 marks_of_each works None makefile listing footprints None = refl
 marks_of_each works None makefile listing footprints (Some known) = refl
 marks_of_each works (Some base) makefile listing footprints None = refl
@@ -111,106 +138,89 @@ pub marks_are : (works : List ℕ → Option Bool) (build : BuildArgs) (footprin
     → marks works (job_inputs build footprints other) ≡ path_marks works build footprints other
 marks_are works build footprints other = marks_of_each works build.base build.makefile build.listing footprints other
 
-module _ (base : Option Mark) (makefile listing footprints : Mark) (other : Option Mark) where
-  abbrev all : List Mark
-  all = all_marks base makefile listing footprints other
+module _ (base : Option Mark) (makefile listing : Mark) where
+  abbrev planned : List Mark
+  planned = plan_marks base makefile listing
 
-  -- the first that fails among all, where those before it work
-  pub base_fails : (failure : Failure) → IsShortOr (IsFirstToFail (option_to_list base)) failure → IsShortOr (IsFirstToFail all) failure
+  -- the first that fails among those of a plan, where those before it work
+  pub base_fails : (failure : Failure) → IsShortOr (IsFirstToFail (option_to_list base)) failure → IsShortOr (IsFirstToFail planned) failure
   base_fails failure (inl memory) = inl memory
-  base_fails failure (inr fails) =
-      inr (fails.0, fails.1, earlier (option_to_list base) (makefile ∷ listing ∷ footprints ∷ option_to_list other) fails.0 fails.2)
+  base_fails failure (inr fails) = inr (fails.0, fails.1, earlier (option_to_list base) (makefile ∷ listing ∷ []) fails.0 fails.2)
 
   pub makefile_fails : (failure : Failure) → All MayWork (option_to_list base)
-      → (failure ≡ failures.Memory) ⊎ ((failure ≡ failures.Read makefile.0) × (makefile.1 ≢ Some true)) → IsShortOr (IsFirstToFail all) failure
+      → (failure ≡ failures.Memory) ⊎ ((failure ≡ failures.Read makefile.0) × (makefile.1 ≢ Some true)) → IsShortOr (IsFirstToFail planned) failure
   makefile_fails failure worked (inl memory) = inl memory
   makefile_fails failure worked (inr fails) =
-      inr (
-        makefile.0,
-        fails.0,
-        later (option_to_list base) _ makefile.0 worked (first makefile.0 makefile.1 (listing ∷ footprints ∷ option_to_list other) fails.1),
-      )
+      inr (makefile.0, fails.0, later (option_to_list base) _ makefile.0 worked (first makefile.0 makefile.1 (listing ∷ []) fails.1))
 
   pub listing_fails : (failure : Failure) → All MayWork (option_to_list base) → MayWork makefile
-      → (failure ≡ failures.Memory) ⊎ ((failure ≡ failures.Read listing.0) × (listing.1 ≢ Some true)) → IsShortOr (IsFirstToFail all) failure
+      → (failure ≡ failures.Memory) ⊎ ((failure ≡ failures.Read listing.0) × (listing.1 ≢ Some true)) → IsShortOr (IsFirstToFail planned) failure
   listing_fails failure worked makes (inl memory) = inl memory
   listing_fails failure worked makes (inr fails) =
       inr (
         listing.0,
         fails.0,
         later (option_to_list base) _ listing.0 worked
-            (later (makefile ∷ []) _ listing.0 (one makefile makes) (first listing.0 listing.1 (footprints ∷ option_to_list other) fails.1)),
+            (later (makefile ∷ []) _ listing.0 (one makefile makes) (first listing.0 listing.1 [] fails.1)),
       )
 
-  pub footprints_fail : (failure : Failure) → All MayWork (option_to_list base) → MayWork makefile → MayWork listing
+  -- all of a plan work
+  pub plan_works : All MayWork (option_to_list base) → MayWork makefile → MayWork listing → All MayWork planned
+  plan_works worked makes lists =
+      All-append MayWork (option_to_list base) (makefile ∷ listing ∷ []) worked (All-cons MayWork makefile (listing ∷ []) makes (one listing lists))
+
+module _ (plan : List Mark) (footprints : Mark) (other : Option Mark) where
+  abbrev all : List Mark
+  all = all_marks plan footprints other
+
+  -- the first that fails among all, where those before it work
+  pub plan_fails : (failure : Failure) → IsShortOr (IsFirstToFail plan) failure → IsShortOr (IsFirstToFail all) failure
+  plan_fails failure (inl memory) = inl memory
+  plan_fails failure (inr fails) = inr (fails.0, fails.1, earlier plan (footprints ∷ option_to_list other) fails.0 fails.2)
+
+  pub footprints_fail : (failure : Failure) → All MayWork plan
       → (failure ≡ failures.Memory) ⊎ ((failure ≡ failures.Read footprints.0) × (footprints.1 ≢ Some true)) → IsShortOr (IsFirstToFail all) failure
-  footprints_fail failure worked makes lists (inl memory) = inl memory
-  footprints_fail failure worked makes lists (inr fails) =
-      inr (
-        footprints.0,
-        fails.0,
-        later (option_to_list base) _ footprints.0 worked
-            (later (makefile ∷ []) _ footprints.0 (one makefile makes)
-            (later (listing ∷ []) _ footprints.0 (one listing lists) (first footprints.0 footprints.1 (option_to_list other) fails.1))),
-      )
+  footprints_fail failure worked (inl memory) = inl memory
+  footprints_fail failure worked (inr fails) =
+      inr (footprints.0, fails.0, later plan _ footprints.0 worked (first footprints.0 footprints.1 (option_to_list other) fails.1))
 
-  pub other_fails : (failure : Failure) → All MayWork (option_to_list base) → MayWork makefile → MayWork listing → MayWork footprints
+  pub other_fails : (failure : Failure) → All MayWork plan → MayWork footprints
       → IsShortOr (IsFirstToFail (option_to_list other)) failure → IsShortOr (IsFirstToFail all) failure
-  other_fails failure worked makes lists foots (inl memory) = inl memory
-  other_fails failure worked makes lists foots (inr fails) =
+  other_fails failure worked foots (inl memory) = inl memory
+  other_fails failure worked foots (inr fails) =
       inr (
         fails.0,
         fails.1,
-        later (option_to_list base) _ fails.0 worked
-            (later (makefile ∷ []) _ fails.0 (one makefile makes)
-            (later (listing ∷ []) _ fails.0 (one listing lists)
-            (later (footprints ∷ []) (option_to_list other) fails.0 (one footprints foots) fails.2))),
+        later plan _ fails.0 worked (later (footprints ∷ []) (option_to_list other) fails.0 (one footprints foots) fails.2),
       )
 
   -- all work
-  pub all_work : All MayWork (option_to_list base) → MayWork makefile → MayWork listing → MayWork footprints → All MayWork (option_to_list other) → All MayWork all
-  all_work worked makes lists foots others =
-      All-append MayWork (option_to_list base) (makefile ∷ listing ∷ footprints ∷ option_to_list other) worked
-      (All-cons MayWork makefile (listing ∷ footprints ∷ option_to_list other) makes
-      (All-cons MayWork listing (footprints ∷ option_to_list other) lists (All-cons MayWork footprints (option_to_list other) foots others)))
+  pub all_work : All MayWork plan → MayWork footprints → All MayWork (option_to_list other) → All MayWork all
+  all_work worked foots others =
+      All-append MayWork plan (footprints ∷ option_to_list other) worked (All-cons MayWork footprints (option_to_list other) foots others)
 
 module _ (files : List ℕ → Option (List ℕ)) (text : InputFile → List ℕ) where
   abbrev holds : InputPath → Type 0
   holds known = files known.path.now ≡ Some (text known.input)
 
-  -- what the files behind the base hold
+  -- what the last file holds
   held_last : (other : Option InputPath) → All holds (option_to_list other)
       → IfSome other (λ known. files known.path.now ≡ Some (text known.input))
   held_last None each = tt
   held_last (Some known) each = All-head holds known [] each
 
-  held_behind : (a b c : InputPath) (other : Option InputPath) → All holds (a ∷ b ∷ c ∷ option_to_list other)
-      → holds a × holds b × holds c × IfSome other (λ known. files known.path.now ≡ Some (text known.input))
-  held_behind a b c other each =
-      let more = All-tail holds a (b ∷ c ∷ option_to_list other) each in
-      let last = All-tail holds b (c ∷ option_to_list other) more in (
-        All-head holds a (b ∷ c ∷ option_to_list other) each,
-        All-head holds b (c ∷ option_to_list other) more,
-        All-head holds c (option_to_list other) last,
-        held_last other (All-tail holds c (option_to_list other) last),
-      )
-
   -- the text that was read of a file is the one that it holds
   read_is : (file : Option (List ℕ)) (bytes read : List ℕ) → file ≡ Some bytes → IsGiven (Some file) read → read ≡ bytes
   read_is file bytes read holds given = subst (λ (o : Option (List ℕ)). IfSome o (λ (b : List ℕ). read ≡ b)) holds given
 
-  base_is : (base : Option (Bor (List ℕ))) (makefile listing footprints : Bor (List ℕ)) (other : Option InputPath) (read : List ℕ)
-      → IfSome other (λ known. known.input ≢ inputs.Base)
-      → Hold files ((base_input base ++ input_at inputs.Makefile makefile ++ input_at inputs.Listing listing)
-      ++ input_at inputs.Footprints footprints ++ option_to_list other) text
+  base_is : (base : Option (Bor (List ℕ))) (makefile listing : Bor (List ℕ)) (more : List InputPath) (read : List ℕ) → All not_base more
+      → Hold files (base_input base ++ at inputs.Makefile makefile ∷ at inputs.Listing listing ∷ more) text
       → IsGiven (option_map (λ path. files path.now) base) read
-      → (read ≡ text inputs.Base)
-      × All holds (at inputs.Makefile makefile ∷ at inputs.Listing listing ∷ at inputs.Footprints footprints ∷ option_to_list other)
-  base_is None makefile listing footprints other read none hold given =
-      (given ∙ sym (hold.others inputs.Base (no_base makefile listing footprints other none)), hold.each)
-  base_is (Some path) makefile listing footprints other read none hold given =
-      let rest : List InputPath =
-      at inputs.Makefile makefile ∷ at inputs.Listing listing ∷ at inputs.Footprints footprints ∷ option_to_list other in (
+      → (read ≡ text inputs.Base) × All holds (at inputs.Makefile makefile ∷ at inputs.Listing listing ∷ more)
+  base_is None makefile listing more read none hold given =
+      (given ∙ sym (hold.others inputs.Base (no_base makefile listing more none)), hold.each)
+  base_is (Some path) makefile listing more read none hold given =
+      let rest : List InputPath = at inputs.Makefile makefile ∷ at inputs.Listing listing ∷ more in (
         read_is (files path.now) (text inputs.Base) read (All-head holds (at inputs.Base path) rest hold.each) given,
         All-tail holds (at inputs.Base path) rest hold.each,
       )
@@ -220,16 +230,38 @@ module _ (files : List ℕ → Option (List ℕ)) (text : InputFile → List ℕ
   other_is None read holds given = given
   other_is (Some known) read holds given = read_is (files known.path.now) (text known.input) read holds given
 
+  -- what was read to plan a build is what its files hold, and so do the files behind them
+  plan_is : (build : BuildArgs) (more : List InputPath) (root : List ℕ) (read : ReadPlan) → All not_base more
+      → Hold files (base_input build.base ++ at inputs.Makefile build.makefile ∷ at inputs.Listing build.listing ∷ more) text
+      → IsPlanRead (plan_stated_at files build) root read → IsPlanReadAs root text read × All holds more
+  plan_is build more root read none hold are =
+      let base = base_is build.base build.makefile build.listing more read.base.items none hold are.base in
+      let behind = All-tail holds (at inputs.Makefile build.makefile) (at inputs.Listing build.listing ∷ more) base.1 in
+      let makefile = All-head holds (at inputs.Makefile build.makefile) (at inputs.Listing build.listing ∷ more) base.1 in (
+        record {
+          base = base.0;
+          makefile = read_is (files build.makefile.now) (text inputs.Makefile) read.makefile.items makefile are.makefile;
+          listing = are.listing (text inputs.Listing) (All-head holds (at inputs.Listing build.listing) more behind);
+        },
+        All-tail holds (at inputs.Listing build.listing) more behind,
+      )
+
+  pub plan_read_as : (build : BuildArgs) (root : List ℕ) (read : ReadPlan) → Hold files (build_inputs build) text
+      → IsPlanRead (plan_stated_at files build) root read → IsPlanReadAs root text read
+  plan_read_as build root read hold are =
+      (plan_is build [] root read (All-nil not_base)
+      (subst (λ (l : List InputPath). Hold files l text) (inputs_of_plan build.base build.makefile build.listing) hold) are).0
+
   -- what was read of a build is what its files hold
   pub read_as : (build : BuildArgs) (footprints : Bor (List ℕ)) (other : Option InputPath) (root : List ℕ) (read : ReadBuild)
       → IfSome other (λ known. known.input ≢ inputs.Base) → Hold files (job_inputs build footprints other) text
       → AreRead (stated_at files build footprints other) root read → IsReadAs root other text read
   read_as build footprints other root read none hold are =
-      let base = base_is build.base build.makefile build.listing footprints other read.base.items none hold are.base in
-      let behind = held_behind (at inputs.Makefile build.makefile) (at inputs.Listing build.listing) (at inputs.Footprints footprints) other base.1 in
+      let rest : List InputPath = at inputs.Footprints footprints ∷ option_to_list other in
+      let plan = plan_is build rest root read.plan (no_base_behind footprints other none)
+      (subst (λ (l : List InputPath). Hold files l text) (inputs_of_all build.base build.makefile build.listing footprints other) hold) are.plan in
       record {
-        base = base.0;
-        makefile = read_is (files build.makefile.now) (text inputs.Makefile) read.makefile.items behind.0 are.makefile;
-        below = record { listing = are.listing (text inputs.Listing) behind.1; footprints = are.footprints (text inputs.Footprints) behind.2 };
-        other = other_is other read.other.items behind.3 are.other;
+        plan = plan.0;
+        footprints = are.footprints (text inputs.Footprints) (All-head holds (at inputs.Footprints footprints) (option_to_list other) plan.1);
+        other = other_is other read.other.items (held_last other (All-tail holds (at inputs.Footprints footprints) (option_to_list other) plan.1)) are.other;
       }

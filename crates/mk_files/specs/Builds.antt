@@ -13,12 +13,18 @@ use Rattle.mk_request.specs.declared.inputs.InputPath.{InputPath}
 use Rattle.mk_request.specs.declared.requests.BuildArgs.{BuildArgs}
 use Rattle.mk_files.specs.Inputs.{Mark}
 use Rattle.mk_files.specs.declared.builds.OpenBuild.{OpenBuild}
+use Rattle.mk_files.specs.declared.builds.OpenPlan.{OpenPlan}
 use Rattle.mk_files.specs.declared.builds.ReadBuild.{ReadBuild}
+use Rattle.mk_files.specs.declared.builds.ReadPlan.{ReadPlan}
 use Rattle.mk_files.specs.declared.inputs.OpenInput.{OpenInput}
 
--- the marks of a build: of the base, if it has one, of the makefile, the listing and the footprints, and of one more input, if there is one
-abbrev pub all_marks : Option Mark → Mark → Mark → Mark → Option Mark → List Mark
-all_marks base makefile listing footprints other = option_to_list base ++ makefile ∷ listing ∷ footprints ∷ option_to_list other
+-- the marks of what a build is planned from: of the base, if it has one, of the makefile and of the listing
+abbrev pub plan_marks : Option Mark → Mark → Mark → List Mark
+plan_marks base makefile listing = option_to_list base ++ makefile ∷ listing ∷ []
+
+-- those of a build: behind these that of the footprints, and of one more input, if there is one
+abbrev pub all_marks : List Mark → Mark → Option Mark → List Mark
+all_marks plan footprints other = plan ++ footprints ∷ option_to_list other
 
 -- an open input, with what is stated of reading it
 abbrev pub mark_of : {F : Type 0} → (F → Option Bool) → OpenInput F → Mark
@@ -29,41 +35,60 @@ abbrev pub path_mark : (List ℕ → Option Bool) → InputPath → Mark
 path_mark works known = (known.input, works known.path.now)
 
 -- the marks of open files
+abbrev pub open_plan_marks : {F : Type 0} → (F → Option Bool) → OpenPlan F → List Mark
+open_plan_marks reads files = plan_marks (option_map (mark_of reads) files.base) (mark_of reads files.makefile) (mark_of reads files.listing)
+
 abbrev pub open_marks : {F : Type 0} → (F → Option Bool) → OpenBuild F → List Mark
-open_marks reads files =
-    all_marks (option_map (mark_of reads) files.base) (mark_of reads files.makefile) (mark_of reads files.listing)
-    (mark_of reads files.footprints) (option_map (mark_of reads) files.other)
+open_marks reads files = all_marks (open_plan_marks reads files.plan) (mark_of reads files.footprints) (option_map (mark_of reads) files.other)
 
 -- the marks of the files that are to be opened
+abbrev pub plan_path_marks : (List ℕ → Option Bool) → BuildArgs → List Mark
+plan_path_marks works build =
+    plan_marks (option_map (λ path. (inputs.Base, works path.now)) build.base) (inputs.Makefile, works build.makefile.now)
+    (inputs.Listing, works build.listing.now)
+
 abbrev pub path_marks : (List ℕ → Option Bool) → BuildArgs → Bor (List ℕ) → Option InputPath → List Mark
 path_marks works build footprints other =
-    all_marks (option_map (λ path. (inputs.Base, works path.now)) build.base) (inputs.Makefile, works build.makefile.now)
-    (inputs.Listing, works build.listing.now) (inputs.Footprints, works footprints.now) (option_map (path_mark works) other)
+    all_marks (plan_path_marks works build) (inputs.Footprints, works footprints.now) (option_map (path_mark works) other)
 
--- the bytes of a build's files, where they are stated: of the base and of one more, where they are given
-pub record Stated : Type 0 where
+-- the bytes of the files that a build is planned from, where they are stated: of the base, where it is given
+pub record PlanStated : Type 0 where
   pub base : Option (Option (List ℕ))
   pub makefile : Option (List ℕ)
   pub listing : Option (List ℕ)
+
+-- those of a build: of the footprints too, and of one more, where it is given
+pub record Stated : Type 0 where
+  pub plan : PlanStated
   pub footprints : Option (List ℕ)
   pub other : Option (Option (List ℕ))
 
 -- those of the files of these paths
-abbrev pub stated_at : (List ℕ → Option (List ℕ)) → BuildArgs → Bor (List ℕ) → Option InputPath → Stated
-stated_at files build footprints other = record {
+abbrev pub plan_stated_at : (List ℕ → Option (List ℕ)) → BuildArgs → PlanStated
+plan_stated_at files build = record {
   base = option_map (λ path. files path.now) build.base;
   makefile = files build.makefile.now;
   listing = files build.listing.now;
+}
+
+abbrev pub stated_at : (List ℕ → Option (List ℕ)) → BuildArgs → Bor (List ℕ) → Option InputPath → Stated
+stated_at files build footprints other = record {
+  plan = plan_stated_at files build;
   footprints = files footprints.now;
   other = option_map (λ known. files known.path.now) other;
 }
 
 -- those of open files
-abbrev pub stated_in : {F : Type 0} → (F → Option (List ℕ)) → OpenBuild F → Stated
-stated_in text files = record {
+abbrev pub plan_stated_in : {F : Type 0} → (F → Option (List ℕ)) → OpenPlan F → PlanStated
+plan_stated_in text files = record {
   base = option_map (λ file. text file.file) files.base;
   makefile = text files.makefile.file;
   listing = text files.listing.file;
+}
+
+abbrev pub stated_in : {F : Type 0} → (F → Option (List ℕ)) → OpenBuild F → Stated
+stated_in text files = record {
+  plan = plan_stated_in text files.plan;
   footprints = text files.footprints.file;
   other = option_map (λ file. text file.file) files.other;
 }
@@ -73,12 +98,16 @@ abbrev pub IsGiven : Option (Option (List ℕ)) → List ℕ → Type 0
 IsGiven None text = text ≡ []
 IsGiven (Some file) text = IfSome file (λ bytes. text ≡ bytes)
 
--- what was read of a build's files: texts, and what a listing and footprints say below the root
-pub record AreRead (stated : Stated) (root : List ℕ) (read : ReadBuild) : Type 0 where
+-- what was read of the files that a build is planned from: texts, and what a listing says below the root
+pub record IsPlanRead (stated : PlanStated) (root : List ℕ) (read : ReadPlan) : Type 0 where
   pub base : IsGiven stated.base read.base.items
   pub makefile : IsGiven (Some stated.makefile) read.makefile.items
   pub listing : (text : List ℕ) → stated.listing ≡ Some text
       → IsReadBelow (λ below lines listed. listing_of below lines ≡ listed) root text read.listing
+
+-- what was read of a build's files: what footprints say below the root too, and one more text
+pub record AreRead (stated : Stated) (root : List ℕ) (read : ReadBuild) : Type 0 where
+  pub plan : IsPlanRead stated.plan root read.plan
   pub footprints : (text : List ℕ) → stated.footprints ≡ Some text → IsReadBelow IsRead root text read.footprints
   pub other : IsGiven stated.other read.other.items
 
@@ -87,15 +116,22 @@ abbrev pub other_text : Option InputPath → (InputFile → List ℕ) → List �
 other_text None text = []
 other_text (Some known) text = text known.input
 
--- a listing and footprints are what these texts say below the root, if it is good
-pub record AreBelow (root : List ℕ) (text : InputFile → List ℕ) (listed : Result (List Name) Reported) (found : Result Footprints Reported)
-    : Type 0 where
-  pub listing : IsReadBelow (λ below lines listed. listing_of below lines ≡ listed) root (text inputs.Listing) listed
-  pub footprints : IsReadBelow IsRead root (text inputs.Footprints) found
+-- a listing is what its text says below the root, if that is good
+abbrev pub IsListedBelow : List ℕ → (InputFile → List ℕ) → Result (List Name) Reported → Type 0
+IsListedBelow root text listed = IsReadBelow (λ below lines listed. listing_of below lines ≡ listed) root (text inputs.Listing) listed
+
+-- and so are footprints
+abbrev pub AreFoundBelow : List ℕ → (InputFile → List ℕ) → Result Footprints Reported → Type 0
+AreFoundBelow root text found = IsReadBelow IsRead root (text inputs.Footprints) found
+
+-- what was read to plan a build is what these texts say
+pub record IsPlanReadAs (root : List ℕ) (text : InputFile → List ℕ) (read : ReadPlan) : Type 0 where
+  pub base : read.base.items ≡ text inputs.Base
+  pub makefile : read.makefile.items ≡ text inputs.Makefile
+  pub listing : IsListedBelow root text read.listing
 
 -- what was read of a build is what these texts say
 pub record IsReadAs (root : List ℕ) (known : Option InputPath) (text : InputFile → List ℕ) (read : ReadBuild) : Type 0 where
-  pub base : read.base.items ≡ text inputs.Base
-  pub makefile : read.makefile.items ≡ text inputs.Makefile
-  pub below : AreBelow root text read.listing read.footprints
+  pub plan : IsPlanReadAs root text read.plan
+  pub footprints : AreFoundBelow root text read.footprints
   pub other : read.other.items ≡ other_text known text

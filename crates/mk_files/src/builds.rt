@@ -3,7 +3,7 @@ ghost use Rattle.std.specs.Prelude.{◌≡◌, ◌≢◌, ◌⊎◌, IfErr, IfOk
 ghost use Rattle.std.specs.List.{All};
 ghost use Rattle.std.specs.Option.{option_to_list};
 ghost use Rattle.mk_read.specs.Read.{IsReadBelow};
-ghost use Rattle.mk_request.specs.Requests.{base_input, job_inputs};
+ghost use Rattle.mk_request.specs.Requests.{base_input, build_inputs, job_inputs};
 ghost use Rattle.mk_files.specs.Builds as spec;
 ghost use Rattle.mk_files.specs.Inputs.{Hold, InputsMayBeRead, IsFirstToFail, IsShortOr, IsUnread, MayWork};
 
@@ -21,29 +21,60 @@ use mk_text::listing::Listing;
 use mk_text::root::Root;
 use std::alloc::Global;
 
-/// The files of a build and of one more input, where there is one, which are open.
+/// The files that a build is planned from, which are open.
 #[derive(Drop)]
-struct OpenBuild<F> {
+struct OpenPlan<F> {
     base: Option<OpenInput<F>>,
     makefile: OpenInput<F>,
     listing: OpenInput<F>,
+}
+
+/// The files of a build and of one more input, where there is one, which are open.
+#[derive(Drop)]
+struct OpenBuild<F> {
+    plan: OpenPlan<F>,
     footprints: OpenInput<F>,
     other: Option<OpenInput<F>>,
 }
 
-/// What was read of a build and of one more input. A text that is not given is empty; what a listing and footprints say below a
-/// root that is refused counts for nothing.
+/// What was read of a build to plan it. A base that is not given is empty; what a listing says below a root that is refused counts
+/// for nothing.
 #[derive(Drop)]
-pub struct ReadBuild {
+pub struct ReadPlan {
     pub base: Vec<u8>,
     pub makefile: Vec<u8>,
     pub listing: Result<Listing, Fault>,
+}
+
+/// What was read of a build and of one more input, which is empty where it is not given. What footprints say below a root that is
+/// refused counts for nothing.
+#[derive(Drop)]
+pub struct ReadBuild {
+    pub plan: ReadPlan,
     pub footprints: Result<Footprints, Fault>,
     pub other: Vec<u8>,
 }
 
+/// Reads what a build is planned from. All files are opened before any is read, in the order of the fields of [`ReadPlan`], and read
+/// in the same order. `Failure::Read` names the first input whose file cannot be opened, or cannot be read; the only other failure
+/// is out of memory.
+pub fn read_plan<P: Opener>(
+    alloc: Global,
+    opener: &mut P,
+    build: &BuildArgs<'_>,
+) -> Result<ReadPlan, Failure>
+    ensures reported { IfOk result (λ read. (text : InputFile → List ℕ)
+        → Hold (P.files opener.old).text (build_inputs build.now) text
+        → spec.IsPlanReadAs build.now.root.now text read) }
+    ensures read { OnOk result (InputsMayBeRead (P.files opener.old) (build_inputs build.now)) }
+    ensures failure { IfErr result (IsShortOr (IsUnread (P.files opener.old) (build_inputs build.now))) }
+{
+    let files = open_plan(opener, build)?;
+    plan_in::<P>(alloc, build.root.as_bytes(), files)
+}
+
 /// Reads a build, its footprints and one more input, where there is one. All files are opened before any is read, in the
-/// order of the fields of [`ReadBuild`], and read in the same order.
+/// order of the fields of [`ReadPlan`] and then of [`ReadBuild`], and read in the same order.
 /// `Failure::Read` names the first input whose file cannot be opened, or cannot be read; the only other failure is out of memory.
 pub fn read_build<P: Opener>(
     alloc: Global,
@@ -81,6 +112,31 @@ fn open_build<P: Opener>(
     ensures failure { IfErr result (IsShortOr (IsFirstToFail
         (spec.path_marks (P.files opener.old).opens build.now footprints.entry other.entry))) }
 {
+    let plan = open_plan(opener, build)?;
+    let footprints = InputPath {
+        input: InputFile::Footprints,
+        path: footprints,
+    };
+    let footprints = opened(opener, &footprints)?;
+    let other = opened_if(opener, other)?;
+    Ok(OpenBuild {
+        plan,
+        footprints,
+        other,
+    })
+}
+
+/// Opens the files that a build is planned from, in their order.
+fn open_plan<P: Opener>(opener: &mut P, build: &BuildArgs<'_>) -> Result<OpenPlan<P::File>, Failure>
+    ensures reported { IfOk result (λ files. spec.plan_stated_in P.text files
+        ≡ spec.plan_stated_at (P.files opener.old).text build.now) }
+    ensures reads { IfOk result (λ files. spec.open_plan_marks P.reads files
+        ≡ spec.plan_path_marks (P.files opener.old).reads build.now) }
+    ensures opened { OnOk result (All MayWork (spec.plan_path_marks (P.files opener.old).opens build.now)) }
+    ensures failure { IfErr result (IsShortOr (IsFirstToFail
+        (spec.plan_path_marks (P.files opener.old).opens build.now))) }
+    ensures same { P.files opener.new ≡ P.files opener.old }
+{
     let base = opened_if(opener, base_path(build))?;
     let makefile = InputPath {
         input: InputFile::Makefile,
@@ -92,18 +148,10 @@ fn open_build<P: Opener>(
         path: build.listing,
     };
     let listing = opened(opener, &listing)?;
-    let footprints = InputPath {
-        input: InputFile::Footprints,
-        path: footprints,
-    };
-    let footprints = opened(opener, &footprints)?;
-    let other = opened_if(opener, other)?;
-    Ok(OpenBuild {
+    Ok(OpenPlan {
         base,
         makefile,
         listing,
-        footprints,
-        other,
     })
 }
 
@@ -152,23 +200,42 @@ fn build_in<P: Opener>(
     ensures failure { IfErr result (IsShortOr (IsFirstToFail (spec.open_marks P.reads files))) }
 {
     let OpenBuild {
+        plan,
+        footprints,
+        other,
+    } = files;
+    let plan = plan_in::<P>(alloc, root, plan)?;
+    let footprints = list_in::<P, FootReader>(alloc, root, footprints)?;
+    let other = text_if::<P>(alloc, other)?;
+    Ok(ReadBuild {
+        plan,
+        footprints,
+        other,
+    })
+}
+
+/// Reads the open files that a build is planned from to their ends, in their order.
+fn plan_in<P: Opener>(
+    alloc: Global,
+    root: &[u8],
+    files: OpenPlan<P::File>,
+) -> Result<ReadPlan, Failure>
+    ensures reported { IfOk result (spec.IsPlanRead (spec.plan_stated_in P.text files) root.now) }
+    ensures read { OnOk result (All MayWork (spec.open_plan_marks P.reads files)) }
+    ensures failure { IfErr result (IsShortOr (IsFirstToFail (spec.open_plan_marks P.reads files))) }
+{
+    let OpenPlan {
         base,
         makefile,
         listing,
-        footprints,
-        other,
     } = files;
     let base = text_if::<P>(alloc, base)?;
     let makefile = text_in::<P>(alloc, makefile)?;
     let listing = list_in::<P, ListReader>(alloc, root, listing)?;
-    let footprints = list_in::<P, FootReader>(alloc, root, footprints)?;
-    let other = text_if::<P>(alloc, other)?;
-    Ok(ReadBuild {
+    Ok(ReadPlan {
         base,
         makefile: makefile.text,
         listing,
-        footprints,
-        other,
     })
 }
 

@@ -1,21 +1,42 @@
 -- Lemmas on answers over texts that are the same.
-use Rattle.std.proofs.Common.{◌≡◌, ◌≢◌, ◌∙◌, ℕ, Bool, true, false, List, Result, Ok, Err, subst, sym, refl, IsTrue}
+use Rattle.std.proofs.Common.{◌≡◌, ◌≢◌, ◌∙◌, ℕ, Bool, true, false, List, Result, Ok, Err, ap, map, subst, sym, refl, IsTrue}
+use Rattle.std.specs.Borrow.{Bor}
 use Rattle.mk_name.specs.Gives.{HaltsAmong}
+use Rattle.mk_name.specs.Names.{Name}
 use Rattle.mk_name.specs.Shown.{refused_text}
 use Rattle.mk_name.specs.Reported.{Reported}
 use Rattle.mk_name.specs.declared.fault.Halt.{Halt}
 use Rattle.mk_name.specs.declared.fault.Halt.TheVariants.{Fault}
+use Rattle.mk_text.specs.Listing.{listing_of}
+use Rattle.mk_text.specs.Spelling.{root_of}
+use Rattle.mk_race.specs.Parts.{IsListedFrom}
 use Rattle.mk_race.specs.Played.{IsPlayed}
 use Rattle.mk_race.specs.Stages.{IsPlanned, Texts}
 use Rattle.mk_race.specs.declared.planning.Planned.{Planned}
 use Rattle.mk_race.specs.declared.replaying.Played.{Played}
 use Rattle.mk_race.specs.declared.replaying.Played.TheVariants.{Allowed, NotAllowed}
 use Rattle.mk_program.specs.Answers.{IsOrderAnswer, IsReplayAnswer, SaysVerdict, status_of, verdict_status, verdict_text}
+use Rattle.mk_files.specs.Builds.{IsListedBelow}
 use Rattle.mk_files.specs.Includes.{Pair}
+use Rattle.mk_request.specs.declared.inputs.InputFile.{InputFile}
+use Rattle.mk_request.specs.declared.inputs.InputFile.TheVariants as inputs
 use Rattle.mk_program.specs.PlanText.{plan_text}
 use Rattle.mk_program.specs.OutcomeText.{IsOutcomeText}
 use Rattle.mk_program.specs.declared.statuses.Status.{Status}
 use Rattle.mk_program.specs.declared.statuses.Status.TheVariants.{Done, Failed, Refused}
+
+-- the bytes of words, and of pairs of texts
+abbrev pub words : List (Bor (List ℕ)) → List (List ℕ)
+words = map (λ (text : Bor (List ℕ)). text.now)
+
+abbrev pub pairs : List (Bor (List ℕ) × Bor (List ℕ)) → List (List ℕ × List ℕ)
+pairs = map (λ (pair : Bor (List ℕ) × Bor (List ℕ)). (pair.0.now, pair.1.now))
+
+-- a listing that was read below the root was read from these texts
+pub listed_from : (root same : List ℕ) (text : InputFile → List ℕ) (listing : Result (List Name) Reported) → IsListedBelow root text listing
+    → same ≡ root → (texts : Texts) → texts.root ≡ same → texts.listing ≡ text inputs.Listing → IsListedFrom texts listing
+listed_from root same text listing below is texts at listed =
+    λ r good. ap (listing_of r) listed ∙ below r (ap root_of (sym is ∙ sym at) ∙ good)
 
 -- texts that agree in each part
 pub texts_are : (root root' : List ℕ) (operands operands' : List (List ℕ)) (base base' makefile makefile' listing listing' : List ℕ)

@@ -14,7 +14,7 @@ use crate::fixing::FixQuestion;
 use crate::listing::AllRaces;
 use crate::missing::MissingQuestion;
 use crate::noting::{Reply, noted_reply, quiet_reply};
-use crate::ordering::OrderQuestion;
+use crate::ordering::order_reply;
 use crate::posix_base::posix_base;
 use crate::replaying::Replaying;
 use crate::serialising::SerialOrder;
@@ -30,9 +30,7 @@ use mk_name::fault::{Fault, Halt};
 use mk_name::report::refused_report;
 use mk_race::input::Input;
 use mk_request::inputs::InputFile;
-use mk_request::requests::{
-    BuildArgs, JobArgs, JobQuestion, Request, build_inputs, includes_path, job_inputs,
-};
+use mk_request::requests::{BuildArgs, JobArgs, JobQuestion, Request, includes_path, job_inputs};
 use std::alloc::{AllocError, Global};
 
 /// What the program says, and how it ends where that is written.
@@ -77,17 +75,7 @@ fn answer_with<P: Opener>(
         reply.answer.status reply.answer.text.items reply.note.items) }
 {
     match request {
-        Request::Order(build) => {
-            let inputs = build_inputs(alloc, build)?;
-            text_reply(
-                alloc,
-                opener,
-                inputs.as_slice(),
-                build,
-                includes,
-                &OrderQuestion,
-            )
-        }
+        Request::Order(build) => order_reply(alloc, opener, build, includes),
         Request::Jobs(args) => job_reply(alloc, opener, args, includes),
         Request::Tasks(args) => tasks_reply(alloc, opener, args),
     }

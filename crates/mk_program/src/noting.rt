@@ -9,7 +9,7 @@ ghost use Rattle.mk_race.specs.Unused.{IsNotedBy};
 ghost use Rattle.mk_request.specs.Requests.{inputs_of, other_input as other_of};
 ghost use Rattle.mk_request.specs.declared.inputs.InputPath.{InputPath as Path};
 ghost use Rattle.mk_program.specs.Answers.{IsInputFailure, base_of as base_text, texts_for};
-ghost use Rattle.mk_files.specs.Builds.{AreBelow, IsReadAs, other_text};
+ghost use Rattle.mk_files.specs.Builds.{AreFoundBelow, IsListedBelow, IsReadAs, other_text};
 ghost use Rattle.mk_files.specs.Inputs.{Hold, InputsMayBeRead};
 ghost use Rattle.mk_program.specs.Noting as spec;
 ghost use Rattle.mk_program.specs.OrderText.{IsUnreported};
@@ -17,7 +17,7 @@ ghost use Rattle.mk_program.specs.declared.statuses.Status.{Status as Ending};
 
 use crate::answers::{Answer, base_of, bytes_of, refused};
 use crate::statuses::Status;
-use mk_files::builds::{ReadBuild, read_build};
+use mk_files::builds::{ReadBuild, ReadPlan, read_build};
 use mk_files::failures::Failure;
 use mk_files::openers::Opener;
 use mk_foot::footprints::Footprints;
@@ -139,12 +139,15 @@ fn reply_over<Q: Question>(
         (map (λ pair. (pair.0.now, pair.1.now)) includes.now) text) (text InputFile.Footprints) (other_text other text))) }
 {
     let ReadBuild {
-        base,
-        makefile,
-        listing,
+        plan,
         footprints,
         other,
     } = read;
+    let ReadPlan {
+        base,
+        makefile,
+        listing,
+    } = plan;
     let base = base_of(build, base.as_slice());
     match noted_of(
         alloc,
@@ -173,12 +176,14 @@ fn noted_of(
     strict: bool,
 ) -> Result<Noted, Halt>
     ensures answer { (text : InputFile → List ℕ) → base.now ≡ base_text build.now (text InputFile.Base)
-        → makefile.now ≡ text InputFile.Makefile → AreBelow build.now.root.now text listing footprints
+        → makefile.now ≡ text InputFile.Makefile → IsListedBelow build.now.root.now text listing
+        → AreFoundBelow build.now.root.now text footprints
         → Answers result (IsNotedBy strict (texts_for build.now
         (map (λ pair. (pair.0.now, pair.1.now)) includes.now) text) (text InputFile.Footprints)) }
     ensures prepared { IfOk result (λ noted. (text : InputFile → List ℕ)
         → base.now ≡ base_text build.now (text InputFile.Base)
-        → makefile.now ≡ text InputFile.Makefile → AreBelow build.now.root.now text listing footprints
+        → makefile.now ≡ text InputFile.Makefile → IsListedBelow build.now.root.now text listing
+        → AreFoundBelow build.now.root.now text footprints
         → IsPrepared (texts_for build.now (map (λ pair. (pair.0.now, pair.1.now)) includes.now) text)
         (text InputFile.Footprints) (Ok noted.prepared)) }
     ensures listed { IfOk result (λ noted. AreListed noted.prepared) }
@@ -191,7 +196,7 @@ fn noted_of(
 }
 
 /// What the command line says of a build: its root and operands as they were given, and the texts for its include lines.
-fn settings_of<'a>(
+pub(crate) fn settings_of<'a>(
     build: &BuildArgs<'a>,
     operands: &'a [&'a [u8]],
     includes: &'a [(&'a [u8], &'a [u8])],

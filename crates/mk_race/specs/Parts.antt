@@ -20,9 +20,13 @@ texts_with settings base makefile listing = record {
   listing = listing;
 }
 
--- what was read ahead is what these texts say below the root
+-- a listing that was read ahead is what these texts say below the root
+abbrev pub IsListedFrom : Texts → Result (List Name) Reported → Type 0
+IsListedFrom texts listed = (root : List ℕ) → root_of texts.root ≡ Ok root → listing_of root texts.listing ≡ listed
+
+-- and so are footprints
 pub record AreReadFrom (texts : Texts) (lines : List ℕ) (listed : Result (List Name) Reported) (read : Result Footprints Reported) : Type 0 where
-  pub listing : (root : List ℕ) → root_of texts.root ≡ Ok root → listing_of root texts.listing ≡ listed
+  pub listing : IsListedFrom texts listed
   pub footprints : (root : List ℕ) → root_of texts.root ≡ Ok root → IsRead root lines read
 
 -- the root, and then what is planned below it with the listing that was read

@@ -1,19 +1,39 @@
-//! From the texts of makefiles, and a listing and footprints that were read ahead, to the answer of a build.
+//! From the texts of makefiles, and a listing and footprints that were read ahead, to the plan of a build and its answer.
 ghost use Rattle.std.specs.Prelude.{◌≡◌, [], IfOk, List, ℕ};
 ghost use Rattle.mk_name.specs.Gives.{Answers};
 ghost use Rattle.mk_race.specs.Judged.{HoldsOfRace, HoldsOfSafe, IsAnswered, IsSafe, NoScheduleShows};
-ghost use Rattle.mk_race.specs.Parts.{AreReadFrom, texts_with};
-ghost use Rattle.mk_race.specs.Stages.{AreListed, texts_of};
+ghost use Rattle.mk_race.specs.Parts.{AreReadFrom, IsListedFrom, texts_with};
+ghost use Rattle.mk_race.specs.Stages.{AreListed, IsPlanned, texts_of};
 ghost use Rattle.mk_race.specs.Unused.{IsNoted};
 
 use crate::input::{Input, Settings};
 use crate::judging::{judge_prepared, refused};
+use crate::planning::{Planned, plan_ahead};
 use crate::unused::{Noted, noted_ahead};
 use mk_foot::footprints::Footprints;
 use mk_name::fault::{Fault, Halt};
 use mk_report::answer::Answer;
 use mk_text::listing::Listing;
 use std::alloc::{AllocError, Global};
+
+/// The plan of a build whose listing was read ahead, into what it says or its first fault. Footprints are not read.
+///
+/// Where this is the result of a text below the root of the settings, the plan is that of [`plan_of`](crate::planning::plan_of) for
+/// that text, with the same first fault: so the text may come in pieces, and need not be kept. Where the root is refused the
+/// result counts for nothing. The only other error is out of memory.
+pub fn plan_parts(
+    alloc: Global,
+    settings: &Settings<'_>,
+    base: &[u8],
+    makefile: &[u8],
+    listing: Result<Listing, Fault>,
+) -> Result<Planned, Halt>
+    ensures { (listed : List ℕ) → IsListedFrom (texts_with settings.now base.now makefile.now listed) listing
+        → Answers result (IsPlanned (texts_with settings.now base.now makefile.now listed)) }
+{
+    let input = input_without(settings, base, makefile);
+    plan_ahead(alloc, &input, listing)
+}
 
 /// The answer of a build whose listing and footprints were read ahead, each into what it says or its first fault.
 ///

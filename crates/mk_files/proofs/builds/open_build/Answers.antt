@@ -1,90 +1,47 @@
-use Rattle.std.proofs.Common.{◌≡◌, ◌∙◌, ℕ, List, Option, option_map, subst}
+use Rattle.std.proofs.Common.{◌∙◌, Option, option_map, subst}
 use Rattle.std.proofs.lemmas.Result.{err_from_is_err_and}
-use Rattle.std.specs.Borrow.{Bor}
 use Rattle.std.specs.List.{All}
 use Rattle.std.specs.Option.{option_to_list}
-use Rattle.mk_files.specs.Builds.{path_mark}
+use Rattle.mk_files.specs.Builds.{path_mark, plan_path_marks}
 use Rattle.mk_files.specs.Files.{Files}
 use Rattle.mk_files.specs.Inputs.{IsFirstToFail, IsShortOr, Mark, MayWork}
 use Rattle.mk_request.specs.declared.inputs.InputFile.TheVariants as inputs
 use Rattle.mk_request.specs.declared.inputs.InputPath.{InputPath}
-use Rattle.mk_request.specs.declared.requests.BuildArgs.{BuildArgs}
-use Rattle.mk_files.proofs.Building.{all_work, base_fails, base_mark, footprints_fail, listing_fails, other_fails, still_opens, still_shut}
+use Rattle.mk_files.proofs.Building.{all_work, footprints_fail, other_fails, plan_fails, still_opens, still_shut}
 use Rattle.mk_files.proofs.builds.open_build.Goals as goal
 
--- the marks of the two that may not be given
-abbrev first : Files → BuildArgs → Option Mark
-first files build = option_map (λ (path : Bor (List ℕ)). (inputs.Base, files.opens path.now)) build.base
-
+-- the mark of the last, which may not be given
 abbrev last : Files → Option InputPath → Option Mark
 last files other = option_map (path_mark files.opens) other
 
--- the base is open
-base_open : (files : Files) (build : BuildArgs) (given : Option InputPath)
-    → given ≡ option_map (λ path. record { input = inputs.Base; path = path }) build.base
-    → All MayWork (option_to_list (option_map (path_mark files.opens) given)) → All MayWork (option_to_list (first files build))
-base_open files build given is opens = subst (λ (m : Option Mark). All MayWork (option_to_list m)) (base_mark files.opens build.base given is) opens
-
-pub returns-in_err-base-clause-failure : goal.returns-in_err-base-clause-failure
-returns-in_err-base-clause-failure g c =
+pub returns-in_err-plan-clause-failure : goal.returns-in_err-plan-clause-failure
+returns-in_err-plan-clause-failure g c =
     let p = err_from_is_err_and c.from_residual.result c.from_residual.ensures.1 in
     let files = g.P.Opener.files c.args.opener.now in
-    let build = c.args.build.now in
-    rw (p.1, p.2) (base_fails (first files build) (inputs.Makefile, files.opens build.makefile.now) (inputs.Listing, files.opens build.listing.now)
-    (inputs.Footprints, files.opens c.args.footprints.now) (last files c.args.other) _
-    (subst (λ (m : Option Mark). IsShortOr (IsFirstToFail (option_to_list m)) c.in_err-base.field-0.0)
-    (base_mark files.opens build.base c.base_path.result c.base_path.ensures) c.in_err-base.ensures.cannot))
-
-pub returns-in_err-listing-clause-failure : goal.returns-in_err-listing-clause-failure
-returns-in_err-listing-clause-failure g c =
-    let p = err_from_is_err_and c.from_residual-in_err-listing.result c.from_residual-in_err-listing.ensures.1 in
-    let files = g.P.Opener.files c.args.opener.now in
-    let build = c.args.build.now in
-    rw (p.1, p.2) (listing_fails (first files build) (inputs.Makefile, files.opens build.makefile.now) (inputs.Listing, files.opens build.listing.now)
-    (inputs.Footprints, files.opens c.args.footprints.now) (last files c.args.other) _
-    (base_open files build c.base_path.result c.base_path.ensures c.in_ok-base.ensures.can)
-    (still_opens files _ build.makefile.now c.opened_if.ensures.same c.in_ok-makefile.ensures.can)
-    (still_shut files _ build.listing.now inputs.Listing _ (c.opened.ensures.same ∙ c.opened_if.ensures.same) c.in_err-listing.ensures.cannot))
+    rw (p.1, p.2) (plan_fails (plan_path_marks files.opens c.args.build.now) (inputs.Footprints, files.opens c.args.footprints.now)
+    (last files c.args.other) _ c.in_err-plan.ensures.failure)
 
 pub returns-in_err-footprints-clause-failure : goal.returns-in_err-footprints-clause-failure
 returns-in_err-footprints-clause-failure g c =
     let p = err_from_is_err_and c.from_residual-in_err-footprints.result c.from_residual-in_err-footprints.ensures.1 in
     let files = g.P.Opener.files c.args.opener.now in
-    let build = c.args.build.now in
-    let makes = c.opened.ensures.same ∙ c.opened_if.ensures.same in
-    rw (p.1, p.2) (footprints_fail (first files build) (inputs.Makefile, files.opens build.makefile.now) (inputs.Listing, files.opens build.listing.now)
-    (inputs.Footprints, files.opens c.args.footprints.now) (last files c.args.other) _
-    (base_open files build c.base_path.result c.base_path.ensures c.in_ok-base.ensures.can)
-    (still_opens files _ build.makefile.now c.opened_if.ensures.same c.in_ok-makefile.ensures.can)
-    (still_opens files _ build.listing.now makes c.in_ok-listing.ensures.can)
-    (still_shut files _ c.args.footprints.now inputs.Footprints _ (c.opened-2.ensures.same ∙ makes) c.in_err-footprints.ensures.cannot))
+    rw (p.1, p.2) (footprints_fail (plan_path_marks files.opens c.args.build.now) (inputs.Footprints, files.opens c.args.footprints.now)
+    (last files c.args.other) _ c.in_ok-plan.ensures.opened
+    (still_shut files _ c.args.footprints.now inputs.Footprints _ c.open_plan.ensures.same c.in_err-footprints.ensures.cannot))
 
 pub returns-in_err-other-clause-failure : goal.returns-in_err-other-clause-failure
 returns-in_err-other-clause-failure g c =
     let p = err_from_is_err_and c.from_residual-in_err-other.result c.from_residual-in_err-other.ensures.1 in
     let files = g.P.Opener.files c.args.opener.now in
-    let build = c.args.build.now in
-    let makes = c.opened.ensures.same ∙ c.opened_if.ensures.same in
-    let lists = c.opened-2.ensures.same ∙ makes in
-    rw (p.1, p.2) (other_fails (first files build) (inputs.Makefile, files.opens build.makefile.now) (inputs.Listing, files.opens build.listing.now)
-    (inputs.Footprints, files.opens c.args.footprints.now) (last files c.args.other) _
-    (base_open files build c.base_path.result c.base_path.ensures c.in_ok-base.ensures.can)
-    (still_opens files _ build.makefile.now c.opened_if.ensures.same c.in_ok-makefile.ensures.can)
-    (still_opens files _ build.listing.now makes c.in_ok-listing.ensures.can)
-    (still_opens files _ c.args.footprints.now lists c.in_ok-footprints.ensures.can)
+    rw (p.1, p.2) (other_fails (plan_path_marks files.opens c.args.build.now) (inputs.Footprints, files.opens c.args.footprints.now)
+    (last files c.args.other) _ c.in_ok-plan.ensures.opened
+    (still_opens files _ c.args.footprints.now c.open_plan.ensures.same c.in_ok-footprints.ensures.can)
     (subst (λ (f : Files). IsShortOr (IsFirstToFail (option_to_list (last f c.args.other))) c.in_err-other.field-0.0)
-    (c.opened-3.ensures.same ∙ lists) c.in_err-other.ensures.cannot))
+    (c.opened.ensures.same ∙ c.open_plan.ensures.same) c.in_err-other.ensures.cannot))
 
 pub returns-clause-opened : goal.returns-clause-opened
 returns-clause-opened g c =
     let files = g.P.Opener.files c.args.opener.now in
-    let build = c.args.build.now in
-    let makes = c.opened.ensures.same ∙ c.opened_if.ensures.same in
-    let lists = c.opened-2.ensures.same ∙ makes in
-    all_work (first files build) (inputs.Makefile, files.opens build.makefile.now) (inputs.Listing, files.opens build.listing.now)
-    (inputs.Footprints, files.opens c.args.footprints.now) (last files c.args.other)
-    (base_open files build c.base_path.result c.base_path.ensures c.in_ok-base.ensures.can)
-    (still_opens files _ build.makefile.now c.opened_if.ensures.same c.in_ok-makefile.ensures.can)
-    (still_opens files _ build.listing.now makes c.in_ok-listing.ensures.can)
-    (still_opens files _ c.args.footprints.now lists c.in_ok-footprints.ensures.can)
-    (subst (λ (f : Files). All MayWork (option_to_list (last f c.args.other))) (c.opened-3.ensures.same ∙ lists) c.in_ok-other.ensures.can)
+    all_work (plan_path_marks files.opens c.args.build.now) (inputs.Footprints, files.opens c.args.footprints.now) (last files c.args.other)
+    c.in_ok-plan.ensures.opened (still_opens files _ c.args.footprints.now c.open_plan.ensures.same c.in_ok-footprints.ensures.can)
+    (subst (λ (f : Files). All MayWork (option_to_list (last f c.args.other))) (c.opened.ensures.same ∙ c.open_plan.ensures.same) c.in_ok-other.ensures.can)

@@ -1,4 +1,4 @@
-use Rattle.std.proofs.Common.{◌∙◌, List, map, refl, ℕ}
+use Rattle.std.proofs.Common.{List, map, refl, ℕ}
 use Rattle.std.specs.Borrow.{Bor}
 use Rattle.mk_files.specs.Includes.{Pair}
 use Rattle.mk_program.proofs.Replies.{own_answer, own_failure}
@@ -7,15 +7,15 @@ use Rattle.mk_program.proofs.answers.answer_with.Goals as goal
 abbrev pairs : List (Bor (List ℕ) × Bor (List ℕ)) → List Pair
 pairs = map (λ (pair : Bor (List ℕ) × Bor (List ℕ)). (pair.0.now, pair.1.now))
 
-pub returns-in_ok-inputs-in-Order-clause-failure : goal.returns-in_ok-inputs-in-Order-clause-failure
-returns-in_ok-inputs-in-Order-clause-failure g c =
-    own_failure (g.P.Opener.files c.args.opener.now) c.args.request.now (pairs c.args.includes.now) c.text_reply.result _ c.in-Order.is _
-    (c.as_slice.ensures.value ∙ c.in_ok-inputs-in-Order.ensures) c.text_reply.ensures.failure
+pub returns-in-Order-clause-failure : goal.returns-in-Order-clause-failure
+returns-in-Order-clause-failure g c =
+    own_failure (g.P.Opener.files c.args.opener.now) c.args.request.now (pairs c.args.includes.now) c.order_reply.result _ c.in-Order.is _ refl
+    c.order_reply.ensures.failure
 
-pub returns-in_ok-inputs-in-Order-clause-answer : goal.returns-in_ok-inputs-in-Order-clause-answer
-returns-in_ok-inputs-in-Order-clause-answer g c =
-    own_answer (g.P.Opener.files c.args.opener.now) c.args.request.now (pairs c.args.includes.now) c.text_reply.result _ c.in-Order.is _
-    (c.as_slice.ensures.value ∙ c.in_ok-inputs-in-Order.ensures) c.text_reply.ensures.answer
+pub returns-in-Order-clause-answer : goal.returns-in-Order-clause-answer
+returns-in-Order-clause-answer g c =
+    own_answer (g.P.Opener.files c.args.opener.now) c.args.request.now (pairs c.args.includes.now) c.order_reply.result _ c.in-Order.is _ refl
+    c.order_reply.ensures.answer
 
 pub returns-in-Tasks-clause-failure : goal.returns-in-Tasks-clause-failure
 returns-in-Tasks-clause-failure g c =
