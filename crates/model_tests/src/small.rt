@@ -1,5 +1,15 @@
-//! Small jobs.
+//! Small jobs, and what holds of jobs.
 use jobs_for_tests::making::Made;
+
+/// Whether something was made, and this holds of it. It is generic, so that only here a large value is owned.
+pub(crate) fn hold<T: Drop, F: FnOnce(&T) -> bool>(made: Option<T>, holds: F) -> bool
+    requires { F.IsAlwaysCallable holds }
+{
+    match made {
+        Some(value) => holds(&value),
+        None => false,
+    }
+}
 
 /// Two objects and a link.
 pub(crate) fn two_objects() -> [Made<'static>; 5] {
