@@ -2,7 +2,7 @@
 ghost use Rattle.std.specs.Prelude.{◌≡◌, ◌<◌};
 ghost use Rattle.mk_jobs.specs.Jobs.{node_count};
 
-use crate::small::hold;
+use crate::small::{FILE, PLAIN, hold};
 use jobs_for_tests::making::{Made, jobs_of};
 use mk_decide::before::Before;
 use mk_decide::chains::chain;
@@ -12,21 +12,32 @@ use mk_jobs::jobs::Jobs;
 use std::alloc::{AllocError, Global};
 
 /// Two ways from the first node to the last but one.
-fn two_ways() -> [Made<'static>; 5] {
-    [
-        Made::file("s"),
-        Made::plain("v", &[0]),
-        Made::plain("u", &[0]),
-        Made::plain("t", &[1, 2]),
-        Made::plain("all", &[3]),
-    ]
-}
+static TWO_WAYS: [Made<'static>; 5] = [
+    Made { name: "s", ..FILE },
+    Made {
+        name: "v",
+        needs: &[0],
+        ..PLAIN
+    },
+    Made {
+        name: "u",
+        needs: &[0],
+        ..PLAIN
+    },
+    Made {
+        name: "t",
+        needs: &[1, 2],
+        ..PLAIN
+    },
+    Made {
+        name: "all",
+        needs: &[3],
+        ..PLAIN
+    },
+];
 
 fn has_least_way(alloc: Global) -> bool {
-    hold(
-        jobs_of(alloc, &two_ways()),
-        |jobs| is_least_way(alloc, jobs),
-    )
+    hold(jobs_of(alloc, &TWO_WAYS), |jobs| is_least_way(alloc, jobs))
 }
 
 fn is_least_way(alloc: Global, jobs: &Jobs) -> bool {

@@ -62,8 +62,8 @@ static THREE_RACES: [(u32, u32); 3] = [(0, 1), (0, 2), (1, 2)];
 static THREE_WRITERS: [(u32, u32); 2] = [(0, 1), (1, 2)];
 
 fn are_fixed(alloc: Global) -> bool {
-    is_fixed_by(alloc, &small::missing_header(), &[(1, 3)], &[(1, 3)])
-        && is_fixed_by(alloc, &small::three_writers(), &THREE_RACES, &THREE_WRITERS)
+    is_fixed_by(alloc, &small::MISSING_HEADER, &[(1, 3)], &[(1, 3)])
+        && is_fixed_by(alloc, &small::THREE_WRITERS, &THREE_RACES, &THREE_WRITERS)
 }
 
 #[test]
@@ -72,8 +72,8 @@ fn jobs_with_races(rt: HostRuntime) {
 }
 
 fn need_no_fix(alloc: Global) -> bool {
-    is_fixed_by(alloc, &small::two_objects(), &[], &[])
-        && is_fixed_by(alloc, &small::log_in_line(), &[], &[])
+    is_fixed_by(alloc, &small::TWO_OBJECTS, &[], &[])
+        && is_fixed_by(alloc, &small::LOG_IN_LINE, &[], &[])
 }
 
 #[test]
@@ -82,9 +82,9 @@ fn jobs_without_races(rt: HostRuntime) {
 }
 
 fn are_made_again(alloc: Global) -> bool {
-    is_made_again(alloc, &small::missing_header(), &small::header_needed())
-        && !is_made_again(alloc, &small::missing_header(), &small::missing_header())
-        && !is_made_again(alloc, &small::missing_header(), &small::two_objects())
+    is_made_again(alloc, &small::MISSING_HEADER, &small::HEADER_NEEDED)
+        && !is_made_again(alloc, &small::MISSING_HEADER, &small::MISSING_HEADER)
+        && !is_made_again(alloc, &small::MISSING_HEADER, &small::TWO_OBJECTS)
 }
 
 #[test]

@@ -1,7 +1,7 @@
 //! What jobs do not declare: a header that is late too, a file of three writers, a target that is listed, a header that is listed or
 //! unlisted, and jobs that lack nothing.
 use crate::small;
-use crate::small::hold;
+use crate::small::{FILE, RULED, hold};
 use jobs_for_tests::making::{Made, jobs_of};
 use mk_jobs::jobs::Jobs;
 use mk_missing::violations::{Violations, find_violations};
@@ -55,23 +55,35 @@ static UNLISTED_HEADER: Expected<'static> = Expected {
 };
 
 /// An object whose recipe looks for a header that no prerequisite stands for.
-fn header_not_named() -> [Made<'static>; 2] {
-    [
-        Made::file("a.c"),
-        Made::ruled("a.o", &[0], &["a.c", "a.h"], &["a.o"]),
-    ]
-}
+static HEADER_NOT_NAMED: [Made<'static>; 2] = [
+    Made {
+        name: "a.c",
+        ..FILE
+    },
+    Made {
+        name: "a.o",
+        needs: &[0],
+        reads: &["a.c", "a.h"],
+        writes: &["a.o"],
+        ..RULED
+    },
+];
 
 /// An object that is listed, and made all the same.
-fn listed_object() -> [Made<'static>; 2] {
-    [
-        Made::file("a.c"),
-        Made {
-            listed: true,
-            ..Made::ruled("a.o", &[0], &["a.c"], &["a.o"])
-        },
-    ]
-}
+static LISTED_OBJECT: [Made<'static>; 2] = [
+    Made {
+        name: "a.c",
+        ..FILE
+    },
+    Made {
+        name: "a.o",
+        needs: &[0],
+        listed: true,
+        reads: &["a.c"],
+        writes: &["a.o"],
+        ..RULED
+    },
+];
 
 /// Whether this is found in jobs with the text of a listing.
 fn finds_with(alloc: Global, made: &[Made<'_>], text: &[u8], expected: &Expected<'_>) -> bool {
@@ -109,9 +121,9 @@ fn is_found(alloc: Global, made: &[Made<'_>], expected: &Expected<'_>) -> bool {
 }
 
 fn are_declared(alloc: Global) -> bool {
-    is_found(alloc, &small::two_objects(), &NOTHING)
-        && is_found(alloc, &small::header_needed(), &NOTHING)
-        && is_found(alloc, &small::idle_configure(), &NOTHING)
+    is_found(alloc, &small::TWO_OBJECTS, &NOTHING)
+        && is_found(alloc, &small::HEADER_NEEDED, &NOTHING)
+        && is_found(alloc, &small::IDLE_CONFIGURE, &NOTHING)
 }
 
 #[test]
@@ -120,9 +132,9 @@ fn declared_jobs(rt: HostRuntime) {
 }
 
 fn lack_something(alloc: Global) -> bool {
-    is_found(alloc, &small::missing_header(), &LATE_HEADER)
-        && is_found(alloc, &small::three_writers(), &SHARED_FILE)
-        && is_found(alloc, &listed_object(), &PRESENT_OBJECT)
+    is_found(alloc, &small::MISSING_HEADER, &LATE_HEADER)
+        && is_found(alloc, &small::THREE_WRITERS, &SHARED_FILE)
+        && is_found(alloc, &LISTED_OBJECT, &PRESENT_OBJECT)
 }
 
 #[test]
@@ -131,8 +143,8 @@ fn jobs_that_lack_something(rt: HostRuntime) {
 }
 
 fn is_missed(alloc: Global) -> bool {
-    finds_with(alloc, &header_not_named(), b"a.c\na.h\n", &MISSING_HEADER)
-        && finds_with(alloc, &header_not_named(), b"a.c\n", &UNLISTED_HEADER)
+    finds_with(alloc, &HEADER_NOT_NAMED, b"a.c\na.h\n", &MISSING_HEADER)
+        && finds_with(alloc, &HEADER_NOT_NAMED, b"a.c\n", &UNLISTED_HEADER)
 }
 
 #[test]

@@ -61,18 +61,18 @@ fn written(alloc: Global, verdict: &Verdict) -> Result<Vec<u8>, AllocError> {
 fn are_race_free(alloc: Global) -> bool {
     is_decided(
         alloc,
-        &small::two_objects(),
+        &small::TWO_OBJECTS,
         None,
         "certificate 2\n1 4\n3 4\n",
     ) && is_decided(
         alloc,
-        &small::temporary_ordered(),
+        &small::TEMPORARY_ORDERED,
         None,
         "certificate 1\n1 3 4\n",
-    ) && is_decided(alloc, &small::idle_configure(), None, "certificate 0\n")
+    ) && is_decided(alloc, &small::IDLE_CONFIGURE, None, "certificate 0\n")
         && is_decided(
             alloc,
-            &small::log_in_line(),
+            &small::LOG_IN_LINE,
             None,
             "certificate 3\n1 2\n1 2 3\n2 3\n",
         )
@@ -96,22 +96,10 @@ static FILE_IN_TREE: &str =
     "trace 1 2\npath 6f75742f6c6f67\ntime 0 4\nskip 0\nstart 1\nstart 2\nend\n";
 
 fn have_races(alloc: Global) -> bool {
-    is_decided(
-        alloc,
-        &small::missing_header(),
-        Some((1, 3)),
-        MISSING_HEADER,
-    ) && is_decided(
-        alloc,
-        &small::live_configure(),
-        Some((0, 2)),
-        LIVE_CONFIGURE,
-    ) && is_decided(
-        alloc,
-        &small::behind_recipes(),
-        Some((3, 5)),
-        BEHIND_RECIPES,
-    ) && is_decided(alloc, &small::file_in_tree(), Some((1, 2)), FILE_IN_TREE)
+    is_decided(alloc, &small::MISSING_HEADER, Some((1, 3)), MISSING_HEADER)
+        && is_decided(alloc, &small::LIVE_CONFIGURE, Some((0, 2)), LIVE_CONFIGURE)
+        && is_decided(alloc, &small::BEHIND_RECIPES, Some((3, 5)), BEHIND_RECIPES)
+        && is_decided(alloc, &small::FILE_IN_TREE, Some((1, 2)), FILE_IN_TREE)
 }
 
 #[test]
