@@ -1,25 +1,26 @@
 //! Macros that a fault leaves as they were.
-use crate::made::expands;
+use crate::made::{expands, is_good};
 use mk_macro::macros::Macros;
-use mk_name::fault::Halt;
+use mk_text::line::Line;
 use mk_text::lines::lines;
 use std::alloc::Global;
 
 /// Assignments that fail.
 static FAULTY: [&str; 4] = ["A ::= $(", "A += $@", "A := $(L)", "A ::= $(A)$(A:x)"];
 
-/// Makes the assignments of a text.
-fn assign(alloc: Global, macros: &mut Macros, text: &str) -> Result<(), Halt> {
-    for line in &lines(alloc, text.as_bytes())? {
-        macros.assign(alloc, line)?;
+/// Whether all assignments can be made.
+fn assign_all(alloc: Global, macros: &mut Macros, lines: &[Line<'_>]) -> bool {
+    let mut so = true;
+    for line in lines {
+        so = so && is_good(macros.assign(alloc, line));
     }
-    Ok(())
+    so
 }
 
 /// Whether the assignments of a text can be made.
 fn assigns(alloc: Global, macros: &mut Macros, text: &str) -> bool {
-    match assign(alloc, macros, text) {
-        Ok(()) => true,
+    match lines(alloc, text.as_bytes()) {
+        Ok(lines) => assign_all(alloc, macros, &lines),
         Err(_) => false,
     }
 }
@@ -27,7 +28,7 @@ fn assigns(alloc: Global, macros: &mut Macros, text: &str) -> bool {
 /// Whether each of them fails, and leaves `A`.
 fn all_leave(alloc: Global, macros: &mut Macros) -> bool {
     let mut so = assigns(alloc, macros, "A ::= x\nL = $(L)");
-    for text in FAULTY {
+    for text in &FAULTY {
         so &= !assigns(alloc, macros, text) && expands(alloc, macros, b"$(A)", b"x");
     }
     so

@@ -9,14 +9,33 @@ pub(crate) fn name_of(alloc: Global, text: &[u8]) -> Result<Name, AllocError> {
     Ok(Name::from_bytes(Vec::from_slice(alloc, text)?))
 }
 
-/// Whether this holds of the root `/w`.
-pub(crate) fn of_root<F: FnOnce(&Root) -> bool>(alloc: Global, holds: F) -> bool
-    requires { F.IsAlwaysCallable holds }
-{
-    match Root::read(alloc, b"/w") {
-        Ok(root) => holds(&root),
+/// Whether something was made.
+pub(crate) fn is_good<T: Drop, E: Drop>(made: Result<T, E>) -> bool {
+    match made {
+        Ok(_) => true,
         Err(_) => false,
     }
+}
+
+/// Whether something was made, and this holds of it.
+pub(crate) fn holds_of<T: Drop, E: Drop, F: FnOnce(Global, &T) -> bool>(
+    alloc: Global,
+    made: Result<T, E>,
+    holds: F,
+) -> bool
+    requires { F.IsAlwaysCallable holds }
+{
+    match made {
+        Ok(value) => holds(alloc, &value),
+        Err(_) => false,
+    }
+}
+
+/// Whether this holds of the root `/w`.
+pub(crate) fn of_root<F: FnOnce(Global, &Root) -> bool>(alloc: Global, holds: F) -> bool
+    requires { F.IsAlwaysCallable holds }
+{
+    holds_of(alloc, Root::read(alloc, b"/w"), holds)
 }
 
 /// Whether a text expands to this.

@@ -23,8 +23,8 @@ fn is_spelled(answer: Result<Name, AllocError>, want: &str) -> bool {
 
 fn tails_are_so(alloc: Global, name: &Name) -> bool {
     let mut so = is_spelled(name.copy(alloc), "parse.o");
-    for (cut, tail, want) in TAILS {
-        so &= is_spelled(name.with_tail(alloc, cut, tail.as_bytes()), want);
+    for (cut, tail, want) in &TAILS {
+        so &= is_spelled(name.with_tail(alloc, *cut, tail.as_bytes()), want);
     }
     so
 }

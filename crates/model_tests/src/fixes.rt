@@ -1,5 +1,6 @@
 //! All races of jobs, their fix, and jobs that were made again with its edges.
 use crate::small;
+use crate::small::hold;
 use jobs_for_tests::making::{Made, jobs_of};
 use mk_decide::rows::Rows;
 use mk_fix::again::have_all;
@@ -9,35 +10,6 @@ use mk_jobs::jobs::Jobs;
 use mk_name::fault::Halt;
 use std::alloc::Global;
 
-#[test]
-fn jobs_with_races(rt: HostRuntime) {
-    let alloc = rt.alloc();
-    assert!(rt; is_fixed_by(alloc, &small::missing_header(), &[(1, 3)], &[(1, 3)]));
-    assert!(rt;
-        is_fixed_by(
-            alloc,
-            &small::three_writers(),
-            &[(0, 1), (0, 2), (1, 2)],
-            &[(0, 1), (1, 2)]
-        )
-    );
-}
-
-#[test]
-fn jobs_without_races(rt: HostRuntime) {
-    let alloc = rt.alloc();
-    assert!(rt; is_fixed_by(alloc, &small::two_objects(), &[], &[]));
-    assert!(rt; is_fixed_by(alloc, &small::log_in_line(), &[], &[]));
-}
-
-#[test]
-fn jobs_that_were_made_again(rt: HostRuntime) {
-    let alloc = rt.alloc();
-    assert!(rt; is_made_again(alloc, &small::missing_header(), &small::header_needed()));
-    assert!(rt; !is_made_again(alloc, &small::missing_header(), &small::missing_header()));
-    assert!(rt; !is_made_again(alloc, &small::missing_header(), &small::two_objects()));
-}
-
 /// Whether jobs have just these races, and these edges are their fix.
 fn is_fixed_by(
     alloc: Global,
@@ -45,10 +17,9 @@ fn is_fixed_by(
     races: &[(u32, u32)],
     edges: &[(u32, u32)],
 ) -> bool {
-    match jobs_of(alloc, made) {
-        Some(jobs) => has_races(alloc, &jobs, races) && has_fix(alloc, &jobs, edges),
-        None => false,
-    }
+    hold(jobs_of(alloc, made), |jobs| {
+        has_races(alloc, jobs, races) && has_fix(alloc, jobs, edges)
+    })
 }
 
 fn has_races(alloc: Global, jobs: &Jobs, races: &[(u32, u32)]) -> bool {
@@ -72,17 +43,11 @@ fn has_fix(alloc: Global, jobs: &Jobs, edges: &[(u32, u32)]) -> bool {
 
 /// Whether the second jobs are the first, made again with the edges of their fix.
 fn is_made_again(alloc: Global, made: &[Made<'_>], again: &[Made<'_>]) -> bool {
-    match jobs_of(alloc, made) {
-        Some(jobs) => is_again(alloc, &jobs, again),
-        None => false,
-    }
+    hold(jobs_of(alloc, made), |jobs| is_again(alloc, jobs, again))
 }
 
 fn is_again(alloc: Global, jobs: &Jobs, again: &[Made<'_>]) -> bool {
-    match jobs_of(alloc, again) {
-        Some(new) => has_all(alloc, jobs, &new),
-        None => false,
-    }
+    hold(jobs_of(alloc, again), |new| has_all(alloc, jobs, new))
 }
 
 fn has_all(alloc: Global, jobs: &Jobs, new: &Jobs) -> bool {
@@ -90,4 +55,39 @@ fn has_all(alloc: Global, jobs: &Jobs, new: &Jobs) -> bool {
         Ok(edges) => have_all(jobs, edges.as_slice(), new),
         Err(_) => false,
     }
+}
+
+static THREE_RACES: [(u32, u32); 3] = [(0, 1), (0, 2), (1, 2)];
+
+static THREE_WRITERS: [(u32, u32); 2] = [(0, 1), (1, 2)];
+
+fn are_fixed(alloc: Global) -> bool {
+    is_fixed_by(alloc, &small::MISSING_HEADER, &[(1, 3)], &[(1, 3)])
+        && is_fixed_by(alloc, &small::THREE_WRITERS, &THREE_RACES, &THREE_WRITERS)
+}
+
+#[test]
+fn jobs_with_races(rt: HostRuntime) {
+    assert!(rt; are_fixed(rt.alloc()));
+}
+
+fn need_no_fix(alloc: Global) -> bool {
+    is_fixed_by(alloc, &small::TWO_OBJECTS, &[], &[])
+        && is_fixed_by(alloc, &small::LOG_IN_LINE, &[], &[])
+}
+
+#[test]
+fn jobs_without_races(rt: HostRuntime) {
+    assert!(rt; need_no_fix(rt.alloc()));
+}
+
+fn are_made_again(alloc: Global) -> bool {
+    is_made_again(alloc, &small::MISSING_HEADER, &small::HEADER_NEEDED)
+        && !is_made_again(alloc, &small::MISSING_HEADER, &small::MISSING_HEADER)
+        && !is_made_again(alloc, &small::MISSING_HEADER, &small::TWO_OBJECTS)
+}
+
+#[test]
+fn jobs_that_were_made_again(rt: HostRuntime) {
+    assert!(rt; are_made_again(rt.alloc()));
 }

@@ -1,15 +1,14 @@
 //! What jobs do not declare: a header that is late too, a file of three writers, a target that is listed, a header that is listed or
 //! unlisted, and jobs that lack nothing.
 use crate::small;
+use crate::small::{FILE, RULED, hold};
 use jobs_for_tests::making::{Made, jobs_of};
 use mk_jobs::jobs::Jobs;
 use mk_missing::violations::{Violations, find_violations};
 use mk_text::listing::Listing;
-use mk_text::root::Root;
 use std::alloc::Global;
 
 /// What is expected of jobs. A pair has the place of a file among all files that recipes touch, and a node.
-#[derive(Clone, Copy)]
 struct Expected<'a> {
     missing: &'a [(u32, u32)],
     unlisted: usize,
@@ -28,85 +27,77 @@ const NOTHING: Expected<'static> = Expected {
     present: &[],
 };
 
-#[test]
-fn declared_jobs(rt: HostRuntime) {
-    let alloc = rt.alloc();
-    assert!(rt; is_found(alloc, &small::two_objects(), &NOTHING));
-    assert!(rt; is_found(alloc, &small::header_needed(), &NOTHING));
-    assert!(rt; is_found(alloc, &small::idle_configure(), &NOTHING));
-}
+static LATE_HEADER: Expected<'static> = Expected {
+    missing: &[(2, 3)],
+    late: &[(2, 3)],
+    late_by: &[1],
+    ..NOTHING
+};
 
-#[test]
-fn jobs_that_lack_something(rt: HostRuntime) {
-    let alloc = rt.alloc();
-    let late_header = Expected {
-        missing: &[(2, 3)],
-        late: &[(2, 3)],
-        late_by: &[1],
-        ..NOTHING
-    };
-    assert!(rt; is_found(alloc, &small::missing_header(), &late_header));
-    let shared_file = Expected {
-        shared: &[(0, 0), (0, 1)],
-        ..NOTHING
-    };
-    assert!(rt; is_found(alloc, &small::three_writers(), &shared_file));
-    let listed = Expected {
-        present: &[1],
-        ..NOTHING
-    };
-    assert!(rt; is_found(alloc, &listed_object(), &listed));
-}
+static SHARED_FILE: Expected<'static> = Expected {
+    shared: &[(0, 0), (0, 1)],
+    ..NOTHING
+};
 
-#[test]
-fn header_listed_or_unlisted(rt: HostRuntime) {
-    let alloc = rt.alloc();
-    let missing = Expected {
-        missing: &[(1, 1)],
-        ..NOTHING
-    };
-    assert!(rt; finds_with(alloc, &header_not_named(), b"a.c\na.h\n", &missing));
-    let unlisted = Expected {
-        unlisted: 1,
-        ..NOTHING
-    };
-    assert!(rt; finds_with(alloc, &header_not_named(), b"a.c\n", &unlisted));
-}
+static PRESENT_OBJECT: Expected<'static> = Expected {
+    present: &[1],
+    ..NOTHING
+};
+
+static MISSING_HEADER: Expected<'static> = Expected {
+    missing: &[(1, 1)],
+    ..NOTHING
+};
+
+static UNLISTED_HEADER: Expected<'static> = Expected {
+    unlisted: 1,
+    ..NOTHING
+};
 
 /// An object whose recipe looks for a header that no prerequisite stands for.
-fn header_not_named() -> [Made<'static>; 2] {
-    [
-        Made::file("a.c"),
-        Made::ruled("a.o", &[0], &["a.c", "a.h"], &["a.o"]),
-    ]
-}
+static HEADER_NOT_NAMED: [Made<'static>; 2] = [
+    Made {
+        name: "a.c",
+        ..FILE
+    },
+    Made {
+        name: "a.o",
+        needs: &[0],
+        reads: &["a.c", "a.h"],
+        writes: &["a.o"],
+        ..RULED
+    },
+];
 
 /// An object that is listed, and made all the same.
-fn listed_object() -> [Made<'static>; 2] {
-    [
-        Made::file("a.c"),
-        Made {
-            listed: true,
-            ..Made::ruled("a.o", &[0], &["a.c"], &["a.o"])
-        },
-    ]
-}
-
-fn is_found(alloc: Global, made: &[Made<'_>], expected: &Expected<'_>) -> bool {
-    finds_with(alloc, made, b"", expected)
-}
+static LISTED_OBJECT: [Made<'static>; 2] = [
+    Made {
+        name: "a.c",
+        ..FILE
+    },
+    Made {
+        name: "a.o",
+        needs: &[0],
+        listed: true,
+        reads: &["a.c"],
+        writes: &["a.o"],
+        ..RULED
+    },
+];
 
 /// Whether this is found in jobs with the text of a listing.
 fn finds_with(alloc: Global, made: &[Made<'_>], text: &[u8], expected: &Expected<'_>) -> bool {
-    match (jobs_of(alloc, made), listing_of(alloc, text)) {
-        (Some(jobs), Some(listing)) => finds(alloc, &jobs, &listing, expected),
-        _ => false,
-    }
+    hold(
+        jobs_of(alloc, made),
+        |jobs| finds_in(alloc, jobs, text, expected),
+    )
 }
 
-fn listing_of(alloc: Global, text: &[u8]) -> Option<Listing> {
-    let root = Root::read(alloc, b"/w").ok()?;
-    Listing::read(alloc, text, &root).ok()
+fn finds_in(alloc: Global, jobs: &Jobs, text: &[u8], expected: &Expected<'_>) -> bool {
+    match Listing::read(alloc, text, jobs.root()) {
+        Ok(listing) => finds(alloc, jobs, &listing, expected),
+        Err(_) => false,
+    }
 }
 
 fn finds(alloc: Global, jobs: &Jobs, listing: &Listing, expected: &Expected<'_>) -> bool {
@@ -123,4 +114,40 @@ fn is_same(found: &Violations, expected: &Expected<'_>) -> bool {
         && found.late_by.as_slice() == expected.late_by
         && found.shared.as_slice() == expected.shared
         && found.present.as_slice() == expected.present
+}
+
+fn is_found(alloc: Global, made: &[Made<'_>], expected: &Expected<'_>) -> bool {
+    finds_with(alloc, made, b"", expected)
+}
+
+fn are_declared(alloc: Global) -> bool {
+    is_found(alloc, &small::TWO_OBJECTS, &NOTHING)
+        && is_found(alloc, &small::HEADER_NEEDED, &NOTHING)
+        && is_found(alloc, &small::IDLE_CONFIGURE, &NOTHING)
+}
+
+#[test]
+fn declared_jobs(rt: HostRuntime) {
+    assert!(rt; are_declared(rt.alloc()));
+}
+
+fn lack_something(alloc: Global) -> bool {
+    is_found(alloc, &small::MISSING_HEADER, &LATE_HEADER)
+        && is_found(alloc, &small::THREE_WRITERS, &SHARED_FILE)
+        && is_found(alloc, &LISTED_OBJECT, &PRESENT_OBJECT)
+}
+
+#[test]
+fn jobs_that_lack_something(rt: HostRuntime) {
+    assert!(rt; lack_something(rt.alloc()));
+}
+
+fn is_missed(alloc: Global) -> bool {
+    finds_with(alloc, &HEADER_NOT_NAMED, b"a.c\na.h\n", &MISSING_HEADER)
+        && finds_with(alloc, &HEADER_NOT_NAMED, b"a.c\n", &UNLISTED_HEADER)
+}
+
+#[test]
+fn header_listed_or_unlisted(rt: HostRuntime) {
+    assert!(rt; is_missed(rt.alloc()));
 }

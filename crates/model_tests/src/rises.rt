@@ -2,6 +2,7 @@
 ghost use Rattle.std.specs.Prelude.{◌≡◌, ◌≤◌, ◌<◌};
 ghost use Rattle.mk_jobs.specs.Jobs.{node_count};
 
+use crate::small::hold;
 use jobs_for_tests::making::line_of;
 use mk_decide::before::Before;
 use mk_decide::rows::Rows;
@@ -9,49 +10,56 @@ use mk_decide::walk::Walk;
 use mk_jobs::jobs::Jobs;
 use std::alloc::{AllocError, Global};
 
+/// How many nodes the short lines have.
+static COUNTS: [u32; 6] = [1, 64, 65, 512, 513, 600];
+
 /// How many nodes the longest line has.
 const LONGEST: u32 = 20000;
 
-#[test]
-fn lines_rise(rt: HostRuntime) -> Result<(), AllocError> {
-    for count in [1, 64, 65, 512, 513, 600] {
-        assert!(rt; rises_of(rt.alloc(), count, 0)?, "a line of {count}");
+/// Whether in a line of so many nodes the smaller number is before the greater, by a walk and by rows. Only each node behind
+/// `skipped` others is asked.
+fn rises_of(alloc: Global, count: u32, skipped: u32) -> bool {
+    hold(
+        line_of(alloc, count),
+        |jobs| is_line(alloc, jobs, count, skipped),
+    )
+}
+
+fn is_line(alloc: Global, jobs: &Jobs, count: u32, skipped: u32) -> bool {
+    jobs.count() == count && walk_rises(alloc, jobs, skipped) && rows_rise(alloc, jobs, skipped)
+}
+
+fn walk_rises(alloc: Global, jobs: &Jobs, skipped: u32) -> bool {
+    match Walk::new(alloc, jobs) {
+        Ok(mut walk) => rises(&mut walk, jobs.count(), skipped),
+        Err(AllocError) => false,
     }
-    Ok(())
+}
+
+fn rows_rise(alloc: Global, jobs: &Jobs, skipped: u32) -> bool {
+    match Rows::new(alloc, jobs) {
+        Ok(mut rows) => rises(&mut rows, jobs.count(), skipped),
+        Err(AllocError) => false,
+    }
+}
+
+fn all_rise(alloc: Global) -> bool {
+    let mut so = true;
+    for count in &COUNTS {
+        so &= rises_of(alloc, *count, 0);
+    }
+    so
+}
+
+#[test]
+fn lines_rise(rt: HostRuntime) {
+    assert!(rt; all_rise(rt.alloc()));
 }
 
 /// In the longest line the nodes that are asked lie in many blocks of rows.
 #[test]
-fn the_longest_line_rises(rt: HostRuntime) -> Result<(), AllocError> {
-    assert!(rt; rises_of(rt.alloc(), LONGEST, 1364)?);
-    Ok(())
-}
-
-/// Whether in a line of so many nodes the smaller number is before the greater, by a walk and by rows. Only each node behind
-/// `skipped` others is asked.
-fn rises_of(alloc: Global, count: u32, skipped: u32) -> Result<bool, AllocError> {
-    match line_of(alloc, count) {
-        Some(jobs) => is_line(alloc, &jobs, count, skipped),
-        None => Ok(false),
-    }
-}
-
-fn is_line(alloc: Global, jobs: &Jobs, count: u32, skipped: u32) -> Result<bool, AllocError> {
-    Ok(
-        jobs.count() == count
-            && walk_rises(alloc, jobs, skipped)?
-            && rows_rise(alloc, jobs, skipped)?,
-    )
-}
-
-fn walk_rises(alloc: Global, jobs: &Jobs, skipped: u32) -> Result<bool, AllocError> {
-    let mut walk = Walk::new(alloc, jobs)?;
-    Ok(rises(&mut walk, jobs.count(), skipped))
-}
-
-fn rows_rise(alloc: Global, jobs: &Jobs, skipped: u32) -> Result<bool, AllocError> {
-    let mut rows = Rows::new(alloc, jobs)?;
-    Ok(rises(&mut rows, jobs.count(), skipped))
+fn the_longest_line_rises(rt: HostRuntime) {
+    assert!(rt; rises_of(rt.alloc(), LONGEST, 1364));
 }
 
 /// Whether of any two of the nodes that are asked the smaller is before the greater, and no other is.

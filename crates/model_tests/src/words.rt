@@ -4,7 +4,7 @@ ghost use Rattle.std.specs.Prelude.{◌≤◌};
 use mk_decide::words::merge;
 
 // Words, others, and the bitwise or of both.
-const INTO: [u64; 17] = [
+static INTO: [u64; 17] = [
     0x9e37_79b9_7f4a_7c15,
     0x006e_0072_0094_002a,
     0xdaa6_6d2c_7ddf_743f,
@@ -24,7 +24,7 @@ const INTO: [u64; 17] = [
     0x81af_1551_73f2_3d65,
 ];
 
-const FROM: [u64; 17] = [
+static FROM: [u64; 17] = [
     0x0000_0000_0000_0001,
     0x0aca_b8f4_9f53_ad3c,
     0xcd7d_6731_c728_988b,
@@ -44,7 +44,7 @@ const FROM: [u64; 17] = [
     0x7342_ee89_f4cd_76dd,
 ];
 
-const WANT: [u64; 17] = [
+static WANT: [u64; 17] = [
     0x9e37_79b9_7f4a_7c15,
     0x0aee_b8f6_9fd7_ad3e,
     0xdfff_6f3d_ffff_fcbf,
@@ -64,16 +64,6 @@ const WANT: [u64; 17] = [
     0xf3ef_ffd9_f7ff_7ffd,
 ];
 
-#[test]
-fn merges_words(rt: HostRuntime) {
-    assert!(rt; is_merged(0));
-    assert!(rt; is_merged(7));
-    assert!(rt; is_merged(8));
-    assert!(rt; is_merged(9));
-    assert!(rt; is_merged(16));
-    assert!(rt; is_merged(17));
-}
-
 /// Whether the first words are merged, and the others are kept.
 fn is_merged(count: usize) -> bool
     requires { count ≤ 17 }
@@ -81,4 +71,13 @@ fn is_merged(count: usize) -> bool
     let mut words = INTO;
     merge(&mut words[..count], &FROM[..count]);
     words[..count] == WANT[..count] && words[count..] == INTO[count..]
+}
+
+fn are_merged() -> bool {
+    is_merged(0) && is_merged(7) && is_merged(8) && is_merged(9) && is_merged(16) && is_merged(17)
+}
+
+#[test]
+fn merges_words(rt: HostRuntime) {
+    assert!(rt; are_merged());
 }

@@ -1,5 +1,5 @@
 //! What is left of the macros behind a makefile, also where it has a fault.
-use crate::made::{expands, of_root};
+use crate::made::{expands, is_good, of_root};
 use mk_include::includes::Includes;
 use mk_macro::macros::Macros;
 use mk_rules::reading::read_rules;
@@ -47,7 +47,7 @@ static INCLUDING: [Case; 10] = [
     ("A = x\n-include z a\ninclude z", "A = y", "", "y-"),
 ];
 
-/// Whether a makefile of these lines leaves this, with these texts to include.
+/// Whether a makefile of these lines leaves this, with these texts to include. What else is read of it is let go.
 fn leave(
     alloc: Global,
     root: &Root,
@@ -56,7 +56,7 @@ fn leave(
     macros: &mut Macros,
     want: &str,
 ) -> bool {
-    let _read = read_rules(alloc, &[], lines, texts, macros, root);
+    let _good = is_good(read_rules(alloc, &[], lines, texts, macros, root));
     expands(alloc, macros, b"$(A)-$(B)", want.as_bytes())
 }
 
@@ -130,6 +130,5 @@ fn are_left(alloc: Global, root: &Root) -> bool {
 
 #[test]
 fn macros_that_are_left(rt: HostRuntime) {
-    let alloc = rt.alloc();
-    assert!(rt; of_root(alloc, |root| are_left(alloc, root)));
+    assert!(rt; of_root(rt.alloc(), are_left));
 }

@@ -29,6 +29,5 @@ fn are_reported(alloc: Global, root: &Root) -> bool {
 
 #[test]
 fn paths_of_includes(rt: HostRuntime) {
-    let alloc = rt.alloc();
-    assert!(rt; of_root(alloc, |root| are_reported(alloc, root)));
+    assert!(rt; of_root(rt.alloc(), are_reported));
 }

@@ -6,22 +6,28 @@ use std::alloc::Global;
 /// A line of each kind, two of them continued.
 static TEXT: &[u8] = b"A\\\n=\\\n  b\na\\\n: b\\\n;c\n\td\n-include e";
 
-fn is_assignment(line: &Line<'_>) -> bool {
-    let kind = LineKind::Assign {
+/// The kinds of the lines, in their order.
+static KINDS: [LineKind; 4] = [
+    LineKind::Assign {
         name_start: 0,
         name_end: 1,
         operator: Operator::Delayed,
         value_start: 4,
-    };
-    line.first_line() == 1 && line.kind() == kind && line.text() == b"A = b".as_slice()
-}
-
-fn is_entry(line: &Line<'_>) -> bool {
-    let kind = LineKind::Entry {
+    },
+    LineKind::Entry {
         colon: 2,
         semicolon: Some(6),
-    };
-    line.first_line() == 4 && line.kind() == kind && has_three_pieces(line.pieces())
+    },
+    LineKind::Recipe,
+    LineKind::Include {
+        hyphen: true,
+        rest: 8,
+    },
+];
+
+/// Whether a line of this kind begins at this one, with this text.
+fn is_line(line: &Line<'_>, first: u64, kind: LineKind, text: &[u8]) -> bool {
+    line.first_line() == first && line.kind() == kind && line.text() == text
 }
 
 fn has_three_pieces(pieces: &[&[u8]]) -> bool {
@@ -33,23 +39,15 @@ fn has_three_pieces(pieces: &[&[u8]]) -> bool {
     }
 }
 
-fn is_command(line: &Line<'_>) -> bool {
-    line.first_line() == 7 && line.kind() == LineKind::Recipe && line.text() == b"d".as_slice()
-}
-
-fn is_include(line: &Line<'_>) -> bool {
-    let kind = LineKind::Include {
-        hyphen: true,
-        rest: 8,
-    };
-    line.first_line() == 8 && line.kind() == kind && line.text() == b"-include e".as_slice()
-}
-
 /// Whether these are the four lines.
 fn are_four(lines: &[Line<'_>]) -> bool {
     match lines {
         [first, second, third, fourth] => {
-            is_assignment(first) && is_entry(second) && is_command(third) && is_include(fourth)
+            is_line(first, 1, KINDS[0], b"A = b")
+                && is_line(second, 4, KINDS[1], b"a : b ;c")
+                && has_three_pieces(second.pieces())
+                && is_line(third, 7, KINDS[2], b"d")
+                && is_line(fourth, 8, KINDS[3], b"-include e")
         }
         _ => false,
     }

@@ -1,5 +1,5 @@
 //! Which bytes may stand in words, paths and roots.
-use crate::made::of_root;
+use crate::made::{is_good, of_root};
 use mk_text::root::Root;
 use mk_text::spelling::{plain_path, plain_word};
 use std::alloc::Global;
@@ -7,27 +7,20 @@ use std::alloc::Global;
 /// Bytes that no word may hold, though a path may hold most of them.
 static SIGNS: &[u8] = b"\x01\t\x1f #$:;=\\%()*?[\"'&|\x7f";
 
+/// What is neither a word nor a path.
+static NEITHER: [&[u8]; 3] = [b"", b"a\0", b"\na"];
+
+/// What is no root.
+static NO_ROOTS: [&[u8]; 4] = [b"", b"w", b"/w\0", b"/w\n"];
+
 /// Bytes that a word may hold.
 static LETTERS: &[u8] = b"!+,-./09@AZ]^_`az{}~\x80\xff";
-
-fn is_word(alloc: Global, word: &[u8], root: &Root) -> bool {
-    match plain_word(alloc, word, root) {
-        Ok(_) => true,
-        Err(_) => false,
-    }
-}
-
-fn is_path(alloc: Global, path: &[u8], root: &Root) -> bool {
-    match plain_path(alloc, path, root) {
-        Ok(_) => true,
-        Err(_) => false,
-    }
-}
 
 fn are_no_words(alloc: Global, root: &Root) -> bool {
     let mut so = true;
     for byte in SIGNS {
-        so &= !is_word(alloc, &[b'x', *byte], root) && is_path(alloc, &[b'x', *byte], root);
+        so &= !is_good(plain_word(alloc, &[b'x', *byte], root))
+            && is_good(plain_path(alloc, &[b'x', *byte], root));
     }
     so
 }
@@ -35,7 +28,7 @@ fn are_no_words(alloc: Global, root: &Root) -> bool {
 fn are_words(alloc: Global, root: &Root) -> bool {
     let mut so = true;
     for byte in LETTERS {
-        so &= is_word(alloc, &[b'x', *byte], root);
+        so &= is_good(plain_word(alloc, &[b'x', *byte], root));
     }
     so
 }
@@ -43,8 +36,8 @@ fn are_words(alloc: Global, root: &Root) -> bool {
 /// Whether what has no bytes, a byte of zero or a newline is neither a word nor a path.
 fn are_neither(alloc: Global, root: &Root) -> bool {
     let mut so = true;
-    for text in [b"".as_slice(), b"a\0", b"\na"] {
-        so &= !is_word(alloc, text, root) && !is_path(alloc, text, root);
+    for text in &NEITHER {
+        so &= !is_good(plain_word(alloc, text, root)) && !is_good(plain_path(alloc, text, root));
     }
     so
 }
@@ -55,8 +48,7 @@ fn are_distinct(alloc: Global, root: &Root) -> bool {
 
 #[test]
 fn bytes_of_words_and_paths(rt: HostRuntime) {
-    let alloc = rt.alloc();
-    assert!(rt; of_root(alloc, |root| are_distinct(alloc, root)));
+    assert!(rt; of_root(rt.alloc(), are_distinct));
 }
 
 fn is_root(alloc: Global, text: &[u8]) -> bool {
@@ -68,7 +60,7 @@ fn is_root(alloc: Global, text: &[u8]) -> bool {
 
 fn are_no_roots(alloc: Global) -> bool {
     let mut so = true;
-    for text in [b"".as_slice(), b"w", b"/w\0", b"/w\n"] {
+    for text in &NO_ROOTS {
         so &= !is_root(alloc, text);
     }
     so
