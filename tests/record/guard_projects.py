@@ -10,6 +10,11 @@ def project(name: str) -> str:
     return "test_projects.Makefiles.test_" + name
 
 
+def tops(name: str) -> str:
+    """A test of another folder that the build works in."""
+    return "test_projects.Tops.test_" + name
+
+
 def makedirs(name: str) -> str:
     """A test of a Python program that makes folders."""
     return "test_projects.Makedirs.test_" + name
@@ -56,6 +61,11 @@ NUMBERS: List[Guard] = [
 PROJECT_GUARDS: List[Guard] = [
     *NUMBERS,
     *CONFIGURED_GUARDS,
+    Guard("folders: those above the project", "trace/names.py", "self.above.update(path for path in above if os.path.isdir(path))", "pass", project("folders_by_a_whole_path"), FALSE_RACE),
+    Guard("folders: those of the system", "trace/names.py", 'self.above = {"/tmp", "/var/tmp"}', "self.above: Set[str] = set()", project("folder_of_the_system_for_temporary_files"), FALSE_RACE),
+    Guard("folders: those above are not made", "trace/replay.py", ' and not (kind == "T" and path in self.names.above)', "", project("folders_by_a_whole_path")),
+    Guard("tops: those that are not there", "trace/names.py", "if not os.path.isdir(top):", "if False:", tops("that_is_not_there"), YES),
+    Guard("tops: what was not there", "trace/names.py", "if path in self.absent:", "if False:", tops("that_is_not_there"), YES),
     Guard("texts: macros that they set", "tools/listed.py", " or patterns_in(life, where)", "", shells("Makefiles.test_rules_of_automake_for_info"), FALSE_RACE),
     Guard("texts: folders of patterns", "tools/shellvalues.py", 'if not one.folder or not is_sure or fnmatchcase(where, "*/" + one.folder)', "if True", shells("Makefiles.test_rules_of_automake_for_info"), FALSE_RACE),
     Guard("texts: macros of the environment", "tools/shellvalues.py", "        if not any(is_set(one, word) for one in settings):\n            return None\n", "", shells("Makefiles.test_loop_over_names_of_the_environment"), YES, ("tools/shellvalues.py", "        if texts is None:\n            raise Unread\n", "")),

@@ -20,6 +20,7 @@ INNER = PERL + "D = ../b\n.PHONY: all dirs\nall: x\ndirs: $(D)$(DFSEP).exists\nx
 ABOVE = "all: sub\nsub: mk ; $(MAKE) -C in\nmk: ; umask 022; mkdir -m %d b; touch mk\n"
 MODES = "all: a c\na: ; chmod 755 ../b; touch a\nc: ; ls -d ../b > c\n"
 
+
 PROJECTS: Dict[str, Small] = {
     # `.exists` files of Perl's makefiles
     "marker_of_two_makes": Small("safe", OUTER % "", {"in/Makefile": INNER}, "umask 022"),
@@ -44,6 +45,10 @@ PROJECTS: Dict[str, Small] = {
     "folder_asked_for_behind_its_use": Small("race", PAIR % "touch out/y; test -d out || mkdir -p out"),
     "folder_made_twice": Small("safe", PAIR % "mkdir -p out; touch out/y; mkdir -p out"),
     "folder_made_behind_its_use_and_waited_for": Small("safe", PAIR.replace("y: ;", "y: x ;") % "touch out/y; mkdir -p out"),
+    # folders above the project, and those of the system
+    "folders_by_a_whole_path": Small("safe", "all: x y\nx: ; mkdir -p $(CURDIR)/d/e; touch x\ny: ; touch $(CURDIR)/y\n", lacks="outside of the project"),
+    "folder_beside_the_project": Small("race", "all: x y\nx: ; mkdir -p ../d/e; touch x\ny: ; touch ../d/y 2> /dev/null; touch y\n"),
+    "folder_of_the_system_for_temporary_files": Small("safe", "all: x y\nx: ; d=/tmp/race-test-$$$$; mkdir -p $$d/e; rmdir $$d/e $$d; touch x\ny: ; rm `mktemp /tmp/race-test-XXXXXX`; touch y\n", below="/dev/shm"),
 }
 
 MAKER = "import os, sys\nout = sys.argv[1]\n%s\nopen(out, 'w').write('x')\n"
@@ -112,6 +117,28 @@ class Makedirs(unittest.TestCase):
         makefile = "all: x y\nx y: ; python3 -S t/$@.py > $@; echo > t/$@.py\n"
         with support.Project({"Makefile": makefile, "t/x.py": script, "t/y.py": script}) as project:
             self.assertEqual(1, project.record().status)
+
+
+class Tops(unittest.TestCase):
+    """Another folder that the build works in."""
+
+    def of(self, status: int, makefile: str, top: str, setup: str = ":") -> None:
+        with support.Project({"Makefile": makefile}) as project:
+            project.sh(setup)
+            outcome = project.record(options=["--top", top])
+            self.assertEqual(status, outcome.status, outcome.text())
+
+    def test_that_is_not_there(self) -> None:
+        used = "all: x y\nx: ; mkdir -p ../out/d; touch x\ny:%s ; touch ../out/y; touch y\n"
+        self.of(1, used % "", "../out")
+        self.of(1, used % "", "../out/d")
+        self.of(0, used % " x", "../out")
+        self.of(1, "all: y x\nx: ; mkdir -p ../out; touch x\ny: ; touch ../out/y 2> /dev/null || echo no > y; touch y\n", "../out")
+        self.of(0, used % "", "../out", "mkdir ../out")
+
+    def test_in_which_a_target_is_cold(self) -> None:
+        self.of(0, "all: ../out/x\n../out/x: ; mkdir -p ../out; touch ../out/x\n", "../out")
+        self.of(2, "all: ../out/x\n../out/x: ; touch ../out/x\n", "../out", "mkdir ../out; touch ../out/x")
 
 
 class Makefiles(unittest.TestCase):
