@@ -7,7 +7,7 @@ from typing import Dict
 
 import support
 from record.tools.makedirs import forms_of
-from test_small import Small, test_of
+from test_small import OLD, Small, test_of
 
 PAIR = "all: x y\nx: ; mkdir -p out; touch x\ny: ; %s; touch y\n"
 
@@ -20,6 +20,8 @@ INNER = PERL + "D = ../b\n.PHONY: all dirs\nall: x\ndirs: $(D)$(DFSEP).exists\nx
 ABOVE = "all: sub\nsub: mk ; $(MAKE) -C in\nmk: ; umask 022; mkdir -m %d b; touch mk\n"
 MODES = "all: a c\na: ; chmod 755 ../b; touch a\nc: ; ls -d ../b > c\n"
 
+# A folder with a rule that has no recipe, as that of vim.
+OBJECTS = "all: prog\nprog: o o/a o/b%s ; cat o/a o/b > prog\no: o/.stamp\no/.stamp: ; mkdir -p o; touch o/.stamp\no/a o/b: o/.stamp ; echo $@ > $@\n"
 
 PROJECTS: Dict[str, Small] = {
     # `.exists` files of Perl's makefiles
@@ -49,6 +51,13 @@ PROJECTS: Dict[str, Small] = {
     "folders_by_a_whole_path": Small("safe", "all: x y\nx: ; mkdir -p $(CURDIR)/d/e; touch x\ny: ; touch $(CURDIR)/y\n", lacks="outside of the project"),
     "folder_beside_the_project": Small("race", "all: x y\nx: ; mkdir -p ../d/e; touch x\ny: ; touch ../d/y 2> /dev/null; touch y\n"),
     "folder_of_the_system_for_temporary_files": Small("safe", "all: x y\nx: ; d=/tmp/race-test-$$$$; mkdir -p $$d/e; rmdir $$d/e $$d; touch x\ny: ; rm `mktemp /tmp/race-test-XXXXXX`; touch y\n", below="/dev/shm"),
+    # ages of targets whose rule has no recipe
+    "age_of_a_target_without_a_recipe": Small("safe", OBJECTS % ""),
+    "age_of_a_target_without_a_recipe_by_way_of_another": Small("safe", OBJECTS.replace("prog: o ", "prog: p ") % "" + "p: o\n"),
+    "age_of_a_target_without_a_recipe_that_counts": Small("race", OBJECTS % "", {"prog": ""}, OLD + "prog"),
+    "age_of_a_target_without_a_recipe_that_counts_for_one": Small("race", OBJECTS % "" + "all: old\nold: o o/a o/b ; touch old\n", {"old": ""}, OLD + "old"),
+    "age_of_a_target_without_a_recipe_that_counts_by_an_intermediate_one": Small("race", OBJECTS % "" + "all: old\nold: mid ; touch old\nmid: o ; touch mid\n.INTERMEDIATE: mid\n", {"old": ""}, OLD + "old"),
+    "age_of_a_target_without_a_recipe_that_is_a_goal": Small("race", "all: ; $(MAKE) -f in.mk o prog\n", {"in.mk": OBJECTS % ""}),
 }
 
 MAKER = "import os, sys\nout = sys.argv[1]\n%s\nopen(out, 'w').write('x')\n"
