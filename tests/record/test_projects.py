@@ -23,6 +23,9 @@ MODES = "all: a c\na: ; chmod 755 ../b; touch a\nc: ; ls -d ../b > c\n"
 # A folder with a rule that has no recipe, as that of vim.
 OBJECTS = "all: prog\nprog: o o/a o/b%s ; cat o/a o/b > prog\no: o/.stamp\no/.stamp: ; mkdir -p o; touch o/.stamp\no/a o/b: o/.stamp ; echo $@ > $@\n"
 
+# Patterns that nobody knows, a folder that make lists while recipes run, and a macro that works out its value once: the makefile of git has these.
+ONCE = "V := $(wildcard e/$(shell echo \\*))\nX = $(eval X := %s)$(X)\nall: a d/z d/y\na d/z: ; touch $@\nd/y: d/y.s ; echo $(X)%s; cp d/y.s d/y\n"
+
 PROJECTS: Dict[str, Small] = {
     # `.exists` files of Perl's makefiles
     "marker_of_two_makes": Small("safe", OUTER % "", {"in/Makefile": INNER}, "umask 022"),
@@ -51,6 +54,13 @@ PROJECTS: Dict[str, Small] = {
     "folders_by_a_whole_path": Small("safe", "all: x y\nx: ; mkdir -p $(CURDIR)/d/e; touch x\ny: ; touch $(CURDIR)/y\n", lacks="outside of the project"),
     "folder_beside_the_project": Small("race", "all: x y\nx: ; mkdir -p ../d/e; touch x\ny: ; touch ../d/y 2> /dev/null; touch y\n"),
     "folder_of_the_system_for_temporary_files": Small("safe", "all: x y\nx: ; d=/tmp/race-test-$$$$; mkdir -p $$d/e; rmdir $$d/e $$d; touch x\ny: ; rm `mktemp /tmp/race-test-XXXXXX`; touch y\n", below="/dev/shm"),
+    # folders that make lists
+    "list_beside_a_value_that_is_worked_out_once": Small("safe", ONCE % ("$$(shell echo one)", ""), {"d/y.s": "s", "e/k": "k"}),
+    "list_beside_a_value_of_names": Small("race", ONCE % ("$$(wildcard d/*)", ""), {"d/y.s": "s", "e/k": "k"}),
+    "list_beside_a_value_of_names_by_a_macro": Small("race", "L = $(wildcard d/*)\n" + ONCE % ("$$(L)", ""), {"d/y.s": "s", "e/k": "k"}),
+    "list_beside_a_value_that_is_read": Small("race", ONCE % ("$(shell cat f)", ""), {"d/y.s": "s", "e/k": "k", "f": "$(wildcard d/*)\n"}),
+    "list_of_a_name_beside_a_macro_of_a_target": Small("safe", "x: W = 1\n" + ONCE % ("$$(shell echo one)", "$(wildcard $(@D))"), {"d/y.s": "s", "e/k": "k"}),
+    "list_by_a_macro_beside_a_macro_of_a_target": Small("race", "d/y: F = d\nF = e\n" + ONCE % ("$$(shell echo one)", "$(wildcard $F/*)"), {"d/y.s": "s", "e/k": "k"}),
     # ages of targets whose rule has no recipe
     "age_of_a_target_without_a_recipe": Small("safe", OBJECTS % ""),
     "age_of_a_target_without_a_recipe_by_way_of_another": Small("safe", OBJECTS.replace("prog: o ", "prog: p ") % "" + "p: o\n"),
