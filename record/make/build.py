@@ -9,7 +9,7 @@ from typing import AbstractSet, Dict, Iterable, List, Optional, Set, Tuple
 from record.assumptions import Assumptions
 from record.make.ages import add_ages
 from record.make.considered import Considered, is_row
-from record.make.fixed import asked_ages, fixed_looks, remade_anyway
+from record.make.fixed import asked_ages, fixed_looks, remade_anyway, unasked_ages, was_absent
 from record.make.folders import Events, add_folders
 from record.make.graph import Build, Graph, Node, Task, befores, order_tasks
 from record.make.inner import add_inner
@@ -39,6 +39,7 @@ class Builder:
         self.first_of: Dict[str, int] = {}
         self.listed = make.listed_in(self.graph.round.start)
         self.asked: Dict[str, Set[str]] = {}  # by label of a first look: the names that it is about
+        self.ageless: Set[str] = set()  # labels of targets by whose age nothing is remade
         self.made: Set[str] = set()
         self.tried: Set[str] = set()  # folders that a recipe could not remove, as they held something
         self.began = -1
@@ -131,6 +132,7 @@ class Builder:
 
     def make_decisions(self) -> None:
         """A target that somebody writes, or one of whose prerequisites is written, is looked at, recipe or not."""
+        self.ageless = unasked_ages(self)
         fixed = fixed_looks(self)
         for node in self.graph.nodes.values():
             own = self.of_node.get(node.label, -1)
@@ -171,18 +173,12 @@ class Builder:
         lines = [line.strip().lstrip("@+-").strip() for line in self.graph.base.recipes.get(node.name, [])]
         return any(line not in ("", ":", "true") for line in lines)
 
-    def is_foreign(self, node: Node, own: int) -> bool:
-        """Whether another target's recipe writes a name. Make looks at the age of a double-colon target once for all its rules."""
-        who = self.build.writers.get(node.path, set()) - {own}
-        return node.path in self.made or any(self.build.tasks[at].node.name != node.name for at in who)
-
     def deciding(self, node: Node, own: int) -> List[Node]:
         """The targets that decide whether a target is remade: none where it is phony; where it is absent, and nobody else
         writes it, it is remade whatever the ages of its prerequisites are."""
-        if node.phony:
+        if node.phony or node.label in self.ageless:
             return []
-        is_cold = self.before.get(node.path) is None and self.is_known(node.path) and not self.is_foreign(node, own)
-        return [node] + ([] if is_cold else [self.graph.nodes[p] for p in self.plain(node)])
+        return [node] + ([] if was_absent(self, node, own) else [self.graph.nodes[p] for p in self.plain(node)])
 
     def looked_at(self, node: Node, own: int) -> List[str]:
         """The paths that decide whether a target is remade, its own first."""

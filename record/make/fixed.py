@@ -1,6 +1,6 @@
 """Looks of make that have no effect, whatever the schedule is, though recipes write the names."""
 
-from typing import TYPE_CHECKING, List, Set
+from typing import TYPE_CHECKING, Dict, List, Set
 
 from record.make.graph import Node
 
@@ -25,6 +25,38 @@ def remade_anyway(builder: "Builder", node: Node, others: List[Node]) -> bool:
     events = (event for other in others for event in (*builder.events(builder.build.tasks[builder.of_node[other.label]]), *builder.acts_of(other)))
     is_kept = not any(kind in "Dc" and path.partition("\0")[0] == node.path for kind, path in events)
     return is_kept and {other.label for other in others} <= builder.graph.reached_from([node.label])
+
+
+def is_foreign(builder: "Builder", node: Node, own: int) -> bool:
+    """Whether another target's recipe writes a name. Make looks at the age of a double-colon target once for all its rules."""
+    who = builder.build.writers.get(node.path, set()) - {own}
+    return node.path in builder.made or any(builder.build.tasks[at].node.name != node.name for at in who)
+
+
+def was_absent(builder: "Builder", node: Node, own: int) -> bool:
+    """Whether a target was absent, and nobody else writes it: it is remade whatever the ages of its prerequisites are."""
+    return builder.before.get(node.path) is None and builder.is_known(node.path) and not is_foreign(builder, node, own)
+
+
+def unasked_ages(builder: "Builder") -> Set[str]:
+    """The labels of targets whose rule has no recipe, and by whose age nothing is remade: who needs them is phony, was absent, or is such a
+    target. So the ages of what they need decide nothing, either. Whoever asks for a goal may ask for its age."""
+    graph, base = builder.graph, builder.graph.base
+    users: Dict[str, List[Node]] = {}
+    for node in graph.nodes.values():
+        for one in node.prerequisites:
+            users.setdefault(one, []).append(node)
+    loose = (n for n in graph.nodes.values() if n.prerequisites and not (n.jobs or n.has_recipe or n.phony or n.name in base.double or n.name in base.intermediate))
+    found = {node.label for node in loose if node.label in users and node.label not in graph.goals}
+    kept: Set[str] = set()
+    while kept != found and builder.build.stage == "goals":
+        kept, found = found, {label for label in found if all(one.label in found or is_remade(builder, one) for one in users[label])}
+    return kept
+
+
+def is_remade(builder: "Builder", node: Node) -> bool:
+    """Whether a target is remade by no ages. An intermediate one that is absent is remade only if what it is made of is newer than what needs it."""
+    return node.phony or node.name not in builder.graph.base.intermediate and was_absent(builder, node, builder.of_node.get(node.label, -1))
 
 
 def fixed_looks(builder: "Builder") -> Set[str]:

@@ -217,8 +217,7 @@ def add_folder(builder: "Builder", path: str, folder: Folder) -> None:
             folder.quiet.add(at)
             folder.looks.pop(at, None)
     makers = folder.strict | folder.quiet
-    existed = builder.before.get(path) == "d"
-    if existed and not folder.gone:
+    if was_there(builder, path) and not folder.gone:
         makers = set()
     part_modes(builder, path, folder, makers)
     for at in folder.strict & makers:
@@ -238,6 +237,11 @@ def add_folder(builder: "Builder", path: str, folder: Folder) -> None:
                 for kind, name, _ in events:
                     if kind in "CD" and os.path.dirname(name.rstrip("/")) == path:
                         mark(builder, name.rstrip("/"), "", {at}, {who})
+
+
+def was_there(builder: "Builder", path: str) -> bool:
+    """Whether a folder was there before the build: the one that the build works in, and so those above it, are not made by it."""
+    return builder.before.get(path) == "d" or path in builder.names.above
 
 
 def part_modes(builder: "Builder", path: str, folder: Folder, makers: Set[int]) -> None:
@@ -317,7 +321,7 @@ def add_listed(builder: "Builder", table: Dict[str, Makers]) -> None:
         where, pattern = path.split("\0")
         for name in (name for name in inside.get(where, ()) if matches(os.path.basename(name), pattern)):
             made, gone = table[name]
-            makers = made | gone if builder.before.get(name) != "d" else gone
+            makers = gone if was_there(builder, name) else made | gone
             if at not in makers and (gone - {at} or not any(builder.build.is_before(m, at) for m in makers)):
                 seen(builder, name, at, makers)
 

@@ -131,12 +131,13 @@ def patterns(texts: List[str], values: Dict[str, str], names: Iterable[str] = ("
 
 
 def listed(texts: List[str], values: Dict[str, str], names: Iterable[str] = ("*",)) -> Set[str]:
-    """The patterns in rules and in lines that include makefiles; `*` where a macro in them may hold any."""
+    """The patterns in rules and in lines that include makefiles, and in macros that stand there; `*` where one of these may hold any."""
     macros = Macros("\n".join(texts), values, names)
     found: Set[str] = set()
     for text in [*RULE.findall(macros.text), *INCLUDE.findall(macros.text)]:
         if not macros.is_plain(text):
-            found.update(part for word in text.replace("\\\n", " ").split() for part in (["*"] if "$" in word and not macros.is_plain(word) else loose(word).split("/")) if MAGIC.search(part))
+            for word in (word for word in text.replace("\\\n", " ").split() if "$" not in word or not macros.is_plain(word)):
+                found |= parts(word, macros) if "$" in word else {part for part in loose(word).split("/") if MAGIC.search(part)}
     return found
 
 

@@ -6,7 +6,7 @@ from typing import TYPE_CHECKING, Dict, Iterator, List, Optional, Set
 
 from record.make.globs import BOUND, MAGIC, arguments, with_values
 from record.make.graph import Node
-from record.make.macros import ANY, Macros
+from record.make.macros import ANY, Macros, evals
 from record.make.owners import Work
 from record.trace.names import Names
 
@@ -39,9 +39,19 @@ def own_folders(builder: "Builder", node: Node) -> Optional[Set[str]]:
     """The folders in which a target's recipe looks for names; None where nobody can say which."""
     base, known = builder.graph.base, builder.known
     text = "\n".join(base.recipes.get(node.name, ()))
-    if ".SECONDEXPANSION" in base.prerequisites or any("eval" in one for one in (text, *map(known.text_of, known.reached(text)))):
+    if ".SECONDEXPANSION" in base.prerequisites or any(may_list(known, one) for one in (text, *map(known.text_of, known.reached(text)))):
         return None
     return folders_asked(known, builder.names, node)
+
+
+def may_list(known: Macros, text: str) -> bool:
+    """Whether an `eval` of a text may look for names. It does not where it gives one macro a value in which nothing but what stands behind
+    `$$` has another value, as in `X = $(eval X := $$(shell ..))$(X)`, and where that names no `wildcard`."""
+    found = list(evals(text))
+    bodies = [text[one.start + 1:one.end] for one in found]
+    is_known = text.count("eval") == len(found) and not any(one.name == ANY or "$" in body.replace("$$", "") for one, body in zip(found, bodies))
+    inner = [body.replace("$$", "$") for body in bodies]
+    return not is_known or any("wildcard" in one for body in inner for one in (body, *map(known.text_of, known.reached(body))))
 
 
 def share_listings(builder: "Builder") -> None:
@@ -72,8 +82,9 @@ def words_asked(known: Macros, node: Node) -> Optional[List[str]]:
     calls = [call for one in texts for call in arguments(one)]
     if ANY in reached or sum(one.count("wildcard") for one in texts) > len(calls) or None in calls or BOUND.search("\n".join(texts)):
         return None
-    words = [word for call in calls for word in filled(call or "", node.name, base.values).split()]
-    if words and (base.scoped or known.changed) or any("$" in word or MAGIC.search(os.path.dirname(word)) for word in words):
+    own = [with_target(call or "", node.name) for call in calls]
+    words = [word for one in own for word in with_values(one, base.values).split()]
+    if any("$" in one for one in own) and (base.scoped or known.changed) or any("$" in word or MAGIC.search(os.path.dirname(word)) for word in words):
         return None
     return words
 
@@ -84,11 +95,15 @@ def folders_asked(known: Macros, names: Names, node: Node) -> Optional[Set[str]]
     return None if words is None else {names.find(known.make.folder, os.path.dirname(word) or ".", True).path for word in words}
 
 
-def filled(text: str, target: str, values: Dict[str, str]) -> str:
-    """A text of a target's recipe, with the macros that have a value in their places."""
+def with_target(text: str, target: str) -> str:
+    """A text of a target's recipe, with the target and its folder in their places."""
     text = re.sub(r"\$[({]@D[)}]", lambda _: os.path.dirname(target) or ".", text)
-    text = re.sub(r"\$(?:@|[({]@[)}])", lambda _: target, text)
-    return with_values(text, values)
+    return re.sub(r"\$(?:@|[({]@[)}])", lambda _: target, text)
+
+
+def filled(text: str, target: str, values: Dict[str, str]) -> str:
+    """The same, with the macros that have a value in their places too."""
+    return with_values(with_target(text, target), values)
 
 
 def libraries(builder: "Builder", node: Node) -> List[str]:

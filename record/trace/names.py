@@ -74,14 +74,21 @@ class Names:
         self.ends: Dict[str, Found] = {}  # by spelling, where it ends in a link: what was there; they hold as long
         self.before: Dict[str, str] = {}
         self.tops: List[str] = []
+        self.above = {"/tmp", "/var/tmp"}  # folders that are there before the build: those of the system, and those above the tops
+        self.absent: Set[str] = set()  # names outside of the walked folders that were not there
         self.modes: Dict[str, Set[str]] = {}  # folders that were made: with which modes
 
     def walk(self, top: str) -> None:
-        """Takes in the tree below a real path, as it is now."""
+        """Takes in the tree below a real path, as it is now. A folder that is not there yet is empty, and made by the build."""
+        self.tops.append(top)
+        above = [str(path) for path in Path(top).parents][::-1]
+        self.above.update(path for path in above if os.path.isdir(path))
+        if not os.path.isdir(top):
+            self.absent.add(next(path for path in [*above, top] if not os.path.isdir(path)))
+            return
         node = self.folder(top)
         files: Dict[Tuple[int, int], Inode] = {}
         todo = [(node, top)]
-        self.tops.append(top)
         self.before[top] = "d"
         while todo:
             node, path = todo.pop()
@@ -155,6 +162,8 @@ class Names:
 
     def ask(self, folder: Inode, name: str, path: str) -> Optional[Inode]:
         """What the disk has under a name, now in the model."""
+        if path in self.absent:
+            return None
         try:
             child = self.made_of(os.lstat(path), path, {})
         except OSError:

@@ -154,7 +154,7 @@ class Replay:
         if PROGRESS in path and life.traits().shows_progress:
             self.progress.append(path[:path.index(PROGRESS) + len(PROGRESS)])
             return
-        if kind in "WCDMTX" and path.rstrip("/") not in self.fresh and not self.is_inside(path):
+        if kind in "WCDMTX" and path.rstrip("/") not in self.fresh and not self.is_inside(path) and not (kind == "T" and path in self.names.above):
             self.outside[path.rstrip("/")] = None
         if life.is_make and life.number >= 0 or life.is_ninja and kind in "RU":
             life.acts.append(Act(self.place, kind, path, word))

@@ -10,6 +10,11 @@ def project(name: str) -> str:
     return "test_projects.Makefiles.test_" + name
 
 
+def tops(name: str) -> str:
+    """A test of another folder that the build works in."""
+    return "test_projects.Tops.test_" + name
+
+
 def makedirs(name: str) -> str:
     """A test of a Python program that makes folders."""
     return "test_projects.Makedirs.test_" + name
@@ -56,6 +61,21 @@ NUMBERS: List[Guard] = [
 PROJECT_GUARDS: List[Guard] = [
     *NUMBERS,
     *CONFIGURED_GUARDS,
+    Guard("folders: those above the project", "trace/names.py", "self.above.update(path for path in above if os.path.isdir(path))", "pass", project("folders_by_a_whole_path"), FALSE_RACE),
+    Guard("folders: those of the system", "trace/names.py", 'self.above = {"/tmp", "/var/tmp"}', "self.above: Set[str] = set()", project("folder_of_the_system_for_temporary_files"), FALSE_RACE),
+    Guard("folders: those above are not made", "trace/replay.py", ' and not (kind == "T" and path in self.names.above)', "", project("folders_by_a_whole_path")),
+    Guard("tops: those that are not there", "trace/names.py", "if not os.path.isdir(top):", "if False:", tops("that_is_not_there"), YES),
+    Guard("tops: what was not there", "trace/names.py", "if path in self.absent:", "if False:", tops("that_is_not_there"), YES),
+    Guard("ages: of targets without a recipe", "make/build.py", "self.ageless = unasked_ages(self)", "pass", project("age_of_a_target_without_a_recipe"), FALSE_RACE),
+    Guard("ages: all who need such a target", "make/fixed.py", "if all(one.label in found or is_remade(builder, one) for one in users[label])}", "if any(one.label in found or is_remade(builder, one) for one in users[label])}",
+          project("age_of_a_target_without_a_recipe_that_counts_for_one")),
+    Guard("ages: who needs such a target and was there", "make/fixed.py", "was_absent(builder, node, builder.of_node.get(node.label, -1))", "True", project("age_of_a_target_without_a_recipe_that_counts")),
+    Guard("ages: goals", "make/fixed.py", " and node.label not in graph.goals}", "}", project("age_of_a_target_without_a_recipe_that_is_a_goal"), YES),
+    Guard("lists of make: values that are worked out once", "make/memory.py", "any(may_list(known, one) for", 'any("eval" in one for', project("list_beside_a_value_that_is_worked_out_once"), FALSE_RACE),
+    Guard("lists of make: values of names", "make/memory.py", 'return not is_known or any("wildcard" in one', 'return not is_known or any(False and one', project("list_beside_a_value_of_names_by_a_macro")),
+    Guard("lists of make: values that are read", "make/memory.py", ' or "$" in body.replace("$$", "") for', " for", project("list_beside_a_value_that_is_read")),
+    Guard("lists of make: names of targets alone", "make/memory.py", 'if any("$" in one for one in own) and (base.scoped', "if words and (base.scoped", project("list_of_a_name_beside_a_macro_of_a_target"), FALSE_RACE),
+    Guard("lists of make: macros of a target", "make/memory.py", "(base.scoped or known.changed)", "known.changed", project("list_by_a_macro_beside_a_macro_of_a_target")),
     Guard("texts: macros that they set", "tools/listed.py", " or patterns_in(life, where)", "", shells("Makefiles.test_rules_of_automake_for_info"), FALSE_RACE),
     Guard("texts: folders of patterns", "tools/shellvalues.py", 'if not one.folder or not is_sure or fnmatchcase(where, "*/" + one.folder)', "if True", shells("Makefiles.test_rules_of_automake_for_info"), FALSE_RACE),
     Guard("texts: macros of the environment", "tools/shellvalues.py", "        if not any(is_set(one, word) for one in settings):\n            return None\n", "", shells("Makefiles.test_loop_over_names_of_the_environment"), YES, ("tools/shellvalues.py", "        if texts is None:\n            raise Unread\n", "")),

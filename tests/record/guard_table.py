@@ -141,7 +141,7 @@ GRAPH: List[Guard] = [
     Guard("decisions: ages that somebody asks for", "make/fixed.py", " or node.label in asked))", "))", small("age_that_somebody_asks_for"), YES),
     Guard("decisions: files that are replaced", "make/fixed.py", ' if kind in "CD"}', ' if kind in ""}', small("file_that_is_replaced"), YES),
     Guard("decisions: files that were not there", "make/fixed.py", 'builder.before.get(node.path) == "f" and node.path not in replaced', "True", case("no-rule"), YES),
-    Guard("decisions: cold targets depend on no age", "make/build.py", "is_cold = self.before.get(node.path) is None and", "is_cold = False and", small("folder_as_prerequisite_cold"), FALSE_RACE),
+    Guard("decisions: cold targets depend on no age", "make/build.py", "([] if was_absent(self, node, own) else", "([] if False else", small("folder_as_prerequisite_cold"), FALSE_RACE),
     Guard("decisions: order-only has no age", "make/build.py", "p not in only and self.graph", "self.graph", small("folder_behind_a_bar"), FALSE_RACE),
     Guard("looks of leaves", "make/build.py", "elif own >= 0 and self.is_leaf(node):", "elif False:", small("look_of_a_leaf"), FALSE_RACE),
     Guard("looks at links: what the first look led to", "make/build.py", "return [path for path, place in self.seen(node).items() if place < began] or [node.path]", "return [node.path]", small("link_to_a_file_that_was_there"), FALSE_RACE),

@@ -34,6 +34,8 @@ HIDDEN: Dict[str, Small] = {
     "pattern_of_a_loop_over_targets": Small("race", "F = $(wildcard $@)\nall: a b\na: ; touch d/n.c a\nb: ; echo $(foreach @,d/*.c,$(F)) > b\n", {"d/m.c": ""}),
     "pattern_of_a_rule_in_a_make_inside": Small("race", INNER % "echo n > d/n.c", {"d/k.c": "k", "in.mk": "out: d/*.c ; cat $^ > out\n"}),
     "pattern_of_a_rule_by_a_macro_inside": Small("race", INNER % "echo n > d/n.c", {"d/k.c": "k", "in.mk": "C = d/*.c\nout: $(C) ; cat $^ > out\n"}),
+    "pattern_of_a_rule_by_a_macro_of_other_names_inside": Small("safe", INNER % "echo n > d/n.h", {"d/k.c": "k", "in.mk": "C = d/*.c k.c\nP = d\nout: $(C) | $(P) ; cat $< > out\n", "k.c": ""}),
+    "pattern_of_a_rule_by_a_macro_of_two_values_inside": Small("race", INNER % "echo n > d/n.h", {"d/k.c": "k", "d/k.h": "k", "in.mk": "C = d/*.h\nout: $(C) ; cat $^ > out\nC = d/*.c\n"}),
     "pattern_of_other_names_inside": Small("safe", INNER % "echo n > d/n.h", {"d/k.c": "k", "in.mk": "C = d/*.c\nO := out\n$(O): d/*.c | d ; cat $^ > out\n"}),
     "pattern_of_an_include_in_a_make_inside": Small("race", INNER % "echo X = 1 > d/n.mk", {"d/k.mk": "Y = 1\n", "in.mk": "include d/*.mk\nout: ; echo $(X) > out\n"}),
     "makefile_that_a_make_inside_looks_for": Small("race", "all: in gen\ngen: ; printf 'all: ; echo 2 > out\\n' > s/makefile; touch gen\nin: ; $(MAKE) -C s; touch in\n", {"s/Makefile": "all: ; echo 1 > out\n"}),

@@ -7,7 +7,7 @@ from typing import Dict
 
 import support
 from record.tools.makedirs import forms_of
-from test_small import Small, test_of
+from test_small import OLD, Small, test_of
 
 PAIR = "all: x y\nx: ; mkdir -p out; touch x\ny: ; %s; touch y\n"
 
@@ -19,6 +19,12 @@ INNER = PERL + "D = ../b\n.PHONY: all dirs\nall: x\ndirs: $(D)$(DFSEP).exists\nx
 
 ABOVE = "all: sub\nsub: mk ; $(MAKE) -C in\nmk: ; umask 022; mkdir -m %d b; touch mk\n"
 MODES = "all: a c\na: ; chmod 755 ../b; touch a\nc: ; ls -d ../b > c\n"
+
+# A folder with a rule that has no recipe, as that of vim.
+OBJECTS = "all: prog\nprog: o o/a o/b%s ; cat o/a o/b > prog\no: o/.stamp\no/.stamp: ; mkdir -p o; touch o/.stamp\no/a o/b: o/.stamp ; echo $@ > $@\n"
+
+# Patterns that nobody knows, a folder that make lists while recipes run, and a macro that works out its value once: the makefile of git has these.
+ONCE = "V := $(wildcard e/$(shell echo \\*))\nX = $(eval X := %s)$(X)\nall: a d/z d/y\na d/z: ; touch $@\nd/y: d/y.s ; echo $(X)%s; cp d/y.s d/y\n"
 
 PROJECTS: Dict[str, Small] = {
     # `.exists` files of Perl's makefiles
@@ -44,6 +50,24 @@ PROJECTS: Dict[str, Small] = {
     "folder_asked_for_behind_its_use": Small("race", PAIR % "touch out/y; test -d out || mkdir -p out"),
     "folder_made_twice": Small("safe", PAIR % "mkdir -p out; touch out/y; mkdir -p out"),
     "folder_made_behind_its_use_and_waited_for": Small("safe", PAIR.replace("y: ;", "y: x ;") % "touch out/y; mkdir -p out"),
+    # folders above the project, and those of the system
+    "folders_by_a_whole_path": Small("safe", "all: x y\nx: ; mkdir -p $(CURDIR)/d/e; touch x\ny: ; touch $(CURDIR)/y\n", lacks="outside of the project"),
+    "folder_beside_the_project": Small("race", "all: x y\nx: ; mkdir -p ../d/e; touch x\ny: ; touch ../d/y 2> /dev/null; touch y\n"),
+    "folder_of_the_system_for_temporary_files": Small("safe", "all: x y\nx: ; d=/tmp/race-test-$$$$; mkdir -p $$d/e; rmdir $$d/e $$d; touch x\ny: ; rm `mktemp /tmp/race-test-XXXXXX`; touch y\n", below="/dev/shm"),
+    # folders that make lists
+    "list_beside_a_value_that_is_worked_out_once": Small("safe", ONCE % ("$$(shell echo one)", ""), {"d/y.s": "s", "e/k": "k"}),
+    "list_beside_a_value_of_names": Small("race", ONCE % ("$$(wildcard d/*)", ""), {"d/y.s": "s", "e/k": "k"}),
+    "list_beside_a_value_of_names_by_a_macro": Small("race", "L = $(wildcard d/*)\n" + ONCE % ("$$(L)", ""), {"d/y.s": "s", "e/k": "k"}),
+    "list_beside_a_value_that_is_read": Small("race", ONCE % ("$(shell cat f)", ""), {"d/y.s": "s", "e/k": "k", "f": "$(wildcard d/*)\n"}),
+    "list_of_a_name_beside_a_macro_of_a_target": Small("safe", "x: W = 1\n" + ONCE % ("$$(shell echo one)", "$(wildcard $(@D))"), {"d/y.s": "s", "e/k": "k"}),
+    "list_by_a_macro_beside_a_macro_of_a_target": Small("race", "d/y: F = d\nF = e\n" + ONCE % ("$$(shell echo one)", "$(wildcard $F/*)"), {"d/y.s": "s", "e/k": "k"}),
+    # ages of targets whose rule has no recipe
+    "age_of_a_target_without_a_recipe": Small("safe", OBJECTS % ""),
+    "age_of_a_target_without_a_recipe_by_way_of_another": Small("safe", OBJECTS.replace("prog: o ", "prog: p ") % "" + "p: o\n"),
+    "age_of_a_target_without_a_recipe_that_counts": Small("race", OBJECTS % "", {"prog": ""}, OLD + "prog"),
+    "age_of_a_target_without_a_recipe_that_counts_for_one": Small("race", OBJECTS % "" + "all: old\nold: o o/a o/b ; touch old\n", {"old": ""}, OLD + "old"),
+    "age_of_a_target_without_a_recipe_that_counts_by_an_intermediate_one": Small("race", OBJECTS % "" + "all: old\nold: mid ; touch old\nmid: o ; touch mid\n.INTERMEDIATE: mid\n", {"old": ""}, OLD + "old"),
+    "age_of_a_target_without_a_recipe_that_is_a_goal": Small("race", "all: ; $(MAKE) -f in.mk o prog\n", {"in.mk": OBJECTS % ""}),
 }
 
 MAKER = "import os, sys\nout = sys.argv[1]\n%s\nopen(out, 'w').write('x')\n"
@@ -112,6 +136,28 @@ class Makedirs(unittest.TestCase):
         makefile = "all: x y\nx y: ; python3 -S t/$@.py > $@; echo > t/$@.py\n"
         with support.Project({"Makefile": makefile, "t/x.py": script, "t/y.py": script}) as project:
             self.assertEqual(1, project.record().status)
+
+
+class Tops(unittest.TestCase):
+    """Another folder that the build works in."""
+
+    def of(self, status: int, makefile: str, top: str, setup: str = ":") -> None:
+        with support.Project({"Makefile": makefile}) as project:
+            project.sh(setup)
+            outcome = project.record(options=["--top", top])
+            self.assertEqual(status, outcome.status, outcome.text())
+
+    def test_that_is_not_there(self) -> None:
+        used = "all: x y\nx: ; mkdir -p ../out/d; touch x\ny:%s ; touch ../out/y; touch y\n"
+        self.of(1, used % "", "../out")
+        self.of(1, used % "", "../out/d")
+        self.of(0, used % " x", "../out")
+        self.of(1, "all: y x\nx: ; mkdir -p ../out; touch x\ny: ; touch ../out/y 2> /dev/null || echo no > y; touch y\n", "../out")
+        self.of(0, used % "", "../out", "mkdir ../out")
+
+    def test_in_which_a_target_is_cold(self) -> None:
+        self.of(0, "all: ../out/x\n../out/x: ; mkdir -p ../out; touch ../out/x\n", "../out")
+        self.of(2, "all: ../out/x\n../out/x: ; touch ../out/x\n", "../out", "mkdir ../out; touch ../out/x")
 
 
 class Makefiles(unittest.TestCase):
