@@ -153,6 +153,14 @@ class Calls(Processes):
                 self.past.append(" ".join(life.argv)[:200])
         self.look(life, words[0], True, True, "R")
         self.look_at_interpreters(life, words[0])
+        self.note_handed(life)
+
+    def note_handed(self, life: Life) -> None:
+        """A program may ask how old a file is that a shell has opened for it, and no call names that."""
+        traits = life.traits()
+        is_asked = traits.asks_input or not traits.is_interpreter and self.is_unknown(life)
+        for path in life.handed() if is_asked else ():
+            self.put(life, "A" if traits.asks_input or self.ages(life) else "a", path)
 
     def first_words(self, path: str) -> List[str]:
         """The words of a script's first line, read once: the build has ended."""
@@ -216,6 +224,8 @@ class Calls(Processes):
                 return  # a pipe, a terminal or the like
             base, path = "", call.opened
         changes = changes or call.name == "creat"
+        if not ok and "RESOLVE_IN_ROOT" in call.args:
+            self.holes.append("files that are opened after openat2 (RESOLVE_IN_ROOT) are not seen: " + " ".join(life.argv)[:100])
         if not path:
             return
         if "O_TMPFILE" in flags:  # a file without a name, in a folder that must be there
@@ -230,6 +240,8 @@ class Calls(Processes):
         if call.opened.startswith("/") and call.opened != found.path and not DEVICES.match(call.opened):
             self.holes.append("a name leads to another file than the record says: %s is %s, and not %s" % (path, call.opened, found.path))
         life.handle = (call.result, found.path) if "O_PATH" in flags else (-1, "")
+        if "O_TRUNC" not in flags and life.traits().is_shell and path != shelltext.script_of(life.argv):
+            life.opened.add(found.path)
         if not changes:
             self.on_read(life, found)
             return
@@ -307,6 +319,8 @@ class Calls(Processes):
             self.put(life, "C", found.path + "/")
         elif call.error == "EEXIST":
             self.put(life, "T" if quiet else "E", found.path)
+            if found.inode is None or found.inode.kind != "d":
+                self.put_look(life, found, True, "S")  # a file, or a link, has the name
         if ok or call.error == "EEXIST":
             mode = MODE.search(call.args)
             given = "%o" % (int(mode.group(1), 8) & ~life.mask if mode else -1)

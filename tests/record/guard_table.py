@@ -251,7 +251,7 @@ UNFILED: List[Guard] = [
     Guard("ages: all words", "trace/replay.py", "[life.folder, *life.argv]", "[life.folder, *life.argv[:8]]", small("ages_by_a_late_word"), YES),
     Guard("ages: two names", "make/ages.py", "if first != second and at not in", "if at not in", small("age_of_a_folder_and_a_source"), FALSE_RACE),
     Guard("ages: a script from standard input", "tools/shelltext.py", "if base_name(argv) in SHELLS and not text and not script:", "if False:", small("ages_by_a_script_from_standard_input"), YES),
-    Guard("folders: errors that are kept", "tools/shelltext.py", 'if "/dev/null" in m.group() or not KEPT_ERRORS.search(NOWHERE.sub(" ", text))', "", small("folder_made_or_true_and_said"), YES),
+    Guard("folders: errors that are kept", "tools/shelltext.py", 'not in m.groupdict() or KEPT_ERRORS.search(NOWHERE.sub(" ", text)))', "not in m.groupdict())", small("folder_made_or_true_and_said"), YES),
     Guard("folders: the one that is made", "tools/shelltext.py", "for m in found if makes_it(m)", "for m in found", small("folder_tested_and_another_made"), YES),
     Guard("folders: one below it is made", "tools/shelltext.py", "startswith(os.path.normpath(form.group(\"d\").strip(\"'\\\"\")) + \"/\")", "endswith(os.path.normpath(form.group(\"d\").strip(\"'\\\"\")) + \"/\")",
           small("folder_tested_and_one_below_made"), FALSE_RACE),
