@@ -43,8 +43,10 @@ def note_sources(builder: "Builder") -> None:
     """Which names take over the age of which others: a file that is moved or linked, and one whose time a program sets, as `cp -p`
     and `touch -r` do, from what it looked at. An archive keeps the ages of what was put in."""
     for at in range(len(builder.build.tasks)):
-        for life in (life for _, work in works_of(builder, at) for life in work.lives):
-            names = {path for kind, path in life.events if kind in "RS"} | (life.handed() if any(kind == "c" for kind, _ in life.events) else set())
+        works = works_of(builder, at)
+        shown = {path for _, work in works for kind, path in work.events if kind == "A"}  # by words of another program, such as `stat`
+        for life in (life for _, work in works for life in work.lives):
+            names = {path for kind, path in life.events if kind in "RS"} | (life.handed() | shown if any(kind == "c" for kind, _ in life.events) else set())
             looked = {path for path in names if path in builder.build.writers or path in builder.timers}
             packs = any(shelltext.base_name(argv) in PACKERS for argv in life.ran)
             for kind, path in life.events:

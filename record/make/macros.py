@@ -122,6 +122,10 @@ class Use:
     writes: Set[str] = field(default_factory=set)
     keeps: Set[str] = field(default_factory=set)  # macros that work out their value when it is first asked for
 
+    def joined(self, other: "Use") -> "Use":
+        """What both do."""
+        return Use(self.reads | other.reads, self.writes | other.writes, self.keeps | other.keeps)
+
 
 @lru_cache(8)
 def assigned_in(text: str) -> List[Tuple[str, str]]:
@@ -249,6 +253,18 @@ class Macros:
         return found
 
 
+    def implied(self) -> Use:
+        """What each recipe does without a word: make works out the macros that it exports, and those that it reads itself, for each of them."""
+        setting = {name for name, texts in self.texts.items() if any(EVAL.search(one) for one in texts)}
+        names = {name for name in self.reaching(setting) if self.is_exported(name)} if setting else set()
+        return self.use("".join("$(%s)" % name for name in sorted(names))) if names else Use()
+
+    def set_by_expansion(self) -> Set[str]:
+        """The macros that the prerequisites of implicit rules set where make expands them a second time."""
+        text = with_functions(" ".join(word for _, asked in self.base.patterns for word in asked))
+        return {one.name for part in (text, *map(self.text_of, self.reached(text))) for one in evals(part)}
+
+
 def text_of(path: str) -> str:
     """A makefile's text; nothing where it is gone."""
     try:
@@ -262,7 +278,8 @@ def uses(macros: Macros) -> Dict[str, Use]:
     base = macros.base
     if not macros.is_used:
         return {}
-    found = {name: macros.use("\n".join(lines)) for name, lines in base.recipes.items()}
+    implied = macros.implied()
+    found = {name: macros.use("\n".join(lines)).joined(implied) for name, lines in base.recipes.items()}
     changed = macros.changed = {name for use in found.values() for name in use.writes}
     exported = {name for name in changed if name != ANY and macros.is_exported(name)}
     exported |= {one.name for lines in base.recipes.values() for one in evals(with_functions("\n".join(lines))) if one.is_exported}

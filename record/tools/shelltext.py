@@ -333,7 +333,7 @@ def compares_ages(argv: List[str], folder: str) -> bool:
     if base_name(argv) in SHELLS and not text and not script:
         return True  # its script comes from standard input, and nobody can read it
     if script and "libtool" not in script:
-        return script_compares(os.path.join(folder, script), folder)
+        return script_compares(os.path.join(folder, script), folder) or bool(AGES.search(" ".join(argv[1:]) + " "))
     return bool(AGES.search(" ".join(argv) + " ")) or bool(TAKES_IN.search(text))
 
 
@@ -392,4 +392,5 @@ class Traits:
         self.asks_input = base_name(argv) == "stat" and "-" in argv[1:]
         self.is_shell = base_name(argv) in SHELLS
         self.shows_progress = shows_progress(argv)
+        self.is_open: Optional[bool] = None  # whether it is a shell that runs what does not stand in its text, as far as that was asked
         self.ages: Optional[bool] = None  # whether it compares ages, as far as that was asked

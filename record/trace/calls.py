@@ -6,6 +6,7 @@ from typing import Callable, Dict, List, Tuple
 
 from record.make.copies import is_other_make
 from record.tools import listed, shelltext
+from record.tools.computed import runs_unseen
 from record.trace.arguments import TEXT_END, opening, spelled
 from record.trace.lives import Life
 from record.trace.loader import interpreter_words
@@ -107,7 +108,10 @@ class Calls(Processes):
 
     def is_unknown(self, life: Life) -> bool:
         """Whether nobody knows if a program compares the ages of what it looks at, or of what it has opened."""
-        return not life.is_make and (not life.traits().is_ageless or self.is_inside(life.program))
+        traits = life.traits()
+        if traits.is_shell and traits.is_open is None:
+            traits.is_open = runs_unseen(life.argv, life.folder)
+        return not life.is_make and (not traits.is_ageless or bool(traits.is_open) or self.is_inside(life.program))
 
     @staticmethod
     def is_own(life: Life, path: str, found: Found) -> bool:
@@ -158,7 +162,7 @@ class Calls(Processes):
     def note_handed(self, life: Life) -> None:
         """A program may ask how old a file is that a shell has opened for it, and no call names that."""
         traits = life.traits()
-        is_asked = traits.asks_input or not traits.is_interpreter and self.is_unknown(life)
+        is_asked = traits.asks_input or not traits.is_interpreter and not traits.is_shell and self.is_unknown(life)
         for path in life.handed() if is_asked else ():
             self.put(life, "A" if traits.asks_input or self.ages(life) else "a", path)
 

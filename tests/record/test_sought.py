@@ -4,7 +4,7 @@ them, and what makes inside recipes print with several jobs alone."""
 import unittest
 from typing import Dict
 
-from test_small import Small, test_of
+from test_small import COMMANDS, Small, test_of
 
 SET = "all: s a b\ns: ; touch s\na: s ; %s\nb: ; %s\n"
 SETS = "$(eval X := set)touch a"
@@ -12,6 +12,9 @@ PAIR = "all: c\na: ; touch a\nb: ; touch b\nc: a b ; %s\n"
 LINES = "define text\ndefine $(1)_run\n$$(eval X := set)\ntouch $(1)\nendef\nendef\n$(eval $(call text,a))\n"
 KEEPS = "all: ; %s -s -f in.mk %s\n"
 TWO = "all: a b\na b: ; @%s; touch $@\n"
+LATE = ".SECONDEXPANSION:\nall: a b.o\na: s ; echo '%s' > a\ns: ; touch s\n%%.o: %%.c $$(call set,$$*) ; cp $< $@\nset = $(eval X := $1)\n"
+UNKNOWN = "programs that nobody knows look at two files"
+NINJA = "rule t\n  command = touch $out\nrule l\n  command = cut -f4 .ninja_log > $out\nbuild a: t\nbuild b: l%s\n"
 IN_ROOT = """#define _GNU_SOURCE
 #include <fcntl.h>
 #include <linux/openat2.h>
@@ -40,6 +43,11 @@ SOUGHT: Dict[str, Small] = {
     "macro_of_a_target_by_a_computed_text": Small("race", "T := a: R = $$(EVAL X := set)touch a\n$(eval $(subst EVAL,eval,$(T)))\n" + SET % ("$(R)", "echo '$(X)' > b")),
     "macro_that_eval_reads": Small("race", SET % (SETS, "$(eval Y := $$(X))echo '$(Y)' > b")),
     "macro_that_eval_reads_in_order": Small("safe", "all: s a b\ns: ; touch s\na: s ; $(eval X := set)touch a\nb: a ; $(eval Y := $$(X))echo '$(Y)' > b\n"),
+    "macro_that_an_exported_one_sets": Small("race", "export V = $(eval N := $(N)x)$(N)\n" + SET % ("echo $$V > a", "echo $$V > b")),
+    "macro_that_an_exported_one_keeps": Small("safe", "export V = $(eval V := $$(shell echo 1))$(V)\n" + SET % ("echo $$V > a", "echo $$V > b")),
+    "macro_that_the_flags_of_the_shell_set": Small("race", ".SHELLFLAGS = $(eval N := $(N)x)-c\n" + SET % ("echo '$(N)' > a", "echo '$(N)' > b")),
+    "macro_that_a_second_expansion_sets": Small("no verdict", LATE % "$(X)", {"b.c": "c"}, says="make expands prerequisites a second time"),
+    "macro_that_a_second_expansion_sets_for_nobody": Small("safe", LATE % "$(Y)", {"b.c": "c"}),
     # ages of files that somebody else has opened
     "age_of_a_file_that_is_open": Small("race", PAIR % "exec 3< a; if test /dev/fd/3 -nt b; then echo newer; fi > c"),
     "age_of_standard_input": Small("race", PAIR % "stat -c %Y - < a > c; stat -c %Y b >> c"),
@@ -47,6 +55,16 @@ SOUGHT: Dict[str, Small] = {
     "age_that_touch_takes_of_standard_input": Small("race", "all: d\na: ; touch a\nb: ; touch b\nc: a b ; touch c; touch -r /dev/stdin c < a\nd: c ; test c -nt b; touch d\n"),
     "age_of_what_an_unknown_program_has_open": Small("safe", PAIR % "./p b < a > c", {}, "cp /bin/cat p", says="programs that nobody knows look at two files"),
     "input_beside_ages": Small("safe", PAIR % "find b -newer k < a > c", {"k": "k"}),
+    "age_that_touch_takes_of_a_text": Small("race", "all: d\na: ; touch a\nb: ; touch b\nc: a b ; touch -d \"`stat -c %y a`\" c\nd: c ; test c -nt b || true; touch d\n"),
+    # ages that a shell compares by commands that do not stand in its text
+    "ages_by_words_of_a_script": Small("race", PAIR % "sh s test a -nt b; touch c", {"s": '"$@" || true\n'}),
+    "ages_by_words_that_are_read": Small("safe", PAIR % "read x < t; $$x; touch c", {"t": "test a -nt b\n"}, says=UNKNOWN),
+    "ages_by_words_that_a_script_reads": Small("safe", PAIR % "sh s; touch c", {"s": "while read x; do $x; done < t\n", "t": "test a -nt b\n"}, says=UNKNOWN),
+    "ages_by_a_text_that_a_script_holds": Small("safe", PAIR % "sh s; touch c", {"s": 'x=`cat t`; eval "$x"\n', "t": "test a -nt b\n"}, says=UNKNOWN),
+    "ages_by_a_script_behind_a_bracket": Small("safe", PAIR % "sh s; touch c", {"s": "case x in\nx) . ./t;;\nesac\n", "t": "test a -nt b || true\n"}, says=UNKNOWN),
+    "ages_by_a_script_in_a_script": Small("safe", PAIR % "sh s; touch c", {"s": ". ./t\n", "t": "read w < u\n$w || true\n", "u": "test a -nt b\n"}, says=UNKNOWN),
+    "looks_of_a_script": Small("safe", PAIR % "sh s; touch c", {"s": "for f in a b; do test -f $f && cat $f; done > /dev/null\n"}, lacks=UNKNOWN),
+    "looks_of_a_script_of_automake": Small("safe", PAIR % "sh ./depcomp test -f a -a -f b; touch c", {"depcomp": "scriptversion=1\n\"$@\"\n"}, lacks=UNKNOWN),
     "ages_by_du": Small("race", PAIR % "du --time a b > c"),
     "ages_by_ar": Small("race", "all: c\nl.a: ; touch x; ar rcU l.a x; rm x\nb: ; touch b\nc: l.a b ; mv b x; ar ruU l.a x; touch c\n"),
     "ages_by_ar_of_new_members": Small("safe", "all: c\nx y z: ; touch $@\nl.a: x ; ar cru l.a x 2> /dev/null\nc: l.a y z ; ar ru l.a y z 2> /dev/null; touch c\n"),
@@ -65,9 +83,13 @@ SOUGHT: Dict[str, Small] = {
     "make_that_groups_what_it_prints": Small("safe", KEEPS % ("$(MAKE) -O", "> log"), {"in.mk": "all: ; @echo x\n"}, says="a make inside of a recipe, whose"),
     "make_with_jobs_that_keeps_errors": Small("safe", KEEPS % ("$(MAKE)", "2> log"), {"in.mk": "all: ; touch x\n"}, lacks="a make inside of a recipe, whose"),
     "make_without_jobs": Small("safe", KEEPS % ("make", "> log"), {"in.mk": "all: ; @touch x\n"}, lacks="a make inside of a recipe, whose"),
+    # what ninja writes when a command has ended
+    "log_of_ninja": Small("race", "", {"build.ninja": NINJA % ""}),
+    "log_of_ninja_that_is_waited_for": Small("safe", "", {"build.ninja": NINJA % " | a"}),
     # names below another root
     "name_below_another_root": Small("no verdict", "all: b a\na: ; echo 1 > d/x; touch a\nb: ; ./o || touch b\n", {"d/k": "k", "o.c": IN_ROOT}, "cc -o o o.c", says="RESOLVE_IN_ROOT"),
 }
+COMMANDS.update(log_of_ninja=["ninja"], log_of_ninja_that_is_waited_for=["ninja"])
 
 
 class Makefiles(unittest.TestCase):
