@@ -103,7 +103,7 @@ def says_jobs(owners: Owners, make: Make) -> bool:
     words, chain = make.words, list(make.life.up())
     if GROUPS.search(words.args + " " + words.flags) and words.output:
         return True
-    if not words.keeps_errors or not (words.below or make.is_called):
+    if not words.kept_errors or not (words.below or make.is_called):
         return False
     caller, above = next(((life, up) for life, up in zip(chain, chain[1:]) if up.is_make), (make.life, None))
     outer, job = owners.of_life.get(id(above)), owners.jobs.get(id(caller))

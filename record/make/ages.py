@@ -44,7 +44,8 @@ def note_sources(builder: "Builder") -> None:
     and `touch -r` do, from what it looked at. An archive keeps the ages of what was put in."""
     for at in range(len(builder.build.tasks)):
         works = works_of(builder, at)
-        shown = {path for _, work in works for kind, path in work.events if kind == "A"}  # by words of another program, such as `stat`
+        showing = (life for _, work in works for life in work.lives if any(map(shelltext.shows_ages, life.ran)))
+        shown = {path for life in showing for kind, path in life.events if kind == "A"}  # a time may come from such a program, as a word
         for life in (life for _, work in works for life in work.lives):
             names = {path for kind, path in life.events if kind in "RS"} | (life.handed() | shown if any(kind == "c" for kind, _ in life.events) else set())
             looked = {path for path in names if path in builder.build.writers or path in builder.timers}

@@ -55,10 +55,19 @@ class Makers(NamedTuple):
 def excused(builder: "Builder", at: int, folder: str) -> bool:
     """Whether a recipe makes a folder in a quiet form, which does not show who was first."""
     lives = [life for work in builder.build.tasks[at].works for life in work.lives]
-    is_kept = builder.build.tool == "make" and builder.make.words.keeps_errors  # then it counts who makes the folder second and says so
-    if not is_kept and is_ignored(builder, at, folder):
+    kept = builder.make.words.kept_errors if builder.build.tool == "make" else ""
+    if makes_quietly(lives, folder, bool(kept)) or not kept and is_ignored(builder, at, folder):
         return True
-    return any(is_quiet(argv, folder, is_kept) and not keeps_errors(life, argv) for life in lives for argv in life.ran) and all(is_of_form(life, folder, is_kept) for life in lives)
+    found = kept == "pipe" and (makes_quietly(lives, folder, False) or is_ignored(builder, at, folder))
+    if found:  # who comes second says so, to a program
+        builder.assumed.add("output", "make " + builder.make.words.args)
+    return found
+
+
+def makes_quietly(lives: List[Life], folder: str, is_kept: bool) -> bool:
+    """Whether the processes of a recipe make a folder in a quiet form. `is_kept`: a make above keeps their errors."""
+    found = any(is_quiet(argv, folder, is_kept) and not keeps_errors(life, argv) for life in lives for argv in life.ran)
+    return found and all(is_of_form(life, folder, is_kept) for life in lives)
 
 
 def is_quiet(argv: List[str], folder: str, is_kept: bool) -> bool:

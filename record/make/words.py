@@ -98,9 +98,9 @@ class Words:
     holes: List[str] = field(default_factory=list)
 
     @property
-    def keeps_errors(self) -> bool:
-        """Whether its errors, and those of its recipes, go to a file or to another program."""
-        return bool(self.errors or self.is_joined and self.output)
+    def kept_errors(self) -> str:
+        """Where its errors go, and those of its recipes: `file`, `pipe`, or nothing."""
+        return self.output if self.is_joined else self.errors
 
     def values(self) -> Dict[str, str]:
         """The macros of its data bases; one that differs between them may be anything."""

@@ -119,7 +119,7 @@ FOLDERS: List[Guard] = [
     Guard("folders: quiet makers do not", "trace/calls.py", "quiet = shelltext.is_quiet_mkdir(life.argv)\n", "quiet = False\n", case("folder-mkdir-p"), FALSE_RACE),
     Guard("folders: mkdir -v is not quiet", "tools/shelltext.py", "return not loud and any(w == \"--parents\"", "return any(w == \"--parents\"", case("folder-mkdir-v"), YES),
     Guard("folders: mkdir || true", "make/folders.py", "        if excused(builder, at, path):\n            folder.strict.discard(at)", "        if False:\n            folder.strict.discard(at)", small("folder_made_or_true"), FALSE_RACE),
-    Guard("folders: lines that may fail", "make/folders.py", "    if is_ignored(builder, at, folder):\n        return True\n", "", small("folder_made_by_a_line_that_may_fail"), FALSE_RACE),
+    Guard("folders: lines that may fail", "make/folders.py", " or not kept and is_ignored(builder, at, folder)", "", small("folder_made_by_a_line_that_may_fail"), FALSE_RACE),
     Guard("folders: lines that may not fail", "make/folders.py", "for line in heeded)", "for line in ())", small("folder_made_by_a_line_that_may_not_fail"), YES),
     Guard("folders: test -d || mkdir", "make/folders.py", "(at in folder.scripts or excused(builder, at, path))", "at in folder.scripts", small("folder_tested_or_made"), FALSE_RACE),
     Guard("folders: a user needs a maker", "make/folders.py", "            seen(builder, path, at, makers)\n    for at in makers:", "            pass\n    for at in makers:", case("folder-forgotten"), YES),

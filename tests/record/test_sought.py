@@ -45,6 +45,7 @@ SOUGHT: Dict[str, Small] = {
     "macro_that_eval_reads_in_order": Small("safe", "all: s a b\ns: ; touch s\na: s ; $(eval X := set)touch a\nb: a ; $(eval Y := $$(X))echo '$(Y)' > b\n"),
     "macro_that_an_exported_one_sets": Small("race", "export V = $(eval N := $(N)x)$(N)\n" + SET % ("echo $$V > a", "echo $$V > b")),
     "macro_that_an_exported_one_keeps": Small("safe", "export V = $(eval V := $$(shell echo 1))$(V)\n" + SET % ("echo $$V > a", "echo $$V > b")),
+    "macros_that_set_others_in_a_script": Small("safe", "set = $(eval $1 := 1)\n$(call set,X)\n" + SET % ("echo '$(X)' > a", "echo '$(X)' > b"), {"build.sh": "make all\n"}),
     "macro_that_the_flags_of_the_shell_set": Small("race", ".SHELLFLAGS = $(eval N := $(N)x)-c\n" + SET % ("echo '$(N)' > a", "echo '$(N)' > b")),
     "macro_that_a_second_expansion_sets": Small("no verdict", LATE % "$(X)", {"b.c": "c"}, says="make expands prerequisites a second time"),
     "macro_that_a_second_expansion_sets_for_nobody": Small("safe", LATE % "$(Y)", {"b.c": "c"}),
@@ -56,6 +57,7 @@ SOUGHT: Dict[str, Small] = {
     "age_of_what_an_unknown_program_has_open": Small("safe", PAIR % "./p b < a > c", {}, "cp /bin/cat p", says="programs that nobody knows look at two files"),
     "input_beside_ages": Small("safe", PAIR % "find b -newer k < a > c", {"k": "k"}),
     "age_that_touch_takes_of_a_text": Small("race", "all: d\na: ; touch a\nb: ; touch b\nc: a b ; touch -d \"`stat -c %y a`\" c\nd: c ; test c -nt b || true; touch d\n"),
+    "age_beside_a_script_that_looks": Small("safe", "all: d\na: ; touch a\nb: ; touch b\nc: a b ; python3 p.py; cp -p k c\nd: c ; test c -nt b || true; touch d\n", {"k": "k", "p.py": "import os\nos.stat('a')\n"}),
     # ages that a shell compares by commands that do not stand in its text
     "ages_by_words_of_a_script": Small("race", PAIR % "sh s test a -nt b; touch c", {"s": '"$@" || true\n'}),
     "ages_by_words_that_are_read": Small("safe", PAIR % "read x < t; $$x; touch c", {"t": "test a -nt b\n"}, says=UNKNOWN),
@@ -76,6 +78,7 @@ SOUGHT: Dict[str, Small] = {
     "folder_made_or_true_in_a_make_with_errors": Small("race", KEEPS % ("$(MAKE)", "> log 2>&1"), {"in.mk": TWO % "mkdir d || true"}),
     "folder_made_by_a_line_in_a_make_with_errors": Small("race", KEEPS % ("$(MAKE)", "2> log"), {"in.mk": "all: a b\na b:\n\t@-mkdir d\n\t@touch $@\n"}),
     "folder_made_or_true_in_a_make_with_output": Small("safe", KEEPS % ("$(MAKE)", "> log"), {"in.mk": TWO % "mkdir d || true"}),
+    "folder_made_or_true_in_a_make_for_a_program": Small("safe", KEEPS % ("$(MAKE)", "2>&1 | cat > log"), {"in.mk": TWO % "mkdir d || true"}, says="goes to another program"),
     "folder_tested_or_made_in_a_make_with_errors": Small("safe", KEEPS % ("$(MAKE)", "> log 2>&1"), {"in.mk": TWO % "test -d d || mkdir -p d"}),
     # what makes print with several jobs alone
     "make_without_jobs_that_keeps_errors": Small("safe", KEEPS % ("make", "2> log"), {"in.mk": "all: ; touch x\n"}, says="a make inside of a recipe, whose"),
@@ -89,7 +92,7 @@ SOUGHT: Dict[str, Small] = {
     # names below another root
     "name_below_another_root": Small("no verdict", "all: b a\na: ; echo 1 > d/x; touch a\nb: ; ./o || touch b\n", {"d/k": "k", "o.c": IN_ROOT}, "cc -o o o.c", says="RESOLVE_IN_ROOT"),
 }
-COMMANDS.update(log_of_ninja=["ninja"], log_of_ninja_that_is_waited_for=["ninja"])
+COMMANDS.update(macros_that_set_others_in_a_script=["sh", "build.sh"], log_of_ninja=["ninja"], log_of_ninja_that_is_waited_for=["ninja"])
 
 
 class Makefiles(unittest.TestCase):
