@@ -28,7 +28,7 @@ TIMES = {"utime", "utimes", "utimensat", "futimesat", "utimensat_time64"}
 OF_PROCESS = re.compile(r"/proc/(?:(\d+)/|loadavg$)")
 SHARING = {"shmget", "semget", "msgget", "mq_open", "add_key", "request_key"}
 SOCKET = re.compile(r'sun_path="((?:[^"\\]|\\.)*)"')
-HIDING = {"chroot", "pivot_root", "mount", "move_mount", "umount", "umount2", "setns", "open_by_handle_at", "io_uring_setup"}
+HIDING = {"chroot", "pivot_root", "mount", "move_mount", "umount", "umount2", "setns", "open_by_handle_at", "io_uring_setup", "pidfd_getfd"}
 OF_WRAPPER = {"execve", *MAKES_PROCESS}  # what counts of the recorder's own wrapper
 SCRIPTS = 5  # how many scripts may be the interpreter of one another; the kernel allows no more
 BY_NUMBER = {"fchmod", "fchown", "fchown32", "ftruncate", "ftruncate64", "fsetxattr", "fremovexattr"}
@@ -308,7 +308,7 @@ class Calls(Processes):
     def on_mkdir(self, life: Life, call: Call, ok: bool) -> None:
         base, path = self.base_and_path(life, call)
         found = self.found(life, path.rstrip("/") or "/", False, base)
-        quiet = shelltext.is_quiet_mkdir(life.argv)
+        quiet = shelltext.is_quiet_mkdir(life.argv) and not self.is_inside(life.program)
         script = next((up.argv for up in life.up() if not up.is_make and shelltext.makes(up.argv, found.path)), [])
         if script and not quiet:
             self.makers.append(" ".join(script)[:60])

@@ -1,9 +1,12 @@
 """Small makefiles with macros that make sets by the way, files that a shell has opened for others, folders of which something shows who made
 them, and what makes inside recipes print with several jobs alone."""
 
+import os
 import unittest
 from typing import Dict
 
+from record.trace.names import Names, mount_points
+from test_replay import played
 from test_small import COMMANDS, Small, test_of
 
 SET = "all: s a b\ns: ; touch s\na: s ; %s\nb: ; %s\n"
@@ -15,6 +18,10 @@ TWO = "all: a b\na b: ; @%s; touch $@\n"
 LATE = ".SECONDEXPANSION:\nall: a b.o\na: s ; echo '%s' > a\ns: ; touch s\n%%.o: %%.c $$(call set,$$*) ; cp $< $@\nset = $(eval X := $1)\n"
 UNKNOWN = "programs that nobody knows look at two files"
 NINJA = "rule t\n  command = touch $out\nrule l\n  command = cut -f4 .ninja_log > $out\nbuild a: t\nbuild b: l%s\n"
+MAKES = """#include <stdio.h>
+#include <sys/stat.h>
+int main(void) { return puts(mkdir("d", 0777) ? "second" : "first") < 0; }
+"""
 IN_ROOT = """#define _GNU_SOURCE
 #include <fcntl.h>
 #include <linux/openat2.h>
@@ -79,6 +86,7 @@ SOUGHT: Dict[str, Small] = {
     "folder_made_by_a_line_in_a_make_with_errors": Small("race", KEEPS % ("$(MAKE)", "2> log"), {"in.mk": "all: a b\na b:\n\t@-mkdir d\n\t@touch $@\n"}),
     "folder_made_or_true_in_a_make_with_output": Small("safe", KEEPS % ("$(MAKE)", "> log"), {"in.mk": TWO % "mkdir d || true"}),
     "folder_made_or_true_in_a_make_for_a_program": Small("safe", KEEPS % ("$(MAKE)", "2>&1 | cat > log"), {"in.mk": TWO % "mkdir d || true"}, says="goes to another program"),
+    "folder_made_by_a_program_of_the_project": Small("race", "all: a b\na b: ; ./mkdir -p d > $@\n", {"o.c": MAKES}, "cc -o mkdir o.c"),
     "folder_tested_or_made_in_a_make_with_errors": Small("safe", KEEPS % ("$(MAKE)", "> log 2>&1"), {"in.mk": TWO % "test -d d || mkdir -p d"}),
     # what makes print with several jobs alone
     "make_without_jobs_that_keeps_errors": Small("safe", KEEPS % ("make", "2> log"), {"in.mk": "all: ; touch x\n"}, says="a make inside of a recipe, whose"),
@@ -101,6 +109,23 @@ class Makefiles(unittest.TestCase):
 
 for key, one in SOUGHT.items():
     setattr(Makefiles, "test_" + key, test_of(key, one))
+
+
+class Traces(unittest.TestCase):
+    """Lines of a trace, and names before it."""
+
+    def test_descriptor_of_another_process(self) -> None:
+        self.assertNotEqual([], played("1 pidfd_getfd(3<anon_inode:[pidfd]>, 4, 0) = 5</x>").holes)
+
+    def test_folder_with_two_names(self) -> None:
+        names = Names()
+        for path, number in (("/w/a", 5), ("/w/b", 6), ("/w/c", 5), ("/w/a", 5)):
+            names.note_number(path, os.stat_result((0, number, 1, *[0] * 7)))
+        self.assertEqual([("/w/a", "/w/c")], names.twice)
+        self.assertEqual([1, 1, 0], [len(names.mounted(mounts)) for mounts in ({"/w/c"}, {"/w/a", "/"}, {"/w", "/w/b"})])
+
+    def test_mount_points(self) -> None:
+        self.assertIn("/proc", mount_points())
 
 
 if __name__ == "__main__":
