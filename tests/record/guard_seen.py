@@ -86,7 +86,7 @@ SEEN_GUARDS: List[Guard] = [
     Guard("makes: copies", "make/copies.py", "filecmp.cmp(path, real, shallow=False)", "False", seen("copy_of_make"), LOST_HOLE),
     Guard("makes: others of its name", "make/copies.py", "return is_named or", "return", seen("another_make"), LOST_HOLE),
     Guard("makes: scripts are none", "make/copies.py", "in MAKES and not first_words(path)", "in MAKES", seen("script_that_is_called_make")),
-    Guard("macros: of makefiles that are gone", "make/macros.py", "for text in (self.text, *base.values.values(), *recipes))", "for text in (self.text, *base.values.values()))", seen("macro_of_a_makefile_that_goes"), YES),
+    Guard("macros: of makefiles that are gone", "make/macros.py", "*base.values.values(), *recipes, *(line", "*base.values.values(), *(line", seen("macro_of_a_makefile_that_goes"), YES),
     Guard("macros: of lines that are gone", "make/macros.py", "            found.writes.add(ANY)\n", "            pass\n", seen("macro_of_lines_of_a_makefile_that_goes"), YES,
           ("make/macros.py", ', *((name, "\\n".join(lines)) for name, lines in self.base.bodies.items())', "")),
     Guard("sockets: their names", "trace/calls.py", "            self.write(life, found, True)\n        elif found is not None and", "            pass\n        elif found is not None and", seen("name_of_a_socket"), YES),

@@ -116,7 +116,7 @@ NAMES: List[Guard] = [
 ]
 FOLDERS: List[Guard] = [
     Guard("folders: strict makers meet", "make/folders.py", "    for at in folder.strict & makers:\n", "    for at in ():\n", small("folder_made_by_two_who_fail"), YES),
-    Guard("folders: quiet makers do not", "trace/calls.py", "quiet = shelltext.is_quiet_mkdir(life.argv)\n", "quiet = False\n", case("folder-mkdir-p"), FALSE_RACE),
+    Guard("folders: quiet makers do not", "trace/calls.py", "quiet = shelltext.is_quiet_mkdir(life.argv) and", "quiet = False and", case("folder-mkdir-p"), FALSE_RACE),
     Guard("folders: mkdir -v is not quiet", "tools/shelltext.py", "return not loud and any(w == \"--parents\"", "return any(w == \"--parents\"", case("folder-mkdir-v"), YES),
     Guard("folders: mkdir || true", "make/folders.py", "        if excused(builder, at, path):\n            folder.strict.discard(at)", "        if False:\n            folder.strict.discard(at)", small("folder_made_or_true"), FALSE_RACE),
     Guard("folders: lines that may fail", "make/folders.py", " or not kept and is_ignored(builder, at, folder)", "", small("folder_made_by_a_line_that_may_fail"), FALSE_RACE),
@@ -229,12 +229,12 @@ UNFILED: List[Guard] = [
     Guard("macros: by way of others", "make/macros.py", "todo.extend(self.named_by(name))", "pass", small("macro_by_way_of_another"), YES),
     Guard("macros: by computed names", "make/macros.py", 'found + "*", end_of(text, at + 1)', "found, end_of(text, at + 1)", small("macro_by_a_part_of_its_name"), YES),
     Guard("macros: by patterns that fit", "make/macros.py", "if fnmatchcase(name, pattern)", "", small("macro_by_a_part_of_another_name"), FALSE_RACE),
-    Guard("macros: asked for by origin", "make/macros.py", "|origin|flavor", "", small("macro_by_its_origin"), YES),
+    Guard("macros: asked for by origin", "make/macros.py", "value|origin|flavor)[ \\t]+", "value)[ \\t]+", small("macro_by_its_origin"), YES),
     Guard("macros: in the list of all", "make/macros.py", 'ANY if name == ".VARIABLES" else name', "name", small("macro_in_the_list_of_all"), YES),
     Guard("macros: that make reads", "make/macros.py", " or name in IMPLIED", "", small("macro_that_make_reads"), YES),
     Guard("macros: of the caller", "make/macros.py", "or self.is_inherited(name)", "", small("macro_that_the_caller_sets"), YES),
     Guard("macros: more than a macro", "make/macros.py", "set(changed) if ANY in changed else", "", small("search_path_that_a_recipe_sets"), YES),
-    Guard("macros: second expansion", "make/unfiled.py", "if builder.known.changed and", "if False and", small("prerequisites_that_a_recipe_sets"), LOST_HOLE),
+    Guard("macros: second expansion", "make/unfiled.py", "(builder.known.changed or ", "(False or ", small("prerequisites_that_a_recipe_sets"), LOST_HOLE),
     Guard("listings that make keeps", "make/memory.py", '                    work.add("L", folder + "\\0" + pattern, place)', "                    pass", small("listing_that_make_keeps"), YES),
     Guard("listings that make keeps: for who asks", "make/memory.py", "(asked is None or folder in asked)", "True", small("listing_that_nobody_else_asks_for"), FALSE_RACE),
     Guard("listings that make keeps: of other folders", "make/memory.py", "(asked is None or folder in asked)", "asked != set()", small("listings_of_two_folders"), FALSE_RACE),
