@@ -21,6 +21,7 @@ TEXTS = {
     "ring": "make dropped a prerequisite that closes a ring",
     "search": "the search for implicit rules goes by a listing from before the first recipe (GNU make before 4.4)",
     "output": "what a make prints goes to another program or to a file of errors, where the order of its lines makes no difference",
+    "jobs-said": "a make inside of a recipe, whose output or errors are kept, prints other lines there with several jobs (of a -j of its own, of jobs that it is not handed, of its folder under -O), which make no difference",
     "listings": "programs that list a folder do not depend on the order in which its names were made, which some file systems show",
     "outside": "names outside of the project changed; what was there before is taken from the disk after the build",
     "flags": "a makefile or a recipe names MAKEFLAGS or PATH, which hold the recorder's words, and does the same without them",

@@ -15,6 +15,8 @@ from record.trace.names import Names
 from record.warm import is_beyond
 
 FLAGS = re.compile(r"\bM(?:AKE)?FLAGS\b")
+HANDS_JOBS = re.compile(r"\$(?:\(MAKE\)|\{MAKE\})|^[\s@-]*\+")  # lines of recipes that get the jobs of their make
+GROUPS = re.compile(r"(?:^|\s)(?:-[a-zA-Z]*O|--output-sync)")
 ENVIRONMENT = re.compile(r"(^|[;&|(\n`]\s*)(printenv\b|env\s*($|[|>;&])|export\s+-p|set\s*($|[|>;&]))|\$\{?PATH\b|\b(which|command\s+-[vV]|type)\s+g?make\b")
 
 
@@ -31,6 +33,9 @@ def add_granted(owners: Owners, assumed: Assumptions, spool: str) -> None:
     outlived(owners, assumed)
     beside(owners, assumed)
     asked(owners, assumed)
+    for make in owners.makes:
+        if says_jobs(owners, make):
+            assumed.add("jobs-said", "make " + make.words.args)
 
 
 def idle_targets(owners: Owners, names: Names) -> List[str]:
@@ -90,6 +95,21 @@ def asked(owners: Owners, assumed: Assumptions) -> None:
     for life in owners.lives:
         if life.is_query and sum(1 for child in life.children if does_more(owners, child)) > 1:
             assumed.add("queries", " ".join(life.argv)[:60])
+
+
+def says_jobs(owners: Owners, make: Make) -> bool:
+    """Whether a make whose errors are kept says there, with several jobs, that it is not handed the jobs of the make above, or does not take them;
+    one that groups what recipes print names its folder around each of them."""
+    words, chain = make.words, list(make.life.up())
+    if GROUPS.search(words.args + " " + words.flags) and words.output:
+        return True
+    if not words.kept_errors or not (words.below or make.is_called):
+        return False
+    caller, above = next(((life, up) for life, up in zip(chain, chain[1:]) if up.is_make), (make.life, None))
+    outer, job = owners.of_life.get(id(above)), owners.jobs.get(id(caller))
+    bases = [one.base.recipes for one in outer.words.rounds if one.base is not None] if outer is not None else []
+    lines = [line for recipes in bases for line in recipes.get(job.target, ())] if job is not None else []
+    return bool(words.slots) or not any(HANDS_JOBS.search(line) for line in lines)
 
 
 def does_more(owners: Owners, life: Life) -> bool:

@@ -33,7 +33,7 @@ from record.tools.modules import settle_modules
 from record.tools.python import settle
 from record.trace.calls import Calls
 from record.trace.lives import Life
-from record.trace.names import Names
+from record.trace.names import Names, mount_points
 from record.trace.past import Past, beginning
 from record.trace.skips import SYSTEM, unseen_changes
 from record.trace.strace import read_trace
@@ -86,7 +86,7 @@ def import_record(spool: Path, names: Names, kept: Kept, real: str, folder: str,
     owners = settle_all(replay, spool, assumed)
     if owners.makes:
         assumed.add("serial", "")
-    record.holes += replay.holes + owners.holes
+    record.holes += replay.holes + owners.holes + names.mounted(mount_points())
     record.holes += ["nobody knows who started a process: " + one for one in replay.strays()]
     record.holes += ["a make ran past the recorder: " + p for p in replay.past]
     for path in sorted(spool.glob("*.past")):

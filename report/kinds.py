@@ -40,7 +40,7 @@ KINDS = (FORGOTTEN, TEMPORARY, LOG, OUTPUT, ARCHIVE, FOLDER, TIME, MACRO, PRINTE
 # Names that stand for something else than a file: an age, or that a folder was made.
 OF_AGE = re.compile(r"/@(?:time|age)(?:/|$)")
 OF_MACRO = re.compile(r"/@macro/")
-OF_OUTPUT = re.compile(r"/@output$")
+OF_OUTPUT = re.compile(r"/@output(?:/|$)")
 OF_FOLDER = re.compile(r"/@(?:made-by|make|seen|gone|mode)(?:/|$)")
 
 

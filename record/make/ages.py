@@ -1,5 +1,7 @@
 """Ages that are compared: where two tasks that nothing orders write two names, and somebody compares which is newer."""
 
+import os
+import re
 from itertools import combinations
 from typing import TYPE_CHECKING, Dict, Iterator, List, Set, Tuple
 
@@ -7,6 +9,7 @@ from record.make.owners import Make, Work
 from record.tools import shelltext
 
 PACKERS = ("tar", "bsdtar", "cpio", "pax", "zip")
+UPDATES = re.compile(r"-?[a-zA-Z]*u")  # the first word of `ar`, where it takes in newer files alone
 
 if TYPE_CHECKING:
     from record.make.build import Builder
@@ -26,6 +29,7 @@ def add_ages(builder: "Builder") -> None:
         for who, work in works_of(builder, at):
             inner_ages(builder, who, work)
             ages_by_words(builder, who, work)
+            ages_in_archives(builder, who, work)
 
 
 def works_of(builder: "Builder", at: int) -> List[Tuple[int, Work]]:
@@ -39,8 +43,12 @@ def note_sources(builder: "Builder") -> None:
     """Which names take over the age of which others: a file that is moved or linked, and one whose time a program sets, as `cp -p`
     and `touch -r` do, from what it looked at. An archive keeps the ages of what was put in."""
     for at in range(len(builder.build.tasks)):
-        for life in (life for _, work in works_of(builder, at) for life in work.lives):
-            looked = {path for kind, path in life.events if kind in "RS" and (path in builder.build.writers or path in builder.timers)}
+        works = works_of(builder, at)
+        showing = (life for _, work in works for life in work.lives if any(map(shelltext.shows_ages, life.ran)))
+        shown = {path for life in showing for kind, path in life.events if kind == "A"}  # a time may come from such a program, as a word
+        for life in (life for _, work in works for life in work.lives):
+            names = {path for kind, path in life.events if kind in "RS"} | (life.handed() | shown if any(kind == "c" for kind, _ in life.events) else set())
+            looked = {path for path in names if path in builder.build.writers or path in builder.timers}
             packs = any(shelltext.base_name(argv) in PACKERS for argv in life.ran)
             for kind, path in life.events:
                 name, _, source = path.partition("\0")
@@ -114,6 +122,17 @@ def settled_by(builder: "Builder", at: int, work: Work, kind: str) -> Iterator[T
         first, second = wrote[low][0], next((p for p in wrote[high] if p != wrote[low][0]), wrote[low][-1])
         if first != second and at not in (low, high) and build.unordered(low, high):
             yield low, high, first, second
+
+
+def ages_in_archives(builder: "Builder", at: int, work: Work) -> None:
+    """`ar` with `u` compares a file with the member of its name that another recipe has put into the archive."""
+    tasks = builder.build.tasks
+    for life in (life for life in work.lives if any(shelltext.base_name(argv) == "ar" and UPDATES.match("".join(argv[1:2])) for argv in life.ran)):
+        for archive in sorted({path for kind, path in life.events if kind in "RW"}):
+            others = builder.build.writers.get(archive, set()) - {at}
+            members = {os.path.basename(path) for one in others for kind, path in builder.events(tasks[one]) if kind == "R"}
+            for path in sorted({path for kind, path in life.events if kind in "RS" and path != archive and os.path.basename(path) in members}):
+                compare(builder, at, archive, path)
 
 
 def ages_by_words(builder: "Builder", at: int, work: Work) -> None:

@@ -13,6 +13,7 @@ from typing import TYPE_CHECKING, Dict, FrozenSet, List, NamedTuple, Set, Tuple
 
 from record.make.owners import Work
 from record.tools import shelltext
+from record.tools.traced import shows_commands
 from record.trace.lives import Life
 
 if TYPE_CHECKING:
@@ -54,17 +55,32 @@ class Makers(NamedTuple):
 def excused(builder: "Builder", at: int, folder: str) -> bool:
     """Whether a recipe makes a folder in a quiet form, which does not show who was first."""
     lives = [life for work in builder.build.tasks[at].works for life in work.lives]
-    if is_ignored(builder, at, folder):
+    kept = builder.make.words.kept_errors if builder.build.tool == "make" else ""
+    if makes_quietly(lives, folder, bool(kept)) or not kept and is_ignored(builder, at, folder):
         return True
-    return any(shelltext.is_excused(argv, folder) and not keeps_errors(life, argv) for life in lives for argv in life.ran) and all(is_of_form(life, folder) for life in lives)
+    found = kept == "pipe" and (makes_quietly(lives, folder, False) or is_ignored(builder, at, folder))
+    if found:  # who comes second says so, to a program
+        builder.assumed.add("output", "make " + builder.make.words.args)
+    return found
 
 
-def is_of_form(life: Life, folder: str) -> bool:
+def makes_quietly(lives: List[Life], folder: str, is_kept: bool) -> bool:
+    """Whether the processes of a recipe make a folder in a quiet form. `is_kept`: a make above keeps their errors."""
+    found = any(is_quiet(argv, folder, is_kept) and not keeps_errors(life, argv) for life in lives for argv in life.ran)
+    return found and all(is_of_form(life, folder, is_kept) for life in lives)
+
+
+def is_quiet(argv: List[str], folder: str, is_kept: bool) -> bool:
+    """Whether a shell's text makes a folder in a quiet form, and nothing shows which of its commands ran."""
+    return shelltext.is_excused(argv, folder, is_kept) and not shows_commands(argv, is_kept)
+
+
+def is_of_form(life: Life, folder: str, is_kept: bool) -> bool:
     """Whether a process does not make a folder, or a shell starts it whose text makes that in a quiet form."""
     if not life.events.keys() & {("M", folder), ("E", folder)}:
         return True
     starter = next((up for up in life.up() if up is not life and up.ran), life)
-    return any(shelltext.is_excused(argv, folder) for argv in starter.ran)
+    return any(is_quiet(argv, folder, is_kept) for argv in starter.ran)
 
 
 def is_ignored(builder: "Builder", at: int, folder: str) -> bool:

@@ -16,6 +16,9 @@ from record.tools.shelltext import shell_text
 
 BEGIN = re.compile(r"\$(?:[({](?:(?:call|value|origin|flavor)[ \t]+)?|(\w))")
 EVAL = re.compile(r"\$([({])eval[ \t]")
+BUILT_IN = re.compile(r"\$([({])call\s+(call|eval|value|origin|flavor)\s*,")  # a function of make that `call` calls
+COMPUTED = re.compile(r"\$[({]call\s[^,(){}]*\$")  # a function that another macro names
+BARE = re.compile(r"(?<![({\w-])eval\b")  # its name where nothing calls it
 SETS = re.compile(r"[ \t]*(?:override[ \t]+|export[ \t]+)*([\w.-]+)[ \t]*(\+|\?|!|:{0,3})=")
 ASSIGNED = re.compile(r"([\w.-]+)[ \t]*(?:[+?!]|:{1,3})?=((?:[^\n]*\\\n)*[^\n]*)")
 DEFINED = re.compile(r"(?ms)^[ \t]*define[ \t]+([\w.-]+)[^\n]*\n(.*?)^[ \t]*endef")
@@ -54,11 +57,32 @@ def evals(text: str) -> Iterator[Eval]:
         yield Eval(call.start(), at, sets.group(1) if sets is not None and is_one else ANY, sets is not None and is_one and sets.group(2) not in ("+", "?"), "export" in body)
 
 
+def with_functions(text: str) -> str:
+    """A text in which a function of make that is called by `$(call eval,..)` stands as it does without `call`."""
+    count = "call" in text
+    while count:
+        text, count = BUILT_IN.subn(r"$\1\2 ", text)
+    return text
+
+
 def named(text: str) -> Set[str]:
-    """The macros that a text refers to; a name that is made of other macros is a pattern, with `*` for each of them."""
-    text = text.replace("$$", "  ")
-    found = {one.group(1) or name_at(text, one.end()) for one in BEGIN.finditer(text)}
-    return {ANY if name == ".VARIABLES" else name for name in found if name}
+    """The macros that a text refers to; a name that is made of other macros is a pattern, with `*` for each of them. What `eval` gets is
+    read twice."""
+    plain = text.replace("$$", "  ")
+    found = {one.group(1) or name_at(plain, one.end()) for one in BEGIN.finditer(plain)}
+    found = {ANY if name == ".VARIABLES" else name for name in found if name}
+    again = (text[one.start + 2:one.end].replace("$$", "$") for one in evals(text) if "$$" in text[one.start:one.end])
+    return found.union(*map(named, again))
+
+
+def outermost(text: str) -> Set[int]:
+    """Where the references of a text begin that stand in no other one: make surely comes to these."""
+    found, at = set(), text.find("$")
+    while at >= 0:
+        is_sign = text[at + 1:at + 2] == "$"
+        found |= set() if is_sign else {at}
+        at = text.find("$", at + 2 if is_sign else end_of(text, at + 1))
+    return found
 
 
 def name_at(text: str, at: int) -> str:
@@ -98,6 +122,10 @@ class Use:
     writes: Set[str] = field(default_factory=set)
     keeps: Set[str] = field(default_factory=set)  # macros that work out their value when it is first asked for
 
+    def joined(self, other: "Use") -> "Use":
+        """What both do."""
+        return Use(self.reads | other.reads, self.writes | other.writes, self.keeps | other.keeps)
+
 
 @lru_cache(8)
 def assigned_in(text: str) -> List[Tuple[str, str]]:
@@ -114,7 +142,7 @@ class Macros:
         self.text = "\n".join(text_of(path) for path in paths)
         self.is_lost = bool(make.stale) or not all(os.path.exists(path) for path in paths)  # then macros of several lines may hold anything
         recipes = (line for lines in base.recipes.values() for line in lines)
-        self.is_used = self.is_lost and LINES in base.values.values() or any("eval" in text for text in (self.text, *base.values.values(), *recipes))
+        self.is_used = self.is_lost and LINES in base.values.values() or any("eval" in text for text in (self.text, *base.values.values(), *recipes, *(line for lines in base.bodies.values() for line in lines)))
         self.named: Dict[str, Set[str]] = {}
         self.ways: Dict[str, Set[str]] = {}
         self.changed: Set[str] = set()  # those that recipes change
@@ -123,9 +151,14 @@ class Macros:
     def texts(self) -> Dict[str, List[str]]:
         """All that each macro may be, as far as makefiles and the data base show it."""
         found: Dict[str, List[str]] = {name: [value] for name, value in self.base.values.items()}
-        for name, value in assigned_in(self.text):
+        for name, value in [*assigned_in(self.text), *((name, "\n".join(lines)) for name, lines in self.base.bodies.items())]:
             found.setdefault(name, []).append(value)
-        return found
+        return {name: list(map(with_functions, values)) for name, values in found.items()}
+
+    @cached_property
+    def names_eval(self) -> bool:
+        """Whether a macro may hold the name of `eval`, by which a recipe may call it."""
+        return any(BARE.search(text) for texts in self.texts.values() for text in texts)
 
     @cached_property
     def rule_words(self) -> Set[str]:
@@ -202,9 +235,11 @@ class Macros:
 
     def use(self, text: str) -> Use:
         """What expanding a recipe reads and writes."""
-        found = Use()
-        own = list(evals(text))
+        found, text = Use(), with_functions(text)
+        own, sure = list(evals(text)), outermost(text)
         found.reads = self.reached(text)
+        if any(COMPUTED.search(one) for one in (text, *map(self.text_of, found.reads))) and (self.names_eval or BARE.search(text)):
+            found.writes |= {ANY}
         for name in found.reads:
             for one in evals(self.text_of(name)):
                 (found.keeps if one.name == name and one.is_fresh else found.writes).add(one.name)
@@ -213,9 +248,21 @@ class Macros:
         for one in own:
             found.writes.add(one.name)
             before = self.reached(text[:one.end])
-            if one.is_fresh and one.name not in before:
+            if one.is_fresh and one.start in sure and one.name not in before:
                 found.reads.discard(one.name)
         return found
+
+
+    def implied(self) -> Use:
+        """What each recipe does without a word: make works out the macros that it exports, and those that it reads itself, for each of them."""
+        setting = {name for name, texts in self.texts.items() if any(EVAL.search(one) for one in texts)}
+        names = {name for name in self.reaching(setting) if name in IMPLIED or name in os.environ or self.is_lost or self.is_named_in_export(name)} if setting else set()
+        return self.use("".join("$(%s)" % name for name in sorted(names))) if names else Use()
+
+    def set_by_expansion(self) -> Set[str]:
+        """The macros that the prerequisites of implicit rules set where make expands them a second time."""
+        text = with_functions(" ".join(word for _, asked in self.base.patterns for word in asked))
+        return {one.name for part in (text, *map(self.text_of, self.reached(text))) for one in evals(part)}
 
 
 def text_of(path: str) -> str:
@@ -231,10 +278,11 @@ def uses(macros: Macros) -> Dict[str, Use]:
     base = macros.base
     if not macros.is_used:
         return {}
-    found = {name: macros.use("\n".join(lines)) for name, lines in base.recipes.items()}
+    implied = macros.implied()
+    found = {name: macros.use("\n".join(lines)).joined(implied) for name, lines in base.recipes.items()}
     changed = macros.changed = {name for use in found.values() for name in use.writes}
     exported = {name for name in changed if name != ANY and macros.is_exported(name)}
-    exported |= {one.name for lines in base.recipes.values() for one in evals("\n".join(lines)) if one.is_exported}
+    exported |= {one.name for lines in base.recipes.values() for one in evals(with_functions("\n".join(lines))) if one.is_exported}
     for use in found.values():
         patterns = [name for name in use.reads if "*" in name]
         use.reads = set(changed) if ANY in changed else (use.reads & changed) | exported | {n for one in patterns for n in matching(changed, one)}

@@ -30,12 +30,20 @@ def add_macros(builder: "Builder", created: Created) -> None:
             for name in names:
                 about = "the macro %s of make" % name if name != ANY else "what $(eval ..) changes in make"
                 mark(builder, own_path(builder.make, "macro/" + name), about, {looker} if is_read else set(), set() if is_read else {looker})
-    if builder.known.changed and ".SECONDEXPANSION" in builder.graph.base.prerequisites:
+    if ".SECONDEXPANSION" in builder.graph.base.prerequisites and (builder.known.changed or is_set_late(builder)):
         builder.holes.append("a recipe changes a macro by $(eval ..), and make expands prerequisites a second time: make " + builder.build.words[:100])
     for targets in keepers(builder.macros).values():
         add_keepers(builder, [t for t in targets if t in who], who, created)
     count_inherited(builder)
     count_grouped(builder)
+
+
+def is_set_late(builder: "Builder") -> bool:
+    """Whether a second expansion of prerequisites sets a macro that a recipe asks for."""
+    known, base = builder.known, builder.graph.base
+    names = known.set_by_expansion() if known.is_used else set()
+    asked = {name for node in builder.graph.nodes.values() for name in known.reached("\n".join(base.recipes.get(node.name, ())))} if names else set()
+    return ANY in names or any("*" in name for name in asked if names) or not names.isdisjoint(asked) or any(map(known.is_exported, names))
 
 
 def count_inherited(builder: "Builder") -> None:

@@ -86,6 +86,7 @@ class Words:
     slots: str = ""  # how many jobs its own words ask for: digits, or `all`
     output: str = ""  # where its output goes, if that is not the build's own: `file` or `pipe`
     errors: str = ""  # the same of standard error, where that is not with its output
+    is_joined: bool = False  # standard error goes where its output goes
     spoken: bool = False  # it would have spoken another language than English
     version: str = ""
     status: Optional[int] = None
@@ -95,6 +96,11 @@ class Words:
     read: List[List[str]] = field(default_factory=list)  # makefiles that each start read before it made anything
     included: List[str] = field(default_factory=list)  # makefiles that recipes include while make expands them
     holes: List[str] = field(default_factory=list)
+
+    @property
+    def kept_errors(self) -> str:
+        """Where its errors go, and those of its recipes: `file`, `pipe`, or nothing."""
+        return self.output if self.is_joined else self.errors
 
     def values(self) -> Dict[str, str]:
         """The macros of its data bases; one that differs between them may be anything."""
@@ -187,7 +193,8 @@ class _Reader:
         elif text.startswith("OUTPUT "):
             words.output = text[7:]
         elif text.startswith("ERRORS "):
-            words.errors = text[7:]
+            words.is_joined = text[7:] == "joined"
+            words.errors = "" if words.is_joined else text[7:]
         elif text.startswith("SPOKEN "):
             words.spoken = text == "SPOKEN 1"
         elif text.startswith("SAID ") and text[5:] in self.children:

@@ -340,7 +340,7 @@ def as_usual():
 def run_logged(spool, name, real, args, flags, below, slots):
     """Runs make with the recorder's words and keeps what it says; gives its raw status."""
     extra, spoken = WORDS + (["-j1"] if asks_jobs(args, flags) else []), speak_english(os.environ)
-    where, errors = goes_to(spool, 1), "" if is_one_file(1, 2) else goes_to(spool, 2)
+    where, errors = goes_to(spool, 1), "joined" if is_one_file(1, 2) else goes_to(spool, 2)
     split = args.index("--") if "--" in args else len(args)
     reading, writing = os.pipe2(os.O_DIRECT | os.O_CLOEXEC)
     note_output(spool, writing, where)

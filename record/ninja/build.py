@@ -4,9 +4,9 @@ import os
 from typing import Any, Dict, Iterable, List, Set, Tuple
 
 from record.assumptions import Assumptions
-from record.make.ages import ages_by_words, inner_ages, note_sources
+from record.make.ages import ages_by_words, ages_in_archives, inner_ages, note_sources
 from record.make.build import Builder
-from record.make.folders import add_folders, parents
+from record.make.folders import add_folders, apart, parents
 from record.make.graph import Build, Node, Task, befores, order_tasks
 from record.make.inner import add_inner
 from record.make.owners import Work
@@ -17,6 +17,7 @@ from record.ninja.runs import NEVER, Job, Ninja, Stage
 from record.trace.names import Names, join
 
 TEXT_LIMIT = 400
+LOGS = (".ninja_log", ".ninja_deps")
 FIRST, PRIME, BITS = 14695981039346656037, 1099511628211, (1 << 64) - 1
 
 
@@ -197,12 +198,23 @@ class NinjaBuilder(Builder):
         add_inner(self, created)
         count_listings(self, created)
         add_folders(self)
+        self.add_logs()
         note_sources(self)
         for at, task in enumerate(self.build.tasks):
             for work in task.works:
                 inner_ages(self, at, work)
                 ages_by_words(self, at, work)
+                ages_in_archives(self, at, work)
         self.drop_lonely()
+
+    def add_logs(self) -> None:
+        """A command that reads the logs of its ninja sees which commands have ended: ninja writes a line for each."""
+        folder = self.stage.manifest.top.value("builddir")
+        logs = {self.full(os.path.join(folder, name)) for name in LOGS}
+        ran = {at for at, task in enumerate(self.build.tasks) if task.works}
+        for at in sorted(ran):
+            for path in sorted({path for kind, path in self.events(self.build.tasks[at]) if kind in "RSN" and path in logs}):
+                apart(self, path + "/@output", "which commands stand in the log of ninja", at, ran - {at})
 
     def put_makers_first(self) -> None:
         """Lists who makes a declared output before who reads it, where nothing orders the two: a fix then lets the reader wait."""

@@ -47,9 +47,9 @@ SHOWS_AGES = {
     "find": re.compile(r"\s-(f?ls|used)\s"),
     "cp": re.compile(r"\s(-\w*u|--u)"),
     "mv": re.compile(r"\s(-\w*u|--u)"),
+    "du": re.compile(r"\s--ti"),
 }
-# `ar` with `u` is not among them: it compares a file with the member's date in the archive, and a date that this build put
-# there was read from the file.
+# `ar` with `u` is not among them: it compares a file with its archive alone (record/make/ages.py).
 AGES = re.compile(
     r"(^|\s|\[)[\"'\\]*-[\"'\\]*-?([no][\"'\\]*t|[ac]?newer[\w-]*|mtime|mmin|atime|amin|cmin|ctime|f?printf)[\"'\\]*[\s=]|\b(cp|mv|rsync|tar)\s+([^;|&\n]*?\s)?(-\w*u|--update)"
     r"|(?:\btest|\[)\s+(?:!\s+)?(?![-!])\S+\s+\"?-?\$\S+\s+[^\s;&|\])]|\btar\s+\w*u|\bls\s+([^;|&\n]*?\s)?-\w*[tlc]|\bstat\b[^;|&\n]*%[WXYZwxyz]|--sort[= ]t|\bdate\s+[^;|&\n]*-r")
@@ -208,8 +208,8 @@ def is_on_the_way(folder: str, word: str) -> bool:
 
 
 @lru_cache(KEPT)
-def quiet_folders(text: str) -> Set[str]:
-    """The folders that a shell's text makes in one of the quiet forms, as it spells them."""
+def quiet_folders(text: str, is_kept: bool = False) -> Set[str]:
+    """The folders that a shell's text makes in one of the quiet forms, as it spells them. `is_kept`: its errors are kept elsewhere."""
     if "mkdir" not in text and "install" not in text:
         return set()
     quiet = r"(?:\s*(?:2\s*)?>\s*/dev/null|\s*2>&1)*"
@@ -221,14 +221,14 @@ def quiet_folders(text: str) -> Set[str]:
         r"if\s+(?:(?:test|\[)\s+!|!\s+(?:test|\[))" + asked + r"\s*;\s*then\s+" + made + r"\s*;\s*fi" + ends,
     )
     begin = r"(?:^|[;\n({&]|\bthen|\bdo)\s*"
-    found = [m for form in forms for m in re.finditer(begin + form, text) if "/dev/null" in m.group() or not KEPT_ERRORS.search(NOWHERE.sub(" ", text))]
+    found = [m for form in forms for m in re.finditer(begin + form, text) if "/dev/null" in m.group() or not (is_kept and "made" not in m.groupdict() or KEPT_ERRORS.search(NOWHERE.sub(" ", text)))]
     return {s for m in found if makes_it(m) for s in spelled_by(m)}
 
 
-def is_excused(argv: List[str], folder: str) -> bool:
+def is_excused(argv: List[str], folder: str, is_kept: bool = False) -> bool:
     """Whether a shell's text makes a folder in one of the quiet forms, which do not show who was first."""
     text = shell_text(argv)
-    if not any(folder.endswith("/" + s.lstrip("./")) for s in quiet_folders(text)):
+    if not any(folder.endswith("/" + s.lstrip("./")) for s in quiet_folders(text, is_kept)):
         return False
     looks, name = re.sub(r"\binstall\s+-d\b", "install", text), re.escape(os.path.basename(folder)) + r"(?![\w./-])"
     return all(len(re.findall(begins + name, looks)) <= 1 for begins in (r"(?:-[defrwxs]\s+|\bls\s+|\bstat\s+)\S*", r"\bmkdir\s+(?!-p\b|--p)[^;&|\n]*?"))
@@ -333,7 +333,7 @@ def compares_ages(argv: List[str], folder: str) -> bool:
     if base_name(argv) in SHELLS and not text and not script:
         return True  # its script comes from standard input, and nobody can read it
     if script and "libtool" not in script:
-        return script_compares(os.path.join(folder, script), folder)
+        return script_compares(os.path.join(folder, script), folder) or bool(AGES.search(" ".join(argv[1:]) + " "))
     return bool(AGES.search(" ".join(argv) + " ")) or bool(TAKES_IN.search(text))
 
 
@@ -389,6 +389,8 @@ class Traits:
         self.is_tool = self.is_interpreter and TOOLS.match("".join(argv[1:2])) is not None
         self.is_ageless = is_ageless(argv)
         self.asks_size = asks_size(argv)
+        self.asks_input = base_name(argv) == "stat" and "-" in argv[1:]
         self.is_shell = base_name(argv) in SHELLS
         self.shows_progress = shows_progress(argv)
+        self.is_open: Optional[bool] = None  # whether it is a shell that runs what does not stand in its text, as far as that was asked
         self.ages: Optional[bool] = None  # whether it compares ages, as far as that was asked

@@ -6,6 +6,7 @@ from typing import Callable, Dict, List, Tuple
 
 from record.make.copies import is_other_make
 from record.tools import listed, shelltext
+from record.tools.computed import runs_unseen
 from record.trace.arguments import TEXT_END, opening, spelled
 from record.trace.lives import Life
 from record.trace.loader import interpreter_words
@@ -27,7 +28,7 @@ TIMES = {"utime", "utimes", "utimensat", "futimesat", "utimensat_time64"}
 OF_PROCESS = re.compile(r"/proc/(?:(\d+)/|loadavg$)")
 SHARING = {"shmget", "semget", "msgget", "mq_open", "add_key", "request_key"}
 SOCKET = re.compile(r'sun_path="((?:[^"\\]|\\.)*)"')
-HIDING = {"chroot", "pivot_root", "mount", "move_mount", "umount", "umount2", "setns", "open_by_handle_at", "io_uring_setup"}
+HIDING = {"chroot", "pivot_root", "mount", "move_mount", "umount", "umount2", "setns", "open_by_handle_at", "io_uring_setup", "pidfd_getfd"}
 OF_WRAPPER = {"execve", *MAKES_PROCESS}  # what counts of the recorder's own wrapper
 SCRIPTS = 5  # how many scripts may be the interpreter of one another; the kernel allows no more
 BY_NUMBER = {"fchmod", "fchown", "fchown32", "ftruncate", "ftruncate64", "fsetxattr", "fremovexattr"}
@@ -107,7 +108,10 @@ class Calls(Processes):
 
     def is_unknown(self, life: Life) -> bool:
         """Whether nobody knows if a program compares the ages of what it looks at, or of what it has opened."""
-        return not life.is_make and (not life.traits().is_ageless or self.is_inside(life.program))
+        traits = life.traits()
+        if traits.is_shell and traits.is_open is None:
+            traits.is_open = runs_unseen(life.argv, life.folder)
+        return not life.is_make and (not traits.is_ageless or bool(traits.is_open) or self.is_inside(life.program))
 
     @staticmethod
     def is_own(life: Life, path: str, found: Found) -> bool:
@@ -153,6 +157,14 @@ class Calls(Processes):
                 self.past.append(" ".join(life.argv)[:200])
         self.look(life, words[0], True, True, "R")
         self.look_at_interpreters(life, words[0])
+        self.note_handed(life)
+
+    def note_handed(self, life: Life) -> None:
+        """A program may ask how old a file is that a shell has opened for it, and no call names that."""
+        traits = life.traits()
+        is_asked = traits.asks_input or not traits.is_interpreter and not traits.is_shell and self.is_unknown(life)
+        for path in life.handed() if is_asked else ():
+            self.put(life, "A" if traits.asks_input or self.ages(life) else "a", path)
 
     def first_words(self, path: str) -> List[str]:
         """The words of a script's first line, read once: the build has ended."""
@@ -216,6 +228,8 @@ class Calls(Processes):
                 return  # a pipe, a terminal or the like
             base, path = "", call.opened
         changes = changes or call.name == "creat"
+        if not ok and "RESOLVE_IN_ROOT" in call.args:
+            self.holes.append("files that are opened after openat2 (RESOLVE_IN_ROOT) are not seen: " + " ".join(life.argv)[:100])
         if not path:
             return
         if "O_TMPFILE" in flags:  # a file without a name, in a folder that must be there
@@ -230,6 +244,8 @@ class Calls(Processes):
         if call.opened.startswith("/") and call.opened != found.path and not DEVICES.match(call.opened):
             self.holes.append("a name leads to another file than the record says: %s is %s, and not %s" % (path, call.opened, found.path))
         life.handle = (call.result, found.path) if "O_PATH" in flags else (-1, "")
+        if "O_TRUNC" not in flags and life.traits().is_shell and path != shelltext.script_of(life.argv):
+            life.opened.add(found.path)
         if not changes:
             self.on_read(life, found)
             return
@@ -292,7 +308,7 @@ class Calls(Processes):
     def on_mkdir(self, life: Life, call: Call, ok: bool) -> None:
         base, path = self.base_and_path(life, call)
         found = self.found(life, path.rstrip("/") or "/", False, base)
-        quiet = shelltext.is_quiet_mkdir(life.argv)
+        quiet = shelltext.is_quiet_mkdir(life.argv) and not self.is_inside(life.program)
         script = next((up.argv for up in life.up() if not up.is_make and shelltext.makes(up.argv, found.path)), [])
         if script and not quiet:
             self.makers.append(" ".join(script)[:60])
@@ -307,6 +323,8 @@ class Calls(Processes):
             self.put(life, "C", found.path + "/")
         elif call.error == "EEXIST":
             self.put(life, "T" if quiet else "E", found.path)
+            if found.inode is None or found.inode.kind != "d":
+                self.put_look(life, found, True, "S")  # a file, or a link, has the name
         if ok or call.error == "EEXIST":
             mode = MODE.search(call.args)
             given = "%o" % (int(mode.group(1), 8) & ~life.mask if mode else -1)

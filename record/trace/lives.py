@@ -14,7 +14,7 @@ the trace is kept. Kinds:
 """
 
 from dataclasses import dataclass, field
-from typing import Dict, Iterable, List, Optional, Tuple
+from typing import Dict, Iterable, List, Optional, Set, Tuple
 
 from record.tools.shelltext import Traits
 
@@ -59,6 +59,7 @@ class Life:
     mask: int = 0  # the bits that names are made without
     handle: Tuple[int, str] = (-1, "")  # the descriptor that it got last, and what stands behind it, where that only stands for a name
     taken: Tuple[str, ...] = ()  # files that a shell read which its text does not name as its input
+    opened: Set[str] = field(default_factory=set)  # files that it opened while it ran a shell: who it starts may have them open too
     known: Optional[Traits] = None
     begun: int = 0  # where the program began that runs now
 
@@ -88,6 +89,15 @@ class Life:
         """Changes the bits that names are made without, for all threads."""
         for life in self.threads or (self,):
             life.mask = mask
+
+    def handed(self) -> Set[str]:
+        """What may stand behind its descriptors: files that it has opened as a shell, or a shell of the same recipe above it."""
+        found: Set[str] = set()
+        for up in self.up():
+            if up.is_make or up.is_ninja:
+                break
+            found.update(up.opened)
+        return found
 
     def up(self) -> Iterable["Life"]:
         """This life, its parent, and so on."""

@@ -5,12 +5,14 @@ Names outside of the folders that were walked are looked up on the disk when the
 """
 
 import os
+import re
 import stat
 from dataclasses import dataclass, field
 from pathlib import Path
 from typing import Dict, Iterable, List, Optional, Sequence, Set, Tuple
 
 LINK_LIMIT = 40
+MOUNT_ESCAPE = re.compile(r"\\([0-7]{3})")
 
 
 class Inode:
@@ -36,6 +38,15 @@ class Inode:
             parts.append(node.name)
             node = node.parent
         return "/" + "/".join(reversed(parts))
+
+
+def mount_points() -> Set[str]:
+    """Where file systems, or folders of them, are mounted."""
+    try:
+        lines = Path("/proc/self/mountinfo").read_text(errors="surrogateescape").splitlines()
+    except OSError:
+        return set()
+    return {MOUNT_ESCAPE.sub(lambda found: chr(int(found.group(1), 8)), line.split(" ")[4]) for line in lines}
 
 
 def join(folder: str, name: str) -> str:
@@ -77,6 +88,8 @@ class Names:
         self.above = {"/tmp", "/var/tmp"}  # folders that are there before the build: those of the system, and those above the tops
         self.absent: Set[str] = set()  # names outside of the walked folders that were not there
         self.modes: Dict[str, Set[str]] = {}  # folders that were made: with which modes
+        self.numbers: Dict[Tuple[int, int], str] = {}  # folders that were walked, by device and number
+        self.twice: List[Tuple[str, str]] = []  # folders with two names, as far as numbers say so
 
     def walk(self, top: str) -> None:
         """Takes in the tree below a real path, as it is now. A folder that is not there yet is empty, and made by the build."""
@@ -104,7 +117,17 @@ class Names:
                 child.first = True
                 self.before[join(path, entry.name)] = child.kind
                 if child.kind == "d":
+                    self.note_number(join(path, entry.name), found)
                     todo.append((child, join(path, entry.name)))
+
+    def note_number(self, path: str, found: os.stat_result) -> None:
+        """A folder has one name, except where it is mounted a second time."""
+        known = self.numbers.setdefault((found.st_dev, found.st_ino), path)
+        self.twice += [(known, path)] if known != path else []
+
+    def mounted(self, mounts: Set[str]) -> List[str]:
+        """What is wrong with names of which a mount has made two."""
+        return ["a folder is mounted a second time, so its files have two names: %s and %s" % pair for pair in self.twice if not mounts.isdisjoint(pair)]
 
     @staticmethod
     def made_of(found: os.stat_result, path: str, files: Dict[Tuple[int, int], Inode]) -> Inode:

@@ -1,0 +1,17 @@
+"""What shows which commands of a shell's text ran: then a folder that one of two recipes makes is not made without a word."""
+
+import re
+from typing import List
+
+from record.tools.shelltext import KEPT_ERRORS, NOWHERE, shell_text
+
+TRACES = re.compile(r"\bset\s+(?:-\S+\s+)*-(?:\w*x|o\s+xtrace)|\bxtrace\b")  # it prints them where its errors go
+SEES = re.compile(r"BASH_XTRACEFD|\btrap\b[^\n]*\bDEBUG\b|\$\{?_\b(?!\w)")  # it prints them elsewhere, or its text asks for the last one
+
+
+def shows_commands(argv: List[str], is_kept: bool) -> bool:
+    """Whether a shell that runs a text of its own shows which commands of it ran. `is_kept`: a make above keeps its errors."""
+    text = shell_text(argv)
+    options = argv[1:argv.index(text)] if text else []
+    traces = TRACES.search(text) or any(re.match(r"-[a-zA-Z]*x|xtrace$", word) for word in options)
+    return bool(SEES.search(text) or traces and (is_kept or KEPT_ERRORS.search(NOWHERE.sub(" ", text))))
