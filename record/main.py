@@ -25,12 +25,12 @@ from record.ninja.again import JOBS, TRIES, by_name, hints, tops_of, undo, with_
 from record.ninja.fresh import CannotClean, cold_copy, fresh_folder
 from record.ninja.log import Kept
 from record.report import Judged, colours, read_json, report
+from record.trace.classes import traced
 from record.trace.names import Names
+from record.trace.newer import Older
 from record.trace.skips import sift
 
-CALLS = ("%file,fchdir,getdents64,getdents,clone,clone3,fork,vfork,fchmod,fchown,ftruncate,fsetxattr,fremovexattr,connect,bind,flock,"
-         "shmget,semget,msgget,mq_open,?add_key,?request_key,umask,unshare,ptrace,setns,open_by_handle_at,io_uring_setup,?fchown32,?ftruncate64")
-STRACE = ["strace", "-f", "-q", "-y", "--seccomp-bpf", "-s", "131072", "-e", "signal=hup,int,quit,abrt,kill,segv,pipe,term,xfsz", "-e", "trace=" + CALLS]
+STRACE = ["strace", "-f", "-q", "-y", "--seccomp-bpf", "-s", "131072", "-e", "signal=hup,int,quit,abrt,kill,segv,pipe,term,xfsz", "-e", "trace=" + traced()]
 EXAMPLE = """examples:
   race-record -- make -C src all       one serial build, then the verdict
   race-record -- cmake --build build   the same where ninja builds
@@ -104,9 +104,10 @@ def run_build(words: List[str], spool: Path, tops: List[str]) -> Tuple[int, floa
     old = signal.signal(signal.SIGINT, signal.SIG_IGN)
     heard = old if old in (signal.SIG_IGN, signal.SIG_DFL) else signal.SIG_DFL
     (spool / "trace").touch()
+    older = Older()
     with ThreadPoolExecutor(2) as pool:
         words = STRACE + ["-o", str(spool / "trace"), "--"] + words
-        process = subprocess.Popen(words, env=env, preexec_fn=lambda: signal.signal(signal.SIGINT, heard))
+        process = subprocess.Popen(words, env=env, preexec_fn=lambda: older.enter(heard))
         ended = threading.Event()
         sifting, loading = pool.submit(sift, spool / "trace", tops, spool / "sifted", ended.wait), pool.submit(import_module, "record.importing")
         status, seconds = process.wait(), time.monotonic() - began
