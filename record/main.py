@@ -20,7 +20,7 @@ from typing import Dict, List, Optional, Tuple
 from record import VERSION
 from record.folder import Record, accept_warm, is_record, rewrite
 from record.judge import find_race, judge
-from record.make.wrapper import note_output
+from record.make.outputs import note_output
 from record.ninja.again import JOBS, TRIES, by_name, hints, tops_of, undo, with_jobs
 from record.ninja.fresh import CannotClean, cold_copy, fresh_folder
 from record.ninja.log import Kept
@@ -30,7 +30,7 @@ from record.trace.names import Names
 from record.trace.newer import Older
 from record.trace.skips import sift
 
-STRACE = ["strace", "-f", "-q", "-y", "--seccomp-bpf", "-s", "131072", "-e", "signal=hup,int,quit,abrt,kill,segv,pipe,term,xfsz", "-e", "trace=" + traced()]
+STRACE = ["strace", "-f", "-q", "-y", "--seccomp-bpf", "-s", str(32 * os.sysconf("SC_PAGE_SIZE")), "-e", "signal=hup,int,quit,abrt,kill,segv,pipe,term,xfsz", "-e", "trace=" + traced()]
 EXAMPLE = """examples:
   race-record -- make -C src all       one serial build, then the verdict
   race-record -- cmake --build build   the same where ninja builds
@@ -38,7 +38,7 @@ EXAMPLE = """examples:
   race-record --warm                   after WARM, where what it names is part of each clean tree: judge again, without a build
 statuses: 0 safe, with --missing also nothing missing, 1 races or missing inputs,
           2 no verdict on one of the two, 3 usage or a tool that is missing"""
-WRAPPER = ("record.make.options", "record.make.wrapper")
+WRAPPER = ("record.make.options", "record.make.outputs", "record.make.wrapper")
 PROGRAM = """#!%s -ISBXutf8
 import marshal, sys
 with open(%r, "rb") as file:

@@ -17,7 +17,7 @@ from record.tools.shelltext import shell_text
 BEGIN = re.compile(r"\$(?:[({](?:(?:call|value|origin|flavor)[ \t]+)?|(\w))")
 EVAL = re.compile(r"\$([({])eval[ \t]")
 SETS = re.compile(r"[ \t]*(?:override[ \t]+|export[ \t]+)*([\w.-]+)[ \t]*(\+|\?|!|:{0,3})=")
-ASSIGNED = re.compile(r"([\w.-]+)[ \t]*(?:[+?!]|:{1,3})?=((?:[^\n]*\\\n)*[^\n]*)")
+ASSIGNED = re.compile(r"(?<![\w.-])([\w.-]+)[ \t]*(?:[+?!]|:{1,3})?=((?:[^\n]*\\\n)*[^\n]*)")
 DEFINED = re.compile(r"(?ms)^[ \t]*define[ \t]+([\w.-]+)[^\n]*\n(.*?)^[ \t]*endef")
 # A line of a makefile that is a rule: what stands behind its colon, up to a recipe on the same line.
 RULE = re.compile(r"(?m)^(?!\t)[^\n=#]*?:(?![:=])((?:[^\n;#=]*\\\n)*[^\n;#]*)")

@@ -15,7 +15,7 @@ from record.trace.names import Found, Inode
 from record.trace.opened import CHANGING, OF_KERNEL, READING, Opened, requests
 from record.trace.processes import Processes
 from record.trace.replay import DEVICES
-from record.trace.strace import MAKES_PROCESS, Call, first_text, folders, is_cut, texts, unescape
+from record.trace.strace import BARE, MAKES_PROCESS, Call, first_text, folders, is_cut, texts, unescape
 
 LOOKS = {"stat", "lstat", "access", "getxattr", "lgetxattr", "listxattr", "llistxattr", "statfs", "newfstatat",
          "faccessat", "faccessat2", "name_to_handle_at", "statx", "fstatat64", "readlink", "readlinkat", "statfs64", "stat64", "lstat64",
@@ -48,6 +48,8 @@ class Calls(Opened):
         if life.is_wrapper and name not in OF_WRAPPER:
             return
         if handler is not None:
+            if ok and call.args[:1].isdigit() and name != "umask" and BARE.match(call.args):
+                self.put_bare(life, call)
             handler(self, life, call, ok)
         elif name in SHARING and ok:
             self.sockets.append(" ".join(life.argv)[:100])
@@ -139,6 +141,8 @@ class Calls(Opened):
         if life.is_ninja:
             life.starts.append((self.place, life.folder))
         life.argv, life.cut, life.begun = argv, is_cut(call.args), self.place
+        if life.cut:
+            self.holes.append("the words of a program are too many to be seen: " + " ".join(argv)[:100])
         life.ran.append(argv)
         if life.is_wrapper:
             return

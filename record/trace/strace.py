@@ -11,6 +11,7 @@ CALL = re.compile(r"(\w+)\((.*)\)\s+= (-?\d+|0x[0-9a-f]+|\?)(?:<((?:[^<>\\]|\\.)
 ESCAPE = re.compile(r"\\([0-7]{1,3}|x[0-9a-f]{2}|.)", re.S)
 TEXT = re.compile(r'"((?:[^"\\]|\\.)*)"(\.\.\.)?')
 FOLDER = re.compile(r"(?:AT_FDCWD|\d+)<((?:[^<>\\]|\\.)*)>")
+BARE = re.compile(r"(?:^|, )\d+(?:,|$)")  # a descriptor of which strace knows no name
 PLAIN = {"n": "\n", "t": "\t", "r": "\r", "v": "\v", "f": "\f"}
 
 
@@ -104,7 +105,7 @@ def texts(args: str) -> List[str]:
 
 def is_cut(args: str) -> bool:
     """Whether strace has shown only the beginning of a text."""
-    return any(match.group(2) for match in TEXT.finditer(args)) or ", ...]" in args
+    return any(match.group(2) for match in TEXT.finditer(args)) or ", ...]" in re.sub(TEXT, '""', args)
 
 
 def folders(args: str) -> List[str]:

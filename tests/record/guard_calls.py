@@ -1,4 +1,4 @@
-"""The guards of the classes of system calls: see guard_table.py, and test_classes.py for the tests."""
+"""The guards of the classes of system calls, and of what is too long for one piece: see guard_table.py, test_classes.py and test_long.py for the tests."""
 
 from typing import List
 
@@ -8,6 +8,11 @@ from guard_table import UNSAID, Guard
 def trace(name: str) -> str:
     """A test of lines of a trace."""
     return "test_classes.Traces.test_" + name
+
+
+def long(name: str) -> str:
+    """A test of what is longer than one piece."""
+    return "test_long." + name
 
 
 CALL_GUARDS: List[Guard] = [
@@ -33,4 +38,14 @@ CALL_GUARDS: List[Guard] = [
     Guard("locks of a part of a file: are traced", "trace/classes.py", '"!" + ",".join(', '"!?fcntl," + ",".join(', "test_classes.Recorded.test_a_lock_that_nobody_waits_for", UNSAID),
     Guard("requests: not sifted where they say something", "trace/skips.py", r"|FIOCLEX|TCGETS", r"|FIOCLEX|FS_IOC_SETFLAGS|TCGETS", "test_classes.Sifted.test_requests_that_say_nothing_of_a_file"),
     Guard("results in another base", "trace/strace.py", "|0x[0-9a-f]+|", "|", trace("locks_of_a_part_of_a_file")),
+    Guard("long lines: in pieces", "make/wrapper.py", "            self.piece += data\n", "            self.piece = data\n", long("Lines.test_a_line_of_make_in_pieces")),
+    Guard("long lines: a name of a target", "make/wrapper.py", "if self.piece or len(data) >= LONG", "if False and len(data) >= LONG", long("Recorded.test_name_of_a_target"), ""),
+    Guard("long lines: of a recipe", "make/wrapper.py", 'and data[-1:] != b"\\n" and BEGINS.match(data):', 'and data[-1:] != b"\\n" and False:', long("Lines.test_the_lines_of_a_recipe_with_a_long_name")),
+    Guard("long lines: at the end", "make/wrapper.py", "self.unclear + [self.piece] * bool(self.piece)", "self.unclear", long("Lines.test_a_line_without_an_end")),
+    Guard("long lines: not whole: a hole", "make/words.py", "        elif BROKEN.match(text):\n", "        elif False:\n", long("Lines.test_a_line_that_is_not_whole_is_a_hole")),
+    Guard("long commands: too many words: a hole", "trace/calls.py", "        if life.cut:\n", "        if False:\n", long("Traces.test_too_many_words")),
+    Guard("long commands: not where a text says so", "trace/strace.py", """ in re.sub(TEXT, '""', args)\n""", " in args\n", long("Traces.test_too_many_words")),
+    Guard("long names: descriptors without one", "trace/calls.py", "                self.put_bare(life, call)\n", "                pass\n", long("Traces.test_descriptors_without_a_name")),
+    Guard("long names: one of two descriptors", "trace/moves.py", "if not call.error and len(where) == 1:", "if False:", long("Traces.test_descriptors_without_a_name")),
+    Guard("long names: of the folder of a link", "trace/moves.py", "        if not where and BARE", "        if False and BARE", long("Traces.test_descriptors_without_a_name")),
 ]
