@@ -5,7 +5,6 @@ from __future__ import annotations
 import argparse
 import contextlib
 import os
-import signal
 import subprocess
 import sys
 from collections.abc import Iterator, Sequence
@@ -168,17 +167,12 @@ def run(args: argparse.Namespace) -> int:
     return status_of(findings)
 
 
-def interrupted(*_: object) -> None:
-    raise KeyboardInterrupt
-
-
 def main(words: Sequence[str] | None = None) -> int:
     """Reads, builds, compares; the status."""
     try:
         args = parse(words)
     except SystemExit as end:
         return 3 if end.code else 0
-    signal.signal(signal.SIGTERM, interrupted)
     try:
         return run(args)
     except CannotConfirm as error:

@@ -18,7 +18,8 @@ from pathlib import Path
 from typing import Dict, List, Optional, Tuple
 
 from record import VERSION
-from record.folder import Record, accept_warm, is_record, rewrite
+from record.entry import Stopped, end_traced
+from record.folder import ROOMS, Record, accept_warm, aside, is_record, rewrite
 from record.judge import find_race, judge
 from record.make.outputs import note_output
 from record.ninja.again import JOBS, TRIES, by_name, hints, tops_of, undo, with_jobs
@@ -101,8 +102,10 @@ def run_build(words: List[str], spool: Path, tops: List[str]) -> Tuple[int, floa
             env.pop(name, None)
     env["PATH"] = "%s:%s" % (spool / "bin", env.get("PATH", os.defpath))
     began = time.monotonic()
-    old = signal.signal(signal.SIGINT, signal.SIG_IGN)
+    interrupts: List[int] = []  # the build hears them too, and may go on all the same
+    old = signal.getsignal(signal.SIGINT)
     heard = old if old in (signal.SIG_IGN, signal.SIG_DFL) else signal.SIG_DFL
+    signal.signal(signal.SIGINT, lambda number, _: interrupts.append(number))
     (spool / "trace").touch()
     older = Older()
     with ThreadPoolExecutor(2) as pool:
@@ -110,11 +113,18 @@ def run_build(words: List[str], spool: Path, tops: List[str]) -> Tuple[int, floa
         process = subprocess.Popen(words, env=env, preexec_fn=lambda: older.enter(heard))
         ended = threading.Event()
         sifting, loading = pool.submit(sift, spool / "trace", tops, spool / "sifted", ended.wait), pool.submit(import_module, "record.importing")
-        status, seconds = process.wait(), time.monotonic() - began
-        ended.set()
+        try:
+            status, seconds = process.wait(), time.monotonic() - began
+        except BaseException:
+            end_traced(process)
+            raise
+        finally:
+            ended.set()
+            signal.signal(signal.SIGINT, old)
         sifting.result()
         loading.result()
-    signal.signal(signal.SIGINT, old)
+    if interrupts and status != 0:
+        raise Stopped("SIGINT")
     return status, seconds
 
 
@@ -169,7 +179,7 @@ def attempt(options: argparse.Namespace, words: List[str], tools: Dict[str, str]
     for top in tops_of(words, options.top):
         names.walk(top)
     kept = Kept.of(names)
-    room = Path(tempfile.mkdtemp(prefix="race-record-", dir="/tmp" if os.path.isdir("/tmp") else None))
+    room = Path(tempfile.mkdtemp(prefix="race-record-", dir=ROOMS))
     spool = Path(os.path.realpath(room))
     try:
         prepare_spool(spool, real)
@@ -238,10 +248,9 @@ def run(options: argparse.Namespace) -> int:
         return judge_warm(out, race) if out.exists() else stop("there is no record in %s: which command builds the project? (race-record --warm -- make)" % out)
     if shutil.which(options.words[0]) is None:
         return stop("%s: no such command" % options.words[0])
-    if out.exists():
-        shutil.rmtree(out)
     try:
-        record = record_fresh(options, tools, out) if options.fresh else record_all(options, tools, out)
+        with aside(out):
+            record = record_fresh(options, tools, out) if options.fresh else record_all(options, tools, out)
     except CannotClean as fault:
         return stop(str(fault))
     ended, judged = judge_record(out, race)
@@ -254,10 +263,15 @@ def run(options: argparse.Namespace) -> int:
 
 def judge_warm(out: Path, race: str) -> int:
     """The verdict on a record that is there, about builds that start from its tree."""
-    record = read_json(out / "record.json")
-    if record.get("version") != VERSION:
-        return stop("%s is of another version of race-record: record again" % out)
-    accept_warm(out, record)
+    try:
+        record = read_json(out / "record.json")
+        if record.get("version") != VERSION:
+            return stop("%s is of another version of race-record: record again" % out)
+        for number in record["builds"]:
+            read_json(out / "builds" / number / "build.json")
+        accept_warm(out, record)
+    except (AttributeError, KeyError, TypeError, ValueError, FileNotFoundError, NotADirectoryError):
+        return stop("%s is no whole record: record again" % out)
     return answer(out, race, *judge_record(out, race), record.get("missing") is not None)
 
 

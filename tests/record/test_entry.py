@@ -10,8 +10,17 @@ from pathlib import Path
 
 from support import TOP
 
-LINES = {"record": "there is no verdict", "report": "there is no report", "confirm": "nothing is confirmed"}
+LINES = {"record": "there is no verdict", "report": "there is no report", "confirm": "nothing is confirmed", "explain": "nothing is explained"}
 BROKEN = {"a main that fails": "def main():\n    raise IndexError('no such thing')\n", "no Python": "def main(:\n"}
+
+
+def copied(name: str, room: Path) -> Path:
+    """The folder of a script, with the script and what it begins with alone."""
+    for folder in (room / "record", room / name):
+        folder.mkdir(exist_ok=True)
+    shutil.copy2(TOP / "record" / "entry.py", room / "record")
+    shutil.copy2(TOP / name / ("race-" + name), room / name)
+    return room / name
 
 
 @unittest.skipIf(any(not (TOP / name).is_dir() for name in LINES), "the other companions are not beside the recorder")
@@ -22,9 +31,7 @@ class Entry(unittest.TestCase):
         for name, line in LINES.items():
             for how, text in BROKEN.items():
                 with self.subTest(name=name, how=how), tempfile.TemporaryDirectory() as room:
-                    folder = Path(room, name)
-                    folder.mkdir()
-                    shutil.copy2(TOP / name / ("race-" + name), folder)
+                    folder = copied(name, Path(room))
                     (folder / "main.py").write_text(text)
                     words = [sys.executable, os.fspath(folder / ("race-" + name))]
                     ran = subprocess.run(words, capture_output=True, text=True, stdin=subprocess.DEVNULL, timeout=60, check=False)
@@ -36,9 +43,7 @@ class Entry(unittest.TestCase):
         reads, writes = os.pipe()
         os.close(reads)
         with tempfile.TemporaryDirectory() as room:
-            folder = Path(room, "record")
-            folder.mkdir()
-            shutil.copy2(TOP / "record" / "race-record", folder)
+            folder = copied("record", Path(room))
             (folder / "main.py").write_text("def main():\n    print('safe')\n    return 0\n")
             ran = subprocess.run([sys.executable, os.fspath(folder / "race-record")], stdout=writes, stderr=subprocess.PIPE, timeout=60, check=False)
         os.close(writes)
