@@ -20,6 +20,19 @@ ROOMS = "/tmp" if os.path.isdir("/tmp") else None  # where temporary folders are
 NAMES = 12  # so many of the targets that were there before are named
 
 
+class NotWhole(Exception):
+    """A record of which a file is cut, changed or of another kind."""
+
+
+@contextmanager
+def reading(folder: Path) -> Iterator[None]:
+    """What is wrong with the files of a record, in one sentence."""
+    try:
+        yield
+    except (AttributeError, IndexError, KeyError, TypeError, ValueError) as fault:
+        raise NotWhole("%s is no whole record (%s: %s): record again" % (folder, type(fault).__name__, fault)) from fault
+
+
 @dataclass
 class Record:
     """A recorded build."""

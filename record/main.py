@@ -19,7 +19,7 @@ from typing import Dict, List, Optional, Tuple
 
 from record import VERSION
 from record.entry import Stopped, end_traced
-from record.folder import ROOMS, Record, accept_warm, aside, is_record, rewrite
+from record.folder import ROOMS, NotWhole, Record, accept_warm, aside, is_record, reading, rewrite
 from record.judge import find_race, judge
 from record.make.outputs import note_output
 from record.ninja.again import JOBS, TRIES, by_name, hints, tops_of, undo, with_jobs
@@ -263,16 +263,14 @@ def run(options: argparse.Namespace) -> int:
 
 def judge_warm(out: Path, race: str) -> int:
     """The verdict on a record that is there, about builds that start from its tree."""
-    try:
+    with reading(out):
         record = read_json(out / "record.json")
         if record.get("version") != VERSION:
             return stop("%s is of another version of race-record: record again" % out)
         for number in record["builds"]:
             read_json(out / "builds" / number / "build.json")
-        accept_warm(out, record)
-    except (AttributeError, KeyError, TypeError, ValueError, FileNotFoundError, NotADirectoryError):
-        return stop("%s is no whole record: record again" % out)
-    return answer(out, race, *judge_record(out, race), record.get("missing") is not None)
+        accept_warm(out, record)  # from here on it is changed
+        return answer(out, race, *judge_record(out, race), record.get("missing") is not None)
 
 
 def answer(out: Path, race: str, ended: int, judged: List[Judged], is_missing: bool) -> int:
@@ -292,4 +290,7 @@ def main(args: Optional[List[str]] = None) -> int:
         options = parse(sys.argv[1:] if args is None else args)
     except SystemExit as ended:
         return 3 if ended.code else 0
-    return run(options)
+    try:
+        return run(options)
+    except NotWhole as fault:
+        return stop(str(fault))
