@@ -3,6 +3,7 @@
 Python itself would end with 1 where it breaks, which says races.
 """
 
+import errno
 import os
 import signal
 import subprocess
@@ -81,6 +82,7 @@ def close_output() -> None:
 def reason(error: OSError) -> str:
     """What the system says of a file, in a line."""
     what = error.strerror or str(error) or type(error).__name__
+    what += " (make room there, and run it again)" if error.errno == errno.ENOSPC else ""
     return "%s: %s" % (os.fsdecode(error.filename), what) if isinstance(error.filename, (str, bytes)) else what
 
 

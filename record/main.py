@@ -29,6 +29,7 @@ from record.report import Judged, colours, read_json, report
 from record.trace.classes import traced
 from record.trace.names import Names
 from record.trace.newer import Older
+from record.trace.pipe import Pipe
 from record.trace.skips import sift
 
 STRACE = ["strace", "-f", "-q", "-y", "--seccomp-bpf", "-s", str(32 * os.sysconf("SC_PAGE_SIZE")), "-e", "signal=hup,int,quit,abrt,kill,segv,pipe,term,xfsz", "-e", "trace=" + traced()]
@@ -106,13 +107,14 @@ def run_build(words: List[str], spool: Path, tops: List[str]) -> Tuple[int, floa
     old = signal.getsignal(signal.SIGINT)
     heard = old if old in (signal.SIG_IGN, signal.SIG_DFL) else signal.SIG_DFL
     signal.signal(signal.SIGINT, lambda number, _: interrupts.append(number))
-    (spool / "trace").touch()
-    older = Older()
-    with ThreadPoolExecutor(2) as pool:
-        words = STRACE + ["-o", str(spool / "trace"), "--"] + words
+    older, pipe = Older(), Pipe(spool)
+    with ThreadPoolExecutor(3) as pool:
+        words = STRACE + ["-o", str(pipe.path), "--"] + words
         process = subprocess.Popen(words, env=env, preexec_fn=lambda: older.enter(heard))
-        ended = threading.Event()
-        sifting, loading = pool.submit(sift, spool / "trace", tops, spool / "sifted", ended.wait), pool.submit(import_module, "record.importing")
+        ended, filled = threading.Event(), threading.Event()
+        filling = pool.submit(pipe.fill, ended.wait)
+        filling.add_done_callback(lambda _: filled.set())
+        sifting, loading = pool.submit(sift, pipe.file, tops, spool / "sifted", filled.wait), pool.submit(import_module, "record.importing")
         try:
             status, seconds = process.wait(), time.monotonic() - began
         except BaseException:
@@ -121,8 +123,8 @@ def run_build(words: List[str], spool: Path, tops: List[str]) -> Tuple[int, floa
         finally:
             ended.set()
             signal.signal(signal.SIGINT, old)
-        sifting.result()
-        loading.result()
+        for work in (filling, sifting, loading):
+            work.result()
     if interrupts and status != 0:
         raise Stopped("SIGINT")
     return status, seconds

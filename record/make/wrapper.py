@@ -358,7 +358,10 @@ def main():
             note_past(spool, args + ["(its standard output is closed)"] * (not query))
         as_usual()
         os.execv(real, [name] + args)
-    raw = run_logged(spool, name, real, args, flags, below, slots)
+    try:
+        raw = run_logged(spool, name, real, args, flags, below, slots)
+    except OSError as error:  # the disk is full: make is not seen any more, so the build fails
+        sys.exit("race-record: what make says cannot be kept: %s" % error)
     if os.WIFSIGNALED(raw):
         if os.WTERMSIG(raw) != signal.SIGKILL:
             signal.signal(os.WTERMSIG(raw), signal.SIG_DFL)

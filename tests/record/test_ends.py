@@ -5,13 +5,16 @@ import shutil
 import signal
 import subprocess
 import tempfile
+import threading
 import time
 import unittest
+from concurrent.futures import ThreadPoolExecutor
 from pathlib import Path
 from typing import Dict, Optional, Sequence
 
 import support
 from record.folder import aside, move
+from record.trace.pipe import Pipe
 
 SLOW = {"Makefile": "all: ; @echo $$PPID $$$$ > pids; echo \"$$PATH\" > path; touch begun; sleep 100\n"}
 SAFE = {"Makefile": "all: ; @touch all\n"}
@@ -123,7 +126,35 @@ class Places(unittest.TestCase):
         with support.Project(SAFE) as project, open("/dev/full", "wb") as full:
             args = [str(support.RECORDER), "--race", support.race_program(), "--", "make"]
             ran = subprocess.run(args, cwd=project.folder, stdin=subprocess.DEVNULL, stdout=full, stderr=subprocess.PIPE, timeout=60, check=False)
-        self.assertEqual((3, "race-record: No space left on device; there is no verdict"), (ran.returncode, ran.stderr.decode().splitlines()[-1]))
+        self.assertEqual((3, "race-record: No space left on device (make room there, and run it again); there is no verdict"), (ran.returncode, ran.stderr.decode().splitlines()[-1]))
+
+
+class Pipes(unittest.TestCase):
+    """The pipe from strace, which goes on where its own file cannot be written."""
+
+    def filled(self, file: Optional[Path], writes: int) -> bytes:
+        """What comes of so many lines; the writer is never held up."""
+        with tempfile.TemporaryDirectory() as room:
+            pipe = Pipe(Path(room))
+            pipe.file = file or pipe.file
+            writing, ended = os.open(pipe.path, os.O_WRONLY), threading.Event()
+            with ThreadPoolExecutor(1) as pool:
+                filling = pool.submit(pipe.fill, ended.wait)
+                for _ in range(writes):
+                    os.write(writing, b"1 line\n" * 100)
+                os.close(writing)
+                ended.set()
+                filling.result()
+            self.assertFalse(pipe.path.exists())
+            return pipe.file.read_bytes()
+
+    def test_all_lines(self) -> None:
+        for writes in (0, 1, 5000):
+            self.assertEqual(b"1 line\n" * 100 * writes, self.filled(None, writes))
+
+    def test_a_full_disk(self) -> None:
+        with self.assertRaisesRegex(OSError, "No space left on device: '/dev/full'"):
+            self.filled(Path("/dev/full"), 5000)
 
 
 class Moves(unittest.TestCase):
