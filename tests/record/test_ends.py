@@ -10,8 +10,9 @@ import time
 import unittest
 from concurrent.futures import ThreadPoolExecutor
 from pathlib import Path
-from typing import Dict, Optional, Sequence
+from typing import Optional, Sequence
 
+import forked
 import support
 from record.folder import aside, move
 from record.trace.pipe import Pipe
@@ -93,10 +94,10 @@ class Signals(unittest.TestCase):
 class Places(unittest.TestCase):
     """Folders and records that cannot be used."""
 
-    def ends(self, project: support.Project, says: str, args: Sequence[str] = ("--", "make"), env: Optional[Dict[str, str]] = None) -> None:
-        outcome = project.run(["--race", support.race_program(), *args], env)
-        said = outcome.stderr.decode()
-        self.assertEqual((3, 1), (outcome.status, said.count("\n")), said)
+    def ends(self, project: support.Project, says: str, args: Sequence[str]) -> None:
+        ran = forked.run(forked.script(support.RECORDER, ["--race", support.race_program(), *args]), project.folder, support.SECONDS)
+        said = ran.stderr.decode()
+        self.assertEqual((3, 1), (ran.returncode, said.count("\n")), said)
         self.assertIn(says, said)
         self.assertNotIn("Traceback", said)
 
@@ -120,7 +121,7 @@ class Places(unittest.TestCase):
         with support.Project(SAFE) as project:
             project.record()
             shutil.rmtree(project.folder / ".race" / "builds")
-            self.ends(project, "is no whole record", ("--warm",))
+            self.ends(project, "build.json: No such file or directory; there is no verdict", ("--warm",))
 
     def test_output_that_nobody_can_write(self) -> None:
         with support.Project(SAFE) as project, open("/dev/full", "wb") as full:
