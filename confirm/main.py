@@ -5,7 +5,6 @@ from __future__ import annotations
 import argparse
 import contextlib
 import os
-import signal
 import subprocess
 import sys
 from collections.abc import Iterator, Sequence
@@ -16,6 +15,8 @@ from confirm.room import Room, furnish, new_room, settle, tools
 from confirm.text import body, heading, summary
 from confirm.tree import copy, remove, take_back
 from confirm.trial import Finding, Trial
+from record.entry import reason
+from record.folder import NotWhole, reading
 from record.main import Missing
 from report.main import find_race, judge
 from report.model import BadRecord, Report, read_json
@@ -83,7 +84,8 @@ def prepared(args: argparse.Namespace, folder: str, used: set[str], compiler: st
         if args.prepare:
             prepare(room, args.prepare)
         else:
-            take_back(room.fresh, folder, args.record)
+            with reading(args.record):
+                take_back(room.fresh, folder, args.record)
         yield room
     finally:
         remove(room.top)
@@ -137,39 +139,43 @@ def status_of(findings: Sequence[Finding]) -> int:
     return 2 if any(it.why for it in findings) else 0
 
 
+def picked(args: argparse.Namespace, report: Report) -> tuple[list[Chosen], str]:
+    """The races that are asked for, and the project's folder."""
+    races = [*chosen(report, args.record, args.names)]
+    if not races:
+        called = " ".join(args.names)
+        raise BadRecord(f"{args.record} has no race that is called {called}; it has {counted(len(report.races), 'race')}: race-report lists them")
+    folder = read_json(args.record / "record.json")["folder"]
+    if not os.path.isdir(folder):
+        raise CannotConfirm(f"the project's folder {folder} is not there: record again where it is now")
+    if outside := next(written_outside(args.record, folder), None):
+        raise CannotConfirm(f"the build writes {outside}, which is not below the project's folder {folder}, so a build of a copy "
+                            "would write it, too")
+    return races, folder
+
+
 def run(args: argparse.Namespace) -> int:
-    used = tools_of(args.record)
+    with reading(args.record):
+        used = tools_of(args.record)
     compiler = tools("make" in used)
     if args.keep and (there := [args.keep / it for it in KEPT if (args.keep / it).exists()]):
-        raise BadRecord(f"{there[0]} is there already")
+        raise BadRecord(f"{there[0]} is there already: name another folder with --keep")
     program = find_race(args.race)
     if not program:
         raise Missing("the program race is missing: --race PROGRAM, $RACE, or on PATH")
-    report = judge(args.record, program)
-    if not report.races:
+    with reading(args.record):
+        report = judge(args.record, program)
+        races, folder = picked(args, report) if report.races else ([], "")
+    if not races:
         if report.holes:
             raise CannotConfirm(f"there is no verdict on this record: {report.holes[0]}")
         show(iter(["The record has no race: there is nothing to confirm."]))
         return 0
-    races = [*chosen(report, args.record, args.names)]
-    if not races:
-        called = " ".join(args.names)
-        raise BadRecord(f"{args.record} has no race that is called {called}; it has {counted(len(report.races), 'race')}")
-    folder = read_json(args.record / "record.json")["folder"]
-    if not os.path.isdir(folder):
-        raise CannotConfirm(f"the project's folder {folder} is not there")
-    if outside := next(written_outside(args.record, folder), None):
-        raise CannotConfirm(f"the build writes {outside}, which is not below the project's folder {folder}, so a build of a copy "
-                            "would write it, too")
     with prepared(args, folder, used, compiler) as room:
         findings = try_all(args, report, races, room)
     if len(findings) > 1:
         show(iter([summary(findings)]))
     return status_of(findings)
-
-
-def interrupted(*_: object) -> None:
-    raise KeyboardInterrupt
 
 
 def main(words: Sequence[str] | None = None) -> int:
@@ -178,7 +184,6 @@ def main(words: Sequence[str] | None = None) -> int:
         args = parse(words)
     except SystemExit as end:
         return 3 if end.code else 0
-    signal.signal(signal.SIGTERM, interrupted)
     try:
         return run(args)
     except CannotConfirm as error:
@@ -186,7 +191,8 @@ def main(words: Sequence[str] | None = None) -> int:
         return 2
     except KeyboardInterrupt:
         print("race-confirm: stopped; the temporary folder is gone", file=sys.stderr)
-        return 3
-    except (Missing, BadRecord, OSError) as error:
+    except (Missing, BadRecord, NotWhole) as error:
         print(f"race-confirm: {error}", file=sys.stderr)
-        return 3
+    except OSError as error:
+        print(f"race-confirm: {reason(error)}; nothing is confirmed", file=sys.stderr)
+    return 3

@@ -25,7 +25,7 @@ NEW_MOUNTS, NEW_USER = 0x20000, 0x10000000
 BIND, ALL_BELOW, PRIVATE = 0x1000, 0x4000, 0x40000
 # What a make above hands down: it is none of this build's.
 OF_MAKE = ("MAKELEVEL", "MAKEFLAGS", "MFLAGS", "MAKE_TERMOUT", "MAKE_TERMERR", "MAKEFILES", "OLDPWD")
-# What stands for make in the build. Of an outermost make it takes -j away. Without tokens it has one job; with them it takes
+# What stands for make in the build. Of an outermost make it takes -j and -l away. Without tokens it has one job; with them it takes
 # a token for each job but the first, as a make inside a make does, and brings it back by another pipe.
 SHIM = """#!/bin/sh
 if [ "${MAKELEVEL:-0}" != 0 ]; then exec REAL "$@"; fi
@@ -34,8 +34,8 @@ while [ $rest -gt 0 ]; do
   word=$1 rest=$((rest - 1)) was=$number number=
   shift
   case $word in
-    -j|--jobs) number=yes ;;
-    -j[0-9]*|--jobs=*) ;;
+    -j|--jobs|-l|--load-average|--max-load) number=yes ;;
+    -j[0-9]*|--jobs=*|-l[0-9]*|--load-average=*|--max-load=*) ;;
     [0-9]*) [ "$was" ] || set -- "$@" "$word" ;;
     *) set -- "$@" "$word" ;;
   esac

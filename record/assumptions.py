@@ -13,7 +13,7 @@ TEXTS = {
     "unwritten": "all processes of recipes that do not write their own target were seen",
     "at-once": "two processes of one recipe touch a file at the same time",
     "sockets": "a process talks to a server, whose files nobody saw, or opens a port, which is free, or shares memory with processes of its own recipe alone",
-    "processes": "who lists the processes that run (ps, pgrep), or waits for changes of files (inotify), does the same whatever else runs",
+    "processes": "who lists the processes that run (ps, pgrep), or waits for changes of files (inotify, leases), does the same whatever else runs",
     "read-times": "who asks when a file was read last (test -N, find -anewer) does the same whoever has read it",
     "locks": "who asks for a lock of a file, and does not wait for it, does the same where another one has it",
     "queries": "what a make that only asks (-n, -q, -t) runs by `+` or $(MAKE) does the same in any order",

@@ -1,10 +1,13 @@
 """The folder of a record: what it holds, and how it is written."""
 
 import json
+import os
 import shutil
+import tempfile
+from contextlib import contextmanager
 from dataclasses import asdict, dataclass, field
 from pathlib import Path
-from typing import TYPE_CHECKING, Any, Dict, List, Optional
+from typing import TYPE_CHECKING, Any, Dict, Iterator, List, Optional
 
 from record import VERSION
 from record.tasks import labels_of, lines_of, relative, shown
@@ -13,7 +16,21 @@ if TYPE_CHECKING:
     from record.assumptions import Assumptions
     from record.make.graph import Build
 
+ROOMS = "/tmp" if os.path.isdir("/tmp") else None  # where temporary folders are made
 NAMES = 12  # so many of the targets that were there before are named
+
+
+class NotWhole(Exception):
+    """A record of which a file is cut, changed or of another kind."""
+
+
+@contextmanager
+def reading(folder: Path) -> Iterator[None]:
+    """What is wrong with the files of a record, in one sentence."""
+    try:
+        yield
+    except (AttributeError, IndexError, KeyError, TypeError, ValueError) as fault:
+        raise NotWhole("%s is no whole record (%s: %s): record again" % (folder, type(fault).__name__, fault)) from fault
 
 
 @dataclass
@@ -85,7 +102,18 @@ def write_record(folder: Path, record: Record, builds: "List[Build]", assumed: "
 
 def rewrite(folder: Path, record: Record) -> None:
     """What is known of the record as a whole."""
-    (folder / "record.json").write_text(record.text(), encoding="utf-8")
+    replace(folder / "record.json", record.text())
+
+
+def replace(path: Path, text: str) -> None:
+    """Writes a file anew; where that fails, it is as it was."""
+    fresh = path.with_suffix(".new")
+    try:
+        fresh.write_text(text, encoding="utf-8")
+        fresh.replace(path)
+    except OSError:
+        fresh.unlink(missing_ok=True)
+        raise
 
 
 def accept_warm(folder: Path, record: Dict[str, Any]) -> None:
@@ -96,7 +124,42 @@ def accept_warm(folder: Path, record: Dict[str, Any]) -> None:
     record["holes"] = [hole for hole in record["holes"] if not hole.startswith("WARM")]
     if warm["count"] and not any(one["kind"] == "up-to-date" for one in record["assumptions"]):
         record["assumptions"].append({"kind": "up-to-date", "count": warm["count"], "example": warm["example"], "text": TEXTS["up-to-date"]})
-    (folder / "record.json").write_text(json.dumps(record, indent=1, ensure_ascii=True) + "\n", encoding="utf-8")
+    replace(folder / "record.json", json.dumps(record, indent=1, ensure_ascii=True) + "\n")
+
+
+def move(here: Path, there: Path) -> None:
+    """Moves a folder to where nothing is; where that fails, it is still in its place."""
+    try:
+        here.rename(there)
+    except OSError:  # it goes to another device
+        try:
+            shutil.copytree(here, there, symlinks=True)
+        except BaseException:
+            shutil.rmtree(there, ignore_errors=True)
+            raise
+        shutil.rmtree(here)
+
+
+@contextmanager
+def aside(folder: Path) -> Iterator[None]:
+    """Takes an older record out of the tree, in which the build may look around. It comes back where no new one is written."""
+    room = Path(tempfile.mkdtemp(prefix="race-record-older-", dir=ROOMS))
+    older = room / "record"
+    try:
+        move(folder, older) if folder.exists() else folder.mkdir()  # where nothing can be written, nothing need be built
+    except BaseException:
+        room.rmdir()
+        raise
+    shutil.rmtree(folder, ignore_errors=True)
+    try:
+        yield
+    except BaseException:
+        shutil.rmtree(folder, ignore_errors=True)
+        if older.exists():
+            move(older, folder)
+        room.rmdir()
+        raise
+    shutil.rmtree(room, ignore_errors=True)
 
 
 def is_record(folder: Path) -> bool:

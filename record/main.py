@@ -18,19 +18,21 @@ from pathlib import Path
 from typing import Dict, List, Optional, Tuple
 
 from record import VERSION
-from record.folder import Record, accept_warm, is_record, rewrite
+from record.entry import Stopped, end_traced
+from record.folder import ROOMS, NotWhole, Record, accept_warm, aside, is_record, reading, rewrite
 from record.judge import find_race, judge
-from record.make.wrapper import note_output
+from record.make.outputs import note_output
 from record.ninja.again import JOBS, TRIES, by_name, hints, tops_of, undo, with_jobs
 from record.ninja.fresh import CannotClean, cold_copy, fresh_folder
 from record.ninja.log import Kept
 from record.report import Judged, colours, read_json, report
+from record.trace.classes import traced
 from record.trace.names import Names
+from record.trace.newer import Older
+from record.trace.pipe import Pipe
 from record.trace.skips import sift
 
-CALLS = ("%file,fchdir,getdents64,getdents,clone,clone3,fork,vfork,fchmod,fchown,ftruncate,fsetxattr,fremovexattr,connect,bind,flock,"
-         "shmget,semget,msgget,mq_open,?add_key,?request_key,umask,unshare,ptrace,setns,open_by_handle_at,io_uring_setup,?pidfd_getfd,?fchown32,?ftruncate64")
-STRACE = ["strace", "-f", "-q", "-y", "--seccomp-bpf", "-s", "131072", "-e", "signal=hup,int,quit,abrt,kill,segv,pipe,term,xfsz", "-e", "trace=" + CALLS]
+STRACE = ["strace", "-f", "-q", "-y", "--seccomp-bpf", "-s", str(32 * os.sysconf("SC_PAGE_SIZE")), "-e", "signal=hup,int,quit,abrt,kill,segv,pipe,term,xfsz", "-e", "trace=" + traced()]
 EXAMPLE = """examples:
   race-record -- make -C src all       one serial build, then the verdict
   race-record -- cmake --build build   the same where ninja builds
@@ -38,7 +40,7 @@ EXAMPLE = """examples:
   race-record --warm                   after WARM, where what it names is part of each clean tree: judge again, without a build
 statuses: 0 safe, with --missing also nothing missing, 1 races or missing inputs,
           2 no verdict on one of the two, 3 usage or a tool that is missing"""
-WRAPPER = ("record.make.options", "record.make.wrapper")
+WRAPPER = ("record.make.options", "record.make.outputs", "record.make.wrapper")
 PROGRAM = """#!%s -ISBXutf8
 import marshal, sys
 with open(%r, "rb") as file:
@@ -101,19 +103,30 @@ def run_build(words: List[str], spool: Path, tops: List[str]) -> Tuple[int, floa
             env.pop(name, None)
     env["PATH"] = "%s:%s" % (spool / "bin", env.get("PATH", os.defpath))
     began = time.monotonic()
-    old = signal.signal(signal.SIGINT, signal.SIG_IGN)
+    interrupts: List[int] = []  # the build hears them too, and may go on all the same
+    old = signal.getsignal(signal.SIGINT)
     heard = old if old in (signal.SIG_IGN, signal.SIG_DFL) else signal.SIG_DFL
-    (spool / "trace").touch()
-    with ThreadPoolExecutor(2) as pool:
-        words = STRACE + ["-o", str(spool / "trace"), "--"] + words
-        process = subprocess.Popen(words, env=env, preexec_fn=lambda: signal.signal(signal.SIGINT, heard))
-        ended = threading.Event()
-        sifting, loading = pool.submit(sift, spool / "trace", tops, spool / "sifted", ended.wait), pool.submit(import_module, "record.importing")
-        status, seconds = process.wait(), time.monotonic() - began
-        ended.set()
-        sifting.result()
-        loading.result()
-    signal.signal(signal.SIGINT, old)
+    signal.signal(signal.SIGINT, lambda number, _: interrupts.append(number))
+    older, pipe = Older(), Pipe(spool)
+    with ThreadPoolExecutor(3) as pool:
+        words = STRACE + ["-o", str(pipe.path), "--"] + words
+        process = subprocess.Popen(words, env=env, preexec_fn=lambda: older.enter(heard))
+        ended, filled = threading.Event(), threading.Event()
+        filling = pool.submit(pipe.fill, ended.wait)
+        filling.add_done_callback(lambda _: filled.set())
+        sifting, loading = pool.submit(sift, pipe.file, tops, spool / "sifted", filled.wait), pool.submit(import_module, "record.importing")
+        try:
+            status, seconds = process.wait(), time.monotonic() - began
+        except BaseException:
+            end_traced(process)
+            raise
+        finally:
+            ended.set()
+            signal.signal(signal.SIGINT, old)
+        for work in (filling, sifting, loading):
+            work.result()
+    if interrupts and status != 0:
+        raise Stopped("SIGINT")
     return status, seconds
 
 
@@ -168,7 +181,7 @@ def attempt(options: argparse.Namespace, words: List[str], tools: Dict[str, str]
     for top in tops_of(words, options.top):
         names.walk(top)
     kept = Kept.of(names)
-    room = Path(tempfile.mkdtemp(prefix="race-record-", dir="/tmp" if os.path.isdir("/tmp") else None))
+    room = Path(tempfile.mkdtemp(prefix="race-record-", dir=ROOMS))
     spool = Path(os.path.realpath(room))
     try:
         prepare_spool(spool, real)
@@ -237,10 +250,9 @@ def run(options: argparse.Namespace) -> int:
         return judge_warm(out, race) if out.exists() else stop("there is no record in %s: which command builds the project? (race-record --warm -- make)" % out)
     if shutil.which(options.words[0]) is None:
         return stop("%s: no such command" % options.words[0])
-    if out.exists():
-        shutil.rmtree(out)
     try:
-        record = record_fresh(options, tools, out) if options.fresh else record_all(options, tools, out)
+        with aside(out):
+            record = record_fresh(options, tools, out) if options.fresh else record_all(options, tools, out)
     except CannotClean as fault:
         return stop(str(fault))
     ended, judged = judge_record(out, race)
@@ -253,11 +265,14 @@ def run(options: argparse.Namespace) -> int:
 
 def judge_warm(out: Path, race: str) -> int:
     """The verdict on a record that is there, about builds that start from its tree."""
-    record = read_json(out / "record.json")
-    if record.get("version") != VERSION:
-        return stop("%s is of another version of race-record: record again" % out)
-    accept_warm(out, record)
-    return answer(out, race, *judge_record(out, race), record.get("missing") is not None)
+    with reading(out):
+        record = read_json(out / "record.json")
+        if record.get("version") != VERSION:
+            return stop("%s is of another version of race-record: record again" % out)
+        for number in record["builds"]:
+            read_json(out / "builds" / number / "build.json")
+        accept_warm(out, record)  # from here on it is changed
+        return answer(out, race, *judge_record(out, race), record.get("missing") is not None)
 
 
 def answer(out: Path, race: str, ended: int, judged: List[Judged], is_missing: bool) -> int:
@@ -277,4 +292,7 @@ def main(args: Optional[List[str]] = None) -> int:
         options = parse(sys.argv[1:] if args is None else args)
     except SystemExit as ended:
         return 3 if ended.code else 0
-    return run(options)
+    try:
+        return run(options)
+    except NotWhole as fault:
+        return stop(str(fault))

@@ -4,14 +4,17 @@ from __future__ import annotations
 
 from pathlib import Path
 
+from record import VERSION
 from record.judge import judge as ask
 from record.missing.report import Question
-from report.model import Assumption, Report, read_build, read_json
+from report.model import Assumption, BadRecord, Report, read_build, read_json
 
 
 def judge(folder: Path, program: Path) -> Report:
     """The report of a record: the worst of its builds, and never a yes where the record has a hole."""
     record = read_json(folder / "record.json")
+    if record.get("version") != VERSION:
+        raise BadRecord(f"{folder} is of another version of race-record: record again")
     project = record.get("folder", "")
     report = Report(project, record.get("words", []), "safe", is_fixed=True, holes=[*record.get("holes", [])])
     report.assumptions = [Assumption(it["text"], it["count"], it["example"]) for it in record.get("assumptions", [])]

@@ -3,11 +3,14 @@
 from __future__ import annotations
 
 import argparse
+import contextlib
 import os
 import shutil
 import sys
 from pathlib import Path
 
+from record.entry import reason
+from record.folder import NotWhole, reading
 from report.asking import judge
 from report.direct import inputs, judge_makefile
 from report.machine import as_json, as_sarif, read_baseline
@@ -94,15 +97,32 @@ def main(words: list[str] | None = None) -> int:
     if not program:
         return stop("the program race is missing: --race PROGRAM, $RACE, or on PATH")
     try:
-        report = read(args, program)
-        if args.baseline:
-            hold_against(report, args.baseline)
-        shown = FORMS[args.format](report).encode("utf-8", "backslashreplace")
-        if args.output:
-            args.output.write_bytes(shown)
-        else:
-            sys.stdout.buffer.write(shown)
-            sys.stdout.buffer.flush()
-    except (BadRecord, OSError) as error:
+        with contextlib.nullcontext() if args.makefile else reading(Path(*(args.words or [".race"]))):
+            report = read(args, program)
+            if args.baseline:
+                hold_against(report, args.baseline)
+            shown, status = FORMS[args.format](report).encode("utf-8", "backslashreplace"), report.status()
+        write(shown, args.output)
+    except (BadRecord, NotWhole) as error:
         return stop(error)
-    return report.status()
+    except OSError as error:
+        return stop(reason(error))
+    return status
+
+
+def write(shown: bytes, output: Path | None) -> None:
+    """Puts a report where it is asked for. What is there is replaced by a whole one alone."""
+    if output is None:
+        sys.stdout.buffer.write(shown)
+        sys.stdout.buffer.flush()
+    elif output.is_file() and not output.is_symlink():
+        fresh = output.with_name(output.name + ".new")
+        try:
+            fresh.write_bytes(shown)
+            shutil.copymode(output, fresh)
+            fresh.replace(output)
+        except OSError:
+            fresh.unlink(missing_ok=True)
+            raise
+    else:
+        output.write_bytes(shown)

@@ -10,6 +10,7 @@ from collections.abc import Iterator
 from dataclasses import dataclass, field
 from pathlib import Path
 
+from record.entry import reason
 from record.missing.report import Question
 from record.ninja.fix import fix_text
 from report.kinds import Kind, kind_of
@@ -159,10 +160,14 @@ def read_json(path: Path) -> dict:
     """One file of a record."""
     try:
         found = json.loads(path.read_text(encoding="utf-8"))
-    except (OSError, ValueError) as error:
-        raise BadRecord(f"{path}: {error}") from error
+    except OSError as error:
+        if path.name == "record.json" and isinstance(error, (FileNotFoundError, NotADirectoryError)):
+            raise BadRecord(f"there is no record in {path.parent}: record a build first (race-record -- make)") from error
+        raise BadRecord(f"{reason(error)}; if the record is broken, record again") from error
+    except ValueError as error:
+        raise BadRecord(f"{path} cannot be read ({error}): record again") from error
     if not isinstance(found, dict):
-        raise BadRecord(f"{path}: no JSON object")
+        raise BadRecord(f"{path} is no JSON object: record again")
     return found
 
 
@@ -217,6 +222,8 @@ def read_build(folder: Path, number: str, project: str) -> Build:
             for line in filter(str.strip, lines):
                 task = json.loads(line)
                 after[task["task"]] = task["after"]
-    except (OSError, ValueError, KeyError, TypeError) as error:
-        raise BadRecord(f"{folder / 'tasks'}: {error}") from error
+    except OSError as error:
+        raise BadRecord(f"{reason(error)}; if the record is broken, record again") from error
+    except (ValueError, KeyError, TypeError) as error:
+        raise BadRecord(f"{folder / 'tasks'} cannot be read ({error}): record again") from error
     return Build(number, about.get("folder", project), project, about, after)

@@ -20,7 +20,7 @@ BUILT_IN = re.compile(r"\$([({])call\s+(call|eval|value|origin|flavor)\s*,")  # 
 COMPUTED = re.compile(r"\$[({]call\s[^,(){}]*\$")  # a function that another macro names
 BARE = re.compile(r"(?<![({\w-])eval\b")  # its name where nothing calls it
 SETS = re.compile(r"[ \t]*(?:override[ \t]+|export[ \t]+)*([\w.-]+)[ \t]*(\+|\?|!|:{0,3})=")
-ASSIGNED = re.compile(r"([\w.-]+)[ \t]*(?:[+?!]|:{1,3})?=((?:[^\n]*\\\n)*[^\n]*)")
+ASSIGNED = re.compile(r"(?<![\w.-])([\w.-]+)[ \t]*(?:[+?!]|:{1,3})?=((?:[^\n]*\\\n)*[^\n]*)")
 DEFINED = re.compile(r"(?ms)^[ \t]*define[ \t]+([\w.-]+)[^\n]*\n(.*?)^[ \t]*endef")
 # A line of a makefile that is a rule: what stands behind its colon, up to a recipe on the same line.
 RULE = re.compile(r"(?m)^(?!\t)[^\n=#]*?:(?![:=])((?:[^\n;#=]*\\\n)*[^\n;#]*)")

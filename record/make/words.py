@@ -17,6 +17,9 @@ MUST = re.compile(r"^ *Must remake target '(.*)'\.$")
 FAILED = re.compile(r"^ *(?:Failed to remake|Giving up on) target file '(.*)'\.$")
 RUNNING = re.compile(r" *Recipe of '")  # make says so where it does not wait for a recipe
 SEVERAL = "a makefile or GNUMAKEFLAGS asks for several jobs, and so they ran; say -j1: make "
+# Lines of which each word counts: one that is none of those above was not read as a whole.
+BROKEN = re.compile(r" *(?:Considering target file|Pruning file|Finished prerequisites of target file|Must remake target|Failed to remake target file|Giving up on target file) '"
+                    r"(?!.*'\.$)|(?:Putting|Live|Reaping \w+|Removing) child 0x(?!.*PID \d)")
 READING = re.compile(r"^Reading makefile '(.*)'((?: \([^)]*\))*)\.\.\.$")
 
 
@@ -174,6 +177,8 @@ class _Reader:
             self.considered(*considered)
         elif child:
             self.child(child.group(1), child.group(2), child.group(3) or "", int(child.group(4)))
+        elif BROKEN.match(text):
+            words.holes.append("a line of make's words cannot be read: " + text[:200])
         elif text.startswith("Reading makefiles..."):
             words.read.append([])
         elif text.startswith("Updating makefiles"):

@@ -1,6 +1,6 @@
 """Stands in front of GNU make while a build is recorded.
 
-`race-record` compiles options.py and this file for SPOOL/bin/make, first on PATH, a program of its own. It runs the real make (named
+`race-record` compiles options.py, outputs.py and this file for SPOOL/bin/make, first on PATH, a program of its own. It runs the real make (named
 in SPOOL/real) with words that let it say what it considers, takes make's own lines out of standard output again, into
 SPOOL/PID.make, and passes everything else on byte for byte. Queries (`make -n`, `-q`, `-t`, `-p`, `-v`, `-h`) and makes
 that were asked for debug words run untouched.
@@ -10,10 +10,10 @@ import os
 import re
 import select
 import signal
-import stat
 import sys
 
 from record.make.options import WORDS, asked, asks_jobs, jobs_of_call, plain_args, speak_english, without_words
+from record.make.outputs import goes_to, is_closed, is_one_file, note_output
 
 VERSION_LINE = re.compile(rb"# (GNU Make \d|Built for |Copyright \(C\)|License |This is free software|There is NO WARR)")
 QUOTED = rb"'[^\n]*'"
@@ -30,6 +30,9 @@ WORD_LINE = re.compile(
     rb"|Makefile " + QUOTED + rb" might loop; not remaking it\.$|Re-executing\[\d+\]:"
     rb"|Removing intermediate files\.\.\.$|Got a SIGCHLD; \d+ unreaped|(Putting|Live|Reaping winning|Reaping losing|Removing) child 0x[0-9a-f]+ "
     rb"|(Released|Obtained) token for child 0x|Need a job token; we |Jobserver (setup|client) \()")
+LONG = 4096  # bytes: a longer text comes in pieces
+BEGINS = re.compile(rb" *(?:(?:Reading|Considering|Pruning|Finished|Must|Successfully|Failed|Still|Giving|Recently|Ignoring|File|No|Prerequisite|The|Recipe|Target|Making|Makefile)"
+                    rb" [a-z ]*'|(?:Putting|Live|Reaping (?:winning|losing)) child 0x)")
 LOOKED = re.compile(rb" *(?:Considering target file|Pruning file) '[^\n]*'\.\n\Z")
 TOKEN = re.compile(rb"Need a job token; we |Obtained token for child 0x|Jobserver setup \(")
 RUNNING = re.compile(rb" *Recipe of '(.*)' is being run\.\n")  # make does not wait for it: with no bound on jobs it asks for no token
@@ -41,28 +44,6 @@ INCLUDED = re.compile(rb"Reading makefile " + QUOTED + rb"( \([^)]*\))+\.\.\.\n"
 ENDS_OF_RECIPE = re.compile(rb"(?:Got a SIGCHLD; \d+ unreaped children\.\n)*(?:Live|Reaping winning|Reaping losing|Removing)\Z")
 BASE = b"# Make data base, printed on"
 DIRECTORY = re.compile(rb"# ([^\n]*: (Entering|Leaving) (directory|an unknown directory))")
-
-
-def goes_to(spool, number):
-    """Where what is written to a descriptor goes: `file`, `pipe`, or nothing where the build's own output or a device stands there."""
-    try:
-        found = os.fstat(number)
-    except OSError:
-        return ""
-    if stat.S_ISCHR(found.st_mode):
-        return ""
-    try:
-        with open("%s/outputs/%d.%d" % (spool, found.st_dev, found.st_ino)) as file:
-            return file.read()
-    except OSError:
-        return "file" if stat.S_ISREG(found.st_mode) else "pipe"
-
-
-def note_output(spool, number, where):
-    """Keeps where what is written to a descriptor goes, for the makes below."""
-    found = os.fstat(number)
-    with open("%s/outputs/%d.%d" % (spool, found.st_dev, found.st_ino), "w") as file:
-        file.write(where)
 
 
 class Splitter:
@@ -87,6 +68,7 @@ class Splitter:
         self.says = says  # the log says which recipes print something
         self.has_said = False  # it says so of the recipe that runs
         self.is_said = False  # make has printed something for the recipe that is about to run
+        self.piece = b""  # the beginning of a line of make that is longer than a packet
 
     def pass_on(self, data):
         """Writes all of it to standard output."""
@@ -150,6 +132,11 @@ class Splitter:
     def take(self, data):
         """What was read: one write of make or of a recipe. Where a recipe has opened /dev/stdout anew, what make writes behind its words may
         come with them."""
+        if self.piece or len(data) >= LONG and data[-1:] != b"\n" and BEGINS.match(data):
+            self.piece += data
+            if data[-1:] != b"\n":
+                return
+            data, self.piece = self.piece, b""
         if self.next is None and not (self.job or self.unclear or self.base or self.blank) and LOOKED.match(data):  # as nearly all are
             self.start = self.tail = self.is_said = False
             self.log.write(data)
@@ -241,7 +228,7 @@ class Splitter:
 
     def end(self):
         """Nothing more is written: what is still unclear is the data base."""
-        held, self.unclear, self.next = self.unclear, [], None
+        held, self.unclear, self.next, self.piece = self.unclear + [self.piece] * bool(self.piece), [], None, b""
         for packet in held:
             self.take_own(packet)
         self.release()
@@ -308,23 +295,6 @@ def serve(splitter, child, reading):
     return os.waitpid(child, 0)[1]
 
 
-def is_one_file(first, second):
-    """Whether two descriptors lead to one file or pipe: what is written to both then stays in its order."""
-    try:
-        return os.path.samestat(os.fstat(first), os.fstat(second))
-    except OSError:
-        return False
-
-
-def is_closed(number):
-    """Whether a descriptor is closed."""
-    try:
-        os.fstat(number)
-    except OSError:
-        return True
-    return False
-
-
 def head_of(args, flags, below, slots, where, errors, spoken):
     """The first lines of a log: the words of make, where its output goes, and whether it speaks English for the recorder alone."""
     lines = (("ARGS", " ".join(args)), ("FLAGS", flags), ("BELOW", "%d" % below), ("JOBS", slots), ("OUTPUT", where), ("ERRORS", errors), ("SPOKEN", "%d" % spoken))
@@ -388,7 +358,10 @@ def main():
             note_past(spool, args + ["(its standard output is closed)"] * (not query))
         as_usual()
         os.execv(real, [name] + args)
-    raw = run_logged(spool, name, real, args, flags, below, slots)
+    try:
+        raw = run_logged(spool, name, real, args, flags, below, slots)
+    except OSError as error:  # the disk is full: make is not seen any more, so the build fails
+        sys.exit("race-record: what make says cannot be kept: %s" % error)
     if os.WIFSIGNALED(raw):
         if os.WTERMSIG(raw) != signal.SIGKILL:
             signal.signal(os.WTERMSIG(raw), signal.SIG_DFL)

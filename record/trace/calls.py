@@ -8,27 +8,28 @@ from record.make.copies import is_other_make
 from record.tools import listed, shelltext
 from record.tools.computed import runs_unseen
 from record.trace.arguments import TEXT_END, opening, spelled
+from record.trace.classes import SHARING
 from record.trace.lives import Life
 from record.trace.loader import interpreter_words
 from record.trace.moves import Moves
 from record.trace.names import Found, Inode
+from record.trace.opened import CHANGING, OF_KERNEL, READING, Opened, requests
 from record.trace.processes import Processes
 from record.trace.replay import DEVICES
-from record.trace.strace import MAKES_PROCESS, Call, first_text, folders, is_cut, texts, unescape
+from record.trace.strace import BARE, MAKES_PROCESS, Call, first_text, folders, is_cut, texts, unescape
 
 LOOKS = {"stat", "lstat", "access", "getxattr", "lgetxattr", "listxattr", "llistxattr", "statfs", "newfstatat",
-         "faccessat", "faccessat2", "name_to_handle_at", "statx", "fstatat64", "readlink", "readlinkat", "statfs64", "stat64", "lstat64"}
-NOFOLLOW = {"lstat", "lstat64", "lgetxattr", "llistxattr", "readlink", "readlinkat", "unlink", "rmdir", "lchown", "lchown32", "lsetxattr",
+         "faccessat", "faccessat2", "name_to_handle_at", "statx", "fstatat64", "readlink", "readlinkat", "statfs64", "stat64", "lstat64",
+         "oldstat", "oldlstat", "getxattrat", "listxattrat", "file_getattr"}
+NOFOLLOW = {"lstat", "lstat64", "oldlstat", "lgetxattr", "llistxattr", "readlink", "readlinkat", "unlink", "rmdir", "lchown", "lchown32", "lsetxattr",
             "lremovexattr"}
 CHANGES = {"chmod", "chown", "lchown", "utime", "utimes", "truncate", "setxattr", "lsetxattr", "removexattr", "lremovexattr", "fchmodat",
            "fchmodat2", "fchownat", "utimensat", "futimesat", "fchmod", "fchown", "ftruncate", "fsetxattr", "fremovexattr",
-           "truncate64", "ftruncate64", "chown32", "lchown32", "fchown32", "utimensat_time64"}
+           "truncate64", "ftruncate64", "chown32", "lchown32", "fchown32", "utimensat_time64",
+           "setxattrat", "removexattrat", "file_setattr"}
 TIMES = {"utime", "utimes", "utimensat", "futimesat", "utimensat_time64"}
-# After these, what a process opens is not what the trace names, or is not in the trace at all.
 OF_PROCESS = re.compile(r"/proc/(?:(\d+)/|loadavg$)")
-SHARING = {"shmget", "semget", "msgget", "mq_open", "add_key", "request_key"}
 SOCKET = re.compile(r'sun_path="((?:[^"\\]|\\.)*)"')
-HIDING = {"chroot", "pivot_root", "mount", "move_mount", "umount", "umount2", "setns", "open_by_handle_at", "io_uring_setup", "pidfd_getfd"}
 OF_WRAPPER = {"execve", *MAKES_PROCESS}  # what counts of the recorder's own wrapper
 SCRIPTS = 5  # how many scripts may be the interpreter of one another; the kernel allows no more
 BY_NUMBER = {"fchmod", "fchown", "fchown32", "ftruncate", "ftruncate64", "fsetxattr", "fremovexattr"}
@@ -38,7 +39,7 @@ TIMED = re.compile(r"\s(-\w*w|--(wait|timeout))")  # `flock -w SECONDS`
 ANY_PORT = re.compile(r"_port=htons\(0\)")
 
 
-class Calls(Processes):
+class Calls(Opened):
     """The calls, one method each."""
 
     def call(self, life: Life, call: Call) -> None:
@@ -48,11 +49,13 @@ class Calls(Processes):
         if life.is_wrapper and name not in OF_WRAPPER:
             return
         if handler is not None:
+            if ok and call.args[:1].isdigit() and name != "umask" and BARE.match(call.args):
+                self.put_bare(life, call)
             handler(self, life, call, ok)
-        elif name in HIDING and ok:
-            self.holes.append("files that are opened after %s are not seen: %s" % (name, " ".join(life.argv)[:100]))
         elif name in SHARING and ok:
             self.sockets.append(" ".join(life.argv)[:100])
+        else:
+            self.note_unfollowed(life, call)
 
     def on_bind(self, life: Life, call: Call, ok: bool) -> None:
         """A socket with a name is a file, which whoever talks to it opens."""
@@ -142,6 +145,8 @@ class Calls(Processes):
         if life.is_ninja:
             life.starts.append((self.place, life.folder))
         life.argv, life.cut, life.begun = argv, is_cut(call.args), self.place
+        if life.cut:
+            self.holes.append("the words of a program are too many to be seen: " + " ".join(argv)[:100])
         life.ran.append(argv)
         if life.is_wrapper:
             return
@@ -247,7 +252,7 @@ class Calls(Processes):
         if "O_TRUNC" not in flags and life.traits().is_shell and path != shelltext.script_of(life.argv):
             life.opened.add(found.path)
         if not changes:
-            self.on_read(life, found)
+            self.take_in(life, found)
             return
         if "O_EXCL" in flags:
             self.fresh.add(found.path)
@@ -272,7 +277,7 @@ class Calls(Processes):
 
     on_fanotify_mark = on_inotify_add_watch
 
-    def on_read(self, life: Life, found: Found) -> None:
+    def take_in(self, life: Life, found: Found) -> None:
         """A file or a folder is opened, and not to change it."""
         is_folder = found.inode is not None and found.inode.kind == "d"
         self.put_links(life, found)
@@ -303,7 +308,7 @@ class Calls(Processes):
             if not shelltext.sorts_names(life.argv):
                 self.put(life, "l", where[0])
 
-    on_getdents = on_getdents64
+    on_getdents = on_readdir = on_getdents64
 
     def on_mkdir(self, life: Life, call: Call, ok: bool) -> None:
         base, path = self.base_and_path(life, call)
@@ -386,10 +391,20 @@ class Calls(Processes):
         else:
             self.write(life, found, False)
 
+    def on_ioctl(self, life: Life, call: Call, ok: bool) -> None:
+        """A request about an open file: it may change the file, or the names in a folder."""
+        path, asked = "".join(folders(call.args)[:1]), requests(call.args)
+        if not ok or not path.startswith("/") or asked & READING or OF_KERNEL.match(path) and not self.is_inside(path):
+            return
+        if asked & CHANGING:
+            self.on_change(life, call, ok)
+        else:
+            self.put_unfollowed(life, "the request %s of ioctl, about %s," % (" or ".join(sorted(asked)), path))
+
 
 Handler = Callable[[Calls, Life, Call, bool], None]
 HANDLERS: Dict[str, Handler] = {
     **dict.fromkeys(CHANGES, Calls.on_change),
     **dict.fromkeys(LOOKS, Calls.on_look),
-    **{name[len("on_"):]: handler for kind in (Moves, Processes, Calls) for name, handler in vars(kind).items() if name.startswith("on_")},
+    **{name[len("on_"):]: handler for kind in (Moves, Processes, Opened, Calls) for name, handler in vars(kind).items() if name.startswith("on_")},
 }

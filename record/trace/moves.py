@@ -5,7 +5,7 @@ from typing import Tuple
 from record.trace.lives import Life
 from record.trace.names import Found, Inode
 from record.trace.replay import Replay
-from record.trace.strace import Call, folders, texts
+from record.trace.strace import BARE, TEXT, Call, folders, texts
 
 
 class Moves(Replay):
@@ -15,8 +15,14 @@ class Moves(Replay):
         words = texts(call.args)
         where = folders(call.args)
         bases = where if len(where) == 2 else [life.folder, life.folder]
+        if not call.error and len(where) == 1:
+            self.put_bare(life, call)
         follow = "AT_SYMLINK_FOLLOW" in call.args
         return (self.found(life, words[0].rstrip("/"), follow, bases[0]), self.found(life, words[1].rstrip("/"), False, bases[1]))
+
+    def put_bare(self, life: Life, call: Call) -> None:
+        """strace knows no name of an open file or folder, as where that is longer than 4096 bytes."""
+        self.holes.append("a file is known by the number of its descriptor alone: %s(%s) of %s" % (call.name, call.args[:40], " ".join(life.argv)[:60]))
 
     def on_rename(self, life: Life, call: Call, ok: bool) -> None:
         if len(texts(call.args)) < 2:
@@ -91,6 +97,8 @@ class Moves(Replay):
         if not ok:
             self.put_absent(life, found, "S" if call.error == "EEXIST" else "N")
             return
+        if not where and BARE.search(TEXT.sub('""', call.args)):
+            self.put_bare(life, call)
         self.fresh.add(found.path)
         self.put(life, "C", found.path)
         self.put(life, "W", found.path)

@@ -17,11 +17,12 @@ RESULT = r"(?:\d|-1 E(?:NO|INVAL))[^\n]*"
 # An open that can change nothing. Other flags may: a line that has them is read.
 READS = r", O_RDONLY(?:\|O_(?:CLOEXEC|NOCTTY|NONBLOCK|DIRECTORY|LARGEFILE|NOFOLLOW|NOATIME|PATH))*\) += "
 # Each line stands behind a newline, so that a search goes on from line to line. Common calls stand first, and a line with one text is
-# tried before one with two. What may be absent is an empty choice: Python is slower where it counts.
+# tried before one with two; last, requests that say nothing of a file. What may be absent is an empty choice: Python is slower where it counts.
 LOOKING = (
     r"\n\d+ +(?:(?:readlink|openat|newfstatat|access|faccessat2|readlinkat|open|faccessat|stat|statx|lstat|statfs)\(" + AT + r'"(FOLDERS[^"\n]*)"'
     r"(?:" + READS + r'|(?!, O_)[^"\n={]*(?:\{[^"\n]*\}[^"\n=]*|)= |, "[^"\n]*"[^"\n={]*= )' + RESULT
-    + r'|newfstatat\(\d+<[^>\n]*>, "", [^"\n]* = 0(?=\n|$))')
+    + r'|newfstatat\(\d+<[^>\n]*>, "", [^"\n]* = 0(?=\n|$)'
+    + r'|(?:fcntl|ioctl)\(\d+(?:<[^>\n]*>|)(?:\(deleted\)|), (?:F_[GS]ETF[DL]|F_DUPFD(?:_CLOEXEC|)|FIOCLEX|TCGETS|TIOCG\w+)\b[^\n]*= ' + RESULT + ")")
 NAMES = r"(?:creat|rename\w*|unlink\w*|rmdir|mkdir\w*|mknod\w*|link\w*|symlink\w*|truncate|[fl]?ch(?:mod|own)\w*|utime\w*|futimesat)\("
 FLAGS = r"O_(?:WRONLY|RDWR|CREAT|TRUNC)"
 # A name may be relative to a folder of the system: strace shows which file was opened, and where a call with a folder starts from.

@@ -7,10 +7,11 @@ from typing import Callable, Dict, Iterable, Iterator, List, NamedTuple, Optiona
 
 KEPT, SHORT = 1 << 14, 1000  # how many texts are remembered, and how long they are at most
 Answer = TypeVar("Answer")
-CALL = re.compile(r"(\w+)\((.*)\)\s+= (-?\d+|\?)(?:<((?:[^<>\\]|\\.)*)>(?:\(deleted\))?)?(?: (E\w+))?(?: \(.*\))?$", re.S)
+CALL = re.compile(r"(\w+)\((.*)\)\s+= (-?\d+|0x[0-9a-f]+|\?)(?:<((?:[^<>\\]|\\.)*)>(?:\(deleted\))?)?(?: (E\w+))?(?: \(.*\))?$", re.S)
 ESCAPE = re.compile(r"\\([0-7]{1,3}|x[0-9a-f]{2}|.)", re.S)
 TEXT = re.compile(r'"((?:[^"\\]|\\.)*)"(\.\.\.)?')
 FOLDER = re.compile(r"(?:AT_FDCWD|\d+)<((?:[^<>\\]|\\.)*)>")
+BARE = re.compile(r"(?:^|, )\d+(?:,|$)")  # a descriptor of which strace knows no name
 PLAIN = {"n": "\n", "t": "\t", "r": "\r", "v": "\v", "f": "\f"}
 
 
@@ -88,7 +89,7 @@ def said(text: str) -> Optional[Said]:
     if call is None:
         return None
     name, args, result, opened, error = call.groups()
-    return Said(name, args, None if result == "?" else int(result), error or "", unescape(opened or ""))
+    return Said(name, args, None if result == "?" else int(result, 16 if result.startswith("0x") else 10), error or "", unescape(opened or ""))
 
 
 def first_text(args: str) -> Optional[str]:
@@ -104,7 +105,7 @@ def texts(args: str) -> List[str]:
 
 def is_cut(args: str) -> bool:
     """Whether strace has shown only the beginning of a text."""
-    return any(match.group(2) for match in TEXT.finditer(args)) or ", ...]" in args
+    return any(match.group(2) for match in TEXT.finditer(args)) or ", ...]" in re.sub(TEXT, '""', args)
 
 
 def folders(args: str) -> List[str]:

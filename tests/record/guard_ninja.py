@@ -65,7 +65,7 @@ ATTRIBUTION: List[Guard] = [
     Guard("ninja, who: two of one command at once", "ninja/runs.py", "            self.check_tie(text, jobs)\n", "            pass\n", runs("two_with_one_command_at_once")),
     Guard("ninja, who: said that the log decided", "ninja/runs.py", "        self.ties.append(text)\n", "", ninja("one-command"), UNSAID),
     Guard("ninja, who: a ninja below a command", "ninja/runs.py", "for life in work.lives if id(life) in by_life]", "for life in ()]", ninja("ages-of-an-inner-ninja"), YES),
-    Guard("ninja, who: long commands", "main.py", '"131072"', '"4096"', ninja("long-command"), LOST_RACE),
+    Guard("ninja, who: long commands", "main.py", 'str(32 * os.sysconf("SC_PAGE_SIZE"))', '"4096"', ninja("long-command"), LOST_RACE),
     Guard("ninja, who: two beside each other", "ninja/builds.py", 'assumed.add("tops", " ".join(argv)[:60])', "pass", ninja("beside-each-other"), UNSAID),
     Guard("ninja, hints: none where it waits", "ninja/again.py", "return first is not second and first.number not in below[second.number] and", "return first is not second or", "test_ninja.Hints.test_none_where_it_waits"),
     Guard("ninja, hints: absent files first", "ninja/again.py", '0 if kind == "N" else 1)', "0)", "test_ninja.Hints.test_absent_files_first"),

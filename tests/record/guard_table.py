@@ -65,7 +65,6 @@ TRACE: List[Guard] = [
     Guard("lines: no process number", "trace/strace.py", '([Unread(line.strip())] if line.strip() else []), ""', '[], ""', "test_strace.Lines.test_other_text_is_a_hole"),
     Guard("lines: end without a beginning", "trace/strace.py", '([] if " = ?" in text else [Unread(line.strip())]), ""', '[], ""', "test_strace.Lines.test_other_text_is_a_hole"),
     Guard("lines: a hole", "trace/replay.py", 'self.holes.append("a line of the trace cannot be read: "', 'str("a line of the trace cannot be read: "', "test_replay.Footprints.test_line_that_cannot_be_read_is_a_hole"),
-    Guard("calls after which names are unclear: a hole", "trace/calls.py", "elif name in HIDING and ok:", "elif False:", "test_replay.Footprints.test_calls_that_hide_files_are_holes"),
     Guard("opens that lead elsewhere: a hole", "trace/calls.py", 'self.holes.append("a name leads to another file', 'str("a name leads to another file', "test_replay.Footprints.test_an_open_that_leads_elsewhere_is_a_hole"),
     Guard("a process's own folder in /proc", "trace/replay.py", "plain_path(life, path, self.lives)", "path", "test_replay.Footprints.test_paths_by_way_of_proc"),
     Guard("a file by its descriptor", "trace/calls.py", 'base, path = "", call.opened', "pass", "test_replay.Footprints.test_paths_by_way_of_proc"),

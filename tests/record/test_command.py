@@ -52,6 +52,19 @@ class Command(unittest.TestCase):
                 self.assertEqual(status, project.run(["--race", support.race_program(), *RUNS[name][1]], dict(os.environ)).status)
 
 
+class Load(unittest.TestCase):
+    """`-l N`, a bound on the load, is no number of jobs."""
+
+    FILES = {"Makefile": "all: a b\na: ; @test -e b || sleep 0.2; echo a > a\nb: ; @cat a > b; $(MAKE) -s -l 1 -f in.mk\n", "in.mk": "all: ; touch c\n"}
+
+    def test_build_is_serial_and_the_verdict_the_same(self) -> None:
+        for words, flags in ((["make", "-l", "2"], ""), (["make", "-j4", "-l0.01"], ""), (["make", "--load-average=2", "-kj", "3"], ""), (["make"], "-l2 -j3")):
+            with self.subTest(words=words, flags=flags), support.Project(self.FILES) as project:
+                outcome = project.run(["--race", support.race_program(), "--", *words], dict(os.environ, MAKEFLAGS=flags))
+                self.assertEqual((1, ["a"]), (outcome.status, support.races_of(outcome.text())), outcome.text())
+                self.assertEqual("a\n", (project.folder / "b").read_text())
+
+
 class Children(unittest.TestCase):
     """What a child has of a command: folder, words, streams, status, and an end."""
 

@@ -7,11 +7,21 @@ import sys
 import tempfile
 import unittest
 from pathlib import Path
+from typing import Dict, Sequence, Tuple
 
-from support import TOP
+from support import TOP, Project, race_program
 
-LINES = {"record": "there is no verdict", "report": "there is no report", "confirm": "nothing is confirmed"}
+LINES = {"record": "there is no verdict", "report": "there is no report", "confirm": "nothing is confirmed", "explain": "nothing is explained"}
 BROKEN = {"a main that fails": "def main():\n    raise IndexError('no such thing')\n", "no Python": "def main(:\n"}
+
+
+def copied(name: str, room: Path) -> Path:
+    """The folder of a script, with the script and what it begins with alone."""
+    for folder in (room / "record", room / name):
+        folder.mkdir(exist_ok=True)
+    shutil.copy2(TOP / "record" / "entry.py", room / "record")
+    shutil.copy2(TOP / name / ("race-" + name), room / name)
+    return room / name
 
 
 @unittest.skipIf(any(not (TOP / name).is_dir() for name in LINES), "the other companions are not beside the recorder")
@@ -22,9 +32,7 @@ class Entry(unittest.TestCase):
         for name, line in LINES.items():
             for how, text in BROKEN.items():
                 with self.subTest(name=name, how=how), tempfile.TemporaryDirectory() as room:
-                    folder = Path(room, name)
-                    folder.mkdir()
-                    shutil.copy2(TOP / name / ("race-" + name), folder)
+                    folder = copied(name, Path(room))
                     (folder / "main.py").write_text(text)
                     words = [sys.executable, os.fspath(folder / ("race-" + name))]
                     ran = subprocess.run(words, capture_output=True, text=True, stdin=subprocess.DEVNULL, timeout=60, check=False)
@@ -36,13 +44,58 @@ class Entry(unittest.TestCase):
         reads, writes = os.pipe()
         os.close(reads)
         with tempfile.TemporaryDirectory() as room:
-            folder = Path(room, "record")
-            folder.mkdir()
-            shutil.copy2(TOP / "record" / "race-record", folder)
+            folder = copied("record", Path(room))
             (folder / "main.py").write_text("def main():\n    print('safe')\n    return 0\n")
             ran = subprocess.run([sys.executable, os.fspath(folder / "race-record")], stdout=writes, stderr=subprocess.PIPE, timeout=60, check=False)
         os.close(writes)
         self.assertEqual(3, ran.returncode)
+
+
+LOCALES = ({"LANG": "C"}, {"LC_ALL": "POSIX"}, {"LC_ALL": "en_US.ISO-8859-1"}, {"LC_ALL": "C", "PYTHONIOENCODING": "ascii:strict"})
+NAMES = b"all: \xc3\xa9.o b\xff.o\n\xc3\xa9.h: ; @echo > $@\n\xc3\xa9.o: \xc3\xa9.h ; @cat \xc3\xa9.h > $@; echo '\xc3\xa9'\nb\xff.o: ; @cat \xc3\xa9.h > $@\n"
+
+
+@unittest.skipIf(any(not (TOP / name).is_dir() for name in LINES), "the other companions are not beside the recorder")
+class Locales(unittest.TestCase):
+    """Other locales, and names that are no UTF-8: what is printed is the same, byte for byte."""
+
+    def ran(self, name: str, words: Sequence[str], folder: Path, locale: Dict[str, str]) -> Tuple[int, bytes, bytes]:
+        """Status and streams of a companion, in an environment without any other word about locales."""
+        env = {key: value for key, value in os.environ.items() if not key.startswith(("LC_", "LANG", "PYTHON"))}
+        env.update({"PYTHONUTF8": "0", "PYTHONCOERCECLOCALE": "0", "PYTHONDONTWRITEBYTECODE": "1", "RACE": race_program(), **locale})
+        done = subprocess.run([sys.executable, str(TOP / name / ("race-" + name)), *words], cwd=folder, env=env, capture_output=True, stdin=subprocess.DEVNULL, timeout=600, check=False)
+        self.assertNotIn(b"Traceback", done.stderr)
+        return done.returncode, done.stdout, done.stderr
+
+    def alike(self, name: str, words: Sequence[str], folder: Path, locales: Sequence[Dict[str, str]] = LOCALES) -> Tuple[int, bytes, bytes]:
+        """What is the same in all of them."""
+        wanted = self.ran(name, words, folder, {"LC_ALL": "C.UTF-8"})
+        for locale in locales:
+            self.assertEqual(wanted, self.ran(name, words, folder, locale), (name, words, locale))
+        return wanted
+
+    def test_record_report_and_explain(self) -> None:
+        with Project() as project:
+            (project.folder / "Makefile").write_bytes(NAMES)
+            found = []
+            for locale in ({"LC_ALL": "C.UTF-8"}, *LOCALES):
+                project.sh("rm -f *.o *.h")
+                found.append(self.ran("record", ["--", "make"], project.folder, locale))
+            self.assertEqual([found[0]] * len(found), found)
+            self.assertEqual((1, True), (found[0][0], "RACE  \u00e9.h\n".encode() in found[0][1]), found[0])
+            for form in ("text", "json", "html", "sarif", "github"):
+                self.assertEqual(1, self.alike("report", ["--format", form], project.folder)[0])
+            self.assertEqual(3, self.alike("report", [os.fsdecode(b"no\xff\xc3\xa9")], project.folder)[0])
+            self.assertEqual(1, self.alike("explain", ["F1", os.fsdecode(b"no\xff\xc3\xa9")], project.folder)[0])
+            self.assertEqual(0, self.alike("explain", [], project.folder)[0])
+
+    def test_confirm(self) -> None:
+        with Project() as project:
+            (project.folder / "Makefile").write_bytes(NAMES.replace(b"\xff", b"\xc3\xbc").replace(b"@cat", b"@cat 2> /dev/null"))  # (cat quotes names by the locale)
+            self.assertEqual(1, project.record().status)
+            status, shown, _ = self.alike("confirm", ["1", "--runs", "1", "--schedule", "1"], project.folder, [{"LC_ALL": "C", "PYTHONIOENCODING": "ascii:strict"}])
+            self.assertEqual((1, True), (status, "\u00e9.h".encode() in shown), shown)
+            self.assertEqual(3, self.alike("confirm", [os.fsdecode(b"no\xff\xc3\xa9")], project.folder)[0])
 
 
 if __name__ == "__main__":

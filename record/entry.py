@@ -1,0 +1,108 @@
+"""How race-record and its companions begin and end: names are UTF-8 whatever the locale is, and an end without an answer is status 3.
+
+Python itself would end with 1 where it breaks, which says races.
+"""
+
+import errno
+import os
+import signal
+import subprocess
+import sys
+import traceback
+from importlib import import_module
+from typing import Iterator
+
+STOPPING = (signal.SIGINT, signal.SIGTERM, signal.SIGHUP)
+FAILED = 3
+PATIENCE = 10  # so many seconds a build has to end
+
+
+class Stopped(KeyboardInterrupt):
+    """A signal has come that ends the program; its name."""
+
+
+def stop(number: int, _: object) -> None:
+    """What a signal does: all that is open is closed in order. Those that come later do not stop that."""
+    for one in STOPPING:
+        signal.signal(one, signal.SIG_IGN)
+    raise Stopped(signal.Signals(number).name)
+
+
+def hear() -> None:
+    """Lets signals end the program in order, except those that are ignored for it (`nohup`)."""
+    for one in STOPPING:
+        if signal.getsignal(one) is not signal.SIG_IGN:
+            signal.signal(one, stop)
+
+
+def traced(tracer: int) -> Iterator[int]:
+    """The processes that a tracer follows: those whose parents have ended, too."""
+    for pid in filter(str.isdigit, os.listdir("/proc")):
+        try:
+            with open("/proc/%s/status" % pid, "rb") as file:
+                if b"\nTracerPid:\t%d\n" % tracer in file.read():
+                    yield int(pid)
+        except OSError:  # it has ended
+            pass
+
+
+def end_traced(strace: "subprocess.Popen[bytes]") -> None:
+    """Ends all that strace follows, and so strace, which hears no signal itself."""
+    for number in (signal.SIGTERM, signal.SIGKILL):
+        for pid in traced(strace.pid):
+            try:
+                os.kill(pid, number)
+            except OSError:  # it has ended, or is of another user
+                pass
+        try:
+            strace.wait(PATIENCE)
+            return
+        except subprocess.TimeoutExpired:
+            pass
+    strace.kill()
+    strace.wait()
+
+
+def speak_utf8() -> None:
+    """Begins again where the locale has another encoding: names in a record are read as UTF-8, and those on the disk must be too. What is
+    printed is UTF-8, with escapes for what is none."""
+    if sys.getfilesystemencoding().lower().replace("-", "") != "utf8":
+        options = ["-B"] if sys.dont_write_bytecode else []
+        os.execv(sys.executable, [sys.executable, *options, "-X", "utf8", *sys.argv])
+    for stream in (sys.stdout, sys.stderr):
+        if stream is not None:
+            stream.reconfigure(encoding="utf-8", errors="backslashreplace")  # type: ignore[attr-defined]
+
+
+def close_output() -> None:
+    """What is left in the buffer may not be writable, and Python would try to write it at its end."""
+    os.dup2(os.open(os.devnull, os.O_WRONLY), 1)
+
+
+def reason(error: OSError) -> str:
+    """What the system says of a file, in a line."""
+    what = error.strerror or str(error) or type(error).__name__
+    what += " (make room there, and run it again)" if error.errno == errno.ENOSPC else ""
+    return "%s: %s" % (os.fsdecode(error.filename), what) if isinstance(error.filename, (str, bytes)) else what
+
+
+def ended(name: str, module: str, without: str) -> int:
+    """Runs `main` of a module; the status of the program. `without` says what there is not where it breaks."""
+    speak_utf8()
+    try:
+        hear()
+        status: int = import_module(module).main()
+        sys.stdout.flush()
+        return status
+    except BrokenPipeError:  # who reads the output has ended
+        said = "%s: write failed: nobody reads the output any more; %s" % (name, without)
+    except OSError as error:
+        said = "%s: %s; %s" % (name, reason(error), without)
+    except KeyboardInterrupt as signalled:
+        said = "%s: stopped by %s; %s" % (name, signalled or "SIGINT", without)
+    except Exception:  # whatever it is, there is no answer
+        traceback.print_exc()
+        said = "%s: an error of its own stopped it; %s" % (name, without)
+    print(said, file=sys.stderr)
+    close_output()
+    return FAILED

@@ -1,0 +1,64 @@
+"""Calls that are newer than strace, or than this recorder: a recorded build runs as on a kernel that does not have them.
+
+By its filter strace 6.1 passes over some numbers of which it knows no names. So a filter in front of it answers these as an older kernel does
+(ENOSYS), and programs go the older way, which is traced.
+"""
+
+import ctypes
+import errno
+import platform
+import signal
+import struct
+import subprocess
+from typing import Any
+
+from record.trace.classes import FIRST, NEWER
+
+# The kernel's numbers for machines whose new calls have the numbers of all others: the machine's own, and that of its 32 bits.
+MACHINES = {"x86_64": (0xC000003E, 0x40000003), "i686": (0x40000003,), "aarch64": (0xC00000B7, 0x40000028), "armv7l": (0x40000028,), "riscv64": (0xC00000F3,),
+            "ppc64le": (0xC0000015,), "s390x": (0x80000016, 0x16), "loongarch64": (0xC0000102,)}
+LOAD, IS, FROM, ANSWER = 0x20, 0x15, 0x35, 0x06  # of a filter: load a word, compare it, answer
+ALLOW, REFUSE = 0x7FFF0000, 0x00050000 | errno.ENOSYS
+OTHER = 0x40000000  # from here on numbers are those of another kind (x32)
+NO_NEW_RIGHTS, SECCOMP, FILTER = 38, 22, 2  # for prctl
+
+
+def is_known(number: int) -> bool:
+    """Whether strace knows a name of a call."""
+    words = ["strace", "-e", "trace=" + NEWER[number], "-V"]
+    return subprocess.run(words, stdin=subprocess.DEVNULL, stdout=subprocess.DEVNULL, stderr=subprocess.DEVNULL, check=False).returncode == 0
+
+
+def first_unknown() -> int:
+    """The first number of a call of which strace, or this recorder, knows no name: it knows all before one that it knows."""
+    low, high = FIRST, FIRST + len(NEWER)
+    while low < high:
+        middle = (low + high) // 2
+        low, high = (middle + 1, high) if is_known(middle) else (low, middle)
+    return low
+
+
+def filter_of(machine: str, first: int) -> bytes:
+    """The filter that refuses the calls from a number on; empty for a machine that numbers calls in its own way."""
+    kinds = MACHINES.get(machine, ())
+    steps = [(LOAD, 0, 0, 4), *((IS, len(kinds) - at, 0, kind) for at, kind in enumerate(kinds)), (ANSWER, 0, 0, ALLOW)]
+    steps += [(LOAD, 0, 0, 0), (FROM, 0, 2, first), (FROM, 1, 0, OTHER), (ANSWER, 0, 0, REFUSE), (ANSWER, 0, 0, ALLOW)]
+    return b"".join(struct.pack("=HBBI", *step) for step in steps) if kinds else b""
+
+
+class Older:
+    """Makes the process that calls `enter`, and all that it starts, run as on a kernel without the calls that have no names."""
+
+    def __init__(self) -> None:
+        self.text = filter_of(platform.machine(), first_unknown())
+        self.prctl = ctypes.CDLL(None).prctl
+
+    def enter(self, heard: Any) -> None:
+        """For the process that becomes strace; it hears an interrupt so. Where the system takes no filter, strace has none either, and sees all calls."""
+        signal.signal(signal.SIGINT, heard)
+        if not self.text:
+            return
+        kept = ctypes.create_string_buffer(self.text, len(self.text))
+        program = struct.pack("@HP", len(self.text) // 8, ctypes.addressof(kept))
+        self.prctl(NO_NEW_RIGHTS, ctypes.c_ulong(1), ctypes.c_ulong(0), ctypes.c_ulong(0), ctypes.c_ulong(0))
+        self.prctl(SECCOMP, ctypes.c_ulong(FILTER), program, ctypes.c_ulong(0), ctypes.c_ulong(0))

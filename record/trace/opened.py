@@ -1,0 +1,63 @@
+"""What calls do to what is open, such as requests (`ioctl`) and locks; and the calls that nobody follows."""
+
+import re
+from typing import Set
+
+from record.trace.classes import HIDING, LEFT_OUT, SHARING, UNFOLLOWED, named
+from record.trace.lives import Life
+from record.trace.processes import Processes
+from record.trace.strace import Call, folders
+
+REQUEST = re.compile(r"\d+<(?:[^<>\\]|\\.)*>(?:\(deleted\))?, ([^,]+)")
+# Requests about an open file that change none, or one that is open to write.
+READING = set("""FIOCLEX FIONCLEX FIONBIO FIOASYNC FIONREAD FIOQSIZE FIGETBSZ FIBMAP FITRIM FS_IOC_GETFLAGS FS_IOC32_GETFLAGS FS_IOC_GETVERSION FS_IOC32_GETVERSION
+    FS_IOC_FSGETXATTR FS_IOC_FIEMAP FS_IOC_GETFSLABEL FS_IOC_GETFSUUID FS_IOC_MEASURE_VERITY FS_IOC_READ_VERITY_METADATA FICLONE FICLONERANGE FIDEDUPERANGE
+    FS_IOC_RESVSP FS_IOC_RESVSP64 FS_IOC_UNRESVSP FS_IOC_UNRESVSP64 FS_IOC_ZERO_RANGE BTRFS_IOC_FS_INFO BTRFS_IOC_INO_LOOKUP BTRFS_IOC_TREE_SEARCH
+    BTRFS_IOC_TREE_SEARCH_V2 BTRFS_IOC_SPACE_INFO BTRFS_IOC_GET_FEATURES BTRFS_IOC_SUBVOL_GETFLAGS BTRFS_IOC_GET_SUBVOL_INFO BTRFS_IOC_SYNC""".split())
+# Requests that change a file, as `chmod` does, or what may be done with it (`chattr`).
+CHANGING = set("""FS_IOC_SETFLAGS FS_IOC32_SETFLAGS FS_IOC_SETVERSION FS_IOC32_SETVERSION FS_IOC_FSSETXATTR FS_IOC_ENABLE_VERITY FS_IOC_SET_ENCRYPTION_POLICY
+    FAT_IOCTL_SET_ATTRIBUTES""".split())
+NO_WAIT = re.compile(r", F_(?:OFD_)?(?:GETLK|SETLK)(?:64)?, (?!\{l_type=F_UNLCK)")  # a lock that is asked for and not waited for
+LEASE = re.compile(r", F_(?:SETLEASE|NOTIFY), ")
+LOOSE = re.compile(r"AF_(?:INET6?|UNIX), SOCK_(?:DGRAM|RAW)\b")  # a socket that may send without being connected
+OF_KERNEL = re.compile(r"/(?:dev/(?!shm/)|proc/|sys/)")  # requests to devices change no file
+
+
+def requests(args: str) -> Set[str]:
+    """The names of a request: those of several kinds of files may have one number."""
+    match = REQUEST.match(args)
+    return set(match.group(1).split(" or ")) if match else set()
+
+
+class Opened(Processes):
+    """The calls, one method each."""
+
+    def on_fcntl(self, life: Life, call: Call, ok: bool) -> None:
+        """Locks that are not waited for, and leases, by which a process sees that another one opens a file."""
+        if NO_WAIT.search(call.args):
+            self.locks.append("%s locks %s" % (" ".join(life.argv)[:60], "".join(folders(call.args)[:1])))
+        elif ok and LEASE.search(call.args):
+            self.watchers.append(" ".join(life.argv)[:100])
+
+    on_fcntl64 = on_fcntl
+
+    def on_socket(self, life: Life, call: Call, ok: bool) -> None:
+        """Datagrams go to a server without a call that connects."""
+        if ok and LOOSE.search(call.args):
+            self.sockets.append(" ".join(life.argv)[:100])
+
+    def note_unfollowed(self, life: Life, call: Call) -> None:
+        """A call without a handler. One that the kernel does not have did nothing, nor did one that is known and failed."""
+        name = named(call.name)
+        if name in LEFT_OUT or call.error == "ENOSYS" or call.error and name in HIDING | SHARING | UNFOLLOWED:
+            return
+        if name in HIDING:
+            self.holes.append("files that are opened after %s are not seen: %s" % (name, " ".join(life.argv)[:100]))
+        else:
+            self.put_unfollowed(life, name)
+
+    def put_unfollowed(self, life: Life, what: str) -> None:
+        """Nobody knows what a call did to files."""
+        hole = "a call that the recorder does not follow: %s of %s" % (what, " ".join(life.argv)[:100])
+        if hole not in self.holes:
+            self.holes.append(hole)

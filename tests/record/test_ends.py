@@ -1,0 +1,189 @@
+"""How race-record ends where it cannot go on: in a sentence, with status 3, and nothing of the user's is lost."""
+
+import os
+import shutil
+import signal
+import subprocess
+import tempfile
+import threading
+import time
+import unittest
+from concurrent.futures import ThreadPoolExecutor
+from pathlib import Path
+from typing import Optional, Sequence
+
+import forked
+import support
+from record.folder import aside, move
+from record.trace.pipe import Pipe
+
+SLOW = {"Makefile": "all: ; @echo $$PPID $$$$ > pids; echo \"$$PATH\" > path; touch begun; sleep 100\n"}
+SAFE = {"Makefile": "all: ; @touch all\n"}
+
+
+def alone() -> None:
+    """A session of its own, in which signals do what they usually do."""
+    os.setsid()
+    for number in (signal.SIGINT, signal.SIGTERM, signal.SIGHUP):
+        signal.signal(number, signal.SIG_DFL)
+
+
+def started(project: support.Project, options: Sequence[str] = (), words: Sequence[str] = ("make",)) -> "subprocess.Popen[bytes]":
+    """A recording that has come to its recipe."""
+    args = [str(support.RECORDER), "--race", support.race_program(), *options, "--", *words]
+    process = subprocess.Popen(args, cwd=project.folder, stdin=subprocess.DEVNULL, stdout=subprocess.PIPE, stderr=subprocess.PIPE, preexec_fn=alone)
+    begun = time.monotonic()
+    while not list(project.folder.rglob("begun")) and time.monotonic() < begun + 60:
+        time.sleep(0.05)
+    return process
+
+
+def is_alive(pid: str) -> bool:
+    """Whether a process runs."""
+    try:
+        return Path("/proc", pid, "stat").read_text().rpartition(")")[2].split()[0] not in "ZX"
+    except OSError:
+        return False
+
+
+class Signals(unittest.TestCase):
+    """A signal while a build runs."""
+
+    def stopped(self, number: int, to_all: bool = False) -> None:
+        with support.Project(SLOW) as project:
+            (project.folder / ".race").mkdir()
+            (project.folder / ".race" / "record.json").write_text("older\n")
+            process = started(project)
+            self.assertFalse((project.folder / ".race").exists())  # the build does not see it
+            os.killpg(process.pid, number) if to_all else process.send_signal(number)
+            _, said = process.communicate(timeout=60)
+            self.assertEqual((3, "race-record: stopped by %s; there is no verdict" % signal.Signals(number).name), (process.returncode, said.decode().splitlines()[-1]))
+            self.assertEqual("older\n", (project.folder / ".race" / "record.json").read_text())
+            self.assertFalse([pid for pid in (project.folder / "pids").read_text().split() if is_alive(pid)])
+            self.assertFalse(os.path.exists((project.folder / "path").read_text().split(":")[0]))
+
+    def test_terminated(self) -> None:
+        self.stopped(signal.SIGTERM)
+
+    def test_hung_up(self) -> None:
+        self.stopped(signal.SIGHUP)
+
+    def test_interrupted_at_a_terminal(self) -> None:
+        self.stopped(signal.SIGINT, True)
+
+    def test_an_interrupt_that_the_build_does_not_mind(self) -> None:
+        files = {"Makefile": "all: ; @trap '' INT; touch begun; sleep 1; touch all\n"}
+        with support.Project(files) as project:
+            process = started(project)
+            process.send_signal(signal.SIGINT)  # to the recorder alone
+            self.assertIn(b"SAFE", process.communicate(timeout=60)[0])
+            self.assertEqual(0, process.returncode)
+
+    @unittest.skipUnless(shutil.which("ninja"), "ninja is missing")
+    def test_a_fresh_folder_comes_back(self) -> None:
+        rule = "rule r\n  command = touch begun; sleep 100\nbuild out: r\nbuild all: phony out\n"
+        with support.Project({"b/build.ninja": rule, "b/kept": "k"}) as project:
+            process = started(project, ["--fresh"], ["ninja", "-C", "b"])
+            process.send_signal(signal.SIGTERM)
+            _, said = process.communicate(timeout=60)
+            self.assertEqual(3, process.returncode, said)
+            self.assertEqual(["b"], sorted(path.name for path in project.folder.iterdir()))
+            self.assertEqual({"build.ninja", "kept"}, {path.name for path in (project.folder / "b").iterdir()})
+
+
+class Places(unittest.TestCase):
+    """Folders and records that cannot be used."""
+
+    def ends(self, project: support.Project, says: str, args: Sequence[str]) -> None:
+        ran = forked.run(forked.script(support.RECORDER, ["--race", support.race_program(), *args]), project.folder, support.SECONDS)
+        said = ran.stderr.decode()
+        self.assertEqual((3, 1), (ran.returncode, said.count("\n")), said)
+        self.assertIn(says, said)
+        self.assertNotIn("Traceback", said)
+
+    def test_output_that_cannot_be_made(self) -> None:
+        with support.Project({**SAFE, "file": "f"}) as project:
+            self.ends(project, "file/record: Not a directory; there is no verdict", ("-o", "file/record", "--", "make"))
+            self.ends(project, "no/such/record: No such file or directory; there is no verdict", ("-o", "no/such/record", "--", "make"))
+            self.ends(project, "file is there and is no record", ("-o", "file", "--", "make"))
+            self.assertFalse((project.folder / "all").exists())
+
+    def test_records_that_cannot_be_judged_again(self) -> None:
+        for text, says in (("", "is no whole record"), ("[]", "is no whole record"), ("{}", "is of another version"), ('{"version": "0"}', "is of another version"),
+                           ('{"version": "1"}', "is no whole record"), ('{"version": "1", "warm": 3}', "is no whole record"), ("\0\xff", "is no whole record")):
+            with support.Project(SAFE) as project:
+                (project.folder / ".race").mkdir()
+                (project.folder / ".race" / "record.json").write_text(text, encoding="latin-1")
+                self.ends(project, says, ("--warm",))
+                self.assertEqual(text, (project.folder / ".race" / "record.json").read_text(encoding="latin-1"))
+
+    def test_record_without_its_builds(self) -> None:
+        with support.Project(SAFE) as project:
+            project.record()
+            shutil.rmtree(project.folder / ".race" / "builds")
+            self.ends(project, "build.json: No such file or directory; there is no verdict", ("--warm",))
+
+    def test_output_that_nobody_can_write(self) -> None:
+        with support.Project(SAFE) as project, open("/dev/full", "wb") as full:
+            args = [str(support.RECORDER), "--race", support.race_program(), "--", "make"]
+            ran = subprocess.run(args, cwd=project.folder, stdin=subprocess.DEVNULL, stdout=full, stderr=subprocess.PIPE, timeout=60, check=False)
+        self.assertEqual((3, "race-record: No space left on device (make room there, and run it again); there is no verdict"), (ran.returncode, ran.stderr.decode().splitlines()[-1]))
+
+
+class Pipes(unittest.TestCase):
+    """The pipe from strace, which goes on where its own file cannot be written."""
+
+    def filled(self, file: Optional[Path], writes: int) -> bytes:
+        """What comes of so many lines; the writer is never held up."""
+        with tempfile.TemporaryDirectory() as room:
+            pipe = Pipe(Path(room))
+            pipe.file = file or pipe.file
+            writing, ended = os.open(pipe.path, os.O_WRONLY), threading.Event()
+            with ThreadPoolExecutor(1) as pool:
+                filling = pool.submit(pipe.fill, ended.wait)
+                for _ in range(writes):
+                    os.write(writing, b"1 line\n" * 100)
+                os.close(writing)
+                ended.set()
+                filling.result()
+            self.assertFalse(pipe.path.exists())
+            return pipe.file.read_bytes()
+
+    def test_all_lines(self) -> None:
+        for writes in (0, 1, 5000):
+            self.assertEqual(b"1 line\n" * 100 * writes, self.filled(None, writes))
+
+    def test_a_full_disk(self) -> None:
+        with self.assertRaisesRegex(OSError, "No space left on device: '/dev/full'"):
+            self.filled(Path("/dev/full"), 5000)
+
+
+class Moves(unittest.TestCase):
+    """An older record."""
+
+    def test_a_move_that_fails(self) -> None:
+        with tempfile.TemporaryDirectory() as room:
+            here = Path(room, "here")
+            here.mkdir()
+            (here / "f").write_text("f")
+            with self.assertRaises(OSError):
+                move(here, Path(room, "here", "f", "such"))
+            self.assertEqual("f", (here / "f").read_text())
+
+    def test_what_stays(self) -> None:
+        with tempfile.TemporaryDirectory() as room:
+            folder = Path(room, "record")
+            for text in ("one", "two"):
+                with aside(folder):
+                    self.assertFalse(folder.exists())
+                    folder.mkdir()
+                    (folder / "record.json").write_text(text)
+            with self.assertRaises(ValueError), aside(folder):
+                folder.mkdir()
+                (folder / "record.json").write_text("three")
+                raise ValueError
+            self.assertEqual("two", (folder / "record.json").read_text())
+
+
+if __name__ == "__main__":
+    unittest.main()

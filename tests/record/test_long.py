@@ -1,0 +1,122 @@
+"""Names, lines and commands that are longer than what a pipe or strace hands over in one piece: nothing of them is cut without a word."""
+
+import unittest
+from typing import Dict, List
+
+import support
+from record.make.words import read_words
+from test_replay import TOP, played
+from test_wrapper import END, MUST, split
+
+NAME = "x" * 9000
+FOLDERS = "n" * 200
+PAIR = {"Makefile": ".PHONY: %s\nall: %s b\n%s: ; @echo a > a; echo said\nb: ; @cat a > b\n" % (NAME, NAME, NAME)}
+DEEP = """import os, sys
+for number in range(25):
+    if sys.argv[1] == "make":
+        os.mkdir("%s")
+    os.chdir("%s")
+if sys.argv[1] == "number":
+    folder = os.open(".", os.O_RDONLY)
+    os.chdir("/")
+    os.close(os.open("f", os.O_RDONLY, dir_fd=folder))
+else:
+    open("f", "a").close()
+""" % (FOLDERS, FOLDERS)
+
+
+class Lines(unittest.TestCase):
+    """Packets of one line."""
+
+    def pieces(self, line: bytes, size: int = 4096) -> List[bytes]:
+        return [line[at:at + size] for at in range(0, len(line), size)]
+
+    def test_a_line_of_make_in_pieces(self) -> None:
+        name = NAME.encode()
+        for line in (b"Considering target file '%s'.\n", b"  Prerequisite '%s' is older than target 'a'.\n", b"Reading makefile '%s' (search path) (no ~ expansion)...\n",
+                     b"   File '%s' was considered already.\n", b"No need to remake target '%s'.\n"):
+            self.assertEqual((b"x\n", line % name), split(*self.pieces(line % name), b"x\n"), line)
+            self.assertEqual((b"x\n", line % name), split(*self.pieces(line % name, 8192), b"x\n"), line)
+
+    def test_the_lines_of_a_recipe_with_a_long_name(self) -> None:
+        name = NAME.encode()
+        must, begin, live = MUST.replace(b"'a'", b"'%s'" % name), b"Putting child 0x5f (%s) PID 7 on the chain.\n" % name, b"Live child 0x5f (%s) PID 7 \n" % name
+        self.assertEqual((b"echo\nx", must + begin + live + END), split(*self.pieces(must), b"echo\n", *self.pieces(begin), b"x", *self.pieces(live), END))
+
+    def test_long_output_of_a_recipe(self) -> None:
+        begin = b"Putting child 0x5f (a) PID 7 on the chain.\n"
+        for text in (b"\0" * 9000, b"File " + b"y" * 9000, b" Considering target file 'b" + b"y" * 9000):
+            self.assertEqual((text, MUST + begin + END), split(MUST, begin, *self.pieces(text), END), text[:30])
+
+    def test_a_line_without_an_end(self) -> None:
+        text = b"File '" + b"y" * 9000
+        self.assertEqual((text, b""), split(*self.pieces(text)))
+
+    def test_a_line_that_is_not_whole_is_a_hole(self) -> None:
+        for line in ("Considering target file 'xxx", " Must remake target 'x' ", "Putting child 0x5f (xxx", "Live child 0x5f (xxx"):
+            words = read_words(1, 0, ["Reading makefiles...\n", "Updating goal targets....\n", line + "\n"])
+            self.assertIn("a line of make's words cannot be read: " + line, words.holes)
+        words = read_words(1, 0, ["Reading makefiles...\n", "Updating goal targets....\n", "Considering target file 'x'.\n", "Removing child 0x5f PID 7 from chain.\n"])
+        self.assertEqual([], [hole for hole in words.holes if "cannot be read" in hole])
+
+
+class Traces(unittest.TestCase):
+    """Lines of a trace."""
+
+    def test_too_many_words(self) -> None:
+        self.assertIn("too many to be seen", "".join(played('1 execve("/bin/x", ["x", "a", ...], 0x1 /* 1 var */) = 0').holes))
+        self.assertEqual([], played('1 execve("/bin/x", ["x", "[1, ...]"], 0x1 /* 1 var */) = 0').holes)
+
+    def test_descriptors_without_a_name(self) -> None:
+        for line in ('openat(3, "f", O_RDONLY) = 4', "fchmod(3, 0755) = 0", "fchdir(3) = 0", 'newfstatat(3, "f", {}, 0) = 0', 'renameat(3, "a", AT_FDCWD<%s>, "b") = 0' % TOP,
+                     'renameat2(AT_FDCWD<%s>, "a", 3, "b", 0) = 0' % TOP, 'linkat(AT_FDCWD<%s>, "a", 3, "b", 0) = 0' % TOP, 'symlinkat("a", 3, "b") = 0',
+                     "ioctl(3, FS_IOC_SETFLAGS, [0]) = 0"):
+            self.assertIn("by the number of its descriptor alone", "".join(played("1 " + line).holes), line)
+        for line in ('openat(3, "f", O_RDONLY) = -1 EBADF (Bad file descriptor)', "umask(0) = 022", 'symlink("a, 3, b", "c, 3, d") = 0', 'symlinkat("a", AT_FDCWD, "b") = 0',
+                     'rename("a", "b") = 0', 'openat(AT_FDCWD, "f", O_RDONLY) = 3'):
+            self.assertEqual([], played("1 " + line).holes, line)
+
+
+class Recorded(unittest.TestCase):
+    """Real builds."""
+
+    def both(self, files: Dict[str, str]) -> support.Outcome:
+        """A recorded build, which prints what a plain one does."""
+        with support.Project(files) as project:
+            plain = project.plain(["make"]).stdout
+        with support.Project(files) as project:
+            outcome = project.record()
+        self.assertEqual(plain, outcome.stdout[:len(plain)])
+        self.assertRegex(outcome.stdout[len(plain):], rb"\A(RACE|SAFE)")
+        return outcome
+
+    def test_name_of_a_target(self) -> None:
+        outcome = self.both(PAIR)
+        self.assertEqual(["a"], support.races_of(outcome.text()))
+
+    def test_names_that_make_a_line_long(self) -> None:
+        folder = "/".join("d%d" % at + "y" * 200 for at in range(10))
+        text = "D := %s\nall: $D/a $D/b\n$D/a: $D/c ; @cp $D/c $D/a\n$D/c: ; @mkdir -p $D; echo > $D/c\n$D/b: ; @mkdir -p $D; cat $D/c > $D/b\n" % folder
+        self.assertEqual(1, self.both({"Makefile": text}).status)
+
+    def test_a_long_command(self) -> None:
+        words = "echo " + "w" * 100000 + " > /dev/null"
+        files = {"Makefile": "all: a b\na: ; @%s; echo > x; touch a\nb: ; @%s; cat x > b\n" % (words, words)}
+        self.assertEqual(["x"], support.races_of(self.both(files).text()))
+        self.assertEqual(["x"], support.races_of(self.both({"Makefile": files["Makefile"].replace("@", "")}).text()))
+
+    def test_ages_behind_a_long_command(self) -> None:
+        text = "all: c\na: ; @touch a\nb: ; @touch b\nc: a b ; @: %s; test a -nt b; touch c\n" % ("w" * 130000)
+        self.assertEqual(1, self.both({"Makefile": text}).status)
+
+    def test_folders_below_what_a_name_can_say(self) -> None:
+        files = {"Makefile": "all: a b\na: ; @python3 t/d.py make; touch a\nb: a ; @python3 t/d.py number; touch b\n", "t/d.py": DEEP}
+        with support.Project(files) as project:
+            outcome = project.record()
+            project.plain(["rm", "-rf", FOLDERS])
+        self.assertEqual(2, outcome.status)
+        self.assertIn("by the number of its descriptor alone", outcome.text())
+
+
+if __name__ == "__main__":
+    unittest.main()
