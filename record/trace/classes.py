@@ -52,11 +52,11 @@ LEFT_OUT = {name for names in REASONS.values() for name in names.split()}
 
 # After these, what a process opens is not what the trace names, or is not in the trace at all.
 HIDING = {"chroot", "pivot_root", "mount", "move_mount", "umount", "umount2", "oldumount", "setns", "open_by_handle_at", "io_uring_setup", "fsmount", "fspick",
-          "open_tree", "open_tree_attr", "mount_setattr", "pidfd_getfd"}
+          "open_tree", "open_tree_attr", "mount_setattr"}
 # What processes share that is no file.
 SHARING = {"shmget", "semget", "msgget", "mq_open", "mq_unlink", "add_key", "request_key", "keyctl", "process_vm_readv", "process_vm_writev"}
 # Known calls that nobody follows, since a build hardly needs them: they change files by other ways, files of others, the clock or the kernel.
-UNFOLLOWED = {"acct", "swapon", "swapoff", "quotactl", "quotactl_fd", "uselib", "nfsservctl", "_sysctl", "bpf", "init_module", "finit_module",
+UNFOLLOWED = {"acct", "swapon", "swapoff", "quotactl", "quotactl_fd", "uselib", "nfsservctl", "_sysctl", "pidfd_getfd", "bpf", "init_module", "finit_module",
               "delete_module", "kexec_load", "kexec_file_load", "reboot", "settimeofday", "stime", "clock_settime", "clock_settime64", "clock_adjtime",
               "clock_adjtime64", "adjtimex"}
 

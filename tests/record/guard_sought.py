@@ -55,7 +55,6 @@ SOUGHT_GUARDS: List[Guard] = [
     Guard("folders: errors that a program gets: said", "make/folders.py", '        builder.assumed.add("output", "make " + builder.make.words.args)', "        pass", sought("folder_made_or_true_in_a_make_for_a_program"), UNSAID),
     Guard("macros: that scripts may have exported", "make/macros.py", "or name in os.environ or self.is_lost or self.is_named_in_export(name)", "or self.is_exported(name)", sought("macros_that_set_others_in_a_script"), FALSE_RACE),
     Guard("ages: that another program looks at", "make/ages.py", " if any(map(shelltext.shows_ages, life.ran)))", ")", sought("age_beside_a_script_that_looks"), FALSE_RACE),
-    Guard("trace: descriptors of other processes", "trace/calls.py", ', "pidfd_getfd"}', "}", "test_sought.Traces.test_descriptor_of_another_process"),
     Guard("trace: folders with two names", "trace/names.py", "if known != path else []", "if False else []", "test_sought.Traces.test_folder_with_two_names"),
     Guard("trace: folders with two names, by a mount", "trace/names.py", "if not mounts.isdisjoint(pair)", "", "test_sought.Traces.test_folder_with_two_names"),
     Guard("folders: made by a program of the project", "trace/calls.py", "is_quiet_mkdir(life.argv) and not self.is_inside(life.program)", "is_quiet_mkdir(life.argv)", sought("folder_made_by_a_program_of_the_project"), YES),
