@@ -132,7 +132,7 @@ FOLDERS: List[Guard] = [
     Guard("folders: a rule that comes late", "make/folders.py", "if makes_itself(builder, at, path)]:", "if False]:", small("folder_whose_rule_comes_late"), FALSE_RACE),
     Guard("folders: a rule that comes late makes the folder alone", "make/folders.py", "all(only.fullmatch(line) for line in lines)", "True", small("folder_whose_rule_comes_late_and_does_more"), YES),
     Guard("folders: ages that nobody asks for", "make/build.py", "if len(names) > 1 or is_asked:", "if True:", small("folder_whose_rule_comes_late"), FALSE_RACE),
-    Guard("folders: there before the build", "make/folders.py", "    if existed and not folder.gone:\n", "    if False:\n", small("folder_there_already"), FALSE_RACE),
+    Guard("folders: there before the build", "make/folders.py", "    if was_there(builder, path) and not folder.gone:\n", "    if False:\n", small("folder_there_already"), FALSE_RACE),
 ]
 GRAPH: List[Guard] = [
     Guard("decisions: names that no rule makes", "make/build.py", "if own < 0 and node.label not in fixed and any(self.is_written(p) for p in needed):", "if False:", case("no-rule"), YES),
