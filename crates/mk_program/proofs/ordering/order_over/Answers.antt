@@ -1,6 +1,7 @@
 use Rattle.std.proofs.Common.{◌∙◌, Ok, ap, refl, subst}
 use Rattle.std.proofs.lemmas.Result.{IfOk-weaker}
 use Rattle.mk_name.specs.Gives.{HaltsAmong}
+use Rattle.mk_race.specs.Parts.{texts_with}
 use Rattle.mk_race.specs.Stages.{IsPlanned, Texts}
 use Rattle.mk_request.specs.declared.inputs.InputFile.TheVariants as inputs
 use Rattle.mk_program.specs.Answers.{base_of, texts_for}
@@ -22,13 +23,13 @@ returns-in-Ok-clause-answer c =
     (c.base_of-base.ensures ∙ ap (base_of build) (c.as_slice-3.ensures.value ∙ is.base)) (c.as_slice-4.ensures.value ∙ is.makefile)
     refl (ap pairs said.includes) _ _ refl refl)
     (c.in-Ok.ensures (text inputs.Listing)
-    (listed_from build.root.now c.settings_of-settings.result.root.now text _ is.listing said.root _ refl refl))) h.0 h.1) c.plan_answer.ensures
+    (listed_from build.root.now c.settings_of-settings.result.root.now text _ is.listing said.root (texts_with c.settings_of-settings.result c.base_of-base.result.now c.as_slice-4.result.now (text inputs.Listing)) refl refl))) h.0 h.1) c.plan_answer.ensures
 
-pub returns-in-Err-clause-status : goal.returns-in-Err-clause-status
-returns-in-Err-clause-status c = IfOk-weaker c.refused.result _ _ (λ answer h. refusal_not_failed answer.status h.2) c.refused.ensures
+pub returns-clause-status : goal.returns-clause-status
+returns-clause-status c = IfOk-weaker c.refused.result _ _ (λ answer h. refusal_not_failed answer.status h.2) c.refused.ensures
 
-pub returns-in-Err-clause-answer : goal.returns-in-Err-clause-answer
-returns-in-Err-clause-answer c =
+pub returns-clause-answer : goal.returns-clause-answer
+returns-clause-answer c =
     let build = c.args.build.now in
     let said = c.settings_of-settings.ensures in
     let operands = ap words (said.operands ∙ c.as_slice-2.ensures.value) ∙ c.in_ok-operands.ensures ∙ ap words c.as_slice.ensures.value in
@@ -39,4 +40,4 @@ returns-in-Err-clause-answer c =
     (c.base_of-base.ensures ∙ ap (base_of build) (c.as_slice-3.ensures.value ∙ is.base)) (c.as_slice-4.ensures.value ∙ is.makefile)
     refl (ap pairs said.includes) _ _ refl refl)
     (c.in-Err.ensures (text inputs.Listing)
-    (listed_from build.root.now c.settings_of-settings.result.root.now text _ is.listing said.root _ refl refl))) h.1 h.2 h.3) c.refused.ensures
+    (listed_from build.root.now c.settings_of-settings.result.root.now text _ is.listing said.root (texts_with c.settings_of-settings.result c.base_of-base.result.now c.as_slice-4.result.now (text inputs.Listing)) refl refl))) h.1 h.2 h.3) c.refused.ensures
