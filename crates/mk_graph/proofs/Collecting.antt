@@ -5,7 +5,7 @@ use Rattle.std.specs.Prelude.{not, is_some, IsTrue, IsSome, nat_eq, map, Vec, sl
 use Rattle.std.specs.List.{flat_map}
 use Rattle.std.specs.Global.{Global}
 use Rattle.std.proofs.lemmas.Bool.{both_ways, cases_eq}
-use Rattle.std.proofs.lemmas.List.{get_or-set_same, get_or-set_other, length-set, append-nil, take_more, get_or-replicate, length-replicate, get_or_default, get_or_append_left, get_or_push, length_push, get_or-map, length-map, map_more, map_push, take-append-le}
+use Rattle.std.proofs.lemmas.List.{get_or-set_same, get_or-set_other, length-set, append-nil, take_more, get_or-replicate, length-replicate, get_or_default, get_or_append_left, get_or_push, length_push, get_or-map, length-map, map_more, take-append-le}
 use Rattle.std.proofs.lemmas.Option.{get_or_from_slice_get}
 use Rattle.mk_name.specs.Names.{Name, same_name, has, kept, firsts, IsDistinct}
 use Rattle.mk_name.proofs.Names.{name_is_exact, nat_is_exact, in_left, in_push, in_push_cases, in_joined, kept_has, kept_cases, kept_front, distinct_kept}
@@ -210,22 +210,20 @@ collected_nodes book listing goals names entries sources starts read c = record 
 pub collected_all : (book : Book) (listing goals names : List Name) (entries : Entries) (sources : List (Option ℕ)) (starts : List ℕ) (read : ℕ) → Collected book listing goals names entries sources starts read → length names ≤ read → Collected book listing goals names entries sources starts (length names)
 collected_all book listing goals names entries sources starts read c h = let w = c.within in let e : read ≡ length names = omega arith in subst (λ (n : ℕ). Collected book listing goals names entries sources starts n) e c
 
--- the places of the rules of one more name
-pub rules_more : {R : Type 0} (now : R → List ℕ) (rules : List Entry) (names new newer source more : List Name) (rows all : List R) (places : R) (read : ℕ) → read < length names → new ≡ names ++ more → newer ≡ kept same_name new source
-    → map now rows ≡ map (places_of rules) (take read names) → all ≡ rows ++ places ∷ [] → now places ≡ places_of rules (name_at names read) → map now all ≡ map (places_of rules) (take (read + 1) newer)
-rules_more now rules names new newer source more rows all places read h grows step so_far pushed at =
+-- what is looked up of one more name
+pub looked_more : {A : Type 0} (f : Name → A) (names new newer source more : List Name) (rows all : List A) (row : A) (read : ℕ) → read < length names → new ≡ names ++ more → newer ≡ kept same_name new source
+    → rows ≡ map f (take read names) → all ≡ rows ++ row ∷ [] → row ≡ f (name_at names read) → all ≡ map f (take (read + 1) newer)
+looked_more f names new newer source more rows all row read h grows step so_far pushed at =
     let g = kept_grows new source in
     let whole : newer ≡ names ++ (more ++ g.0) = step ∙ g.1 ∙ ap (λ ns. ns ++ g.0) grows ∙ append_assoc names more g.0 in
-    ap (map now) pushed ∙ map_push now rows places ∙ ap (λ rs. rs ++ now places ∷ []) so_far ∙ ap (λ p. map (places_of rules) (take read names) ++ p ∷ []) at
-    ∙ sym (map_more (places_of rules) names read [] h)
-    ∙ ap (map (places_of rules)) (sym (take-append-le (read + 1) names (more ++ g.0) (omega (arith, h))) ∙ ap (take (read + 1)) (sym whole))
+    pushed ∙ ap (λ rs. rs ++ row ∷ []) so_far ∙ ap (λ r. map f (take read names) ++ r ∷ []) at
+    ∙ sym (map_more f names read [] h)
+    ∙ ap (map f) (sym (take-append-le (read + 1) names (more ++ g.0) (omega (arith, h))) ∙ ap (take (read + 1)) (sym whole))
 
--- the places beside a name are those of its rules
-pub rules_at : {R : Type 0} (now : R → List ℕ) (rules : List Entry) (names : List Name) (rows : List R) (i : ℕ) (d : R) → map now rows ≡ map (places_of rules) names → i < length names → now (get_or rows i d) ≡ places_of rules (name_at names i)
-rules_at now rules names rows i d is h =
-    sym (get_or-map now rows i d [] (let e = ap length is in omega (arith, h, e, length-map rows now, length-map names (places_of rules))))
-    ∙ ap (λ rs. get_or rs i []) is ∙ get_or-map (places_of rules) names i [] [] h
+-- what stands beside a name was looked up of it
+pub looked_at : {A : Type 0} (f : Name → A) (names : List Name) (rows : List A) (i : ℕ) (d : A) → rows ≡ map f names → i < length names → get_or rows i d ≡ f (name_at names i)
+looked_at f names rows i d is h = ap (λ rs. get_or rs i d) is ∙ get_or-map f names i [] d h
 
--- there are as many as names
-pub rules_count : {R : Type 0} (now : R → List ℕ) (rules : List Entry) (names : List Name) (rows : List R) → map now rows ≡ map (places_of rules) names → length rows ≡ length names
-rules_count now rules names rows is = sym (length-map rows now) ∙ ap length is ∙ length-map names (places_of rules)
+-- as much as there are names
+pub looked_count : {A : Type 0} (f : Name → A) (names : List Name) (rows : List A) → rows ≡ map f names → length rows ≡ length names
+looked_count f names rows is = ap length is ∙ length-map names f

@@ -17,3 +17,4 @@ mod Steps
 mod SuffixRules
 mod Suffixes
 mod Tables
+mod Unknowns

@@ -1,19 +1,20 @@
 -- The nodes of a plan, from the graph by numbers.
-use Rattle.std.proofs.Common.{◌≡◌, ℕ, zero, suc, ◌+◌, ◌<◌, List, [], ◌∷◌, ◌++◌, length, get_or, set, take, drop, sym, ◌∙◌, ap, subst, inl, inr, refl, arith}
+use Rattle.std.proofs.Common.{◌≡◌, ℕ, zero, suc, ◌+◌, ◌<◌, List, [], ◌∷◌, ◌++◌, length, get_or, set, take, drop, Bool, sym, ◌∙◌, ap, subst, inl, inr, refl, arith}
 use Rattle.std.specs.Prelude.{nat_eq, map, Vec}
 use Rattle.std.specs.Global.{Global}
 use Rattle.std.proofs.lemmas.Bool.{both_ways, cases_eq}
-use Rattle.std.proofs.lemmas.List.{get_or-set_same, get_or-set_other, length-map, get_or-map, map_more, take-append-drop}
-use Rattle.mk_name.specs.Names.{Name, same_name, IsDistinct}
+use Rattle.std.proofs.lemmas.List.{get_or-set_same, get_or-set_other, length-map, get_or-map, map_more, map_push, take-append-drop}
+use Rattle.mk_name.specs.Names.{Name, has, same_name, IsDistinct}
 use Rattle.mk_name.proofs.Names.{nat_is_exact, in_head, in_tail, in_left}
 use Rattle.mk_graph.specs.Assembled.{node_of, IsNumbering}
 use Rattle.mk_graph.specs.Answer.{IsNodeOf, IsPlan}
-use Rattle.mk_rules.specs.Book.{Book}
-use Rattle.mk_graph.specs.Makers.{needs}
+use Rattle.mk_rules.specs.Book.{Book, is_phony}
+use Rattle.mk_graph.specs.Makers.{maker_of, needs}
+use Rattle.mk_jobs.specs.declared.maker.Maker.{Maker}
 use Rattle.mk_graph.specs.Collected.{IsGraph}
 use Rattle.mk_graph.specs.Graph.{IsSerialOrder}
 use Rattle.mk_jobs.specs.Numbered.{name_at}
-use Rattle.mk_jobs.specs.Plan.{Node, Plan}
+use Rattle.mk_jobs.specs.Plan.{Node, NumberedNode, Plan, with_name, with_names}
 use Rattle.mk_graph.specs.Rows.{row}
 use Rattle.mk_graph.specs.Walk.{IsOrder}
 use Rattle.mk_graph.proofs.Bridge.{Numbers, serial_order_map, no_cycle_map, node_inside}
@@ -36,9 +37,20 @@ placed_more order places count i d h inside p k l =
       | inr n ↦ let less : k < i = omega arith in get_or-set_other places (get_or order i 0) (get_or order k 0) i 0 (distinct_at order k i d less h) ∙ p k less
     ]
 
-pub nodes_more : (f : ℕ → Node) (order : List ℕ) (i : ℕ) (old new : List Node) (n : Node) → i < length order → old ≡ map f (take i order) → new ≡ old ++ n ∷ [] → n ≡ f (get_or order i 0) → new ≡ map f (take (i + 1) order)
-nodes_more f order i old new n h e is at =
-    is ∙ ap (λ ns. ns ++ n ∷ []) e ∙ ap (λ m. map f (take i order) ++ m ∷ []) at ∙ sym (map_more f order i 0 h)
+-- a node of what was looked up of its name
+pub looked_node : (book : Book) (listing names : List Name) (n : ℕ) (needs found : List ℕ) (m : Maker) (real listed : Bool) → m ≡ maker_of book listing (name_at names n) → real ≡ is_phony book (name_at names n) → listed ≡ has same_name listing (name_at names n) → found ≡ needs
+    → with_name names (record { name = n; prerequisites = found; maker = m; phony = real; listed = listed }) ≡ node_of book listing (name_at names n) needs
+looked_node book listing names n needs found m real listed made is_real is_listed same =
+    ap (λ k. with_name names (record { name = n; prerequisites = found; maker = k; phony = real; listed = listed })) made
+    ∙ ap (λ p. with_name names (record { name = n; prerequisites = found; maker = maker_of book listing (name_at names n); phony = p; listed = listed })) is_real
+    ∙ ap (λ l. with_name names (record { name = n; prerequisites = found; maker = maker_of book listing (name_at names n); phony = is_phony book (name_at names n); listed = l })) is_listed
+    ∙ ap (node_of book listing (name_at names n)) same
+
+-- one more node
+pub nodes_more : (names : List Name) (f : ℕ → Node) (order : List ℕ) (i : ℕ) (old new : List NumberedNode) (n : NumberedNode) → i < length order → with_names names old ≡ map f (take i order) → new ≡ old ++ n ∷ [] → with_name names n ≡ f (get_or order i 0)
+    → with_names names new ≡ map f (take (i + 1) order)
+nodes_more names f order i old new n h e is at =
+    ap (with_names names) is ∙ map_push (with_name names) old n ∙ ap (λ ns. ns ++ with_name names n ∷ []) e ∙ ap (λ m. map f (take i order) ++ m ∷ []) at ∙ sym (map_more f order i 0 h)
 
 module _ (book : Book) (listing goals names : List Name) (rows : List (Vec ℕ Global)) (starts order places : List ℕ) (g : IsGraph book listing goals names rows starts) (o : IsOrder (row rows) starts order) (at : IsNumbering order places) where
   -- the node of a number

@@ -3,6 +3,7 @@ pub mod Assembled
 pub mod Collected
 pub mod Graph
 pub mod Least
+pub mod Looked
 pub mod Makers
 pub mod Once
 pub mod Places

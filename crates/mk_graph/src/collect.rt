@@ -3,15 +3,16 @@ ghost use Rattle.std.specs.Prelude.{◌≡◌, ◌<◌, ◌≤◌, List, ℕ, le
 ghost use Rattle.std.specs.List.{All};
 ghost use Rattle.std.specs.Option.{option_to_list};
 ghost use Rattle.mk_name.specs.Names.{Name, kept, same_name};
-ghost use Rattle.mk_rules.specs.Book.{places_of};
 ghost use Rattle.mk_graph.specs.Collected.{Collected, Reads, SourceStands};
 ghost use Rattle.mk_graph.specs.Graph.{AreNodes};
+ghost use Rattle.mk_graph.specs.Looked.{looked_of};
 ghost use Rattle.mk_graph.specs.Makers.{inferred_source, needs};
 ghost use Rattle.mk_graph.specs.SourceIndex.{IsSourceIndex};
 ghost use Rattle.mk_jobs.specs.Numbered.{name_at};
 
 use crate::index::{SourceIndex, source_index};
 use crate::inference::inferred_source;
+use crate::looked::{Looked, look};
 use mk_jobs::numbering::Numbering;
 use mk_name::name::Name;
 use mk_rules::rulebook::Rulebook;
@@ -23,8 +24,8 @@ use std::alloc::{AllocError, Global};
 pub struct Found<'a> {
     /// The names, in the order in which they were found.
     pub names: Numbering,
-    /// The places in the book of the rules that name them as targets.
-    pub rules: Vec<&'a [usize]>,
+    /// What was looked up of each name.
+    pub looked: Vec<Looked<'a>>,
     /// The prerequisites of the rules that name one of them as a target, by their places in the book.
     pub entries: Vec<Option<Vec<usize>>>,
     /// The numbers of the sources that inference rules make them from.
@@ -67,26 +68,25 @@ fn read_entries(
     Ok(())
 }
 
-/// The number of the inferred source of the name with a number, if it has one. A new source is put last. The places are
-/// those of the name's rules.
+/// The number of the inferred source of the name with a number, if it has one. A new source is put last.
 fn read_source(
     alloc: Global,
     book: &Rulebook,
     listing: &Listing,
     index: &SourceIndex,
-    places: &[usize],
+    looked: &Looked<'_>,
     names: &mut Numbering,
     number: usize,
 ) -> Result<Option<usize>, AllocError>
     requires index { IsSourceIndex book.now listing.now index.now }
-    requires places { places.now ≡ places_of book.now.rules (name_at names.old number) }
+    requires looked { looked.now ≡ looked_of book.now listing.now (name_at names.old number) }
     requires number { number < length names.old }
     ensures kept { let source = inferred_source book.now listing.now (name_at names.old number) in
         OnOk result (names.new ≡ kept same_name names.old (option_to_list source)) }
     ensures stands { let source = inferred_source book.now listing.now (name_at names.old number) in
         IfOk result (λ found. SourceStands names.new found source) }
 {
-    match inferred_source(alloc, book, listing, index, places, names.name(number))? {
+    match inferred_source(alloc, book, listing, index, looked, names.name(number))? {
         Some(source) => Ok(Some(names.put(alloc, &source)?)),
         None => Ok(None),
     }
@@ -106,9 +106,8 @@ fn collect_by<'a>(
         (λ found. IfSome found
         (λ f. Collected book.now listing.now goals.now f.names f.entries.items f.sources.items
         f.goals.items (length f.names))) }
-    ensures rules { IfOk result
-        (λ found. IfSome found
-        (λ f. map (λ row. row.now) f.rules.items ≡ map (places_of book.now.rules) f.names)) }
+    ensures looked { IfOk result
+        (λ found. IfSome found (λ f. f.looked.items ≡ map (looked_of book.now listing.now) f.names)) }
     ensures few { IfOk result (λ found. IfSome found (λ f. length f.names ≤ limit)) }
     ensures too_large { IfOk result
         (λ found. IfNone found
@@ -118,22 +117,22 @@ fn collect_by<'a>(
     let mut names = Numbering::of_set(book.empty_set(alloc));
     let starts = names.put_all(alloc, goals)?;
     let mut entries = none_read(alloc, book.rule_count())?;
-    let mut rules = Vec::new(alloc);
+    let mut looked = Vec::new(alloc);
     let mut sources = Vec::new(alloc);
     let mut read = 0;
     'all: while read < names.count() {
         if names.count() > limit {
             return Ok(None);
         }
-        let places = book.rules_of(names.name(read));
-        rules.push(places)?;
-        read_entries(alloc, book, places, &mut names, &mut entries)?;
-        sources.push(read_source(alloc, book, listing, index, places, &mut names, read)?)?;
+        let of = look(book, listing, names.name(read));
+        read_entries(alloc, book, of.rules, &mut names, &mut entries)?;
+        sources.push(read_source(alloc, book, listing, index, &of, &mut names, read)?)?;
+        looked.push(of)?;
         read += 1;
     }
     Ok(Some(Found {
         names,
-        rules,
+        looked,
         entries,
         sources,
         goals: starts,
@@ -152,9 +151,8 @@ pub fn collect<'a>(
         (λ found. IfSome found
         (λ f. Collected book.now listing.now goals.now f.names f.entries.items f.sources.items
         f.goals.items (length f.names))) }
-    ensures rules { IfOk result
-        (λ found. IfSome found
-        (λ f. map (λ row. row.now) f.rules.items ≡ map (places_of book.now.rules) f.names)) }
+    ensures looked { IfOk result
+        (λ found. IfSome found (λ f. f.looked.items ≡ map (looked_of book.now listing.now) f.names)) }
     ensures few { IfOk result (λ found. IfSome found (λ f. length f.names ≤ limit)) }
     ensures too_large { IfOk result
         (λ found. IfNone found

@@ -2,9 +2,11 @@
 ghost use Rattle.std.specs.Prelude.{◌≡◌, ◌<◌, ◌+◌, ◌++◌, ◌≤◌, ℕ, length, map, drop, take, nat_eq, IsTrue, IfOk, OnOk};
 ghost use Rattle.mk_name.specs.Names.{has};
 ghost use Rattle.mk_graph.specs.Least.{upto, IsLeastPassing, IsLeastPlace};
+ghost use Rattle.mk_graph.specs.Looked.{looked_of};
 ghost use Rattle.mk_graph.specs.Makers.{is_unmade, maker_of};
 ghost use Rattle.mk_jobs.specs.Numbered.{name_at};
 
+use crate::looked::Looked;
 use crate::makers::is_unmade;
 use mk_jobs::maker::Maker;
 use mk_jobs::numbering::Numbering;
@@ -22,19 +24,22 @@ fn is_upto(names: &Numbering, a: usize, b: usize) -> bool
     names.name(a) <= names.name(b)
 }
 
-/// The number of the least of the names that nothing makes.
+/// The number of the least of the names that nothing makes, by what was looked up of them. Only the contract speaks of the
+/// book and of the listing.
 pub fn least_unmade(
     book: &Rulebook,
     listing: &Listing,
     names: &Numbering,
+    looked: &[Looked<'_>],
     makers: &[Maker],
 ) -> Option<usize>
-    requires { makers.now ≡ map (maker_of book.now listing.now) names.now }
+    requires looked { looked.now ≡ map (looked_of book.now listing.now) names.now }
+    requires makers { makers.now ≡ map (maker_of book.now listing.now) names.now }
     ensures { IsLeastPassing (is_unmade book.now listing.now) names.now (length names.now) result }
 {
     let mut least = None;
     for number in 0..names.count() {
-        if is_unmade(book, listing, names.name(number), makers[number]) {
+        if is_unmade(&looked[number], makers[number]) {
             least = match least {
                 Some(best) if is_upto(names, best, number) => Some(best),
                 _ => Some(number),

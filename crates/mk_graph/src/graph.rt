@@ -3,9 +3,11 @@ ghost use Rattle.std.specs.Prelude.{◌≡◌, ◌≤◌, map, IfOk, IfSome, IfN
 ghost use Rattle.mk_name.specs.Names.{same_name};
 ghost use Rattle.mk_graph.specs.Collected.{IsGraph};
 ghost use Rattle.mk_graph.specs.Graph.{HasMoreThan};
+ghost use Rattle.mk_graph.specs.Looked.{looked_of};
 ghost use Rattle.mk_graph.specs.Makers.{maker_of, needs};
 
 use crate::collect::collect;
+use crate::looked::Looked;
 use crate::makers::makers_of;
 use crate::rows::{distinct_entries, rows_of};
 use mk_jobs::maker::Maker;
@@ -15,28 +17,32 @@ use mk_rules::rulebook::Rulebook;
 use mk_text::listing::Listing;
 use std::alloc::{AllocError, Global};
 
-/// The names that some goals need, and for each the numbers of what it needs and what makes it.
+/// The names that some goals need, and for each what was looked up, the numbers of what it needs and what makes it.
 #[derive(Debug, Drop)]
-pub struct Graph {
+pub struct Graph<'a> {
     pub names: Numbering,
+    pub looked: Vec<Looked<'a>>,
     pub rows: Vec<Vec<usize>>,
     pub makers: Vec<Maker>,
     pub goals: Vec<usize>,
 }
 
 /// All that the goals need, or nothing where this is more than so many names or edges. The only error is out of memory.
-pub fn graph_of(
+pub fn graph_of<'a>(
     alloc: Global,
-    book: &Rulebook,
+    book: &'a Rulebook,
     listing: &Listing,
     goals: &[Name],
     max_names: usize,
     max_edges: usize,
-) -> Result<Option<Graph>, AllocError>
+) -> Result<Option<Graph<'a>>, AllocError>
     requires { max_edges ≤ 1000000 }
     ensures found { IfOk result
         (λ found. IfSome found
         (λ g. IsGraph book.now listing.now goals.now g.names g.rows.items g.goals.items)) }
+    ensures looked { IfOk result
+        (λ found. IfSome found
+        (λ g. g.looked.items ≡ map (looked_of book.now listing.now) g.names)) }
     ensures makers { IfOk result
         (λ found. IfSome found
         (λ g. g.makers.items ≡ map (maker_of book.now listing.now) g.names)) }
@@ -54,14 +60,14 @@ pub fn graph_of(
     let mut marks = vec![in alloc; false; found.names.count()]?;
     let seen = marks.as_mut_slice();
     let entries = distinct_entries(alloc, seen, found.entries.as_slice())?;
-    let rules = found.rules.as_slice();
+    let looked = found.looked.as_slice();
     let sources = found.sources.as_slice();
     let Some(rows) = rows_of(
         alloc,
         book,
         listing,
         &found.names,
-        rules,
+        looked,
         entries.as_slice(),
         sources,
         seen,
@@ -70,9 +76,10 @@ pub fn graph_of(
     else {
         return Ok(None);
     };
-    let makers = makers_of(alloc, book, listing, &found.names, rules, sources)?;
+    let makers = makers_of(alloc, book, listing, &found.names, looked, sources)?;
     Ok(Some(Graph {
         names: found.names,
+        looked: found.looked,
         rows,
         makers,
         goals: found.goals,

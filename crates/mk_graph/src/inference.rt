@@ -1,13 +1,15 @@
 //! The sources of names by inference rules.
-ghost use Rattle.std.specs.Prelude.{◌≡◌, ◌++◌, ◌&&◌, ◌<◌, ℕ, length, IfOk, IsTrue};
+ghost use Rattle.std.specs.Prelude.{◌≡◌, ◌++◌, ◌&&◌, ◌<◌, ℕ, false, length, IfOk, IsTrue};
 ghost use Rattle.mk_name.specs.Names.{has, same_name};
-ghost use Rattle.mk_rules.specs.Book.{has_inference, places_of};
+ghost use Rattle.mk_rules.specs.Book.{has_inference, is_phony};
 ghost use Rattle.mk_jobs.specs.Numbered.{name_at};
+ghost use Rattle.mk_graph.specs.Looked.{looked_of};
 ghost use Rattle.mk_graph.specs.Makers.{inferred_source, is_there, old_suffix, source_of};
 ghost use Rattle.mk_graph.specs.Places.{IsLeast, IsLeastSuffix, IsOld, in_set};
 ghost use Rattle.mk_graph.specs.SourceIndex.{IsSourceIndex};
 
 use crate::index::SourceIndex;
+use crate::looked::Looked;
 use crate::makers::has_recipe;
 use crate::places::{first_common, next_place};
 use crate::suffix::suffix_of;
@@ -86,7 +88,7 @@ fn source_place(
     }
 }
 
-/// The source that an inference rule makes a name from.
+/// The source that an inference rule makes a name from that is not phony.
 fn source_of(
     alloc: Global,
     book: &Rulebook,
@@ -94,12 +96,10 @@ fn source_of(
     index: &SourceIndex,
     name: &Name,
 ) -> Result<Option<Name>, AllocError>
-    requires { IsSourceIndex book.now listing.now index.now }
+    requires index { IsSourceIndex book.now listing.now index.now }
+    requires real { is_phony book.now name.now ≡ false }
     ensures { IfOk result (λ source. source ≡ source_of book.now listing.now name.now) }
 {
-    if book.is_phony(name) {
-        return Ok(None);
-    }
     let old = old_suffix(alloc, book, name)?;
     let cut = name.as_bytes().len().saturating_sub(old.as_bytes().len());
     let stem = name.with_tail(alloc, cut, &[])?;
@@ -113,23 +113,23 @@ fn source_of(
 }
 
 /// The source that an inference rule makes a name from; none where a target rule of it has commands, or where it is
-/// phony ("Inference Rules"). The places are those of its target rules. The only error is out of memory.
+/// phony ("Inference Rules"). The only error is out of memory.
 pub(crate) fn inferred_source(
     alloc: Global,
     book: &Rulebook,
     listing: &Listing,
     index: &SourceIndex,
-    places: &[usize],
+    looked: &Looked<'_>,
     name: &Name,
 ) -> Result<Option<Name>, AllocError>
     requires index { IsSourceIndex book.now listing.now index.now }
-    requires places { places.now ≡ places_of book.now.rules name.now }
+    requires looked { looked.now ≡ looked_of book.now listing.now name.now }
     ensures { IfOk result (λ source. source ≡ inferred_source book.now listing.now name.now) }
 {
     if index.rules.is_empty() {
         return Ok(None);
     }
-    if has_recipe(book, places, name) {
+    if has_recipe(book, looked.rules) || looked.phony {
         return Ok(None);
     }
     source_of(alloc, book, listing, index, name)

@@ -12,6 +12,7 @@ mod graph;
 mod index;
 mod inference;
 pub mod laws;
+mod looked;
 mod makers;
 mod places;
 pub mod planning;

@@ -4,6 +4,7 @@ ghost use Rattle.mk_name.specs.Gives.{Answers, HaltsAmong};
 ghost use Rattle.mk_name.specs.declared.fault.Halt.TheVariants as halts;
 ghost use Rattle.mk_graph.specs.Answer.{AllMade, Comes, IsAnswer, IsTooLarge, goals_of, graph_fault};
 ghost use Rattle.mk_graph.specs.Collected.{IsGraph};
+ghost use Rattle.mk_graph.specs.Looked.{looked_of};
 ghost use Rattle.mk_graph.specs.Makers.{maker_of};
 ghost use Rattle.mk_graph.specs.Rows.{row};
 ghost use Rattle.mk_graph.specs.Walk.{IsOrder};
@@ -33,9 +34,10 @@ fn order_of(
     book: &Rulebook,
     listing: &Listing,
     goals: &[Name],
-    graph: &Graph,
+    graph: &Graph<'_>,
 ) -> Result<Vec<usize>, Halt>
     requires graph { IsGraph book.now listing.now goals.now graph.now.names graph.now.rows.items graph.now.goals.items }
+    requires looked { graph.now.looked.items ≡ map (looked_of book.now listing.now) graph.now.names }
     requires makers { graph.now.makers.items ≡ map (maker_of book.now listing.now) graph.now.names }
     requires small { IsTooLarge book.now listing.now goals.now → ⊥ }
     ensures order { IfOk result
@@ -43,7 +45,9 @@ fn order_of(
     ensures made { OnOk result (AllMade book.now listing.now goals.now) }
     ensures halt { IfErr result (λ halt. HaltsAmong halt (Comes book.now listing.now goals.now)) }
 {
-    if let Some(number) = least_unmade(book, listing, &graph.names, graph.makers.as_slice()) {
+    let looked = graph.looked.as_slice();
+    let makers = graph.makers.as_slice();
+    if let Some(number) = least_unmade(book, listing, &graph.names, looked, makers) {
         let mut names = Vec::new(alloc);
         names.push(graph.names.name(number).copy(alloc)?)?;
         return Err(graph_fault(Kind::NoRule, names));

@@ -2,13 +2,14 @@
 ghost use Rattle.std.specs.Prelude.{◌≡◌, ◌<◌, ◌≤◌, ◌+◌, List, [], ℕ, length, take, map, None, nat_eq, get_or, IsTrue, IfOk, OnOk, IfSome, IfNone};
 ghost use Rattle.std.specs.List.{flat_map, sum_by};
 ghost use Rattle.mk_name.specs.Names.{firsts, has, kept};
-ghost use Rattle.mk_rules.specs.Book.{places_of};
 ghost use Rattle.mk_graph.specs.Rows.{row};
 ghost use Rattle.mk_jobs.specs.Numbered.{name_at, Stand};
 ghost use Rattle.mk_graph.specs.Graph.{count_edges};
+ghost use Rattle.mk_graph.specs.Looked.{looked_of};
 ghost use Rattle.mk_graph.specs.Makers.{needs};
 ghost use Rattle.mk_graph.specs.Seen.{IsSeen, firsts_of, AllBelow, joined_of, needs_of, with_source};
 
+use crate::looked::Looked;
 use mk_jobs::numbering::Numbering;
 use mk_rules::rulebook::Rulebook;
 use mk_text::listing::Listing;
@@ -149,21 +150,20 @@ pub fn distinct_entries(
     Ok(rows)
 }
 
-/// The numbers of what each name needs, in its order, or nothing where these are more than `limit`. Beside each name are the
-/// places of its rules in the book.
+/// The numbers of what each name needs, in its order, or nothing where these are more than `limit`.
 pub fn rows_of(
     alloc: Global,
     book: &Rulebook,
     listing: &Listing,
     names: &Numbering,
-    rules: &[&[usize]],
+    looked: &[Looked<'_>],
     entries: &[Vec<usize>],
     sources: &[Option<usize>],
     seen: &mut [bool],
     limit: usize,
 ) -> Result<Option<Vec<Vec<usize>>>, AllocError>
     requires limit { limit ≤ 1000000 }
-    requires rules { map (λ row. row.now) rules.now ≡ map (places_of book.now.rules) names.now }
+    requires looked { looked.now ≡ map (looked_of book.now listing.now) names.now }
     requires entries { length entries.now ≡ length book.now.rules }
     requires sources { length sources.now ≡ length names.now }
     requires within { (place n : ℕ) → IsTrue (has nat_eq (row entries.now place) n)
@@ -190,8 +190,8 @@ pub fn rows_of(
     let mut rows: Vec<Vec<usize>> = Vec::new(alloc);
     let mut edges = 0;
     for number in 0..names.count() {
-        let places = rules[number];
-        let row = full_row(alloc, seen, entries, places, sources[number])?;
+        let of = &looked[number];
+        let row = full_row(alloc, seen, entries, of.rules, sources[number])?;
         edges += row.len();
         if edges > limit {
             return Ok(None);

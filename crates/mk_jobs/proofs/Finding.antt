@@ -28,5 +28,5 @@ pub found_in_turn : (nodes : List Node) (names : List Name) (places : List ℕ) 
 found_in_turn nodes names places same each x = ap (λ ns. number_of ns x) (sym same) ∙ turn names places x (number_of names x) refl each
 
 -- there are as many names as nodes
-pub names_count : (nodes read : List Node) (names : List Name) → names ≡ names_of read → read ≡ nodes → length names ≡ length nodes
-names_count nodes read names same is = ap length same ∙ length-map read (λ (d : Node). d.name) ∙ ap length is
+pub names_count : (nodes : List Node) (names : List Name) → names ≡ names_of nodes → length names ≡ length nodes
+names_count nodes names same = ap length same ∙ length-map nodes (λ (d : Node). d.name)

@@ -3,6 +3,7 @@ pub mod ChainLemmas
 pub mod Finding
 pub mod JobsLemmas
 pub mod Needed
+pub mod NamesTaken
 pub mod NodeNames
 pub mod Numberings
 pub mod Reaching

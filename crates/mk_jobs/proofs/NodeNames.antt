@@ -1,11 +1,11 @@
 -- The names of a plan's nodes.
-use Rattle.std.proofs.Common.{◌≡◌, ℕ, ◌+◌, ◌<◌, false, List, [], ◌∷◌, ◌++◌, length, get_or, take, sym, ◌∙◌, ap, subst, inl, inr, refl, append_assoc}
-use Rattle.std.specs.Prelude.{IsTrue, map}
+use Rattle.std.proofs.Common.{◌≡◌, ℕ, ◌<◌, false, List, [], ◌∷◌, ◌++◌, length, get_or, sym, ◌∙◌, subst, inl, inr, refl, append_assoc}
+use Rattle.std.specs.Prelude.{IsTrue}
 use Rattle.std.proofs.lemmas.Bool.{both_ways, false_from_ne_true}
-use Rattle.std.proofs.lemmas.List.{append-nil, get_or_default, map_more}
+use Rattle.std.proofs.lemmas.List.{append-nil, get_or_default}
 use Rattle.std.proofs.lemmas.Option.{unwrap_or-slice_get}
 use Rattle.mk_name.specs.Names.{Name, same_name, has, kept, IsDistinct}
-use Rattle.mk_name.proofs.Names.{name_is_exact, in_head, in_tail, in_cons_cases, kept_new, kept-append}
+use Rattle.mk_name.proofs.Names.{name_is_exact, in_head, in_tail, in_cons_cases, kept_new}
 use Rattle.mk_jobs.specs.Plan.{Node, nobody, node_at}
 
 -- what is read at a place is the node of its number
@@ -16,7 +16,7 @@ in_middle : (front : List Name) (x : Name) (xs : List Name) → IsTrue (has same
 in_middle [] x xs = in_head same_name name_is_exact x xs
 in_middle (y ∷ ys) x xs = in_tail same_name name_is_exact y x (ys ++ x ∷ xs) (in_middle ys x xs)
 
-absent : (front : List Name) (x : Name) (xs : List Name) → IsDistinct same_name (front ++ x ∷ xs) → has same_name front x ≡ false
+pub absent : (front : List Name) (x : Name) (xs : List Name) → IsDistinct same_name (front ++ x ∷ xs) → has same_name front x ≡ false
 absent [] x xs d = refl
 absent (y ∷ ys) x xs d =
     false_from_ne_true _ (λ t. elim (in_cons_cases same_name name_is_exact y x ys t) [
@@ -31,10 +31,3 @@ kept_distinct front (x ∷ xs) d =
     kept_new same_name name_is_exact front x xs (absent front x xs d)
     ∙ kept_distinct (front ++ x ∷ []) xs (subst (λ (zs : List Name). IsDistinct same_name zs) (sym (append_assoc front (x ∷ []) xs)) d)
     ∙ append_assoc front (x ∷ []) xs
-
--- one more node's name
-pub names_more : (nodes : List Node) (names new : List Name) (i : ℕ) (d : Node) → i < length nodes → names ≡ kept same_name [] (map (λ (m : Node). m.name) (take i nodes)) → new ≡ kept same_name names ((get_or nodes i d).name ∷ []) → new ≡ kept same_name [] (map (λ (m : Node). m.name) (take (i + 1) nodes))
-names_more nodes names new i d h e is =
-    is ∙ ap (λ ns. kept same_name ns ((get_or nodes i d).name ∷ [])) e
-    ∙ sym (kept-append same_name name_is_exact [] (map (λ (m : Node). m.name) (take i nodes)) ((get_or nodes i d).name ∷ []))
-    ∙ ap (kept same_name []) (sym (map_more (λ (m : Node). m.name) nodes i d h))

@@ -1,9 +1,9 @@
 -- What a plan holds: the nodes of the graph in serial order, and how often `.WAIT` was used.
 use Rattle.std.specs.Prelude.{◌≡◌, ◌<◌, ◌≤◌, ℕ, Bool, false, List, [], map, length, get_or, nat_eq, slice_get, unwrap_or, IsTrue}
-use Rattle.std.specs.List.{sum_by}
+use Rattle.std.specs.List.{All, sum_by}
 use Rattle.std.specs.Option.{option_map}
 use Rattle.mk_name.specs.Names.{Name, has, same_name, IsDistinct}
-use Rattle.mk_jobs.specs.Numbered.{number_of}
+use Rattle.mk_jobs.specs.Numbered.{name_at, number_of}
 use Rattle.mk_jobs.specs.declared.maker.Maker.{Maker}
 use Rattle.mk_jobs.specs.declared.maker.Maker.TheVariants.{Nothing}
 
@@ -15,6 +15,25 @@ pub record Node : Type 0 where
   pub maker : Maker
   pub phony : Bool
   pub listed : Bool
+
+-- a node whose name has a number in a table
+pub record NumberedNode : Type 0 where
+  pub name : ℕ
+  pub prerequisites : List ℕ
+  pub maker : Maker
+  pub phony : Bool
+  pub listed : Bool
+
+-- nodes with the names that have their numbers
+abbrev pub with_name : List Name → NumberedNode → Node
+with_name names node = record { name = name_at names node.name; prerequisites = node.prerequisites; maker = node.maker; phony = node.phony; listed = node.listed }
+
+abbrev pub with_names : List Name → List NumberedNode → List Node
+with_names names nodes = map (with_name names) nodes
+
+-- each number is that of a name
+abbrev pub HaveNames : List Name → List NumberedNode → Type 0
+HaveNames names nodes = All (λ node. node.name < length names) nodes
 
 -- a node's number is its place
 pub record Plan : Type 0 where

@@ -1,5 +1,5 @@
 //! Names in the order in which they are found, each with its place as its number.
-ghost use Rattle.std.specs.Prelude.{◌≡◌, ◌<◌, ◌∷◌, [], length, IfOk, OnErr};
+ghost use Rattle.std.specs.Prelude.{◌≡◌, ◌<◌, ◌∷◌, [], length, IfOk, OnErr, OnOk};
 ghost use Rattle.mk_name.specs.Names.{kept, same_name, IsDistinct};
 ghost use Rattle.mk_jobs.specs.Numbered.{name_at, number_of, HasFirst, Stand};
 
@@ -70,6 +70,15 @@ impl Numbering {
         let number = self.count();
         self.names.insert(name.copy(alloc)?)?;
         Ok(number)
+    }
+
+    /// Puts a name last, if it is new. The only error is out of memory, and then the names are as they were.
+    pub(crate) fn insert(&mut self, name: Name) -> Result<(), AllocError>
+        ensures kept { OnOk result (self.new ≡ kept same_name self.old (name ∷ [])) }
+        ensures same { OnErr result (self.new ≡ self.old) }
+    {
+        self.names.insert(name)?;
+        Ok(())
     }
 
     /// The numbers of some names, of which the new ones are put last. The only error is out of memory, and then the first

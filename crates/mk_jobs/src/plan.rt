@@ -5,7 +5,7 @@ ghost use Rattle.sha2.specs.Sha256.{sha256};
 ghost use Rattle.mk_name.specs.Names.{has, same_name, IsDistinct};
 ghost use Rattle.mk_table.specs.Hashing.{key_text};
 ghost use Rattle.mk_jobs.specs.Numbered.{number_of};
-ghost use Rattle.mk_jobs.specs.Plan.{AreFoundBy, NeedsStandBefore, edge_count, edge_limit, names_of, node_at, node_limit};
+ghost use Rattle.mk_jobs.specs.Plan.{AreFoundBy, HaveNames, NeedsStandBefore, edge_count, edge_limit, names_of, node_at, node_limit, with_names};
 
 use crate::maker::Maker;
 use crate::numbering::Numbering;
@@ -51,10 +51,39 @@ impl Model for PlanNode {
     } };
 }
 
-/// All that some goals need, in serial order. A node's number is its place.
+/// A node whose name stands in a table, by the number that it has there.
+#[derive(Debug, Drop)]
+pub struct NumberedNode {
+    /// The number of the name.
+    pub name: usize,
+    /// The numbers of the nodes that it needs, in the rule's order, and an inferred source last unless the rules name it.
+    pub prerequisites: Vec<u32>,
+    /// What makes it.
+    pub maker: Maker,
+    /// Whether it is phony.
+    pub phony: bool,
+    /// Whether the listing has it.
+    pub listed: bool,
+}
+
+impl Model for NumberedNode {
+    ghost use Rattle.mk_jobs.specs.Plan as plans;
+
+    ghost Value = { plans.NumberedNode };
+
+    ghost view = { λ a. record {
+      name = a.name;
+      prerequisites = a.prerequisites.items;
+      maker = a.maker;
+      phony = a.phony;
+      listed = a.listed;
+    } };
+}
+
+/// All that some goals need, in serial order. A node's number is its place. Each name is kept once, in the table.
 #[derive(Debug, Drop)]
 pub struct Plan {
-    nodes: Vec<PlanNode>,
+    nodes: Vec<NumberedNode>,
     /// The names of the nodes, in any order.
     names: Numbering,
     /// By the number of a name the place of its node.
@@ -67,9 +96,10 @@ impl Model for Plan {
 
     ghost Value = { plans.Plan };
 
-    ghost view = { λ a. record { nodes = a.nodes.items; wait_uses = a.wait_uses } };
+    ghost view = { λ a. record { nodes = plans.with_names a.names a.nodes.items; wait_uses = a.wait_uses } };
 
-    ghost invariant = { λ a. plans.IsOrdered a.nodes.items a.names a.places.items };
+    ghost invariant = { λ a. plans.HaveNames a.names a.nodes.items
+        × plans.IsOrdered (plans.with_names a.names a.nodes.items) a.names a.places.items };
 }
 
 /// The maker of hashers for a table of the names of these nodes.
@@ -83,16 +113,36 @@ fn hasher_of(nodes: &[PlanNode]) -> NameHasher
     NameHasher::of_digest(digest)
 }
 
-/// The names of some nodes, each by its node's place.
-fn names_of(alloc: Global, nodes: &[PlanNode]) -> Result<Numbering, AllocError>
-    requires { IsDistinct same_name (names_of nodes.now) }
-    ensures { IfOk result (λ names. names ≡ names_of nodes.now) }
+/// Some nodes, and the table of their names.
+#[derive(Drop)]
+struct NodesAndNames {
+    nodes: Vec<NumberedNode>,
+    names: Numbering,
+}
+
+/// The nodes with their names put into a table, in which each has its node's place as its number.
+fn take_names(alloc: Global, nodes: Vec<PlanNode>) -> Result<NodesAndNames, AllocError>
+    requires { IsDistinct same_name (names_of nodes.items) }
+    ensures names { IfOk result (λ taken. taken.names ≡ names_of nodes.items) }
+    ensures nodes { IfOk result (λ taken. with_names taken.names taken.nodes.items ≡ nodes.items) }
+    ensures within { IfOk result (λ taken. HaveNames taken.names taken.nodes.items) }
 {
-    let mut names = Numbering::of_set(IndexSet::with_hasher(alloc, hasher_of(nodes)));
+    let mut names = Numbering::of_set(IndexSet::with_hasher(alloc, hasher_of(nodes.as_slice())));
+    let mut numbered = Vec::new(alloc);
     for node in nodes {
-        names.put(alloc, &node.name)?;
+        numbered.push(NumberedNode {
+            name: numbered.len(),
+            prerequisites: node.prerequisites,
+            maker: node.maker,
+            phony: node.phony,
+            listed: node.listed,
+        })?;
+        names.insert(node.name)?;
     }
-    Ok(names)
+    Ok(NodesAndNames {
+        nodes: numbered,
+        names,
+    })
 }
 
 /// The numbers below a count, rising.
@@ -116,7 +166,7 @@ impl Plan {
         requires rising { NeedsStandBefore nodes.items }
         ensures { IfOk result (λ plan. plan ≡ record { nodes = nodes.items; wait_uses = wait_uses }) }
     {
-        let names = names_of(alloc, nodes.as_slice())?;
+        let NodesAndNames { nodes, names } = take_names(alloc, nodes)?;
         let places = numbers_below(alloc, nodes.len() as u32)?;
         Ok(Plan::numbered(nodes, names, places, wait_uses))
     }
@@ -124,18 +174,19 @@ impl Plan {
     /// The plan of these nodes, of which each stands after what it needs. Their names are numbered, in any order, and the
     /// number of a name has the place of its node beside it.
     pub fn numbered(
-        nodes: Vec<PlanNode>,
+        nodes: Vec<NumberedNode>,
         names: Numbering,
         places: Vec<u32>,
         wait_uses: u64,
     ) -> Plan
         requires few { length nodes.items ≤ node_limit }
-        requires few_edges { edge_count nodes.items ≤ edge_limit }
-        requires distinct { IsDistinct same_name (names_of nodes.items) }
-        requires rising { NeedsStandBefore nodes.items }
+        requires few_edges { edge_count (with_names names nodes.items) ≤ edge_limit }
+        requires within { HaveNames names nodes.items }
+        requires distinct { IsDistinct same_name (names_of (with_names names nodes.items)) }
+        requires rising { NeedsStandBefore (with_names names nodes.items) }
         requires places { length places.items ≡ length names }
-        requires found { AreFoundBy nodes.items names places.items }
-        ensures { result ≡ record { nodes = nodes.items; wait_uses = wait_uses } }
+        requires found { AreFoundBy (with_names names nodes.items) names places.items }
+        ensures { result ≡ record { nodes = with_names names nodes.items; wait_uses = wait_uses } }
     {
         Plan {
             nodes,
@@ -174,7 +225,7 @@ impl Plan {
         ensures { result.now ≡ (node_at self.now.nodes n).name }
     {
         let node = &self.nodes[n as usize];
-        &node.name
+        self.names.name(node.name)
     }
 
     /// The number of the node with this name, if there is one.

@@ -1,5 +1,5 @@
 use Rattle.std.proofs.Common.{◌≡◌, ◌≤◌, ◌-◌, map, take}
-use Rattle.mk_rules.specs.Book.{places_of}
+use Rattle.mk_graph.specs.Looked.{looked_of}
 use Rattle.mk_graph.specs.Collected.{Collected}
 use Rattle.mk_graph.proofs.collect.collect_by.Given as goal
 
@@ -7,7 +7,7 @@ abbrev pub invariant-all : goal.invariant-all
 invariant-all l = record {
   collected : Collected l.book l.listing l.goals l.names l.entries.items l.sources.items l.starts.items l.read;
   few : l.read ≤ l.limit;
-  rules : map (λ row. row.now) l.rules.items ≡ map (places_of l.book.rules) (take l.read l.names);
+  looked : l.looked.items ≡ map (looked_of l.book l.listing) (take l.read l.names);
 }
 
 abbrev pub decreases-all : goal.decreases-all

@@ -1,4 +1,4 @@
-use Rattle.std.proofs.Common.{map, ◌≡◌, ◌∙◌, ap, sym, subst, ◌<◌, length, arith, get_or, take, ℕ, List, Option, None}
+use Rattle.std.proofs.Common.{◌≡◌, ◌∙◌, ap, sym, subst, ◌<◌, length, arith, get_or, take, ℕ, List, Option, None}
 use Rattle.std.specs.Prelude.{IfSome, Vec}
 use Rattle.std.specs.Global.{Global}
 use Rattle.mk_graph.specs.Collected.{Collected}
@@ -57,11 +57,11 @@ makers_of-requires-clause-inferred c = λ i h.
     let found = subst (λ (os : List (Option ℕ)). Collected c.args.book.now c.args.listing.now c.args.goals.now c.in-Some.found.names c.in-Some.found.entries.items os c.in-Some.found.goals.items (length c.in-Some.found.names)) (sym c.as_slice-sources.ensures.value) (rw c.in-Some.is at c.in_ok-found.ensures.found) in
     source_reported c.in-Some.found.names (get_or c.as_slice-sources.result.now i None) (inferred_source c.args.book.now c.args.listing.now (name_at c.in-Some.found.names i)) (found.sources_stand i h)
 
-pub rows_of-requires-clause-rules : goal.rows_of-requires-clause-rules
-rows_of-requires-clause-rules c = ap (map (λ row. row.now)) c.as_slice-rules.ensures.value ∙ (rw c.in-Some.is at c.in_ok-found.ensures.rules)
+pub rows_of-requires-clause-looked : goal.rows_of-requires-clause-looked
+rows_of-requires-clause-looked c = c.as_slice-looked.ensures.value ∙ (rw c.in-Some.is at c.in_ok-found.ensures.looked)
 
-pub makers_of-requires-clause-rules : goal.makers_of-requires-clause-rules
-makers_of-requires-clause-rules c = ap (map (λ row. row.now)) c.as_slice-rules.ensures.value ∙ (rw c.in-Some.is at c.in_ok-found.ensures.rules)
+pub makers_of-requires-clause-looked : goal.makers_of-requires-clause-looked
+makers_of-requires-clause-looked c = c.as_slice-looked.ensures.value ∙ (rw c.in-Some.is at c.in_ok-found.ensures.looked)
 
 pub distinct_entries-requires-clause-within : goal.distinct_entries-requires-clause-within
 distinct_entries-requires-clause-within c = λ p.

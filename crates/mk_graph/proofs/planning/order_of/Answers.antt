@@ -28,33 +28,33 @@ returns-in-Some-clause-halt c =
 
 pub serial_order-requires-clause-range : goal.serial_order-requires-clause-range
 serial_order-requires-clause-range c =
-    let g = graph_at c.args.book.now c.args.listing.now c.args.goals.now c.args.graph.now.names c.args.graph.now.rows.items c.as_slice-2.result.now c.args.graph.now.goals.items c.as_slice-3.result.now c.as_slice-2.ensures.value c.as_slice-3.ensures.value c.requires.graph in
-    in_range c.args.book.now c.args.listing.now c.args.goals.now c.args.graph.now.names c.as_slice-2.result.now c.as_slice-3.result.now g
+    let g = graph_at c.args.book.now c.args.listing.now c.args.goals.now c.args.graph.now.names c.args.graph.now.rows.items c.as_slice.result.now c.args.graph.now.goals.items c.as_slice-2.result.now c.as_slice.ensures.value c.as_slice-2.ensures.value c.requires.graph in
+    in_range c.args.book.now c.args.listing.now c.args.goals.now c.args.graph.now.names c.as_slice.result.now c.as_slice-2.result.now g
 
 pub cycle_of-requires-clause-within : goal.cycle_of-requires-clause-within
 cycle_of-requires-clause-within c =
-    let g = graph_at c.args.book.now c.args.listing.now c.args.goals.now c.args.graph.now.names c.args.graph.now.rows.items c.as_slice-2.result.now c.args.graph.now.goals.items c.as_slice-3.result.now c.as_slice-2.ensures.value c.as_slice-3.ensures.value c.requires.graph in
-    let r = subst (λ (w : Walked). IsWalked (row c.as_slice-2.result.now) c.as_slice-3.result.now w) c.in-Ring.is c.in_ok-ring.ensures in
-    let q = subst (λ (ns : List ℕ). IsRing (row c.as_slice-2.result.now) c.as_slice-3.result.now ns) (sym c.as_slice-in-Ring.ensures.value) r in
-    ring_within c.args.book.now c.args.listing.now c.args.goals.now c.args.graph.now.names c.as_slice-2.result.now c.as_slice-3.result.now g c.as_slice-in-Ring.result.now q
+    let g = graph_at c.args.book.now c.args.listing.now c.args.goals.now c.args.graph.now.names c.args.graph.now.rows.items c.as_slice.result.now c.args.graph.now.goals.items c.as_slice-2.result.now c.as_slice.ensures.value c.as_slice-2.ensures.value c.requires.graph in
+    let r = subst (λ (w : Walked). IsWalked (row c.as_slice.result.now) c.as_slice-2.result.now w) c.in-Ring.is c.in_ok-ring.ensures in
+    let q = subst (λ (ns : List ℕ). IsRing (row c.as_slice.result.now) c.as_slice-2.result.now ns) (sym c.as_slice-in-Ring.ensures.value) r in
+    ring_within c.args.book.now c.args.listing.now c.args.goals.now c.args.graph.now.names c.as_slice.result.now c.as_slice-2.result.now g c.as_slice-in-Ring.result.now q
 
 pub returns-in_ok-names-in-Ring-clause-halt : goal.returns-in_ok-names-in-Ring-clause-halt
 returns-in_ok-names-in-Ring-clause-halt c =
-    let g = graph_at c.args.book.now c.args.listing.now c.args.goals.now c.args.graph.now.names c.args.graph.now.rows.items c.as_slice-2.result.now c.args.graph.now.goals.items c.as_slice-3.result.now c.as_slice-2.ensures.value c.as_slice-3.ensures.value c.requires.graph in
-    let r = subst (λ (w : Walked). IsWalked (row c.as_slice-2.result.now) c.as_slice-3.result.now w) c.in-Ring.is c.in_ok-ring.ensures in
-    let q = subst (λ (ns : List ℕ). IsRing (row c.as_slice-2.result.now) c.as_slice-3.result.now ns) (sym c.as_slice-in-Ring.ensures.value) r in
+    let g = graph_at c.args.book.now c.args.listing.now c.args.goals.now c.args.graph.now.names c.args.graph.now.rows.items c.as_slice.result.now c.args.graph.now.goals.items c.as_slice-2.result.now c.as_slice.ensures.value c.as_slice-2.ensures.value c.requires.graph in
+    let r = subst (λ (w : Walked). IsWalked (row c.as_slice.result.now) c.as_slice-2.result.now w) c.in-Ring.is c.in_ok-ring.ensures in
+    let q = subst (λ (ns : List ℕ). IsRing (row c.as_slice.result.now) c.as_slice-2.result.now ns) (sym c.as_slice-in-Ring.ensures.value) r in
     let made = all_made c.args.book.now c.args.listing.now c.args.goals.now c.args.graph.now.names c.args.graph.now.rows.items c.args.graph.now.goals.items c.requires.graph
     (passing_none (is_unmade c.args.book.now c.args.listing.now) c.args.graph.now.names (length c.args.graph.now.names) c.least_unmade.result c.in_default.not-Some c.least_unmade.ensures) in
     let found = c.in_ok-names-in-Ring.ensures in
     subst (λ (h : Halt). HaltsAmong h (Comes c.args.book.now c.args.listing.now c.args.goals.now)) (sym c.graph_fault-in-Ring.ensures)
     (cycle c.in_ok-names-in-Ring.names.items c.requires.small made
     (subst (λ (ns : List Name). IsCycle same_name upto (needs c.args.book.now c.args.listing.now) c.args.goals.now ns) (sym found.2)
-    (cycle_is c.args.book.now c.args.listing.now c.args.goals.now c.args.graph.now.names c.as_slice-2.result.now c.as_slice-3.result.now c.as_slice-in-Ring.result.now found.0 g q found.1)))
+    (cycle_is c.args.book.now c.args.listing.now c.args.goals.now c.args.graph.now.names c.as_slice.result.now c.as_slice-2.result.now c.as_slice-in-Ring.result.now found.0 g q found.1)))
 
 pub returns-in-Order-clause-order : goal.returns-in-Order-clause-order
 returns-in-Order-clause-order c =
-    let o = subst (λ (w : Walked). IsWalked (row c.as_slice-2.result.now) c.as_slice-3.result.now w) c.in-Order.is c.in_ok-ring.ensures in
-    order_at c.as_slice-2.result.now c.args.graph.now.rows.items c.as_slice-3.result.now c.args.graph.now.goals.items c.in-Order.order.items c.in-Order.order.items c.as_slice-2.ensures.value c.as_slice-3.ensures.value refl o
+    let o = subst (λ (w : Walked). IsWalked (row c.as_slice.result.now) c.as_slice-2.result.now w) c.in-Order.is c.in_ok-ring.ensures in
+    order_at c.as_slice.result.now c.args.graph.now.rows.items c.as_slice-2.result.now c.args.graph.now.goals.items c.in-Order.order.items c.in-Order.order.items c.as_slice.ensures.value c.as_slice-2.ensures.value refl o
 
 pub returns-in-Order-clause-made : goal.returns-in-Order-clause-made
 returns-in-Order-clause-made c =

@@ -10,7 +10,8 @@ use Rattle.mk_graph.specs.Rows.{row}
 use Rattle.mk_graph.specs.Seen.{needs_of, with_source}
 use Rattle.mk_rules.specs.Book.{places_of}
 use Rattle.mk_rules.proofs.Indexes.{places_of-within}
-use Rattle.mk_graph.proofs.Collecting.{rules_at, rules_count}
+use Rattle.mk_graph.specs.Looked.{Looked, looked_of}
+use Rattle.mk_graph.proofs.Collecting.{looked_at, looked_count}
 use Rattle.mk_graph.proofs.Steps.{In}
 use Rattle.mk_graph.proofs.Rowing.{rows_more, all_in, edges_more}
 use Rattle.mk_graph.proofs.rows.rows_of.Goals as goal
@@ -18,18 +19,18 @@ use Rattle.mk_graph.proofs.rows.rows_of.Goals as goal
 pub full_row-requires-clause-places : goal.full_row-requires-clause-places
 full_row-requires-clause-places c = λ p h.
     let below : c.loop-number.number < length c.args.names.now = omega (arith, c.count-number-end.ensures.count) in
-    let a = all_in (places_of c.args.book.now.rules (name_at c.args.names.now c.loop-number.number)) (length c.args.book.now.rules) p (places_of-within c.args.book.now.rules (name_at c.args.names.now c.loop-number.number)) (subst (λ (ps : List ℕ). In ps p) (rules_at (λ row. row.now) c.args.book.now.rules c.args.names.now c.args.rules.now c.loop-number.number _ c.requires.rules below) h) in
+    let a = all_in (places_of c.args.book.now.rules (name_at c.args.names.now c.loop-number.number)) (length c.args.book.now.rules) p (places_of-within c.args.book.now.rules (name_at c.args.names.now c.loop-number.number)) (subst (λ (ps : List ℕ). In ps p) (ap (λ (l : Looked). l.rules) (c.of.view_is ∙ c.index-looked-number.is ∙ looked_at (looked_of c.args.book.now c.args.listing.now) c.args.names.now c.args.looked.now c.loop-number.number _ c.requires.looked below)) h) in
     let e = c.requires.entries in omega arith
 
-pub bounds-rules-number : goal.bounds-rules-number
-bounds-rules-number c = let e = rules_count (λ row. row.now) c.args.book.now.rules c.args.names.now c.args.rules.now c.requires.rules in omega (arith, e, c.count-number-end.ensures.count)
+pub bounds-looked-number : goal.bounds-looked-number
+bounds-looked-number c = let e = looked_count (looked_of c.args.book.now c.args.listing.now) c.args.names.now c.args.looked.now c.requires.looked in omega (arith, e, c.count-number-end.ensures.count)
 
 pub returns-then-edges-limit-clause-too_many : goal.returns-then-edges-limit-clause-too_many
 returns-then-edges-limit-clause-too_many c =
     let below : c.loop-number.number < length c.args.names.now = omega (arith, c.count-number-end.ensures.count) in
     let source = get_or c.args.sources.now c.loop-number.number None in
     let is : c.in_ok-row.row.items ≡ needs_of c.args.book.now.rules c.args.entries.now c.args.names.now c.args.sources.now c.loop-number.number =
-    c.in_ok-row.ensures.row ∙ ap (λ ps. with_source (firsts nat_eq (flat_map (row c.args.entries.now) ps)) source) (rules_at (λ row. row.now) c.args.book.now.rules c.args.names.now c.args.rules.now c.loop-number.number _ c.requires.rules below) in
+    c.in_ok-row.ensures.row ∙ ap (λ ps. with_source (firsts nat_eq (flat_map (row c.args.entries.now) ps)) source) (ap (λ (l : Looked). l.rules) (c.of.view_is ∙ c.index-looked-number.is ∙ looked_at (looked_of c.args.book.now c.args.listing.now) c.args.names.now c.args.looked.now c.loop-number.number _ c.requires.looked below)) in
     let more = edges_more (needs c.args.book.now c.args.listing.now) c.args.names.now c.loop-number.number c.loop-number.edges c.in_ok-row.row.items below c.loop-number.invariant.edges
     (subst (λ (ns : List ℕ). Stand c.args.names.now ns (needs c.args.book.now c.args.listing.now (name_at c.args.names.now c.loop-number.number))) (sym is) (c.requires.stand c.loop-number.number below)) in
     (c.loop-number.number + 1, omega (arith, more, c.len-edges.ensures, c.in_ok-row.row.ok.0, c.if-edges-limit.true))
@@ -39,7 +40,7 @@ loop-number-preserved c =
     let below : c.loop-number.number < length c.args.names.now = omega (arith, c.count-number-end.ensures.count) in
     let source = get_or c.args.sources.now c.loop-number.number None in
     let is : c.in_ok-row.row.items ≡ needs_of c.args.book.now.rules c.args.entries.now c.args.names.now c.args.sources.now c.loop-number.number =
-    c.in_ok-row.ensures.row ∙ ap (λ ps. with_source (firsts nat_eq (flat_map (row c.args.entries.now) ps)) source) (rules_at (λ row. row.now) c.args.book.now.rules c.args.names.now c.args.rules.now c.loop-number.number _ c.requires.rules below) in
+    c.in_ok-row.ensures.row ∙ ap (λ ps. with_source (firsts nat_eq (flat_map (row c.args.entries.now) ps)) source) (ap (λ (l : Looked). l.rules) (c.of.view_is ∙ c.index-looked-number.is ∙ looked_at (looked_of c.args.book.now c.args.listing.now) c.args.names.now c.args.looked.now c.loop-number.number _ c.requires.looked below)) in
     let more = edges_more (needs c.args.book.now c.args.listing.now) c.args.names.now c.loop-number.number c.loop-number.edges c.in_ok-row.row.items below c.loop-number.invariant.edges
     (subst (λ (ns : List ℕ). Stand c.args.names.now ns (needs c.args.book.now c.args.listing.now (name_at c.args.names.now c.loop-number.number))) (sym is) (c.requires.stand c.loop-number.number below)) in
     record {
