@@ -16,9 +16,9 @@ use mk_rules::rulebook::Rulebook;
 use mk_text::root::Root;
 use std::alloc::{AllocError, Global};
 
-const MAKEFILE: &[u8] = b"prog: a.o b.o\n\tcc\na.o: a.c\n\tcc\nb.o: b.c\n\tcc\n";
+static MAKEFILE: &[u8] = b"prog: a.o b.o\n\tcc\na.o: a.c\n\tcc\nb.o: b.c\n\tcc\n";
 
-const FOOTPRINTS: &[u8] =
+static FOOTPRINTS: &[u8] =
     b"{\"target\":\"prog\",\"reads\":[\"a.o\",\"b.o\"],\"writes\":[\"prog\"]}\n{\"target\":\"a.o\",\"reads\":[\"a.c\"],\"writes\":[\"a.o\"]}\n{\"target\":\"b.o\",\"reads\":[\"b.c\"],\"writes\":[\"b.o\"]}\n";
 
 /// The test passes where memory runs out for one allocation of the first call, and for no other:
@@ -56,9 +56,13 @@ fn jobs_of(alloc: Global) -> Result<Jobs, Halt> {
 /// The jobs of a plan; where memory runs out, those of the plan that comes back.
 fn attached(alloc: Global, plan: Plan, book: &Rulebook) -> Result<Jobs, Halt> {
     match attach(alloc, plan, book, footprints(alloc)?) {
-        Err((plan, Halt::Memory)) => without_plan(attach(alloc, plan, book, footprints(alloc)?)),
+        Err((plan, Halt::Memory)) => attached_again(alloc, plan, book),
         given => without_plan(given),
     }
+}
+
+fn attached_again(alloc: Global, plan: Plan, book: &Rulebook) -> Result<Jobs, Halt> {
+    without_plan(attach(alloc, plan, book, footprints(alloc)?))
 }
 
 fn footprints(alloc: Global) -> Result<Footprints, Halt> {

@@ -1,48 +1,44 @@
-//! What the tests begin with: the jobs of a build below `/w`, names, and a store.
-use mk_jobs::jobs::Jobs;
-use mk_name::fault::Halt;
+//! What the tests begin with: a build below `/w`, names, and a store.
 use mk_name::name::Name;
 use mk_race::input::Input;
-use mk_race::preparing::prepare;
+use mk_race::preparing::{Prepared, prepare};
 use mk_sched::contents::Contents;
 use mk_sched::store::Store;
 use std::alloc::{AllocError, Global};
 
-/// The goal `a`, whose recipe needs a file with a name that is no text: that is node 0, and `a` node 1.
-static MAKEFILE: &[u8] = b"a: \xe9 ;";
-
-/// That file.
-static LISTING: &[u8] = b"\xe9";
-
-/// Lines of the target `a` and of one that no goal needs.
-static FOOTPRINTS: &[u8] = br#"{"target":"a","reads":["y","x","./d/../y"],"writes":["a"]}
+/// The goal `a`, whose recipe needs a file with a name that is no text: that is node 0, and `a` node 1. There are footprints of
+/// `a` and of one target that no goal needs.
+static INPUT: Input<'static> = Input {
+    root: b"/w",
+    operands: &[],
+    base: b"",
+    includes: &[],
+    makefile: b"a: \xe9 ;",
+    listing: b"\xe9",
+    footprints: br#"{"target":"a","reads":["y","x","./d/../y"],"writes":["a"]}
 {"target":"b","reads":["z"],"writes":["a"]}
-{"target":"./x/../a","reads":["/w/w","x"],"writes":["/tmp/t","out/","/w//a"]}"#;
+{"target":"./x/../a","reads":["/w/w","x"],"writes":["/tmp/t","out/","/w//a"]}"#,
+};
 
-fn jobs(alloc: Global) -> Result<Jobs, Halt> {
-    let input = Input {
-        root: b"/w",
-        operands: &[],
-        base: b"",
-        includes: &[],
-        makefile: MAKEFILE,
-        listing: LISTING,
-        footprints: FOOTPRINTS,
-    };
-    match prepare(alloc, &input) {
-        Ok(prepared) => Ok(prepared.jobs),
-        Err(halt) => Err(halt),
+/// Whether something was made, and this holds of it. It is generic, so that only here a large value is owned.
+pub(crate) fn holds_of<T: Drop, E: Drop, F: FnOnce(Global, &T) -> bool>(
+    alloc: Global,
+    made: Result<T, E>,
+    holds: F,
+) -> bool
+    requires { F.IsAlwaysCallable holds }
+{
+    match made {
+        Ok(value) => holds(alloc, &value),
+        Err(_) => false,
     }
 }
 
-/// Whether this holds of the jobs of the build.
-pub(crate) fn of_jobs<F: FnOnce(&Jobs) -> bool>(alloc: Global, holds: F) -> bool
+/// Whether this holds of the build.
+pub(crate) fn of_build<F: FnOnce(Global, &Prepared) -> bool>(alloc: Global, holds: F) -> bool
     requires { F.IsAlwaysCallable holds }
 {
-    match jobs(alloc) {
-        Ok(jobs) => holds(&jobs),
-        Err(_) => false,
-    }
+    holds_of(alloc, prepare(alloc, &INPUT), holds)
 }
 
 /// The name of these bytes.

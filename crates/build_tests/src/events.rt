@@ -1,13 +1,12 @@
 //! Events of a number that no node has. No log can hold one.
-use crate::builds::{name_of, of_jobs, store_of};
-use mk_jobs::jobs::Jobs;
+use crate::builds::{name_of, of_build, store_of};
 use mk_name::name::Name;
+use mk_race::preparing::Prepared;
 use mk_sched::contents::Contents;
 use mk_sched::event::Event;
 use mk_sched::refusal::Refusal;
-use mk_sched::replay::{Replayed, Stopped, replay};
+use mk_sched::replay::{Stopped, replay};
 use mk_sched::store::Store;
-use mk_text::listing::Listing;
 use std::alloc::{AllocError, Global};
 
 /// The event of this kind of the node 5, at a name where there is one.
@@ -43,51 +42,47 @@ fn is_stopped(stopped: &Stopped) -> bool {
     }
 }
 
-fn is_refused(answer: Result<Replayed, Stopped>) -> bool {
+/// Whether something failed, and this holds of why. It is generic, so that only here both are owned.
+fn fails_so<T: Drop, E: Drop, F: FnOnce(&E) -> bool>(answer: Result<T, E>, holds: F) -> bool
+    requires { F.IsAlwaysCallable holds }
+{
     match answer {
         Ok(_) => false,
-        Err(stopped) => is_stopped(&stopped),
+        Err(stopped) => holds(&stopped),
     }
 }
 
 /// Whether the first of these events is refused.
-fn is_of_no_node(alloc: Global, jobs: &Jobs, listing: &Listing, events: &[Event]) -> bool {
+fn is_of_no_node(alloc: Global, prepared: &Prepared, events: &[Event]) -> bool {
+    let Prepared { listing, jobs, .. } = prepared;
     match store_of(alloc, b"\xe9") {
-        Ok(store) => is_refused(replay(alloc, jobs, listing, store, 1, false, events)),
+        Ok(store) => {
+            fails_so(
+                replay(alloc, jobs, listing, store, 1, false, events),
+                is_stopped,
+            )
+        }
         Err(AllocError) => false,
     }
 }
 
 /// Whether the event of this kind is refused.
-fn kind_is_refused(alloc: Global, jobs: &Jobs, listing: &Listing, kind: u32) -> bool {
+fn kind_is_refused(alloc: Global, prepared: &Prepared, kind: u32) -> bool {
     match name_of(alloc, b"\xe9") {
-        Ok(name) => is_of_no_node(alloc, jobs, listing, &[event(alloc, kind, name)]),
+        Ok(name) => is_of_no_node(alloc, prepared, &[event(alloc, kind, name)]),
         Err(AllocError) => false,
     }
 }
 
-fn kinds_are_refused(alloc: Global, jobs: &Jobs, listing: &Listing) -> bool {
+fn kinds_are_refused(alloc: Global, prepared: &Prepared) -> bool {
     let mut so = true;
     for kind in 0..6u32 {
-        so &= kind_is_refused(alloc, jobs, listing, kind);
+        so &= kind_is_refused(alloc, prepared, kind);
     }
-    so
-}
-
-fn are_refused(alloc: Global, jobs: &Jobs) -> bool {
-    match Listing::read(alloc, b"\xe9", jobs.root()) {
-        Ok(listing) => kinds_are_refused(alloc, jobs, &listing),
-        Err(_) => false,
-    }
+    so && Refusal::NoNode.word() == "NoNode"
 }
 
 #[test]
 fn events_of_no_node(rt: HostRuntime) {
-    let alloc = rt.alloc();
-    assert!(rt; of_jobs(alloc, |jobs| are_refused(alloc, jobs)));
-}
-
-#[test]
-fn the_word_of_no_node(rt: HostRuntime) {
-    assert!(rt; Refusal::NoNode.word() == "NoNode");
+    assert!(rt; of_build(rt.alloc(), kinds_are_refused));
 }

@@ -1,11 +1,9 @@
 //! What the lines of footprints leave in jobs. Those of one target unite, each path counts once in whatever spelling, and a
 //! slash at the end makes a tree.
-ghost use Rattle.std.specs.Prelude.{◌<◌};
-ghost use Rattle.mk_jobs.specs.Jobs.{node_count};
-
-use crate::builds::of_jobs;
-use mk_jobs::jobs::Jobs;
+use crate::builds::of_build;
 use mk_path::path::Path;
+use mk_race::preparing::Prepared;
+use std::alloc::Global;
 
 fn is_path(path: &Path, name: &[u8], tree: bool) -> bool {
     path.name.as_bytes() == name && path.tree == tree
@@ -35,19 +33,13 @@ fn are_written(paths: &[Path]) -> bool {
     }
 }
 
-/// Whether a node is live, and reads and writes just these.
-fn is_united(jobs: &Jobs, n: u32) -> bool
-    requires { n < node_count jobs.now }
-{
-    jobs.is_live(n) && are_read(jobs.reads(n)) && are_written(jobs.writes(n))
-}
-
-/// Whether the second of two nodes does.
-fn are_united(jobs: &Jobs) -> bool {
-    jobs.count() == 2 && is_united(jobs, 1)
+/// Whether the second of two nodes is live, and reads and writes just these.
+fn are_united(_alloc: Global, prepared: &Prepared) -> bool {
+    let jobs = &prepared.jobs;
+    jobs.count() == 2 && jobs.is_live(1) && are_read(jobs.reads(1)) && are_written(jobs.writes(1))
 }
 
 #[test]
 fn lines_of_one_target_unite(rt: HostRuntime) {
-    assert!(rt; of_jobs(rt.alloc(), |jobs| are_united(jobs)));
+    assert!(rt; of_build(rt.alloc(), are_united));
 }

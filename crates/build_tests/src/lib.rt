@@ -1,8 +1,7 @@
 //! Tests of the libraries that stand between a book of rules and a program's answer, by their public calls: what footprints
-//! leave in jobs; a plan that is attached again; listings and footprints that come in pieces, and
-//! the answer of a build whose listing and footprints were read ahead; events of no node, names that no log can hold, and a run
-//! in serial order; tasks that say when they are due. They stand in a crate of their own, so that no library is proved a second time for its tests. What
-//! `race check` says of whole texts is shown by cases.
+//! leave in jobs; a plan that is attached again; listings and footprints that come in pieces; events of no node, names that no
+//! log can hold, and a run in serial order; tasks that say when they are due. They stand in a crate of their own, so that no library
+//! is proved a second time for its tests. What the program says of whole texts is shown by cases, also where a text has a fault.
 #![tactic(auto)]
 
 #[cfg(test)]
@@ -16,14 +15,10 @@ mod events;
 #[cfg(test)]
 mod footprints;
 #[cfg(test)]
-mod parts;
-#[cfg(test)]
 mod pieces;
 #[cfg(test)]
 mod reported;
 #[cfg(test)]
 mod serialising;
-#[cfg(test)]
-mod tables;
 #[cfg(test)]
 mod writing;

@@ -12,7 +12,7 @@ pub(crate) fn has_report(alloc: Global, halt: &Halt, report: &str) -> bool {
 }
 
 /// Whether a text was made, and this one.
-pub(crate) fn is_text(text: Result<Vec<u8>, AllocError>, expected: &str) -> bool {
+fn is_text(text: Result<Vec<u8>, AllocError>, expected: &str) -> bool {
     match text {
         Ok(text) => text.as_slice() == expected.as_bytes(),
         Err(_) => false,

@@ -1,7 +1,8 @@
-//! A run of two recipes at a time, and the list of its events in serial order: what the list is, and what both runs leave.
+//! A run of two recipes at a time, and the list of its events in serial order. What both runs leave is shown by cases of `replay`.
 ghost use Rattle.std.specs.Prelude.{ℕ, ◌≡◌, ◌<◌, false};
 ghost use Rattle.mk_name.specs.Names.{has, same_name};
 ghost use Rattle.mk_jobs.specs.Jobs.{is_listed, name_of, node_count};
+ghost use Rattle.mk_log.specs.Writing.{AreOfNodes};
 ghost use Rattle.mk_sched.specs.Serialising.{IsWholeRun};
 ghost use Rattle.mk_sched.specs.Steps.{past_of};
 ghost use Rattle.mk_sched.specs.Stored.{store_of};
@@ -73,59 +74,20 @@ static SERIAL_LOG: &[u8] = br#"{"bytes":"61","do":"file","path":"a.c","time":1}
 {"do":"finish","node":"prog"}
 "#;
 
-/// The files that events leave, where they are a complete run from a log's files with at most so many recipes at a time.
-fn left(
-    alloc: Global,
-    jobs: &Jobs,
-    listing: &Listing,
-    store: &Store,
-    limit: u32,
-    events: &[Event],
-) -> Option<Store> {
-    let store = copy_store(alloc, store).ok()?;
-    match replay(alloc, jobs, listing, store, limit, false, events) {
-        Ok(replayed) if replayed.complete => Some(replayed.store),
-        _ => None,
-    }
-}
-
-/// Whether two stores have the same names, and the same bytes at each.
-fn are_alike(one: &Store, other: &Store) -> bool {
-    let mut so = one.files().len() == other.files().len();
-    for (name, file) in one.files() {
-        so &= other.file(name).is_some_and(|found| found.contents().as_bytes()
-            == file.contents().as_bytes());
-    }
-    so
-}
-
-/// Whether the run of a log and these events, one recipe at a time, leave the same.
-fn leave_the_same(
-    alloc: Global,
-    jobs: &Jobs,
-    listing: &Listing,
-    log: &Log,
-    events: &[Event],
-) -> bool {
-    match (
-        left(alloc, jobs, listing, &log.store, 2, log.events.as_slice()),
-        left(alloc, jobs, listing, &log.store, 1, events),
-    ) {
-        (Some(one), Some(other)) => are_alike(&one, &other),
-        _ => false,
+/// Whether the text of a log is the serial one.
+fn is_written(alloc: Global, jobs: &Jobs, log: &Log) -> bool
+    requires { AreOfNodes jobs.now log.now.events }
+{
+    match write_log(alloc, jobs, log) {
+        Ok(text) => text.as_slice() == SERIAL_LOG,
+        Err(_) => false,
     }
 }
 
 /// Whether the log of these files and events is the serial one.
 fn is_serial(alloc: Global, jobs: &Jobs, store: Store, events: Vec<Event>) -> bool {
     let log = Log { store, events };
-    if !are_of_nodes(jobs, log.events.as_slice()) {
-        return false;
-    }
-    match write_log(alloc, jobs, &log) {
-        Ok(text) => text.as_slice() == SERIAL_LOG,
-        Err(_) => false,
-    }
+    are_of_nodes(jobs, log.events.as_slice()) && is_written(alloc, jobs, &log)
 }
 
 /// The events of a log, which are a complete run of the jobs, in serial order; none where two jobs race.
@@ -155,16 +117,13 @@ fn serial_list(alloc: Global, jobs: &Jobs, listing: &Listing, log: &Log) -> Opti
     }
 }
 
-/// Whether the run of the log is put in serial order, and leaves the same there.
+/// Whether the run of the log is put in serial order.
 fn is_put_in_order(alloc: Global, prepared: &Prepared, log: Log) -> bool
     requires { AreListed prepared.now }
 {
     let Prepared { listing, jobs, .. } = prepared;
     match serial_list(alloc, jobs, listing, &log) {
-        Some(events) => {
-            leave_the_same(alloc, jobs, listing, &log, events.as_slice())
-                && is_serial(alloc, jobs, log.store, events)
-        }
+        Some(events) => is_serial(alloc, jobs, log.store, events),
         None => false,
     }
 }

@@ -1,14 +1,15 @@
 //! Logs that cannot be written: a name is no text, or an event is of no node.
-use crate::builds::{name_of, of_jobs, store_of};
+use crate::builds::{name_of, of_build, store_of};
 use mk_jobs::jobs::Jobs;
 use mk_log::log::Log;
 use mk_log::writing::{LogHalt, are_of_nodes, write_log};
+use mk_race::preparing::Prepared;
 use mk_sched::event::Event;
 use mk_sched::store::Store;
 use std::alloc::{AllocError, Global};
 
 /// What becomes of a log.
-#[derive(Clone, Copy, PartialEq, Eq)]
+#[derive(Clone, Copy, PartialEq)]
 enum Outcome {
     Text,
     NotText,
@@ -24,24 +25,20 @@ fn outcome_of(answer: Result<Vec<u8>, LogHalt>) -> Outcome {
     }
 }
 
-fn written(alloc: Global, jobs: &Jobs, log: &Log) -> Outcome {
+/// What becomes of a log of these files and events.
+fn written(alloc: Global, jobs: &Jobs, store: Store, events: Vec<Event>) -> Outcome {
+    let log = Log { store, events };
     if are_of_nodes(jobs, log.events.as_slice()) {
-        outcome_of(write_log(alloc, jobs, log))
+        outcome_of(write_log(alloc, jobs, &log))
     } else {
         Outcome::NoNode
     }
 }
 
-/// What becomes of a log of no files.
-fn events_written(alloc: Global, jobs: &Jobs, events: Vec<Event>) -> Outcome {
-    let store = Store::new(alloc);
-    written(alloc, jobs, &Log { store, events })
-}
-
 /// What becomes of a log that skips a node.
 fn skip_written(alloc: Global, jobs: &Jobs, node: u32) -> Outcome {
     match vec![in alloc; Event::Skip(node)] {
-        Ok(events) => events_written(alloc, jobs, events),
+        Ok(events) => written(alloc, jobs, Store::new(alloc), events),
         Err(_) => Outcome::NoMemory,
     }
 }
@@ -54,7 +51,7 @@ fn erasure(alloc: Global, name: &[u8]) -> Result<Vec<Event>, AllocError> {
 /// What becomes of a log in which the node 1 erases a file.
 fn erasure_written(alloc: Global, jobs: &Jobs, name: &[u8]) -> Outcome {
     match erasure(alloc, name) {
-        Ok(events) => events_written(alloc, jobs, events),
+        Ok(events) => written(alloc, jobs, Store::new(alloc), events),
         Err(AllocError) => Outcome::NoMemory,
     }
 }
@@ -62,16 +59,14 @@ fn erasure_written(alloc: Global, jobs: &Jobs, name: &[u8]) -> Outcome {
 /// What becomes of a log of one file and no events.
 fn file_written(alloc: Global, jobs: &Jobs, name: &[u8]) -> Outcome {
     match store_of(alloc, name) {
-        Ok(store) => {
-            let events = Vec::new(alloc);
-            written(alloc, jobs, &Log { store, events })
-        }
+        Ok(store) => written(alloc, jobs, store, Vec::new(alloc)),
         Err(AllocError) => Outcome::NoMemory,
     }
 }
 
-/// Whether logs of these jobs, of whose two nodes the first has no text for a name, become what they should.
-fn are_written(alloc: Global, jobs: &Jobs) -> bool {
+/// Whether logs of jobs, of whose two nodes the first has no text for a name, become what they should.
+fn are_written(alloc: Global, prepared: &Prepared) -> bool {
+    let jobs = &prepared.jobs;
     skip_written(alloc, jobs, 0) == Outcome::NotText
         && skip_written(alloc, jobs, 1) == Outcome::Text
         && skip_written(alloc, jobs, 2) == Outcome::NoNode
@@ -83,6 +78,5 @@ fn are_written(alloc: Global, jobs: &Jobs) -> bool {
 
 #[test]
 fn logs_with_names_that_are_no_text(rt: HostRuntime) {
-    let alloc = rt.alloc();
-    assert!(rt; of_jobs(alloc, |jobs| are_written(alloc, jobs)));
+    assert!(rt; of_build(rt.alloc(), are_written));
 }

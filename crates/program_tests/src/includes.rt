@@ -1,6 +1,6 @@
 //! That the paths of includes are opened as they are written, which no folder shows, and that they come first.
-use crate::outcomes::{Outcome, run};
-use crate::shelf::{Book, Page, Shelf};
+use crate::ended::ends;
+use crate::shelf::{Book, Page};
 use mk_program::Status;
 use std::alloc::Global;
 
@@ -36,37 +36,15 @@ static BOOKS: [Book<'static>; 7] = [
     },
 ];
 
-#[test]
-fn opens_paths_as_they_are_written(rt: HostRuntime) {
-    let alloc = rt.alloc();
-    assert!(rt; is_order(&ran(alloc, "one"), b"0 plain q\n1 plain p : q\n"));
-    assert!(rt; is_failure(&ran(alloc, "spelled"), b"race: read failed: include\n"));
-}
-
-#[test]
-fn names_the_includes_first(rt: HostRuntime) {
-    let alloc = rt.alloc();
-    assert!(rt;
-        is_failure(
-            &ran_on(alloc, "two", "absent"),
-            b"race: read failed: include\n"
-        )
-    );
-    assert!(rt;
-        is_failure(
-            &ran_on(alloc, "one", "absent"),
-            b"race: read failed: makefile\n"
-        )
-    );
-}
-
-/// Runs `race order` with this file of includes, over those files.
-fn ran(alloc: Global, includes: &str) -> Outcome {
-    ran_on(alloc, includes, "makefile")
-}
-
-/// The same on the makefile of this path.
-fn ran_on(alloc: Global, includes: &str, makefile: &str) -> Outcome {
+/// Whether `race order` on the makefile of this path, with this file of includes, ends so.
+fn ends_with(
+    alloc: Global,
+    includes: &str,
+    makefile: &str,
+    status: Status,
+    out: &[u8],
+    err: &[u8],
+) -> bool {
     let words = [
         "race",
         "order",
@@ -79,13 +57,41 @@ fn ran_on(alloc: Global, includes: &str, makefile: &str) -> Outcome {
         "--includes",
         includes,
     ];
-    run(alloc, &words, Shelf { books: &BOOKS })
+    ends(alloc, &words, &BOOKS, status, out, err)
 }
 
-fn is_order(reported: &Outcome, order: &[u8]) -> bool {
-    reported.status == Status::Done && reported.out.as_slice() == order
+/// Whether a read of this kind of file is reported to fail.
+fn fails(alloc: Global, includes: &str, makefile: &str, line: &[u8]) -> bool {
+    ends_with(alloc, includes, makefile, Status::Failed, b"", line)
 }
 
-fn is_failure(reported: &Outcome, line: &[u8]) -> bool {
-    reported.status == Status::Failed && reported.err.as_slice() == line
+fn is_opened(alloc: Global) -> bool {
+    let order = b"0 plain q\n1 plain p : q\n";
+    ends_with(alloc, "one", "makefile", Status::Done, order, b"")
+}
+
+#[test]
+fn opens_paths_as_they_are_written(rt: HostRuntime) {
+    assert!(rt; is_opened(rt.alloc()));
+    assert!(rt;
+        fails(
+            rt.alloc(),
+            "spelled",
+            "makefile",
+            b"race: read failed: include\n"
+        )
+    );
+}
+
+#[test]
+fn names_the_includes_first(rt: HostRuntime) {
+    assert!(rt; fails(rt.alloc(), "two", "absent", b"race: read failed: include\n"));
+    assert!(rt;
+        fails(
+            rt.alloc(),
+            "one",
+            "absent",
+            b"race: read failed: makefile\n"
+        )
+    );
 }

@@ -1,5 +1,7 @@
 //! The reports of builds, with ample memory, and where an allocation is refused.
-use super::devices::{giving, taking};
+ghost use Rattle.std.specs.Prelude.{◌≡◌, false};
+
+use super::devices::{Drip, giving, taking};
 use mk_race::input::Settings;
 use mk_run::{IoStop, Outcome, run};
 use std::alloc::{AllocError, Global};
@@ -34,7 +36,7 @@ const DOUBLED: &str =
 /// More than the bytes of a report or a proof.
 const LONGEST: usize = 400;
 
-const BUILDS: &[Build<'static>] = &[
+static BUILDS: [Build<'static>; 8] = [
     Build {
         root: "/w",
         makefile: OBJECTS,
@@ -111,47 +113,10 @@ const BUILDS: &[Build<'static>] = &[
     },
 ];
 
-/// The test passes where memory runs out for one allocation of a run, and for no other: `tests/refused-memory` lets each
-/// allocation be refused in turn.
-#[test]
-fn reports(rt: HostRuntime) -> Result<(), AllocError> {
-    for build in BUILDS {
-        let said = reported_at_last(rt.alloc(), build)?;
-        assert_eq!(rt;
-            said.as_slice(),
-            build.report.as_bytes(),
-            "{}",
-            build.makefile
-        );
-    }
-    Ok(())
-}
-
-#[test]
-fn proofs(rt: HostRuntime) -> Result<(), AllocError> {
-    for build in BUILDS {
-        let said = reported(rt.alloc(), build, true)?;
-        assert_eq!(rt;
-            said.as_slice(),
-            build.proof.as_bytes(),
-            "{}",
-            build.makefile
-        );
-    }
-    Ok(())
-}
-
-/// What is written of a build; where memory ran out with nothing written, what a second run writes.
-fn reported_at_last(alloc: Global, build: &Build<'_>) -> Result<Vec<u8>, AllocError> {
-    match reported(alloc, build, false) {
-        Ok(said) => Ok(said),
-        Err(_) => reported(alloc, build, false),
-    }
-}
-
-/// What is written of a build; nothing where the outcome is not the build's, or a device was not read to its end, or memory ran
-/// out when something was written.
-fn reported(alloc: Global, build: &Build<'_>, proof: bool) -> Result<Vec<u8>, AllocError> {
+/// Whether a run over these texts has the outcome of the build, and reads each device to its end; nothing where memory ran out.
+fn ran(alloc: Global, build: &Build<'_>, proof: bool, out: &mut Drip) -> Option<bool>
+    requires { out.old.failed ≡ false }
+{
     let settings = Settings {
         root: build.root.as_bytes(),
         operands: &[],
@@ -162,22 +127,80 @@ fn reported(alloc: Global, build: &Build<'_>, proof: bool) -> Result<Vec<u8>, Al
     let mut makefile = giving(build.makefile, usize::MAX);
     let mut listing = giving(build.listing, usize::MAX);
     let mut footprints = giving(build.footprints, usize::MAX);
-    let mut out = taking(alloc, usize::MAX);
-    // (so that the device itself asks for no memory)
-    out.taken.reserve(LONGEST)?;
-    let ran = run(
+    let ended = run(
         alloc,
         &mut base,
         &mut makefile,
         &mut listing,
         &mut footprints,
-        &mut out,
+        out,
         &settings,
     );
     let all = makefile.rest.is_empty() && listing.rest.is_empty() && footprints.rest.is_empty();
-    match ran {
-        Ok(outcome) if outcome == build.outcome && all => Ok(out.taken),
-        Err(IoStop::Memory) if out.taken.is_empty() => Err(AllocError),
+    match ended {
+        Ok(outcome) => Some(outcome == build.outcome && all),
+        Err(IoStop::Memory) => None,
+        Err(_) => Some(false),
+    }
+}
+
+/// What is written of a build; nothing where the outcome is not the build's, or a device was not read to its end, or memory ran
+/// out when something was written.
+fn reported(alloc: Global, build: &Build<'_>, proof: bool) -> Result<Vec<u8>, AllocError> {
+    let mut out = taking(alloc, usize::MAX);
+    // (so that the device itself asks for no memory)
+    out.taken.reserve(LONGEST)?;
+    match ran(alloc, build, proof, &mut out) {
+        Some(true) => Ok(out.taken),
+        None if out.taken.is_empty() => Err(AllocError),
         _ => Ok(Vec::new(alloc)),
     }
+}
+
+/// What is written of a build; where memory ran out with nothing written, what a second run writes.
+fn reported_at_last(alloc: Global, build: &Build<'_>) -> Result<Vec<u8>, AllocError> {
+    match reported(alloc, build, false) {
+        Ok(said) => Ok(said),
+        Err(_) => reported(alloc, build, false),
+    }
+}
+
+fn is_reported(alloc: Global, build: &Build<'_>) -> Result<bool, AllocError> {
+    Ok(reported_at_last(alloc, build)?.as_slice() == build.report.as_bytes())
+}
+
+fn are_reported(alloc: Global) -> Result<bool, AllocError> {
+    let mut so = true;
+    for build in &BUILDS {
+        so &= is_reported(alloc, build)?;
+    }
+    Ok(so)
+}
+
+/// The test passes where memory runs out for one allocation of a run, and for no other: `tests/refused-memory` lets each
+/// allocation be refused in turn.
+#[test]
+fn reports(rt: HostRuntime) -> Result<(), AllocError> {
+    assert!(rt; are_reported(rt.alloc())?);
+    Ok(())
+}
+
+fn is_proved(alloc: Global, build: &Build<'_>) -> bool {
+    match reported(alloc, build, true) {
+        Ok(said) => said.as_slice() == build.proof.as_bytes(),
+        Err(AllocError) => false,
+    }
+}
+
+fn are_proved(alloc: Global) -> bool {
+    let mut so = true;
+    for build in &BUILDS {
+        so &= is_proved(alloc, build);
+    }
+    so
+}
+
+#[test]
+fn proofs(rt: HostRuntime) {
+    assert!(rt; are_proved(rt.alloc()));
 }
