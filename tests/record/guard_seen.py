@@ -2,7 +2,7 @@
 
 from typing import List
 
-from guard_table import FALSE_RACE, LOST_HOLE, UNSAID, YES, Guard
+from guard_table import FALSE_RACE, LOST_HOLE, UNSAID, WITHHELD, YES, Guard
 
 
 def seen(name: str) -> str:
@@ -90,7 +90,7 @@ SEEN_GUARDS: List[Guard] = [
     Guard("macros: of lines that are gone", "make/macros.py", "            found.writes.add(ANY)\n", "            pass\n", seen("macro_of_lines_of_a_makefile_that_goes"), YES,
           ("make/macros.py", ', *((name, "\\n".join(lines)) for name, lines in self.base.bodies.items())', "")),
     Guard("sockets: their names", "trace/calls.py", "            self.write(life, found, True)\n        elif found is not None and", "            pass\n        elif found is not None and", seen("name_of_a_socket"), YES),
-    Guard("sockets: memory: said", "trace/calls.py", "elif name in SHARING and ok:", "elif False:", seen("memory"), UNSAID),
+    Guard("sockets: memory: said", "trace/calls.py", "elif name in SHARING and ok:", "elif False:", seen("memory"), WITHHELD),
     Guard("processes: listed: said", "trace/calls.py", 'elif where[0] == "/proc":', "elif False:", seen("processes"), UNSAID),
     Guard("processes: others: said", "trace/calls.py", "                self.note_watcher(life, path)\n", "", seen("process_of_make"), UNSAID),
     Guard("processes: changes that they wait for", "trace/calls.py", "        self.look(life, \"\".join(texts(call.args)[:1]), ok, True)\n        self.watchers", "        return\n        self.watchers", trace("who_waits_for_changes")),

@@ -12,6 +12,7 @@ FALSE_RACE = "0 != 1"
 LOST_HOLE = "2 != 0"
 LOST_RACE = "1 != 2"
 UNSAID = "not found in"
+WITHHELD = "0 != 2"
 
 
 # What turns off that recipes see the listings which make keeps.
