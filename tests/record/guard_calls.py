@@ -48,10 +48,5 @@ CALL_GUARDS: List[Guard] = [
     Guard("long names: descriptors without one", "trace/calls.py", "                self.put_bare(life, call)\n", "                pass\n", long("Traces.test_descriptors_without_a_name")),
     Guard("long names: one of two descriptors", "trace/moves.py", "if not call.error and len(where) == 1:", "if False:", long("Traces.test_descriptors_without_a_name")),
     Guard("long names: of the folder of a link", "trace/moves.py", "        if not where and BARE", "        if False and BARE", long("Traces.test_descriptors_without_a_name")),
-    Guard("ends: a trace that cannot be kept", "trace/pipe.py", "        if fault is not None:\n", "        if False:\n", "test_ends.Pipes.test_a_full_disk"),
-    Guard("ends: all that strace wrote", "trace/pipe.py", "                elif is_last:\n", "                elif True:\n", "test_ends.Pipes.test_all_lines", ""),
-    Guard("ends: an older record", "folder.py", "            move(older, folder)\n", "            pass\n", "test_ends.Moves.test_what_stays"),
-    Guard("ends: the processes of a build", "entry.py", "                os.kill(pid, number)\n", "                pass\n", "test_ends.Signals.test_terminated"),
     Guard("ends: an interrupt", "main.py", "    if interrupts and status != 0:\n", "    if False:\n", "test_ends.Signals.test_interrupted_at_a_terminal"),
-    Guard("ends: records that are not whole", "folder.py", "    except (AttributeError, IndexError, KeyError, TypeError, ValueError) as fault:\n", "    except ZeroDivisionError as fault:\n", "test_ends.Places.test_records_that_cannot_be_judged_again"),
 ]

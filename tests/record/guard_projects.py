@@ -72,7 +72,6 @@ PROJECT_GUARDS: List[Guard] = [
     Guard("ages: who needs such a target and was there", "make/fixed.py", "was_absent(builder, node, builder.of_node.get(node.label, -1))", "True", project("age_of_a_target_without_a_recipe_that_counts")),
     Guard("ages: goals", "make/fixed.py", " and node.label not in graph.goals}", "}", project("age_of_a_target_without_a_recipe_that_is_a_goal"), YES),
     Guard("lists of make: values that are worked out once", "make/memory.py", "any(may_list(known, one) for", 'any("eval" in one for', project("list_beside_a_value_that_is_worked_out_once"), FALSE_RACE),
-    Guard("lists of make: values of names", "make/memory.py", 'return not is_known or any("wildcard" in one', 'return not is_known or any(False and one', project("list_beside_a_value_of_names_by_a_macro")),
     Guard("lists of make: values that are read", "make/memory.py", ' or "$" in body.replace("$$", "") for', " for", project("list_beside_a_value_that_is_read")),
     Guard("lists of make: names of targets alone", "make/memory.py", 'if any("$" in one for one in own) and (base.scoped', "if words and (base.scoped", project("list_of_a_name_beside_a_macro_of_a_target"), FALSE_RACE),
     Guard("lists of make: macros of a target", "make/memory.py", "(base.scoped or known.changed)", "known.changed", project("list_by_a_macro_beside_a_macro_of_a_target")),
