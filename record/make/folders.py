@@ -11,6 +11,7 @@ from dataclasses import dataclass, field
 from functools import lru_cache
 from typing import TYPE_CHECKING, Dict, FrozenSet, List, NamedTuple, Set, Tuple
 
+from record.make.ahead import makes_ahead
 from record.make.owners import Work
 from record.tools import shelltext
 from record.tools.traced import shows_commands
@@ -224,7 +225,7 @@ def add_folder(builder: "Builder", path: str, folder: Folder) -> None:
             if at not in folder.strict | folder.quiet and (at in folder.scripts or excused(builder, at, path)):
                 folder.quiet.add(at)
                 folder.first_made[at] = -1
-    for at in [at for at in folder.users | folder.absent if makes_itself(builder, at, path)]:
+    for at in [at for at in folder.users | folder.absent | folder.quiet if makes_itself(builder, at, path) or makes_ahead(builder, at, path)]:
         folder.quiet.add(at)
         folder.first_made[at] = -1
     for at in list(folder.strict):

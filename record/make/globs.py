@@ -18,7 +18,8 @@ REFERENCE = re.compile(r"\$(?:\(([\w.-]+)(?::[^$(){}*?\[]*)?\)|\{([\w.-]+)(?::[^
 MAGIC = re.compile(r"[*?\[]")
 # What gives a value to a name of a target or to an argument: a loop over such a name, or one that is computed, and an assignment.
 BOUND = re.compile(r"\$[({](?:foreach|let)[ \t]+(?:[^,\n]*[^\w.,\s-]|(?:[^,\n]*\s)?\d)[^,\n]*,"
-                   r"|(?m:^)(?!\t)(?:[^\n;#=]*:)?[ \t]*(?:(?:override|export|private|define)[ \t]+)*(?:\d+|[@<^+*?|%])[ \t]*(?:[+?!]|::?:?)?(?:=|\n)")
+                   r"|(?m:^)(?!\t)(?:[^\n;#=]*:)?[ \t]*(?:(?:override|export|private|define)[ \t]+)*(?:\d+|[@<^+*?|%])[ \t]*(?:[+?!]|::?:?)?="
+                   r"|(?m:^)[ \t]*(?:(?:override|export|private)[ \t]+)*define[ \t]+(?:\d+|[@<^+*?|%])[ \t]*(?:[+?!]|::?:?)?\n")
 NAMED_BY_MACRO = re.compile(r"\$[({][^(){}\s,:]*\$(?!\$)")
 # A line of a makefile that is a rule, up to its recipe, and one that includes makefiles: make looks for the names in them.
 RULE = re.compile(r"(?m)^(?!\t)((?:[^\n=#:;]*\\\n)*[^\n=#;]*?:(?![:=])(?:[^\n;#=]*\\\n)*[^\n;#]*)")

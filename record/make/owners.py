@@ -83,7 +83,7 @@ class Make:
         """Whether it looked for a makefile, as for `-include`, and found none: that one says nothing."""
         path = os.path.normpath(os.path.join(self.folder, name))
         kinds = self.kinds.get(path, set())
-        return len(self.life.starts) < 2 and "N" in kinds and "R" not in kinds and not os.path.lexists(path)
+        return "N" in kinds and "R" not in kinds and not os.path.lexists(path)
 
     def begin(self, start: int) -> int:
         """When it began, or began again: then it knows nothing of what it has listed."""

@@ -108,7 +108,7 @@ NAMES: List[Guard] = [
     Guard("patterns of eval are *", "tools/shelltext.py", r' or re.search(r"\beval\b", text)', "", small("pattern_of_eval"), YES,
           ("tools/shelltext.py", 'OPTIONS.search(" ".join(argv)) or TAKES_IN.search(text)', "False")),
     Guard("lists of make: a search", "make/memory.py", "for pattern in builder.make.globs if asked is None or path in asked else ():", "for pattern in builder.make.globs:", small("search_that_lists_a_folder"), FALSE_RACE),
-    Guard("lists of make: makefiles that are not there", "make/owners.py", 'return len(self.life.starts) < 2 and "N" in kinds', 'return False and "N" in kinds', small("search_that_lists_a_folder"), FALSE_RACE),
+    Guard("lists of make: makefiles that are not there", "make/owners.py", 'return "N" in kinds', 'return False and "N" in kinds', small("search_that_lists_a_folder"), FALSE_RACE),
     Guard("lists of make: exported macros", "make/memory.py", "open_names = exported_lists(builder.known)", "open_names = False", small("wildcard_that_a_target_exports"), YES),
     Guard("macros: exports of a target", "make/macros.py", r"(?:[^\t\n#][^\n]*?:)??[ \t]*(?:(?:override|private)[ \t]+)*export", r"[ \t]*export", small("macro_that_a_target_exports"), YES),
     Guard("patterns keep other names out", "make/build.py", " and fnmatchcase(name, pattern):", ":", case("glob-other-names"), FALSE_RACE),

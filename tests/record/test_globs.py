@@ -61,7 +61,7 @@ class Globs(unittest.TestCase):
                      "x: ; $(eval 1 := *.c)$($(N))\n", "G = $($(N))\nx: ; $(call G,*.c)\n"):
             self.assertEqual({"*"}, patterns(["F = $(wildcard $1)\n" + text], {"N": "F"}, ["x"]), text)
         self.assertEqual({"*"}, patterns(["F = $(wildcard $@)\nx: ; $(foreach @,*.c,$(F))\n"], {}, ["x"]))
-        for text in ("x: ; $(foreach f,a b,$(call F,c))\n", "Q = 1\nx: a1 ; test 1 = 1\n"):
+        for text in ("x: ; $(foreach f,a b,$(call F,c))\n", "Q = 1\nx: a1 ; test 1 = 1\n", "Q = a \\\n1\n"):
             self.assertEqual(set(), patterns(["F = $(wildcard $1)\nP = a b\n" + text], {"P": "a b"}, ["x"]), text)
 
     def test_macros_of_a_data_base(self) -> None:

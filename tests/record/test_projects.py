@@ -26,6 +26,10 @@ OBJECTS = "all: prog\nprog: o o/a o/b%s ; cat o/a o/b > prog\no: o/.stamp\no/.st
 # Patterns that nobody knows, a folder that make lists while recipes run, and a macro that works out its value once: the makefile of git has these.
 ONCE = "V := $(wildcard e/$(shell echo \\*))\nX = $(eval X := %s)$(X)\nall: a d/z d/y\na d/z: ; touch $@\nd/y: d/y.s ; echo $(X)%s; cp d/y.s d/y\n"
 
+# Recipes for which make itself makes the folder of their target, as many of git's makefile.
+AHEAD = "$(if $(wildcard $(@D)),,%s$(shell mkdir -p $(@D)))"
+FIRST = "F = " + AHEAD + "\nall: out/a out/b\ns: ; touch s\nout/a: s ; $(F)\n\techo a > $@\n"
+
 PROJECTS: Dict[str, Small] = {
     # `.exists` files of Perl's makefiles
     "marker_of_two_makes": Small("safe", OUTER % "", {"in/Makefile": INNER}, "umask 022"),
@@ -61,6 +65,27 @@ PROJECTS: Dict[str, Small] = {
     "list_beside_a_value_that_is_read": Small("race", ONCE % ("$(shell cat f)", ""), {"d/y.s": "s", "e/k": "k", "f": "$(wildcard d/*)\n"}),
     "list_of_a_name_beside_a_macro_of_a_target": Small("safe", "x: W = 1\n" + ONCE % ("$$(shell echo one)", "$(wildcard $(@D))"), {"d/y.s": "s", "e/k": "k"}),
     "list_by_a_macro_beside_a_macro_of_a_target": Small("race", "d/y: F = d\nF = e\n" + ONCE % ("$$(shell echo one)", "$(wildcard $F/*)"), {"d/y.s": "s", "e/k": "k"}),
+    "list_beside_a_macro_that_is_a_number": Small("safe", "N = 1\n" + ONCE % ("$$(shell echo one)", "$(N)"), {"d/y.s": "s", "e/k": "k"}),
+    "list_beside_an_argument_that_is_set": Small("race", "define 1\nd/*\nendef\n" + ONCE % ("$$(shell echo one)", "$(wildcard $1)"), {"d/y.s": "s", "e/k": "k"}),
+    "search_of_a_make_that_begins_again": Small("safe", "V := $(wildcard e/$(shell echo \\*))\n-include no.mk gen.mk\nall: a d/z d/y\ngen.mk: ; touch gen.mk\na d/z: ; touch $@\nd/y: d/y.s ; cp d/y.s d/y\n", {"d/y.s": "s", "e/k": "k"}),
+    "pattern_of_a_makefile_that_is_made_and_removed": Small("race", "-include no.mk\nall: b a\nno.mk: ; echo 'P = $$(wildcard d/*)' > no.mk\na: ; touch d/n a\ns: ; touch s\nb: s ; rm no.mk; echo $(P) > b\n", {"d/k": "k"}),
+    # folders that make itself makes for a recipe
+    "folder_that_make_makes_ahead": Small("safe", FIRST % "" + "out/b: ; $(F)\n\techo b > $@\n"),
+    "folder_that_make_makes_ahead_and_says_so": Small("safe", FIRST.replace("(F)", "(call F)") % "@echo $(@D);" + "out/b: ; $(call F)\n\techo b > $@\n"),
+    "folder_that_make_makes_ahead_by_a_text_of_several_lines": Small("safe", "define G\n" + AHEAD % "" + "\nendef\nall: out/d/a out/d/b\nout/d/a out/d/b: ; $(call G)\n\techo b > $@\n"),
+    "folder_that_make_makes_ahead_of_one": Small("race", FIRST % "" + "out/b: ; echo b > $@\n"),
+    "folder_that_make_makes_ahead_of_another": Small("race", FIRST % "" + "out/b: ; $(if $(wildcard in),,$(shell mkdir -p in))\n\techo b > $@\n"),
+    "folder_that_make_makes_ahead_with_a_word": Small("race", FIRST % "@echo $@ > log;" + "out/b: ; $(F)\n\techo b > $@\n"),
+    "folder_that_make_makes_behind_a_use": Small("race", FIRST % "" + "out/b: ; $(shell touch out/c)\n\t$(F)\n\techo b > $@\n"),
+    "folder_that_make_makes_behind_a_look_of_a_program": Small("race", FIRST % "" + "out/b: ; $(shell test -d out || echo no > log)\n\t$(F)\n\techo b > $@\n"),
+    "folder_that_make_makes_behind_a_look": Small("race", FIRST % "" + "out/b: ; echo '$(wildcard out)' > b\n\t$(F)\n\techo b > $@\n"),
+    "folder_that_make_makes_before_a_look": Small("race", FIRST % "" + "out/b: ; $(F)\n\techo '$(wildcard out)' > $@\n"),
+    "folder_that_make_makes_before_a_look_by_a_macro": Small("race", "L = $(realpath out)\n" + FIRST % "" + "out/b: ; $(F)\n\techo '$(L)' > $@\n"),
+    "folder_that_make_makes_ahead_of_a_program_of_make": Small("safe", FIRST % "" + "out/b: ; $(F)\n\techo $(shell pwd) > $@\n"),
+    "folder_that_make_makes_ahead_and_that_another_waits_for": Small("race", FIRST % "" + "out/b: out ; $(F)\n\techo b > $@\n"),
+    "folder_that_make_makes_ahead_by_a_macro_of_a_target": Small("race", "out/b: F = \n" + FIRST % "" + "out/b: ; $(F)\n\techo b > $@\n"),
+    "folder_that_make_makes_ahead_by_a_macro_that_changes": Small("race", FIRST % "" + "G =\nout/b: ; $(G)\n\techo b > $@\nall: c\nc: out/b ; $(eval G = %s)touch c\n" % (AHEAD % "").replace("$", "$$")),
+    "folder_that_make_makes_ahead_and_one_removes": Small("race", FIRST % "" + "out/b: ; $(F)\n\techo b > $@; rm -r out; touch b; mkdir out; touch out/a out/b\n"),
     # ages of targets whose rule has no recipe
     "age_of_a_target_without_a_recipe": Small("safe", OBJECTS % ""),
     "age_of_a_target_without_a_recipe_by_way_of_another": Small("safe", OBJECTS.replace("prog: o ", "prog: p ") % "" + "p: o\n"),

@@ -1,0 +1,65 @@
+"""Folders that make itself makes for a recipe, where it does not find them."""
+
+import os
+import re
+from typing import TYPE_CHECKING, List
+
+from record.make.database import LINES_TEXT
+from record.make.globs import DEPTH
+from record.make.macros import ANY, Macros
+from record.make.memory import with_target
+
+if TYPE_CHECKING:
+    from record.make.build import Builder
+
+MACRO = re.compile(r"\$(?:\((?:call[ \t]+)?([\w.-]+)\)|\{(?:call[ \t]+)?([\w.-]+)\}|(\w))")
+DIR = re.compile(r"\$[({]dir[ \t]+([^\s$(){},]+)[)}]")
+PATH = r"(?P<path>[^\s$*?\[\\(){},;|&<>'\"`~#]+)"
+# A line of a recipe that makes a folder where it is not there, and says so at most.
+MAKES = re.compile(r"[ \t@+-]*\$\(if \$\(wildcard " + PATH + r"\),,[ \t]*(?:@?echo [^;&|`$<>()\n]*;[ \t]*)?\$\(shell mkdir -p (?P=path)\)\)[ \t]*")
+LOOKS = re.compile(r"\b(?:wildcard|realpath|eval)\b")  # functions of make that may look at a folder, also by what make remembers
+ACTS = re.compile(LOOKS.pattern + r"|\b(?:shell|file)\b")  # and those that may use it
+
+
+def makes_ahead(builder: "Builder", at: int, folder: str) -> bool:
+    """Whether make makes a folder, and those above it, for a recipe where they are not there; or this is make's look at its target.
+
+    It works out all lines of a recipe before it starts the first one, and those of two recipes never at once. So whichever
+    recipe comes first makes the folder, before anything of it runs.
+    """
+    task, base, known = builder.build.tasks[at], builder.graph.base, builder.known
+    if builder.build.tool != "make" or task.kind not in ("recipe", "look") or ".SECONDEXPANSION" in base.prerequisites:
+        return False
+    lines = base.recipes.get(task.node.name, [])
+    for place, line in enumerate(lines):
+        found = MAKES.fullmatch(text_for(known, task.node.name, line))
+        if found is not None:
+            path = builder.names.find(builder.make.folder, found.group("path"), True).path
+            is_here = (path + "/").startswith(folder + "/")
+            return is_here and not leads_to(known, lines[:place], ACTS) and not leads_to(known, lines[place + 1:], LOOKS)
+    return False
+
+
+def leads_to(known: Macros, lines: List[str], wanted: "re.Pattern[str]") -> bool:
+    """Whether lines of a recipe may come to some functions of make, also by way of macros."""
+    text = "\n".join(lines)
+    reached = known.reached(text)
+    return any("*" in name for name in reached) or any(wanted.search(one) for one in (text, *map(known.text_of, reached)))
+
+
+def text_for(known: Macros, target: str, line: str) -> str:
+    """A line of a target's recipe, with the target, its folder, and the macros that have one value in their places."""
+    for _ in range(DEPTH):
+        line = MACRO.sub(lambda found: one_value(known, found), line)
+    return DIR.sub(lambda found: (os.path.dirname(found.group(1)) or ".") + "/", with_target(line, target))
+
+
+def one_value(known: Macros, found: "re.Match[str]") -> str:
+    """The text of a macro that is the same for all targets and that no recipe changes; else its name as it stands."""
+    name = found.group(1) or found.group(2) or found.group(3)
+    value, lines = known.base.values.get(name), known.base.bodies.get(name, [])
+    if value is None or ANY in known.changed or name in known.changed:
+        return found.group()
+    if value == LINES_TEXT:
+        return lines[0] if len(lines) == 1 else found.group()
+    return found.group() if lines else value
