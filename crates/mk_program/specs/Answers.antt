@@ -336,7 +336,7 @@ IsSafeBuild args files =
 abbrev pub AreSafeTasks : TaskArgs → (List ℕ → Option (List ℕ)) → Type 0
 AreSafeTasks tasks files = (text : List ℕ) → files tasks.tasks.now ≡ Some text → tasked.NoScheduleShows tasks.root.now text
 
--- the words ask to check a build or tasks, and no schedule of these shows in the files
+-- the words ask about a build or tasks, and no schedule of these shows in the files
 abbrev pub SaysSafe : List (Bor Text) → (List ℕ → Option (List ℕ)) → Type 0
 SaysSafe words files =
     ((args : JobArgs) × Asks (requests.Jobs args) (asked words) × IsSafeBuild args files)
