@@ -215,6 +215,7 @@ OWNERS: List[Guard] = [
     Guard("said: sockets", "importing.py", '("sockets", replay.sockets), ', "", small("sockets"), UNSAID),
     Guard("race itself: refused", "main.py", "or any(j.verdict.status not in (0, 1) for j in judged):", "or False:", "test_judge.Answers.test_refused", LOST_HOLE),
     Guard("race itself: a status against its words", "judge.py", "or (listed.returncode == 1) != bool(verdict.races):", "or False:", "test_judge.Answers.test_race_with_the_status_of_a_yes", "2 != 1"),
+    Guard("race itself: another program", "judge.py", "not is_whole or ", "", "test_judge.Answers.test_another_program", LOST_HOLE),
 ]
 UNFILED: List[Guard] = [
     Guard("serial: the user's own -j1", "make/owners.py", "            return False\n        return self.words.slots", "            pass\n        return self.words.slots", small("jobs_of_a_makefile_and_one_job"), YES),
