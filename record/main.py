@@ -49,6 +49,7 @@ with open(%r, "rb") as file:
         exec(code, module.__dict__)
 module.main()
 """
+PACKAGES = {"make": "make", "ninja": "ninja-build", "cmake": "cmake", "meson": "meson"}  # of Debian, by what builds
 ASKED = min(4, os.cpu_count() or 1)  # how many builds `race` is asked about at once
 WARM = ("WARM: what was up to date did not run; record a clean tree (make clean, or --fresh for ninja), or, if builds start from this one, "
         "say race-record --warm: it judges this record again, and builds nothing")
@@ -66,7 +67,8 @@ def version_of(program: str, pattern: str, least: Tuple[int, int], package: str)
     output = subprocess.run([path, "--version"], capture_output=True, text=True, errors="replace", env=dict(os.environ, LC_ALL="C")).stdout
     match = re.search(pattern, output)
     if not match or (int(match.group(1)), int(match.group(2))) < least:
-        raise Missing("%s is %s, and %d.%d or later is needed" % (program, output.split("\n")[0], least[0], least[1]))
+        needed = "%s %d.%d" % ("GNU make" if program == "make" else program, *least)
+        raise Missing("%s is %s, and %s or later is needed (Debian: apt-get install %s)" % (path, output.split("\n")[0] or "of no version that it says", needed, package))
     return "%s.%s" % match.groups()
 
 
@@ -162,6 +164,8 @@ def stop(text: str) -> int:
 
 def no_command(word: str) -> str:
     """What to say of a command that cannot be run."""
+    if word in PACKAGES:
+        return "%s is missing (Debian: apt-get install %s)" % (word, PACKAGES[word])
     if os.path.isfile(word) and "/" in word:
         return "%s cannot be run: chmod +x %s" % (word, word)
     here = " (here is ./%s)" % word if os.path.isfile(word) else ""
@@ -200,7 +204,7 @@ def attempt(options: argparse.Namespace, words: List[str], tools: Dict[str, str]
         status, seconds = run_build(by_name(words, real), spool, names.tops)
         record = Record(options.words, folder, status, round(seconds, 2), dict(tools))
         if status != 0:
-            record.holes.append("the build ended with status %d" % status)
+            record.holes.append("the build ended with status %d" % status + (": signal %d stopped it" % -status if status < 0 else ""))
         from record.importing import complete  # it was loaded while the build ran
         found = complete(record, spool, names, kept, real, out, options)
         if options.keep_trace:

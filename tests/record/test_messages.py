@@ -146,6 +146,25 @@ class Usage(unittest.TestCase):
             self.says(project, "race-record: error: which command builds the project? It stands behind --, such as make: race-record -- make")
             self.says(project, "race-record: error: no option of race-record: -j4; what belongs to the build stands behind --, such as race-record -- make -j4", "-j4", "make")
 
+    def test_tools_that_are_missing_or_old(self) -> None:
+        files = {"bin/make": "#!/bin/sh\necho GNU Make 3.82\n", "none/x": "", "other/make": "#!/bin/sh\necho usage >&2\n"}
+        with support.Project(files) as project:
+            project.sh("chmod +x */make; ln -s $(command -v strace) bin; ln -s $(command -v strace) other; cp -P bin/strace none")
+            for folder, command, says in (
+                ("bin", "make", "%s/make is GNU Make 3.82, and GNU make 4.2 or later is needed (Debian: apt-get install make)"),
+                ("other", "make", "%s/make is of no version that it says, and GNU make 4.2 or later is needed (Debian: apt-get install make)"),
+                ("none", "make", "make is missing (Debian: apt-get install make)"),
+                ("none", "ninja", "ninja is missing (Debian: apt-get install ninja-build)"),
+            ):
+                path = str(project.folder / folder)
+                words = [sys.executable, str(support.RECORDER), "--race", sys.executable, "--", command]
+                ran = subprocess.run(words, cwd=project.folder, env={"PATH": path}, capture_output=True, text=True, check=False, timeout=60)
+                self.assertEqual((3, "race-record: %s\n" % (says % path if "%" in says else says)), (ran.returncode, ran.stderr))
+
+    def test_build_that_a_signal_stops(self) -> None:
+        with support.Project({"x": ""}) as project:
+            self.assertIn("  - the build ended with status -9: signal 9 stopped it\n", project.record(["sh", "-c", "kill -9 $$"]).text())
+
     def test_folder_that_is_no_record(self) -> None:
         with support.Project({"file": "f", **{"src/%d.c" % number: "" for number in range(5)}, "one/x": ""}) as project:
             for name, what in (("file", "a file"), ("src", "a folder without record.json, with 0.c, 1.c, 2.c and 2 more"), ("one", "a folder without record.json, with x")):
