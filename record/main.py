@@ -138,7 +138,7 @@ def parse(args: List[str]) -> argparse.Namespace:
                                      description="Builds once, and says whether make -j, or ninja, is safe.", formatter_class=argparse.RawDescriptionHelpFormatter)
     parser.add_argument("-o", "--output", default=".race", metavar="DIR", help="the folder of the record (.race)")
     parser.add_argument("--race", metavar="PROGRAM", help="the program race (else $RACE, the checkout's, or the one on PATH)")
-    parser.add_argument("--top", action="append", default=[], metavar="DIR", help="another folder that the build works in")
+    parser.add_argument("--top", action="append", default=[], metavar="DIR", help="another folder that the build works in, such as its sources; may be repeated")
     parser.add_argument("--warm", action="store_true", help="builds start from this tree, though some of what they make is there already; "
                         "without a command: the same of the record that is there")
     parser.add_argument("--fresh", action="store_true", help="record a clean copy in the place of the folder that ninja builds in")
@@ -250,7 +250,7 @@ def run(options: argparse.Namespace) -> int:
     if race is None:
         return stop(no_race(options.race))
     if options.missing and not import_module("record.missing.inputs").knows_missing(race):
-        return stop("%s does not answer `race missing --tasks`: it is an older race, or no race. Name another by --race, or leave --missing out" % race)
+        return stop("%s does not answer `race missing --tasks`: it is an older version of race, or another program. Name race by --race, or leave --missing out" % race)
     try:
         tools = versions()
     except Missing as missing:

@@ -172,12 +172,6 @@ class Usage(unittest.TestCase):
                 self.says(project, "race-record: %s is there and is no record: it is %s. Nothing there was changed; name another folder by -o" % (place, what), "-o", name, "--", "make")
             self.assertEqual("f", (project.folder / "file").read_text())
 
-    def test_race_that_is_another_program(self) -> None:
-        with support.Project({"Makefile": "all: ; touch all\n"}) as project:
-            outcome = project.run(["--race", "/bin/false", "--missing", "--", "make"])
-            self.assertEqual((3, True), (outcome.status, b"Name another by --race" in outcome.stderr))
-            self.assertFalse((project.folder / "all").exists())
-
 
 if __name__ == "__main__":
     unittest.main()
