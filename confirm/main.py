@@ -166,6 +166,15 @@ def picked(args: argparse.Namespace, report: Report) -> tuple[list[Chosen], str]
     return races, folder
 
 
+def check_keep(folder: Path) -> None:
+    """Refuses a folder in which nothing can be kept, before anything is built."""
+    if there := [folder / it for it in KEPT if (folder / it).exists()]:
+        raise BadRecord(f"{there[0]} is there already: name another folder with --keep")
+    above = next(it for it in (folder.absolute(), *folder.absolute().parents) if it.exists())
+    if not above.is_dir() or not os.access(above, os.W_OK):
+        raise BadRecord(f"{above} is no folder that can be written: name another folder with --keep")
+
+
 def others(number: int) -> str:
     """How many more reasons there are."""
     return f" (race-report names {number} more)" if number else ""
@@ -175,8 +184,8 @@ def run(args: argparse.Namespace) -> int:
     with reading(args.record):
         used = tools_of(args.record)
     compiler = tools("make" in used)
-    if args.keep and (there := [args.keep / it for it in KEPT if (args.keep / it).exists()]):
-        raise BadRecord(f"{there[0]} is there already: name another folder with --keep")
+    if args.keep:
+        check_keep(args.keep)
     program = find_race(args.race)
     if not program:
         raise Missing(no_race(args.race))

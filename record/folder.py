@@ -31,7 +31,7 @@ def reading(folder: Path) -> Iterator[None]:
     try:
         yield
     except (AttributeError, IndexError, KeyError, TypeError, ValueError) as fault:
-        raise NotWhole("%s is no whole record (%s: %s): record again" % (folder, type(fault).__name__, fault)) from fault
+        raise NotWhole("%s is no whole record (%s: %s): record again, and report it if that comes again" % (folder, type(fault).__name__, fault)) from fault
 
 
 @dataclass

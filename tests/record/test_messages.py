@@ -169,7 +169,8 @@ class Usage(unittest.TestCase):
         with support.Project({"file": "f", **{"src/%d.c" % number: "" for number in range(5)}, "one/x": ""}) as project:
             for name, what in (("file", "a file"), ("src", "a folder without record.json, with 0.c, 1.c, 2.c and 2 more"), ("one", "a folder without record.json, with x")):
                 place = os.path.realpath(project.folder / name)
-                self.says(project, "race-record: %s is there and is no record: it is %s. Nothing there was changed; name another folder by -o" % (place, what), "-o", name, "--", "make")
+                wanted = "race-record: %s is there and is no record: it is %s. Nothing there was changed; name another folder by -o" % (place, what)
+                self.says(project, wanted, "-o", name, "--", "make")
             self.assertEqual("f", (project.folder / "file").read_text())
 
 
