@@ -17,8 +17,10 @@ from confirm.tree import copy, remove, take_back
 from confirm.trial import Finding, Trial
 from record.entry import reason
 from record.folder import NotWhole, reading
+from record.judge import find_race, no_race
 from record.main import Missing
-from report.main import find_race, judge
+from record.pages import after_no_verdict
+from report.asking import judge
 from report.model import BadRecord, Report, read_json
 from report.plain import counted
 
@@ -52,9 +54,14 @@ def parse(words: Sequence[str] | None) -> argparse.Namespace:
     parser.add_argument("--keep", type=Path, metavar="FOLDER", help="keep what the serial and the last parallel build left")
     parser.add_argument("--race", metavar="PROGRAM", help="the program race (else $RACE, the checkout's, or the one on PATH)")
     args = parser.parse_intermixed_args(words)
-    is_folder = bool(args.words) and (Path(args.words[0]) / "record.json").is_file()
-    args.record, args.names = (Path(args.words[0]), args.words[1:]) if is_folder else (Path(".race"), args.words)
+    args.record, args.names = (Path(args.words[0]), args.words[1:]) if names_record(args.words) else (Path(".race"), args.words)
     return args
+
+
+def names_record(words: Sequence[str]) -> bool:
+    """Whether the first word is the folder of a record. A folder that is none is taken for one where there is no other."""
+    folder = Path(*words[:1])
+    return bool(words) and ((folder / "record.json").is_file() or folder.is_dir() and not Path(".race").exists())
 
 
 def positive(text: str) -> int:
@@ -70,10 +77,15 @@ def say(text: str) -> None:
         print(f"\r\x1b[K{text[:100]}", end="\n" if not text else "", file=sys.stderr, flush=True)
 
 
+def note(text: str) -> None:
+    """A remark that is no answer."""
+    print(f"race-confirm: {text}", file=sys.stderr, flush=True)
+
+
 @contextlib.contextmanager
 def prepared(args: argparse.Namespace, folder: str, used: set[str], compiler: str) -> Iterator[Room]:
     """A room with a copy of the project as it was before the build; it is gone at the end."""
-    room = Room(new_room(folder), folder, "ninja" in used)
+    room = Room(new_room(folder, note), folder, "ninja" in used)
     try:
         furnish(room.top, compiler)
         copy(Path(folder), room.fresh)
@@ -97,7 +109,7 @@ def prepare(room: Room, command: str) -> None:
     done = subprocess.run(["sh", "-c", command], env=room.environment(), preexec_fn=room.enter(), stdin=subprocess.DEVNULL,
                           capture_output=True, text=True, errors="replace", check=False)
     if done.returncode:
-        raise CannotConfirm(f"`{command}` ended with {done.returncode} in the copy: {' '.join(done.stderr.split())[:200]}")
+        raise CannotConfirm(f"`{command}` of --prepare ended with status {done.returncode} in the copy: {' '.join(done.stderr.split())[:200]}")
     remove(room.fresh)
     room.tree.rename(room.fresh)
 
@@ -144,7 +156,7 @@ def picked(args: argparse.Namespace, report: Report) -> tuple[list[Chosen], str]
     races = [*chosen(report, args.record, args.names)]
     if not races:
         called = " ".join(args.names)
-        raise BadRecord(f"{args.record} has no race that is called {called}; it has {counted(len(report.races), 'race')}: race-report lists them")
+        raise BadRecord(f"{args.record} has no race that is called {called}; it has {counted(len(report.races), 'race')}: race-report {args.record} lists them")
     folder = read_json(args.record / "record.json")["folder"]
     if not os.path.isdir(folder):
         raise CannotConfirm(f"the project's folder {folder} is not there: record again where it is now")
@@ -154,21 +166,35 @@ def picked(args: argparse.Namespace, report: Report) -> tuple[list[Chosen], str]
     return races, folder
 
 
+def check_keep(folder: Path) -> None:
+    """Refuses a folder in which nothing can be kept, before anything is built."""
+    if there := [folder / it for it in KEPT if (folder / it).exists()]:
+        raise BadRecord(f"{there[0]} is there already: name another folder with --keep")
+    above = next(it for it in (folder.absolute(), *folder.absolute().parents) if it.exists())
+    if not above.is_dir() or not os.access(above, os.W_OK):
+        raise BadRecord(f"{above} is no folder that can be written: name another folder with --keep")
+
+
+def others(number: int) -> str:
+    """How many more reasons there are."""
+    return f" (race-report names {number} more)" if number else ""
+
+
 def run(args: argparse.Namespace) -> int:
     with reading(args.record):
         used = tools_of(args.record)
     compiler = tools("make" in used)
-    if args.keep and (there := [args.keep / it for it in KEPT if (args.keep / it).exists()]):
-        raise BadRecord(f"{there[0]} is there already: name another folder with --keep")
+    if args.keep:
+        check_keep(args.keep)
     program = find_race(args.race)
     if not program:
-        raise Missing("the program race is missing: --race PROGRAM, $RACE, or on PATH")
+        raise Missing(no_race(args.race))
     with reading(args.record):
-        report = judge(args.record, program)
+        report = judge(args.record, Path(program))
         races, folder = picked(args, report) if report.races else ([], "")
     if not races:
         if report.holes:
-            raise CannotConfirm(f"there is no verdict on this record: {report.holes[0]}")
+            raise CannotConfirm(f"there is no verdict on this record: {report.holes[0]}{others(len(report.holes) - 1)}\n{after_no_verdict()}")
         show(iter(["The record has no race: there is nothing to confirm."]))
         return 0
     with prepared(args, folder, used, compiler) as room:

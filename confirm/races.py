@@ -34,7 +34,7 @@ class Held:
     def in_makefile(self) -> str:
         """The target as a line of a makefile names it."""
         if any(sign in "=;|&\n" for sign in self.target):
-            raise CannotConfirm(f"no line of a makefile can name the target {self.target}")
+            raise CannotConfirm(f"no line of a makefile can name the target {self.target}: it has one of = ; | & in its name, so its recipe cannot be held")
         return "".join("\\" + it if it in ESCAPED else "$$" if it == "$" else it for it in self.target)
 
 

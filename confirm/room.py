@@ -63,6 +63,8 @@ done
 exec REAL "$@" $jobs
 """
 NINJAS = ("ninja", "ninja-build", "samu")
+# Where the copy goes if TMPDIR, TEMP or TMP names no other folder.
+PLACES = ("/tmp", "/var/tmp", "/dev/shm")
 # So many commands of a ninja ask to begin at once where two of them are to meet.
 JOBS = 100
 
@@ -175,7 +177,7 @@ class Room:
 def in_value(text: str) -> str:
     """A text as a makefile's line has it."""
     if '"' in text or "\n" in text:
-        raise CannotConfirm(f"no line of a makefile can name {text}")
+        raise CannotConfirm(f"no line of a makefile can name {text}: it has a quotation mark or a line's end, so no recipe can be held")
     return text.replace("$", "$$").replace("#", "\\#")
 
 
@@ -192,7 +194,7 @@ def tools(has_make: bool) -> str:
 def run_tool(words: Sequence[str], what: str) -> None:
     done = subprocess.run(words, capture_output=True, text=True, errors="replace", stdin=subprocess.DEVNULL, check=False)
     if done.returncode:
-        raise Missing(f"{what}: {done.stderr.strip() or done.returncode}")
+        raise Missing(f"{what}: {done.stderr.strip() or f'status {done.returncode}'}")
 
 
 def furnish(top: Path, compiler: str) -> None:
@@ -210,12 +212,24 @@ def furnish(top: Path, compiler: str) -> None:
             (top / "bin" / name).chmod(0o755)
 
 
-def new_room(folder: str) -> Path:
-    """A temporary folder that does not lie in the project."""
-    for place in filter(os.path.isdir, (tempfile.gettempdir(), "/tmp", "/var/tmp", "/dev/shm")):
-        if not (os.path.realpath(place) + "/").startswith(folder.rstrip("/") + "/"):
-            return Path(tempfile.mkdtemp(prefix="race-confirm-", dir=os.path.realpath(place)))
-    raise CannotConfirm(f"each folder for temporary files lies in {folder}")
+def new_room(folder: str, note: Callable[[str], object]) -> Path:
+    """A temporary folder that does not lie in the project. `note` is called where it is not in the one that was asked for."""
+    named, refused = map(os.environ.get, ("TMPDIR", "TEMP", "TMP")), []
+    for place in dict.fromkeys(filter(None, (*named, *PLACES))):
+        if (os.path.realpath(place) + "/").startswith(folder.rstrip("/") + "/"):
+            continue
+        try:
+            made = Path(tempfile.mkdtemp(prefix="race-confirm-", dir=os.path.realpath(place)))
+        except OSError as error:
+            refused.append(f"{place}: {error.strerror}")
+            continue
+        if refused:
+            note(f"the copy of the project goes to {place} ({', '.join(refused)})")
+        return made
+    how = f"set TMPDIR to a folder that can be written, outside of {folder}"
+    if refused:
+        raise Missing(f"no folder for temporary files can be used ({', '.join(refused)}): {how}")
+    raise CannotConfirm(f"each folder for temporary files lies in {folder}: {how}")
 
 
 def settle(room: Room) -> None:

@@ -44,6 +44,8 @@ def body(finding: Finding, record: Path, unstable: set[str]) -> Iterator[str]:
         again = shlex.join([str(record), str(finding.race.number), "--schedule", str(finding.number), "--keep", "/tmp/kept"])
         yield f"  see it again: race-confirm {again}"
         yield f"  fix: {finding.race.race.change}"
+    elif not finding.builds:
+        yield "NOT CONFIRMED in 0 tries: there is no such schedule. Without --schedule all are tried."
     else:
         yield f"NOT CONFIRMED in {counted(finding.builds, 'try', 'tries')}: each left what the serial build leaves."
         if finding.reached < finding.builds:

@@ -27,7 +27,8 @@ def copy(source: Path, to: Path) -> None:
     to.mkdir(parents=True)
     done = subprocess.run(["cp", "-a", f"{source}/.", str(to)], capture_output=True, text=True, errors="replace", check=False)
     if done.returncode:
-        raise CannotConfirm("the project cannot be copied: " + " ".join(done.stderr.split("\n")[:2]).strip())
+        said = " ".join(done.stderr.split("\n")[:2]).strip()
+        raise CannotConfirm(f"the project cannot be copied: {said}. Where room is missing, set TMPDIR to a folder that has it")
 
 
 def remove(path: Path) -> None:

@@ -115,9 +115,9 @@ class Trial:
         finding = Finding(race)
         try:
             if race.sides[0].target == race.sides[1].target and race.sides[0].folder == race.sides[1].folder:
-                raise CannotConfirm("both recipes have the same target, so neither can be held alone")
+                raise CannotConfirm("both recipes have the same target, so neither can be held alone: fix the race without it")
             if race.tool == "ninja" and (same := [it.target for it in race.sides if not it.sum]):
-                raise CannotConfirm(f"another build statement has the command of {same[0]}, so it cannot be held alone")
+                raise CannotConfirm(f"another build statement has the command of {same[0]}, so it cannot be held alone: give it a command of its own")
             serial = self.marked(race)
             self.search(finding, serial, runs, only)
         except CannotConfirm as error:

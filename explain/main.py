@@ -89,6 +89,7 @@ def main(words: list[str] | None = None) -> int:
             sys.stdout.buffer.write(f"{text}\n".encode("utf-8", "backslashreplace"))
             sys.stdout.buffer.flush()
     except OSError as error:
-        print(f"race-explain: {error.filename or 'standard output'}: {error.strerror or error}", file=sys.stderr)
+        how = "; it has what is explained: ./install puts it there" if error.filename == str(PAGE) else ""
+        print(f"race-explain: {error.filename or 'standard output'}: {error.strerror or error}{how}", file=sys.stderr)
         return 3
     return status

@@ -15,6 +15,7 @@ from typing import Iterator
 STOPPING = (signal.SIGINT, signal.SIGTERM, signal.SIGHUP)
 FAILED = 3
 PATIENCE = 10  # so many seconds a build has to end
+OF_ITS_OWN = "Nothing of your project or its build is lost. Please report it: the command, and the lines above from Traceback on, which say where it stopped"
 
 
 class Stopped(KeyboardInterrupt):
@@ -100,9 +101,11 @@ def ended(name: str, module: str, without: str) -> int:
         said = "%s: %s; %s" % (name, reason(error), without)
     except KeyboardInterrupt as signalled:
         said = "%s: stopped by %s; %s" % (name, signalled or "SIGINT", without)
+    except MemoryError:
+        said = "%s: out of memory; %s" % (name, without)
     except Exception:  # whatever it is, there is no answer
         traceback.print_exc()
-        said = "%s: an error of its own stopped it; %s" % (name, without)
+        said = "%s: an error of its own stopped it; %s. %s" % (name, without, OF_ITS_OWN)
     print(said, file=sys.stderr)
     close_output()
     return FAILED

@@ -18,6 +18,7 @@ if TYPE_CHECKING:
 
 ROOMS = "/tmp" if os.path.isdir("/tmp") else None  # where temporary folders are made
 NAMES = 12  # so many of the targets that were there before are named
+FOUND = 3  # so many names of a folder that is no record
 
 
 class NotWhole(Exception):
@@ -30,7 +31,7 @@ def reading(folder: Path) -> Iterator[None]:
     try:
         yield
     except (AttributeError, IndexError, KeyError, TypeError, ValueError) as fault:
-        raise NotWhole("%s is no whole record (%s: %s): record again" % (folder, type(fault).__name__, fault)) from fault
+        raise NotWhole("%s is no whole record (%s: %s): record again, and report it if that comes again" % (folder, type(fault).__name__, fault)) from fault
 
 
 @dataclass
@@ -165,3 +166,12 @@ def aside(folder: Path) -> Iterator[None]:
 def is_record(folder: Path) -> bool:
     """Whether a folder may be replaced: it is absent, empty, or a record."""
     return not folder.exists() or (folder / "record.json").is_file() or (folder.is_dir() and not any(folder.iterdir()))
+
+
+def what_stands(folder: Path) -> str:
+    """What stands where a record is wanted."""
+    if not folder.is_dir():
+        return "a file"
+    names = sorted(path.name for path in folder.iterdir())
+    more = " and %d more" % (len(names) - FOUND) if len(names) > FOUND else ""
+    return "a folder without record.json, with %s%s" % (", ".join(names[:FOUND]), more)

@@ -6,8 +6,12 @@ import shutil
 import subprocess
 from dataclasses import dataclass, field
 from pathlib import Path
-from typing import List, Optional
+from typing import List, Optional, Tuple
 
+from record.pages import TOP, page
+
+PLACES = (TOP / "record" / "race", TOP / "race", TOP / "crates" / "race" / "out" / "race", TOP / "out" / "race")  # beside the script, in the checkout
+FAULT = re.compile(r"refused (F\d+)\b")
 RACE_LINE = re.compile(r"^race (\S+) : (\S+) (reads|writes) (\S+) (reads|writes)$")
 SHOWN = re.compile(r"\\x([0-9a-fA-F]{2})|\\\\")
 
@@ -40,16 +44,48 @@ def unshown(text: str) -> str:
     return SHOWN.sub(lambda m: chr(int(m.group(1), 16)) if m.group(1) else "\\", text)
 
 
+def can_run(path: Path) -> bool:
+    """Whether a file is there that can be run."""
+    return path.is_file() and os.access(path, os.X_OK)
+
+
+def named_race(option: Optional[str]) -> Tuple[str, str]:
+    """What names the program, and the name: `--race`, or else `$RACE`. No name where neither does."""
+    return ("--race", option) if option else ("$RACE", os.environ.get("RACE", ""))
+
+
 def find_race(option: Optional[str]) -> Optional[str]:
-    """`--race`, `$RACE`, beside the script, in the checkout, on PATH."""
-    here = Path(__file__).resolve().parent
-    for name in (option, os.environ.get("RACE")):
-        if name:
-            return shutil.which(name) or (str(Path(name).resolve()) if Path(name).exists() else None)
-    for path in (here / "race", here.parent / "race", here.parent / "crates" / "race" / "out" / "race", here.parent / "out" / "race"):
-        if path.is_file() and os.access(path, os.X_OK):
-            return str(path)
-    return shutil.which("race")
+    """The program: `--race`, `$RACE`, beside the script, in the checkout, on PATH. A name that leads nowhere is not passed over."""
+    _, name = named_race(option)
+    if name:
+        found = shutil.which(name) or (name if can_run(Path(name)) else None)
+        return os.path.abspath(found) if found else None
+    return next((str(path) for path in PLACES if can_run(path)), None) or shutil.which("race")
+
+
+def no_race(option: Optional[str]) -> str:
+    """What to say where `find_race` finds none: what is missing, where it was looked for, and how to get it."""
+    how, name = named_race(option)
+    if name:
+        why = "is not there" if not os.path.exists(name) else "is a folder" if os.path.isdir(name) else "cannot be run: chmod +x %s" % name
+        looked = "%s names %s, which %s" % (how, name, why)
+    else:
+        looked = "looked for: --race PROGRAM (not given), $RACE (not set), %s, and race on PATH" % ", ".join(map(str, PLACES))
+    script = TOP / "install"
+    command = "%s --prefix ~/.local --unproved" % (script if script.is_file() else "in a checkout of race: ./install")
+    to_get = "to get it: %s, about 2 minutes; put ~/.local/bin on PATH (%s says more)" % (command, page("INSTALL.md"))
+    return "\n  ".join(["the program race is missing, which judges builds", looked, to_get, "if it is elsewhere: --race PROGRAM"])
+
+
+def explained(refused: str) -> str:
+    """Why `race` refused a build, and which command says what to do."""
+    fault = FAULT.search(refused)
+    return "%s (race-explain %s says what to do)" % (refused, fault.group(1)) if fault else refused
+
+
+def ended(status: int) -> str:
+    """How a program ended that gave no answer."""
+    return "ended with status %d" % status if status >= 0 else "was stopped by signal %d: race-report asks it again" % -status
 
 
 def ask(race: str, command: str, tasks: Path, root: str) -> "subprocess.CompletedProcess[str]":
@@ -68,9 +104,11 @@ def judge(race: str, tasks: Path, root: str) -> Verdict:
             verdict.races.append(Race(unshown(path), unshown(first), does, unshown(second), also))
         elif text.startswith("pairs "):
             verdict.pairs = int(text[6:])
-    if listed.returncode not in (0, 1) or (listed.returncode == 1) != bool(verdict.races):
+    is_whole = "races %d" % len(verdict.races) in listed.stdout.splitlines()
+    if not is_whole or listed.returncode not in (0, 1) or (listed.returncode == 1) != bool(verdict.races):
         verdict.status = 2
-        verdict.refused = " ".join((listed.stdout + listed.stderr).split()) or "race list ended with %d" % listed.returncode
+        said = " ".join((listed.stdout + listed.stderr).split()) or "race list " + ended(listed.returncode)
+        verdict.refused = said if listed.returncode not in (0, 1) else "%s does not answer as race does: %s" % (race, said[:300])
     elif listed.returncode == 1:
         fixed = ask(race, "fix", tasks, root)
         verdict.is_fixed = fixed.returncode == 0

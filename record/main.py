@@ -19,8 +19,8 @@ from typing import Dict, List, Optional, Tuple
 
 from record import VERSION
 from record.entry import Stopped, end_traced
-from record.folder import ROOMS, NotWhole, Record, accept_warm, aside, is_record, reading, rewrite
-from record.judge import find_race, judge
+from record.folder import ROOMS, NotWhole, Record, accept_warm, aside, is_record, reading, rewrite, what_stands
+from record.judge import find_race, judge, no_race
 from record.make.outputs import note_output
 from record.ninja.again import JOBS, TRIES, by_name, hints, tops_of, undo, with_jobs
 from record.ninja.fresh import CannotClean, cold_copy, fresh_folder
@@ -49,6 +49,7 @@ with open(%r, "rb") as file:
         exec(code, module.__dict__)
 module.main()
 """
+PACKAGES = {"make": "make", "ninja": "ninja-build", "cmake": "cmake", "meson": "meson"}  # of Debian, by what builds
 ASKED = min(4, os.cpu_count() or 1)  # how many builds `race` is asked about at once
 WARM = ("WARM: what was up to date did not run; record a clean tree (make clean, or --fresh for ninja), or, if builds start from this one, "
         "say race-record --warm: it judges this record again, and builds nothing")
@@ -66,7 +67,8 @@ def version_of(program: str, pattern: str, least: Tuple[int, int], package: str)
     output = subprocess.run([path, "--version"], capture_output=True, text=True, errors="replace", env=dict(os.environ, LC_ALL="C")).stdout
     match = re.search(pattern, output)
     if not match or (int(match.group(1)), int(match.group(2))) < least:
-        raise Missing("%s is %s, and %d.%d or later is needed" % (program, output.split("\n")[0], least[0], least[1]))
+        needed = "%s %d.%d" % ("GNU make" if program == "make" else program, *least)
+        raise Missing("%s is %s, and %s or later is needed (Debian: apt-get install %s)" % (path, output.split("\n")[0] or "of no version that it says", needed, package))
     return "%s.%s" % match.groups()
 
 
@@ -132,11 +134,11 @@ def run_build(words: List[str], spool: Path, tops: List[str]) -> Tuple[int, floa
 
 def parse(args: List[str]) -> argparse.Namespace:
     """The words of the command line."""
-    parser = argparse.ArgumentParser(prog="race-record", description="Builds once, and says whether make -j, or ninja, is safe.",
-                                     epilog=EXAMPLE, formatter_class=argparse.RawDescriptionHelpFormatter)
+    parser = argparse.ArgumentParser(prog="race-record", usage="race-record [options] -- COMMAND ..", epilog=EXAMPLE,
+                                     description="Builds once, and says whether make -j, or ninja, is safe.", formatter_class=argparse.RawDescriptionHelpFormatter)
     parser.add_argument("-o", "--output", default=".race", metavar="DIR", help="the folder of the record (.race)")
-    parser.add_argument("--race", metavar="PROGRAM", help="the program race")
-    parser.add_argument("--top", action="append", default=[], metavar="DIR", help="another folder that the build works in")
+    parser.add_argument("--race", metavar="PROGRAM", help="the program race (else $RACE, the checkout's, or the one on PATH)")
+    parser.add_argument("--top", action="append", default=[], metavar="DIR", help="another folder that the build works in, such as its sources; may be repeated")
     parser.add_argument("--warm", action="store_true", help="builds start from this tree, though some of what they make is there already; "
                         "without a command: the same of the record that is there")
     parser.add_argument("--fresh", action="store_true", help="record a clean copy in the place of the folder that ninja builds in")
@@ -144,11 +146,13 @@ def parse(args: List[str]) -> argparse.Namespace:
     parser.add_argument("--footprints", action="store_true", help="keep a listing and footprints of each build, for race check --makefile")
     parser.add_argument("--missing", action="store_true", help="report missing inputs too: files whose edit does not make a target again")
     parser.add_argument("words", nargs=argparse.REMAINDER, metavar="-- COMMAND ..", help="what builds the project")
-    found = parser.parse_args(args)
+    found, unknown = parser.parse_known_args(args)
+    if unknown:
+        parser.error("no option of race-record: %s; what belongs to the build stands behind --, such as race-record -- make -j4" % " ".join(unknown))
     if found.words[:1] == ["--"]:
         found.words = found.words[1:]
     if not found.words and not found.warm:
-        parser.error("which command builds the project? (race-record -- make)")
+        parser.error("which command builds the project? It stands behind --, such as make: race-record -- make")
     return found
 
 
@@ -156,6 +160,16 @@ def stop(text: str) -> int:
     """A usage fault or a missing tool."""
     print("race-record: " + text, file=sys.stderr)
     return 3
+
+
+def no_command(word: str) -> str:
+    """What to say of a command that cannot be run."""
+    if word in PACKAGES:
+        return "%s is missing (Debian: apt-get install %s)" % (word, PACKAGES[word])
+    if os.path.isfile(word) and "/" in word:
+        return "%s cannot be run: chmod +x %s" % (word, word)
+    here = " (here is ./%s)" % word if os.path.isfile(word) else ""
+    return "no such command: %s%s; behind -- stands the command that builds, such as make: race-record -- make" % (word, here)
 
 
 def judge_build(folder: Path, race: str) -> Judged:
@@ -190,7 +204,7 @@ def attempt(options: argparse.Namespace, words: List[str], tools: Dict[str, str]
         status, seconds = run_build(by_name(words, real), spool, names.tops)
         record = Record(options.words, folder, status, round(seconds, 2), dict(tools))
         if status != 0:
-            record.holes.append("the build ended with status %d" % status)
+            record.holes.append("the build ended with status %d" % status + (": signal %d stopped it" % -status if status < 0 else ""))
         from record.importing import complete  # it was loaded while the build ran
         found = complete(record, spool, names, kept, real, out, options)
         if options.keep_trace:
@@ -223,8 +237,6 @@ def record_all(options: argparse.Namespace, tools: Dict[str, str], out: Path) ->
 def record_fresh(options: argparse.Namespace, tools: Dict[str, str], out: Path) -> Record:
     """The record of a cold copy; the copy and what it built are gone afterwards."""
     folder = fresh_folder(options.words)
-    if folder is None:
-        raise CannotClean("--fresh cleans folders that ninja builds in; for make, clean the tree (make clean) and record it")
     with tempfile.TemporaryDirectory(prefix="race-record-") as room:
         with cold_copy(folder):
             record = record_all(options, tools, Path(room) / "record")
@@ -236,20 +248,20 @@ def run(options: argparse.Namespace) -> int:
     """Records, writes, asks, reports."""
     race = find_race(options.race)
     if race is None:
-        return stop("the program race is missing (--race PROGRAM, $RACE, or on PATH)")
+        return stop(no_race(options.race))
     if options.missing and not import_module("record.missing.inputs").knows_missing(race):
-        return stop("%s does not answer `race missing --tasks`: --missing needs a later version of race" % race)
+        return stop("%s does not answer `race missing --tasks`: it is an older version of race, or another program. Name race by --race, or leave --missing out" % race)
     try:
         tools = versions()
     except Missing as missing:
         return stop(str(missing))
     out = Path(options.output).absolute()
     if not is_record(out):
-        return stop("%s is there and is no record" % out)
+        return stop("%s is there and is no record: it is %s. Nothing there was changed; name another folder by -o" % (out, what_stands(out)))
     if not options.words:
         return judge_warm(out, race) if out.exists() else stop("there is no record in %s: which command builds the project? (race-record --warm -- make)" % out)
     if shutil.which(options.words[0]) is None:
-        return stop("%s: no such command" % options.words[0])
+        return stop(no_command(options.words[0]))
     try:
         with aside(out):
             record = record_fresh(options, tools, out) if options.fresh else record_all(options, tools, out)
@@ -277,7 +289,7 @@ def judge_warm(out: Path, race: str) -> int:
 
 def answer(out: Path, race: str, ended: int, judged: List[Judged], is_missing: bool) -> int:
     """Prints what is known of a record; the status."""
-    print("\n".join(report(read_json(out / "record.json"), judged)))
+    print("\n".join(report(read_json(out / "record.json"), judged, out)))
     if not is_missing:
         return ended
     from record.missing.report import Question, missing_text

@@ -9,10 +9,11 @@ from dataclasses import dataclass, field
 from pathlib import Path
 from typing import Any, Dict, List, Tuple
 
-from record.judge import Race, Verdict
+from record.judge import Race, Verdict, explained
 from record.ninja.fix import fix_text, pool_text
+from record.pages import after_no_verdict
 
-SHOWN_RACES = 30
+SHOWN_RACES, SHOWN_HOLES = 30, 20
 OWN_NAME = re.compile(r"(^|/)@(make|seen|gone|time|mode|links|age|macro|output)(/.*)?$")
 
 
@@ -111,7 +112,7 @@ def races_text(judged: Judged, colour: Colours) -> Tuple[List[str], int, int]:
             lines.append("  and %d more on this file by the same writer" % (len(races) - 1))
         lines.append("")
     if len(groups) > SHOWN_RACES:
-        lines += ["%d more groups of races are in the record" % (len(groups) - SHOWN_RACES), ""]
+        lines += ["%d more groups of races: race-report lists all races" % (len(groups) - SHOWN_RACES), ""]
     return lines, len(judged.verdict.races), len({r.path for r in judged.verdict.races})
 
 
@@ -124,8 +125,24 @@ def assumptions_text(record: Dict[str, Any], is_safe: bool) -> List[str]:
     return lines if len(lines) > 1 else []
 
 
-def report(record: Dict[str, Any], judged: List[Judged]) -> List[str]:
-    """The whole text."""
+def listed(holes: List[str], out: Path) -> List[str]:
+    """Holes, a line each; of many the first ones, and where all of them are."""
+    more = ["  - and %d more: %s has all of them, under holes" % (len(holes) - SHOWN_HOLES, out / "record.json")]
+    return ["  - " + hole for hole in holes[:SHOWN_HOLES]] + (more if len(holes) > SHOWN_HOLES else [])
+
+
+def no_verdict(record: Dict[str, Any], judged: List[Judged], out: Path) -> List[str]:
+    """Why there is no verdict, and where it stands what to do; nothing where there is one."""
+    refused = ["  - no verdict on build %s: %s" % (one.number, explained(one.verdict.refused)) for one in judged if one.verdict.refused]
+    if not refused and not record["holes"]:
+        return []
+    colour = colours()
+    why = "the record has holes:" if record["holes"] else "race did not judge all builds:"
+    return [colour.bad + "NO VERDICT" + colour.end + "  " + why, *refused, *listed(record["holes"], out), after_no_verdict()]
+
+
+def report(record: Dict[str, Any], judged: List[Judged], out: Path) -> List[str]:
+    """The whole text of the record in a folder."""
     colour = colours()
     lines = warm_text(record, colour)
     races = files = 0
@@ -136,11 +153,7 @@ def report(record: Dict[str, Any], judged: List[Judged]) -> List[str]:
             text, count, paths = races_text(one, colour)
             lines += text
             races, files = races + count, files + paths
-        if one.verdict.refused:
-            lines.append("no verdict on build %s: %s" % (one.number, one.verdict.refused))
-    if record["holes"]:
-        lines += [colour.bad + "NO VERDICT" + colour.end + "  the record has holes:"]
-        lines += ["  - " + hole for hole in record["holes"][:20]]
+    lines += no_verdict(record, judged, out)
     recipes = sum(j.about["counts"]["recipes"] for j in judged)
     pairs = sum(j.verdict.pairs for j in judged)
     is_safe = not races and not record["holes"] and not any(j.verdict.refused for j in judged)

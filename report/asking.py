@@ -5,6 +5,7 @@ from __future__ import annotations
 from pathlib import Path
 
 from record import VERSION
+from record.judge import explained
 from record.judge import judge as ask
 from record.missing.report import Question
 from report.model import Assumption, BadRecord, Report, read_build, read_json
@@ -27,7 +28,7 @@ def judge(folder: Path, program: Path) -> Report:
         report.races += races
         report.fixes += [changes.get(it, it) for it in verdict.fix]
         report.is_fixed &= verdict.is_fixed
-        report.holes += [f"build {number}: {verdict.refused}"] * bool(verdict.refused)
+        report.holes += [f"build {number}: {explained(verdict.refused)}"] * bool(verdict.refused)
         report.builds += 1
         report.is_of_ninja &= build.about.get("tool") == "ninja"
         report.pairs += verdict.pairs

@@ -10,7 +10,8 @@ from collections.abc import Iterator, Sequence
 from dataclasses import dataclass
 from pathlib import Path
 
-from record.judge import RACE_LINE, unshown
+from record.judge import RACE_LINE, explained, unshown
+from record.pages import page
 from report.model import Assumption, BadRecord, Build, Report
 
 ORDER = re.compile(r"^\d+ (plain|recipe|inferred) (\S+)(?: :((?: \S+)*))?$")
@@ -22,6 +23,10 @@ PREMISES = (
     "what a recipe does next depends on the bytes that it saw, and on nothing else",
     "two names are two files, and a file that is written is newer than all others",
 )
+NEEDED = {
+    "listing": "the files that are there, one a line (find . > FILE)",
+    "footprints": f'what each recipe reads and writes ("How footprints are recorded" in {page("FORMATS.md")})',
+}
 
 
 @dataclass(frozen=True)
@@ -41,9 +46,13 @@ class Inputs:
 
 def inputs(args: argparse.Namespace) -> Inputs:
     """The inputs that a command line names; the root is the working folder where none is given."""
-    for name in ("listing", "footprints"):
+    for name, holds in NEEDED.items():
         if not getattr(args, name):
-            raise BadRecord(f"--makefile needs --{name} FILE, too")
+            raise BadRecord(f"--makefile needs --{name} FILE too: {holds}")
+    for name in ("makefile", *NEEDED, "base", "includes"):
+        path = getattr(args, name)
+        if path and not os.access(path, os.R_OK):
+            raise BadRecord(f"--{name} names {path}, which {'cannot be read' if path.exists() else 'is not there'}")
     root = os.path.abspath(args.root or ".")
     graph = ["--makefile", str(args.makefile), "--listing", str(args.listing), "--root", root]
     graph += ["--base", str(args.base)] if args.base else ["--posix-base"] if args.posix_base else []
@@ -67,7 +76,7 @@ def asked(program: Path, words: Sequence[str]) -> subprocess.CompletedProcess[st
 def refusal(done: subprocess.CompletedProcess[str], command: str) -> str:
     """Why `race` refused its input; nothing where it did not."""
     said = " ".join((done.stdout + done.stderr).split())
-    return f"race {command}: {said or 'no reason given'}" if done.returncode == 2 else ""
+    return f"race {command}: {explained(said) or 'no reason given'}" if done.returncode == 2 else ""
 
 
 def rules(makefile: Path) -> Iterator[tuple[str, int, str]]:
@@ -111,8 +120,9 @@ def judge_makefile(given: Inputs, program: Path) -> Report:
             report.races.append(build.race(path, (first, does), (second, also)))
         elif word in ("pairs", "recipes"):
             setattr(report, word, int(rest))
-    if not report.holes and (listed.returncode == 1) != bool(report.races):
-        report.holes = ["race list: its lines and its status differ"]
+    is_whole = f"races {len(report.races)}" in listed.stdout.splitlines() and (listed.returncode == 1) == bool(report.races)
+    if not report.holes and not is_whole:
+        report.holes = [f"{program} does not answer as race does: install race again, or name another by --race"]
     fix(report, given, program)
     report.verdict = "none" if report.holes else "race" if report.races else "safe"
     return report

@@ -3,9 +3,11 @@
 from __future__ import annotations
 
 import json
+from pathlib import Path
 from urllib.parse import quote
 
 from report import VERSION
+from record.entry import reason
 from record.missing.inputs import Found
 from record.missing.report import Judged, Question
 from report.kinds import KINDS
@@ -63,17 +65,20 @@ def as_json(report: Report) -> str:
     return json.dumps(text, indent=1, ensure_ascii=True) + "\n"
 
 
-def read_baseline(text: str) -> dict[str, str]:
+def read_baseline(path: Path) -> dict[str, str]:
     """The races and missing inputs of a baseline, which is a report in JSON: their fingerprints, each with what to call it."""
+    how = f"to make it anew: race-report --format json -o {path}"
     try:
-        found = json.loads(text)
+        found = json.loads(path.read_text(encoding="utf-8"))
         if found["schema"] != "race-report" or found["version"] != VERSION:
-            raise BadRecord(f"the baseline is no race-report of version {VERSION}")
+            raise BadRecord(f"the baseline {path} is a {found['schema']} of version {found['version']}, and version {VERSION} is read here; {how}")
         races = {it["fingerprint"]: f"{it['path']}: {it['first']['target']} and {it['second']['target']}" for it in found["races"]}
         inputs = found.get("missing", {}).get("inputs", [])
         return {**races, **{it["fingerprint"]: f"{it['target']}: {it['path']} was missing" for it in inputs}}
-    except (ValueError, KeyError, TypeError) as error:
-        raise BadRecord(f"the baseline cannot be read: {error}") from error
+    except OSError as error:
+        raise BadRecord(f"the baseline {reason(error)}; {how}") from error
+    except (AttributeError, KeyError, TypeError, ValueError) as error:
+        raise BadRecord(f"the baseline {path} is no report in JSON ({type(error).__name__}: {error}); {how}") from error
 
 
 def location(recipe: Recipe, message: str, number: int | None = None) -> dict:

@@ -4,13 +4,13 @@ from __future__ import annotations
 
 import argparse
 import contextlib
-import os
 import shutil
 import sys
 from pathlib import Path
 
 from record.entry import reason
 from record.folder import NotWhole, reading
+from record.judge import find_race, no_race
 from report.asking import judge
 from report.direct import inputs, judge_makefile
 from report.machine import as_json, as_sarif, read_baseline
@@ -54,7 +54,7 @@ def parse(words: list[str] | None) -> argparse.Namespace:
     direct.add_argument("--includes", type=Path, metavar="FILE", help="the paths of included texts")
     args = parser.parse_intermixed_args(words)
     if not args.makefile and len(args.words) > 1:
-        parser.error("more than one DIR")
+        parser.error(f"one record at a time, and here are {len(args.words)}: {' '.join(args.words)}")
     return args
 
 
@@ -65,17 +65,9 @@ def read(args: argparse.Namespace, program: Path) -> Report:
     return judge(Path(*(args.words or [".race"])), program)
 
 
-def find_race(named: str | None) -> Path | None:
-    """The program: as it is named, `$RACE`, the checkout's, or the one on PATH."""
-    named = named or os.environ.get("RACE")
-    built = Path(__file__).resolve().parents[1] / "crates" / "race" / "out" / "race"
-    found = shutil.which(named) if named else str(built) if os.access(built, os.X_OK) else shutil.which("race")
-    return Path(found).resolve() if found else None
-
-
 def hold_against(report: Report, baseline: Path) -> None:
     """Marks the races that a baseline has, and notes those of it that are gone."""
-    known = read_baseline(baseline.read_text(encoding="utf-8"))
+    known = read_baseline(baseline)
     report.known = set(known)
     there = {it.fingerprint for it in report.races}
     there |= {judged.fingerprint(it) for judged, it in report.missing.all()} if report.missing else set()
@@ -95,10 +87,10 @@ def main(words: list[str] | None = None) -> int:
         return 3 if end.code else 0
     program = find_race(args.race)
     if not program:
-        return stop("the program race is missing: --race PROGRAM, $RACE, or on PATH")
+        return stop(no_race(args.race))
     try:
         with contextlib.nullcontext() if args.makefile else reading(Path(*(args.words or [".race"]))):
-            report = read(args, program)
+            report = read(args, Path(program))
             if args.baseline:
                 hold_against(report, args.baseline)
             shown, status = FORMS[args.format](report).encode("utf-8", "backslashreplace"), report.status()

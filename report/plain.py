@@ -6,6 +6,7 @@ from collections.abc import Iterator
 from textwrap import wrap
 
 from record.missing.report import missing_text
+from record.pages import after_no_verdict
 from record.report import Colours
 from report.model import Race, Report
 
@@ -25,7 +26,8 @@ def summary(report: Report) -> str:
     """The verdict in one sentence."""
     recipes = f"{counted(report.recipes, 'recipe')} in {counted(report.builds, 'build')}"
     if report.verdict == "none":
-        return "race refuses this makefile." if report.is_direct else f"The record has {counted(len(report.holes), 'hole')}."
+        of_record = f"The record has {counted(len(report.holes), 'hole')}." if report.holes else "No recipe ran in the recorded build, so nothing is judged."
+        return "race refuses this makefile." if report.is_direct else of_record
     if report.verdict == "safe":
         same = "ninja leaves what ninja -j1 leaves" if report.is_of_ninja else "make -j leaves what make leaves"
         return f"{same}. {recipes}; {counted(report.pairs, 'pair')} that conflict are in order."
@@ -58,7 +60,8 @@ def text(report: Report) -> str:
     if report.races:
         checked = "with these lines the build is safe (checked)" if report.is_checked else "not checked"
         lines += [f"All fixes, {checked}:", *(f"    {it}" for it in report.fixes), ""]
-    lines += ["Why there is no verdict:", *(f"  - {it}" for it in report.holes), ""] if report.holes else []
+    what_to_do = [] if report.is_direct else [after_no_verdict()]
+    lines += ["Why there is no verdict:", *(f"  - {it}" for it in report.holes), *what_to_do, ""] if report.holes else []
     lines += ["Fixed since the baseline:", *(f"  - {it}" for it in report.gone), ""] if report.gone else []
     if report.assumptions:
         lines.append("safe, if:" if report.verdict == "safe" else "Assumed:")

@@ -13,7 +13,7 @@ from typing import Any, Dict, Iterator, List, Set, Tuple
 
 from record.assumptions import Assumptions
 from record.folder import Record
-from record.judge import unshown
+from record.judge import ended, unshown
 from record.make.called import called
 from record.make.graph import Build
 from record.missing.anew import Anew
@@ -184,5 +184,5 @@ def judge_missing(race: str, folder: Path, root: str) -> Answer:
     counts = [count_of(lines[:head], word) for word in COUNTS]
     is_whole = -1 not in counts and sum(counts[:4]) == len(answer.found) and ran.returncode == (1 if any(counts) else 0)
     if not is_whole:
-        answer.refused = " ".join((ran.stdout + ran.stderr).split())[:300] or "race missing ended with %d" % ran.returncode
+        answer.refused = " ".join((ran.stdout + ran.stderr).split())[:300] or "race missing " + ended(ran.returncode)
     return answer

@@ -7,8 +7,10 @@ from dataclasses import dataclass
 from pathlib import Path
 from typing import Any, Dict, Iterator, List, Tuple
 
+from record.judge import explained
 from record.missing.inputs import Answer, Found, judge_missing
-from record.report import Colours, place, plural, read_json, target
+from record.pages import after_no_verdict
+from record.report import Colours, listed, place, plural, read_json, target
 
 SHOWN_FILES, SHOWN_TARGETS = 40, 5
 HEADERS = (".h", ".hh", ".hpp", ".hxx", ".inc", ".def")
@@ -67,6 +69,7 @@ class Question:
 
     record: Dict[str, Any]
     judged: List[Judged]
+    folder: Path  # of the record
 
     @staticmethod
     def of(out: Path, race: str) -> "Question":
@@ -76,12 +79,12 @@ class Question:
         for number in record["builds"]:
             about = read_json(out / "builds" / number / "build.json")
             judged.append(Judged(number, about, judge_missing(race, out / "builds" / number, about["folder"]), record["folder"]))
-        return Question(record, judged)
+        return Question(record, judged, out)
 
     def holes(self) -> List[str]:
         """Why there is no answer: a recipe that was not seen, or a graph that is not known, may have missing inputs."""
         own = list(self.record["missing"]["holes"])
-        own += ["build %s: %s" % (one.number, one.answer.refused) for one in self.judged if one.answer.refused]
+        own += ["build %s: %s" % (one.number, explained(one.answer.refused)) for one in self.judged if one.answer.refused]
         is_broken = bool(self.record["holes"])
         warm = self.record["warm"]["count"] and not any(one["kind"] == "up-to-date" for one in self.record["assumptions"])
         own += ["the record has holes"] if is_broken else ["what was up to date did not run (WARM)"] if warm else []
@@ -148,7 +151,7 @@ def build_text(judged: Judged, is_alone: bool, colour: Colours) -> List[str]:
         lines.append("%s%s%s  %s" % (colour.bad, found[0].kind.upper(), colour.end, judged.name(found[0].path)))
         lines += [*rows_of(judged, found), *add_line(judged, found), ""]
     if len(groups) > SHOWN_FILES:
-        lines += ["%d more files are in the record" % (len(groups) - SHOWN_FILES), ""]
+        lines += ["%d more files: race-report --format json lists all" % (len(groups) - SHOWN_FILES), ""]
     return lines
 
 
@@ -170,7 +173,8 @@ def missing_text(question: Question, colour: Colours) -> List[str]:
         lines += build_text(one, len(question.judged) == 1, colour)
     looked = plural(question.record["missing"]["judged"], "recipe") + " looked at"
     if holes:
-        lines += [colour.bad + "NO VERDICT" + colour.end + "  on missing inputs:", *("  - " + hole for hole in holes[:20])]
+        lines += [colour.bad + "NO VERDICT" + colour.end + "  on missing inputs:", *listed(holes, question.folder)]
+        lines += [] if question.record["holes"] else [after_no_verdict()]  # there it stands already
     if found:
         targets = len({(judged.number, one.reader) for judged, one in found})
         lines.append("%s of %s. %s" % (plural(len(found), "missing input"), plural(targets, "target"), looked))

@@ -77,12 +77,16 @@ def words_of_cmake(words: List[str]) -> Optional[List[str]]:
     return found + words[split + 1:]
 
 
-def folders_of(words: List[str]) -> List[str]:
-    """The folders that a command names to work in."""
+def named_folders(words: List[str]) -> List[str]:
+    """The names of folders that a command is to work in, whether they are there or not."""
     named = [words[at + 1] for at, word in enumerate(words[:-1]) if word in ("-C", "--build", "--directory")]
     named += [word[2:] for word in words if word.startswith("-C") and len(word) > 2]
-    named += [word.partition("=")[2] for word in words if word.startswith("--directory=")]
-    return [name for name in named if os.path.isdir(name)]
+    return named + [word.partition("=")[2] for word in words if word.startswith("--directory=")]
+
+
+def folders_of(words: List[str]) -> List[str]:
+    """The folders that a command names to work in."""
+    return [name for name in named_folders(words) if os.path.isdir(name)]
 
 
 def tops_of(words: List[str], others: List[str]) -> List[str]:

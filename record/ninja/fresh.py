@@ -4,14 +4,16 @@ A copy elsewhere would not do: manifests of CMake and Meson name their folder by
 """
 
 import os
+import shlex
 import shutil
 import subprocess
 import sys
 from contextlib import contextmanager
 from pathlib import Path
-from typing import Iterator, List, Optional, Set
+from typing import Iterator, List, Set
 
-from record.ninja.again import folders_of
+from record.entry import reason
+from record.ninja.again import named_folders
 from record.ninja.manifest import Unreadable, read_manifest
 
 SAVED = ".race-saved"
@@ -21,12 +23,23 @@ class CannotClean(Exception):
     """Why there is no cold copy."""
 
 
-def fresh_folder(words: List[str]) -> Optional[str]:
-    """The folder that a command builds in, if ninja builds there."""
-    for name in folders_of(words) + ["."]:
-        if os.path.isfile(os.path.join(name, "build.ninja")):
-            return os.path.realpath(name)
-    return None
+def fresh_folder(words: List[str]) -> str:
+    """The folder that a command builds in, where ninja builds there, and no earlier copy stands in its place."""
+    names = [*named_folders(words), "."]
+    for folder in map(os.path.realpath, names):
+        if os.path.lexists(folder + SAVED):
+            raise CannotClean(left_over(folder))
+        if os.path.isfile(os.path.join(folder, "build.ninja")):
+            return folder
+    raise CannotClean("--fresh cleans folders that ninja builds in, and there is no build.ninja in %s; for make, clean the tree (make clean) "
+                      "and record it without --fresh" % " or ".join(dict.fromkeys(names)))
+
+
+def left_over(folder: str) -> str:
+    """What to say where another run has not put the folder back."""
+    saved, own = shlex.quote(folder + SAVED), shlex.quote(folder)
+    return ("%s is there: another --fresh runs now, or was killed before it put it back\n  it is your folder as it was: rm -rf %s && mv %s %s\n"
+            "  %s is a copy of it. If you have worked in the copy since, keep that, and remove %s" % (saved, own, saved, own, own, saved))
 
 
 def filled(folder: str) -> Set[str]:
@@ -38,9 +51,12 @@ def clean(folder: str) -> None:
     """Takes away what ninja has made, its logs, and folders that then hold nothing."""
     before = filled(folder)
     manifest = read_manifest(folder, "build.ninja", lambda path: Path(path).read_bytes().decode("utf-8", "surrogateescape"))
-    ran = subprocess.run(["ninja", "-C", folder, "-t", "clean"], capture_output=True, text=True, errors="replace", stdin=subprocess.DEVNULL, check=False)
+    ninja = shutil.which("ninja")
+    if ninja is None:
+        raise CannotClean("ninja is missing (Debian: apt-get install ninja-build): --fresh cleans by `ninja -t clean`")
+    ran = subprocess.run([ninja, "-C", folder, "-t", "clean"], capture_output=True, text=True, errors="replace", stdin=subprocess.DEVNULL, check=False)
     if ran.returncode:
-        raise CannotClean("ninja -t clean ended with %d: %s" % (ran.returncode, (ran.stdout + ran.stderr)[-300:].strip()))
+        raise CannotClean("ninja -C %s -t clean ended with %d: %s" % (folder, ran.returncode, (ran.stdout + ran.stderr)[-300:].strip()))
     logs = os.path.join(folder, manifest.top.value("builddir"))
     for name in (".ninja_log", ".ninja_deps"):
         Path(logs, name).unlink(missing_ok=True)
@@ -53,8 +69,6 @@ def clean(folder: str) -> None:
 def cold_copy(folder: str) -> Iterator[None]:
     """Works on a clean copy in the place of a folder; the folder itself comes back, whatever happens."""
     saved, here = folder + SAVED, os.path.realpath(".")
-    if os.path.lexists(saved):
-        raise CannotClean("%s is there: it may be a folder that an earlier --fresh saved" % saved)
     print("race-record: %s is kept as %s meanwhile" % (folder, saved), file=sys.stderr, flush=True)
     os.rename(folder, saved)
     try:
@@ -63,7 +77,7 @@ def cold_copy(folder: str) -> Iterator[None]:
         try:
             clean(folder)
         except (Unreadable, OSError) as fault:
-            raise CannotClean(str(fault)) from None
+            raise CannotClean("%s cannot be cleaned: %s" % (folder, reason(fault) if isinstance(fault, OSError) else fault)) from None
         yield
     finally:
         shutil.rmtree(folder, ignore_errors=True)

@@ -114,8 +114,8 @@ complete -c race-explain -x -a "(race-explain 2>/dev/null | sed 's/  .*//' | tr 
 
 complete -c race-record -s h -l help -d 'show this help message and exit'
 complete -c race-record -s o -l output -x -a '(__fish_complete_directories)' -d 'the folder of the record (.race)'
-complete -c race-record -l race -r -F -d 'the program race'
-complete -c race-record -l top -x -a '(__fish_complete_directories)' -d 'another folder that the build works in'
+complete -c race-record -l race -r -F -d 'the program race (else $RACE, the checkout\'s, or the one on PATH)'
+complete -c race-record -l top -x -a '(__fish_complete_directories)' -d 'another folder that the build works in, such as its sources; may be repeated'
 complete -c race-record -l warm -d 'builds start from this tree, though some of what they make is there already; without a command: the same of the record that is there'
 complete -c race-record -l fresh -d 'record a clean copy in the place of the folder that ninja builds in'
 complete -c race-record -l keep-trace -d 'keep the trace in the record'

@@ -189,7 +189,7 @@ OWNERS: List[Guard] = [
     Guard("folder of make -C", "make/owners.py", '            if act.kind == "U":\n                folder = act.path\n', "", small("decision_below_another_folder"), YES, LOOKS),
     Guard("outer recipe has what its makes do", "make/owners.py", "        todo = [life]\n        while todo:\n            one = todo.pop()\n            yield one\n            todo.extend(one.children)", "        yield life", case("subdirs-parallel"), YES),
     Guard("holes: a make that failed", "make/owners.py", 'self.holes.append("a make failed: make %s"', 'str("a make failed: make %s"', case("inner-failure-ignored"), LOST_HOLE),
-    Guard("holes: a build that failed", "main.py", '            record.holes.append("the build ended with status %d" % status)', "            pass", small("status_of_the_command"), LOST_HOLE),
+    Guard("holes: a build that failed", "main.py", '            record.holes.append("the build ended with status %d" % status + (": signal %d stopped it" % -status if status < 0 else ""))', "            pass", small("status_of_the_command"), LOST_HOLE),
     Guard("holes: a make that did not end", "make/owners.py", 'self.holes.append("a make did not end: make " + words.args)', "pass", "test_owners.Holes.test_make_that_did_not_end"),
     Guard("holes: jobs out of order", "make/owners.py", "elif births != sorted(births):", "elif False:", "test_owners.Holes.test_jobs_out_of_order"),
     Guard("holes: a make without words", "make/owners.py", '                    self.holes.append("a make has no words: " + " ".join(life.argv)[:100])', "                    pass", "test_owners.Holes.test_make_without_words"),
@@ -215,6 +215,7 @@ OWNERS: List[Guard] = [
     Guard("said: sockets", "importing.py", '("sockets", replay.sockets), ', "", small("sockets"), UNSAID),
     Guard("race itself: refused", "main.py", "or any(j.verdict.status not in (0, 1) for j in judged):", "or False:", "test_judge.Answers.test_refused", LOST_HOLE),
     Guard("race itself: a status against its words", "judge.py", "or (listed.returncode == 1) != bool(verdict.races):", "or False:", "test_judge.Answers.test_race_with_the_status_of_a_yes", "2 != 1"),
+    Guard("race itself: another program", "judge.py", "not is_whole or ", "", "test_judge.Answers.test_another_program", LOST_HOLE),
 ]
 UNFILED: List[Guard] = [
     Guard("serial: the user's own -j1", "make/owners.py", "            return False\n        return self.words.slots", "            pass\n        return self.words.slots", small("jobs_of_a_makefile_and_one_job"), YES),

@@ -110,7 +110,8 @@ class Places(unittest.TestCase):
 
     def test_records_that_cannot_be_judged_again(self) -> None:
         for text, says in (("", "is no whole record"), ("[]", "is no whole record"), ("{}", "is of another version"), ('{"version": "0"}', "is of another version"),
-                           ('{"version": "1"}', "is no whole record"), ('{"version": "1", "warm": 3}', "is no whole record"), ("\0\xff", "is no whole record")):
+                           ('{"version": "1"}', "is no whole record"), ('{"version": "1", "warm": 3}', "is no whole record"), ("\0\xff", "is no whole record"),
+                           ("{", "): record again, and report it if that comes again\n")):
             with support.Project(SAFE) as project:
                 (project.folder / ".race").mkdir()
                 (project.folder / ".race" / "record.json").write_text(text, encoding="latin-1")

@@ -44,7 +44,16 @@ class Entry(unittest.TestCase):
                     ran = subprocess.run(words, capture_output=True, text=True, stdin=subprocess.DEVNULL, timeout=60, check=False)
                     self.assertEqual((3, ""), (ran.returncode, ran.stdout))
                     self.assertIn("Traceback", ran.stderr) if how != "no Python" else self.assertIn("SyntaxError", ran.stderr)
-                    self.assertEqual("race-%s: an error of its own stopped it; %s" % (name, line), ran.stderr.splitlines()[-1])
+                    behind = "Nothing of your project or its build is lost. Please report it: the command, and the lines above from Traceback on, which say where it stopped"
+                    self.assertEqual("race-%s: an error of its own stopped it; %s. %s" % (name, line, behind), ran.stderr.splitlines()[-1])
+                    self.assertIn("Traceback", ran.stderr.splitlines()[0])
+
+    def test_out_of_memory(self) -> None:
+        with tempfile.TemporaryDirectory() as room:
+            folder = copied("record", Path(room))
+            (folder / "main.py").write_text("def main():\n    raise MemoryError\n")
+            ran = subprocess.run([sys.executable, os.fspath(folder / "race-record")], capture_output=True, text=True, timeout=60, check=False)
+        self.assertEqual((3, "race-record: out of memory; there is no verdict\n"), (ran.returncode, ran.stderr))
 
     def test_output_that_nobody_reads(self) -> None:
         reads, writes = os.pipe()

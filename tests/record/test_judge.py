@@ -26,7 +26,12 @@ class Answers(unittest.TestCase):
         self.assertEqual(2, self.verdict("echo races 0; exit 1\n"))
 
     def test_race_with_the_status_of_a_yes(self) -> None:
-        self.assertEqual(2, self.verdict("echo race x : a writes b reads\n"))
+        self.assertEqual(2, self.verdict("echo race x : a writes b reads; echo races 1\n"))
+
+    def test_another_program(self) -> None:
+        self.assertEqual(2, self.verdict("exit 0\n"))
+        self.assertEqual(2, self.verdict("echo races 1; echo pairs 1\n"))
+        self.assertEqual(2, self.verdict("echo race x : a writes b reads; echo race y : a writes b reads; echo races 1; exit 1\n"))
 
     def test_killed(self) -> None:
         self.assertEqual(2, self.verdict("kill -9 $$\n"))

@@ -313,8 +313,8 @@ class Verdicts(unittest.TestCase):
             project.sh("chmod +x old")
             outcome = project.record(options=["--missing", "--race", str(project.folder / "old")])
             self.assertFalse((project.folder / "all").exists())
-        self.assertEqual(3, outcome.status)
-        self.assertIn("--missing needs a later version of race", outcome.stderr.decode())
+        wanted = "old does not answer `race missing --tasks`: it is an older version of race, or another program. Name race by --race, or leave --missing out\n"
+        self.assertEqual((3, True), (outcome.status, outcome.stderr.decode().endswith(wanted)), outcome.stderr)
 
     def test_example(self) -> None:
         with support.Project() as project:

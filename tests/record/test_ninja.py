@@ -1,5 +1,6 @@
 """Records small projects that ninja builds; ninja_table.py says what each must come to."""
 
+import os
 import re
 import shutil
 import unittest
@@ -132,10 +133,36 @@ class Fresh(unittest.TestCase):
             record, _ = project.left()
         self.assertEqual([], (record or {"holes": ["none"]})["holes"])
 
+    def says(self, project: support.Project, text: str, *words: str) -> None:
+        """What is said where nothing can be recorded, in lines."""
+        outcome = project.record(words, ["--fresh"])
+        self.assertEqual((3, text), (outcome.status, outcome.stderr.decode()))
+
     def test_make(self) -> None:
         with support.Project({"Makefile": "all: ; touch all\n"}) as project:
-            outcome = project.record(["make"], ["--fresh"])
-        self.assertEqual((3, True), (outcome.status, b"make clean" in outcome.stderr))
+            self.says(project, "race-record: --fresh cleans folders that ninja builds in, and there is no build.ninja in d or .; for make, clean the tree (make clean) "
+                               "and record it without --fresh\n", "make", "-C", "d")
+            self.assertFalse((project.folder / "all").exists())
+
+    def test_folder_of_a_run_that_was_killed(self) -> None:
+        with support.Project({"b c/build.ninja": RULES, "b c.race-saved/kept": "k"}) as project:
+            own = "'%s'" % os.path.realpath(project.folder / "b c")
+            saved = own[:-1] + ".race-saved'"
+            text = ("race-record: %s is there: another --fresh runs now, or was killed before it put it back\n  it is your folder as it was: rm -rf %s && mv %s %s\n"
+                    "  %s is a copy of it. If you have worked in the copy since, keep that, and remove %s\n" % (saved, own, saved, own, own, saved))
+            self.says(project, text, "ninja", "-C", "b c")
+            project.sh("rm 'b c/build.ninja'")
+            self.says(project, text, "ninja", "-C", "b c")
+            project.sh("rmdir 'b c'")
+            self.says(project, text, "ninja", "-C", "b c")
+            self.assertEqual("k", (project.folder / "b c.race-saved" / "kept").read_text())
+
+    def test_folder_that_cannot_be_cleaned(self) -> None:
+        with support.Project({"b/build.ninja": "build a: none\n"}) as project:
+            outcome = project.record(["ninja", "-C", "b"], ["--fresh"])
+            self.assertEqual((3, "race-record: %s/b cannot be cleaned: build.ninja:1: unknown rule none" % os.path.realpath(project.folder)),
+                             (outcome.status, outcome.stderr.decode().splitlines()[-1]))
+            self.assertEqual(["b"], sorted(path.name for path in project.folder.iterdir()))
 
 
 for case in CASES:
