@@ -20,6 +20,9 @@ MAGIC = re.compile(r"[*?\[]")
 BOUND = re.compile(r"\$[({](?:foreach|let)[ \t]+(?:[^,\n]*[^\w.,\s-]|(?:[^,\n]*\s)?\d)[^,\n]*,"
                    r"|(?m:^)(?!\t)(?:[^\n;#=]*:)?[ \t]*(?:(?:override|export|private|define)[ \t]+)*(?:\d+|[@<^+*?|%])[ \t]*(?:[+?!]|::?:?)?="
                    r"|(?m:^)[ \t]*(?:(?:override|export|private)[ \t]+)*define[ \t]+(?:\d+|[@<^+*?|%])[ \t]*(?:[+?!]|::?:?)?\n")
+# What calls `eval`, or may hand its name to `call`. A shell's own `eval` stands in a recipe, and files may be called eval.c.
+WORD_EVAL = r"(?<![\w./+-])eval(?![\w./+-])"
+EVALS = re.compile(r"[({]eval[\s\\]|[({]call\s+eval\b|(?m:^)(?:(?!\t)|\t[ \t]*(?:override|export|private|define|[\w.-]+[ \t]*(?:[+?!]|::?:?)?=))[^\n]*?" + WORD_EVAL)
 NAMED_BY_MACRO = re.compile(r"\$[({][^(){}\s,:]*\$(?!\$)")
 # A line of a makefile that is a rule, up to its recipe, and one that includes makefiles: make looks for the names in them.
 RULE = re.compile(r"(?m)^(?!\t)((?:[^\n=#:;]*\\\n)*[^\n=#;]*?:(?![:=])(?:[^\n;#=]*\\\n)*[^\n;#]*)")
@@ -41,7 +44,7 @@ class Macros:
         self.text, self.values = text, values
         self.is_bound_otherwise = BOUND.search(text) is not None
         self.target = UNKNOWN if self.is_bound_otherwise or any(MAGIC.search(name) for name in names) else NAMED  # what stands for a target's name
-        self.is_open = "eval" in text
+        self.is_open = "eval" in text if ".RECIPEPREFIX" in text else EVALS.search(text) is not None
         self.bound = "\n".join(text[found.end():].partition("\n")[0] for found in BINDS.finditer(text))  # lines of names that have a value from there
         self.plain: Dict[str, bool] = {}
         self.are_plain: Optional[bool] = None  # whether no argument of a function is a pattern

@@ -4,7 +4,7 @@ import os
 import re
 from typing import TYPE_CHECKING, Dict, Iterator, List, Optional, Set
 
-from record.make.globs import BOUND, MAGIC, arguments, with_values
+from record.make.globs import BOUND, MAGIC, WORD_EVAL, arguments, with_values
 from record.make.graph import Node
 from record.make.macros import ANY, Macros, evals
 from record.make.owners import Work
@@ -49,7 +49,7 @@ def may_list(known: Macros, text: str) -> bool:
     `$$` has another value, as in `X = $(eval X := $$(shell ..))$(X)`, and where that names no `wildcard`."""
     found = list(evals(text))
     bodies = [text[one.start + 1:one.end] for one in found]
-    is_known = text.count("eval") == len(found) and not any(one.name == ANY or "$" in body.replace("$$", "") for one, body in zip(found, bodies))
+    is_known = len(re.findall(WORD_EVAL, text)) == len(found) and not any(one.name == ANY or "$" in body.replace("$$", "") for one, body in zip(found, bodies))
     inner = [body.replace("$$", "$") for body in bodies]
     return not is_known or any("wildcard" in one for body in inner for one in (body, *map(known.text_of, known.reached(body))))
 

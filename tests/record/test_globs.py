@@ -35,6 +35,14 @@ class Globs(unittest.TestCase):
             self.assertIn("*", patterns([text + "S := $(wildcard $(D)/x)\n"], {"D": "src"}), text)
         self.assertEqual({"*"}, patterns(["S := $(wildcard $(D)/x)\nD := x\nD += y\n"], {"D": "$(lines)*"}))
 
+    def test_names_that_hold_the_word_eval(self) -> None:
+        for text in ("O := eval.o x-eval.c\n", "all: ; eval \"$$x\"; ./eval\n", "all:\n\teval \"$$x\"\n", "O := lib/eval evaluate eval-1\n"):
+            macros = text.replace("all: ; eval", "all:\n\teval") + "D := src\nD += lib\nS := $(wildcard $(D)/*.c)\n"
+            self.assertEqual({"*.c"}, patterns([macros], {"D": "src lib"}), text)
+        for text in ("$(eval D := a*)\n", "X = $(call eval,D := a*)\n", "N = eval\n", "all:\n\t@$(foreach d,a b,$(eval D := $d*))\n", "define N\neval\nendef\n", "\tN = eval\n", "${eval\\\nD := a*}\n",
+                     ".RECIPEPREFIX = >\nall:\n\tN eval\n", "N = $(E)eval\n", "all:\n\t$(eval $(shell cat f))\n", "all: ; x $(call  eval,D := a*)\n"):
+            self.assertIn("*", patterns([text + "D := src\nD += lib\nS := $(wildcard $(D)/*.c)\n"], {"D": "src lib"}), text)
+
     def test_what_cannot_be_known(self) -> None:
         for text in ("S := $(wildcard $(D*)/x)\n", "S := $(wildcard $(shell ls))\n",
                      "F := wildcard\nS := $($(F) x)\n", "S := $(wildcard x\n"):
