@@ -103,6 +103,12 @@ class Looks(unittest.TestCase):
     def test_texts_that_run_other_texts(self) -> None:
         self.assertEqual([True, True, False], [shelltext.compares_ages(sh(t), "/") for t in (". ./x", "eval x", "cat x.y")])
 
+    def test_scripts_that_a_script_takes_in(self) -> None:
+        for text in (". ./x", "if . ./x; then", "then\tsource ./x", "x=1 . ./x", "(. ./x)", "command . ./x", "true && . ./x", "y=`. ./x`", "{ . ./x\n}", "time\n. ./x"):
+            self.assertEqual(["./x"], shelltext.TAKEN.findall(text.replace("./x`", "./x `")), text)
+        for text in ('echo "the what command. */"', "echo . ./x", "cd . x", "./x . y", "a.b c", "ls ../. x"):
+            self.assertEqual([], shelltext.TAKEN.findall(text), text)
+
 
 if __name__ == "__main__":
     unittest.main()
