@@ -344,8 +344,8 @@ def add_listed(builder: "Builder", table: Dict[str, Makers]) -> None:
 
 
 def matches(name: str, pattern: str) -> bool:
-    """Whether a pattern can match the name of a folder. `*/` is what Python asks for where it imports."""
-    return name != "__pycache__" if pattern == "*/" else fnmatch.fnmatchcase(name, pattern)
+    """Whether a pattern can match the name of a folder; with a slash behind it, that of no file. `*/` is what Python asks for where it imports."""
+    return name != "__pycache__" if pattern == "*/" else fnmatch.fnmatchcase(name, pattern.rstrip("/"))
 
 
 def add_times(builder: "Builder") -> None:

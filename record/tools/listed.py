@@ -5,6 +5,7 @@ import re
 from typing import List, Set
 
 from record.tools import shelltext
+from record.tools.findwords import find_patterns
 from record.tools.shellvalues import patterns_in
 from record.trace.lives import Life
 
@@ -16,7 +17,7 @@ def patterns(life: Life, where: str, is_open_shell: bool) -> List[str]:
     """The patterns of names that a program lists a folder for. Options of shells in the environment may change what patterns say."""
     if is_open_shell or life.taken or life.cut:
         return ["*"]
-    return libtool_patterns(life) or patterns_in(life, where) or list(shelltext.patterns(life.argv, False))
+    return libtool_patterns(life) or find_patterns(life) or patterns_in(life, where) or list(shelltext.patterns(life.argv, False))
 
 
 def libtool_patterns(life: Life) -> List[str]:

@@ -15,6 +15,11 @@ def tops(name: str) -> str:
     return "test_projects.Tops.test_" + name
 
 
+def finds(name: str) -> str:
+    """The test of a makefile of test_findwords.py."""
+    return "test_findwords.Makefiles.test_" + name
+
+
 def makedirs(name: str) -> str:
     """A test of a Python program that makes folders."""
     return "test_projects.Makedirs.test_" + name
@@ -88,6 +93,13 @@ PROJECT_GUARDS: List[Guard] = [
     Guard("folders: what make says of that", "make/ahead.py", "@?echo [^;&|`$<>()", "@?echo [^;&|`$()", project("folder_that_make_makes_ahead_with_a_word"), YES),
     Guard("folders: macros of one target", "make/ahead.py", "return found.group() if lines else value", "return value", project("folder_that_make_makes_ahead_by_a_macro_of_a_target"), YES),
     Guard("folders: macros that recipes change", "make/ahead.py", " or ANY in known.changed or name in known.changed", "", project("folder_that_make_makes_ahead_by_a_macro_that_changes"), YES),
+    Guard("find: names", "tools/listed.py", " or find_patterns(life)", "", finds("find_by_another_name"), FALSE_RACE),
+    Guard("find: one of several tests", "tools/findwords.py", "Part(all(one.is_narrow for one in rows),", "Part(any(one.is_narrow for one in rows),", "test_findwords.Words.test_any_name"),
+    Guard("find: what is done for any name", "tools/findwords.py", "found.is_open or one.is_open and not found.is_narrow", "found.is_open", "test_findwords.Words.test_any_name"),
+    Guard("find: tests that are turned round", "tools/findwords.py", "return Part(acts=one.acts, is_open=one.is_open)", "return one", "test_findwords.Words.test_any_name"),
+    Guard("find: folders that are made", "tools/findwords.py", "(set() if is_flat else {FOLDERS})", "set()", finds("find_in_a_folder_that_is_made"), YES),
+    Guard("find: other programs", "tools/findwords.py", " or not PROGRAM.match(life.program)", "", "test_findwords.Words.test_what_is_not_read"),
+    Guard("find: folders that Python uses", "make/folders.py", 'pattern.rstrip("/"))', "pattern)", finds("find_of_a_folder_that_python_uses"), YES),
     Guard("texts: macros that they set", "tools/listed.py", " or patterns_in(life, where)", "", shells("Makefiles.test_rules_of_automake_for_info"), FALSE_RACE),
     Guard("texts: folders of patterns", "tools/shellvalues.py", 'if not one.folder or not is_sure or fnmatchcase(where, "*/" + one.folder)', "if True", shells("Makefiles.test_rules_of_automake_for_info"), FALSE_RACE),
     Guard("texts: macros of the environment", "tools/shellvalues.py", "        if not any(is_set(one, word) for one in settings):\n            return None\n", "", shells("Makefiles.test_loop_over_names_of_the_environment"), YES, ("tools/shellvalues.py", "        if texts is None:\n            raise Unread\n", "")),
