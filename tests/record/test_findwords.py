@@ -53,9 +53,9 @@ FINDS: Dict[str, Small] = {
     "find_by_this_name": Small("race", LISTS % ("n.c", "-name '*.c'"), KEPT),
     "find_by_one_of_two_names": Small("race", LISTS % ("n.h", "-name '*.c' -o -name '*.h'"), KEPT),
     "find_of_folders": Small("safe", LISTS % ("n.c", "-type d"), KEPT),
-    "find_of_a_folder_that_is_made": Small("race", "all: x y\nx: ; mkdir -p d/new; touch x\ny: ; find d -type d > y\n", KEPT),
-    "find_of_a_folder_that_python_uses": Small("race", "all: x y\nx: ; mkdir -p d/__pycache__; touch x\ny: ; find d -type d > y\n", KEPT),
-    "find_in_a_folder_that_is_made": Small("race", "all: x y\nx: ; mkdir -p d/new; touch d/new/n.c x\ny: ; find d -name '*.c' > y\n", KEPT),
+    "find_of_a_folder_that_is_made": Small("race", "all: y x\nx: ; mkdir -p d/new; touch x\ny: ; find d -type d > y\n", KEPT),
+    "find_of_a_folder_that_python_uses": Small("race", "all: y x\nx: ; mkdir -p d/__pycache__; touch x\ny: ; find d -type d > y\n", KEPT),
+    "find_in_a_folder_that_is_made": Small("race", "all: y x\nx: ; mkdir -p d/new; touch d/new/n.c x\ny: ; find d -name '*.c' > y\n", KEPT),
     "find_of_any_name": Small("race", LISTS % ("n.o", "-type f"), KEPT),
 }
 
