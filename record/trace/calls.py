@@ -148,6 +148,7 @@ class Calls(Opened):
         if life.cut:
             self.holes.append("the words of a program are too many to be seen: " + " ".join(argv)[:100])
         life.ran.append(argv)
+        self.begin_program(life, self.first_words(found.path))
         if life.is_wrapper:
             return
         self.note_rights(life, found.path)
@@ -303,8 +304,7 @@ class Calls(Opened):
         elif where[0] == "/proc":
             self.watchers.append(" ".join(life.argv)[:100])
         else:
-            for pattern in listed.patterns(life, where[0], self.is_open_shell):
-                self.put(life, "L", where[0] + "\0" + pattern)
+            self.put_lists(life, where[0], listed.patterns(life, where[0], self.is_open_shell), call.result == 0)
             if not shelltext.sorts_names(life.argv):
                 self.put(life, "l", where[0])
 

@@ -5,7 +5,7 @@ import re
 from typing import Dict, List, Set, Tuple
 
 from record.tools import shelltext
-from record.trace.lives import Act, Life
+from record.trace.lives import Act, Life, Listed
 from record.trace.names import Found, Inode, Names
 from record.trace.proc import NUMBER, is_hidden, plain_path
 from record.trace.strace import Begun, Call, Ended, Event, Unread
@@ -46,6 +46,7 @@ class Replay:
         self.watchers: List[str] = []  # who lists the processes that run, or waits for changes of files
         self.changes: List[Tuple[int, str, str]] = []  # names that come and go, in order
         self.askers: List[str] = []  # who asks when a file was read last
+        self.lists: List[Listed] = []  # lists of folders that may be about any name
         self.is_open_shell = bool(shelltext.SHELL_MACROS & {*os.environ})  # shells may have other options than their words say
 
     # ---------------------------------------------------------------- processes
@@ -90,7 +91,7 @@ class Replay:
     @staticmethod
     def inherit(child: Life, parent: Life) -> None:
         child.folder, child.cut, child.mask, child.taken = parent.folder, parent.cut, parent.mask, parent.taken
-        child.argv = child.argv or parent.argv
+        child.argv, child.running = child.argv or parent.argv, child.running or parent.running
         child.is_wrapper = parent.is_wrapper if not child.ran else child.is_wrapper
 
     def play(self, event: Event) -> None:

@@ -1,0 +1,107 @@
+"""What the scripts that shells run look for where they list folders: their texts say so, read when the trace has been played.
+
+A list stays one for any name where the text cannot be read soundly, where something wrote it in the build, where a word that is not quoted
+may hold what nobody knows, or where a program has run whose output is such a word.
+"""
+
+import os
+import re
+from typing import Dict, List, NamedTuple, Optional, Sequence, Set, Tuple
+
+from record.make.words import Words
+from record.tools import shelltext
+from record.tools.shellcut import Unread
+from record.tools.shellvalues import Asked, parts_in, parts_of
+from record.tools.surroundings import READ_AS, Surroundings, check
+from record.trace.lives import Life, Listed, Program
+
+KNOWN_SHELLS = ("dash", "bash")
+NO_CHANGE = re.compile(r"-[ehuvx]+")  # options of a shell that change no words
+FUNCTION = "BASH_FUNC_"
+
+
+class Said(NamedTuple):
+    """What a script says: all patterns that its words may be, and the programs of which none has run where these are all."""
+
+    asked: Set[Asked]
+    barred: Set[str]
+
+
+class Scripts:
+    """The scripts of a record."""
+
+    def __init__(self, lives: Sequence[Life], logs: Sequence[Words]) -> None:
+        changed: Dict[str, int] = {}
+        for path, place in ((path, place) for life in lives for path, place in life.changed.items()):
+            changed[path] = max(place, changed.get(path, 0))
+        self.around = Surroundings(lives, logs, changed)
+        self.known: Dict[int, Optional[Said]] = {}
+        self.runs: Dict[int, Dict[str, int]] = {}
+        self.has_functions = any(name.startswith(FUNCTION) for name in os.environ)
+
+    def patterns(self, one: Listed) -> List[str]:
+        """The patterns of names that a list is about; none where they are not known."""
+        program = one.program
+        if program is None:
+            return []
+        if id(program) not in self.known:
+            self.known[id(program)] = self.said(program) if self.is_plain(program) else None
+        said = self.known[id(program)]
+        if said is None or any(self.first_runs(program).get(name, one.place) < one.place for name in said.barred):
+            return []
+        return parts_in(one.life, one.folder, said.asked)
+
+    def is_plain(self, program: Program) -> bool:
+        """Whether a shell that is known runs the text of the script, and that alone, with no option that changes words."""
+        script, name = shelltext.script_of(program.argv), shelltext.base_name(program.argv)
+        options, shell = program.argv[1:program.argv.index(script, 1)], os.path.basename(program.shell)
+        if name not in READ_AS or shell not in KNOWN_SHELLS or not all(NO_CHANGE.fullmatch(word) for word in [*options, program.option or "-e"]):
+            return False
+        if shell == "bash" and (self.has_functions or name == "bash" and self.around.outside(program, "BASH_ENV") != [""]):
+            return False
+        return ("R", program.script) in program.life.events
+
+    def said(self, program: Program) -> Optional[Said]:
+        """What the text of a script says; None where it cannot be read."""
+        script = self.around.script(program)
+        if script is None:
+            return None
+        values = self.around.values(program, script)
+        try:
+            check(script, values)
+            for piece in script.barring:
+                values.bar(piece.text)
+            return Said({one for word in script.words for field in values.expanded(word) for one in parts_of(field)}, values.barred)
+        except (Unread, RecursionError):
+            return None
+
+    def first_runs(self, program: Program) -> Dict[str, int]:
+        """When each program was first run by a script, by way of those that it started too."""
+        if id(program) not in self.runs:
+            found: Dict[str, int] = {}
+            todo = [program.life]
+            while todo:
+                life = todo.pop()
+                for one in (one for one in life.programs if one.place > program.place):
+                    for word in one.argv[:3]:  # a script stands behind its interpreter
+                        name = os.path.basename(word)
+                        found[name] = min(one.place, found.get(name, one.place))
+                todo += (child for child in life.children if child.born > program.place)
+            self.runs[id(program)] = found
+        return self.runs[id(program)]
+
+
+def settle_scripts(lists: Sequence[Listed], lives: Sequence[Life], logs: Sequence[Words]) -> None:
+    """Puts the patterns that a script may ask for in the place of any name, where all lists of a folder by a process are such ones."""
+    groups: Dict[Tuple[int, str], List[Listed]] = {}
+    for one in lists:
+        groups.setdefault((id(one.life), one.folder), []).append(one)
+    known = [group for group in groups.values() if all(one.program is not None for one in group)]
+    scripts = Scripts(lives, logs) if known else None
+    for group in known:
+        found = [scripts.patterns(one) for one in group] if scripts is not None else []
+        life, key = group[0].life, ("L", group[0].folder + "\0*")
+        if all(found) and key in life.events:
+            place = life.events.pop(key)
+            for pattern in sorted({pattern for patterns in found for pattern in patterns}):
+                life.events.setdefault(("L", group[0].folder + "\0" + pattern), place)
