@@ -4,7 +4,7 @@ import re
 from typing import Callable, Dict, List, Tuple
 
 from record.tools.scriptcut import DEFAULT, DOCUMENT, ScriptCutter
-from record.tools.shellcut import NAME, Piece, Token, Unread
+from record.tools.shellcut import NAME, UNSET, Piece, Token, Unread
 from record.tools.shellwords import ASSIGNS, HIDES, OWN, RESERVED, Reader, Setting, State, Word, may_be_option
 
 PARAMETERS = "@"  # the name under which a script keeps its words
@@ -177,7 +177,7 @@ class ScriptReader(Reader):
         for word in words:
             if not NAME.fullmatch(word.plain()):
                 raise Unread
-            self.set(word.plain(), [Word([], word.place, word.blocks)], tuple(state.blocks), False)
+            self.set(word.plain(), [Word([Piece("text", UNSET, False)], word.place, word.blocks)], tuple(state.blocks), False)
 
     def on_read(self, words: List[Word], is_sure: bool, state: State) -> None:
         """`read NAME ..`: the value may be anything."""

@@ -4,6 +4,7 @@ import re
 from dataclasses import dataclass
 from typing import List, Tuple
 
+UNSET = "\x06"  # the value of a macro that has none
 SEPARATES = " \t"
 GOES_ON = "\\\n"
 OPERATORS = ("&&", "||", ";;", ";", "|", "&", "\n", "(", ")")

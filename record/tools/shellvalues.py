@@ -12,7 +12,7 @@ from typing import Callable, FrozenSet, Iterable, Iterator, List, NamedTuple, Op
 
 from record.tools import shelltext
 from record.tools.scriptcut import DEFAULT
-from record.tools.shellcut import Cutter, Piece, Unread
+from record.tools.shellcut import UNSET, Cutter, Piece, Unread
 from record.tools.shellwords import HIDES, RESERVED, Reader, Script, Setting, Word
 from record.trace.lives import Life
 from record.trace.system import OF_SYSTEM
@@ -151,7 +151,7 @@ class Values:
         if piece.kind == "macro" and piece.text in ("@", "*"):
             return self.all_words(word)
         if piece.kind == "macro":
-            return self.values(piece.text, word)
+            return as_texts(self.values(piece.text, word))
         if piece.kind == "part":
             values = self.values(piece.text, word)
             return None if values is None or any(NAMES.search(one) for one in values) else [ANY]
@@ -159,14 +159,16 @@ class Values:
         if default is None:
             return None
         values = [""] if "+" in default.group(2) else self.values(default.group(1), word)
-        return None if values is None else [*values, *([] if "?" in default.group(2) else [default.group(3)])]
+        if values is not None and default.group(2) in ("-", ":-", "=", ":="):
+            values = [one for one in values if one != UNSET and (one or ":" not in default.group(2))]
+        return None if values is None else [*(as_texts(values) or []), *([] if "?" in default.group(2) else [default.group(3)])]
 
     def all_words(self, word: Word) -> Optional[List[str]]:
         """The words of a script as one text; where it sets them anew, each of them, if they stand alone."""
         values = self.values("@", word)
         if values is None or "@" not in self.script.settings:
             return None if values is None else [" ".join(values)]
-        return values if len([piece for piece in word.pieces if piece.text]) == 1 else None
+        return as_texts(values) if len([piece for piece in word.pieces if piece.text]) == 1 else None
 
     @staticmethod
     def known(texts: Optional[List[str]]) -> List[str]:
@@ -237,6 +239,11 @@ def joined(found: List[str], more: Iterable[str]) -> List[str]:
 def whole(text: str) -> str:
     """A text whose blanks do not cut it into words of a loop."""
     return re.sub(r"\s", BLANK, text)
+
+
+def as_texts(values: Optional[List[str]]) -> Optional[List[str]]:
+    """What values are where they stand in a word: one that is not set is no text."""
+    return values and ["" if one == UNSET else one for one in values]
 
 
 def number(piece: Piece) -> str:

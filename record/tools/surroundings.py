@@ -17,13 +17,13 @@ from record.make.words import Words, makefiles
 from record.tools import shelltext
 from record.tools.scriptcut import ScriptCutter
 from record.tools.scriptwords import ScriptReader
-from record.tools.shellcut import Unread
+from record.tools.shellcut import UNSET, Unread
 from record.tools.shellvalues import COUNT, Values
 from record.tools.shellwords import OWN, Script
 from record.trace.lives import Life, Program
 
 # What shells set themselves, and what make hands on in a way of its own.
-SHELLS_OWN = re.compile(r"SHELL$|IFS$|PS\d$|DIRSTACK$|MAPFILE$|COPROC$|BASH|COMP_|READLINE|MAKE|MFLAGS$|GNUMAKEFLAGS$|[A-Z]+OPTS$")
+SHELLS_OWN = re.compile(r"SHELL$|IFS$|PS\d$|DIRSTACK$|MAPFILE$|COPROC$|BASH(?!_ENV$)|COMP_|READLINE|MAKE|MFLAGS$|GNUMAKEFLAGS$|[A-Z]+OPTS$")
 HANDS_ON = {*shelltext.PASSING} - {"env"}  # programs that leave the environment as it is
 REFERENCE = re.compile(r"\$(?:\(([A-Za-z_][\w.-]*)\)|\{([A-Za-z_][\w.-]*)\}|([A-Za-z_]))")
 EVAL = re.compile(r"\beval\b")
@@ -99,7 +99,7 @@ class Surroundings:
             if life.parent is None and life is not self.first:
                 return None
             place, life = life.born, life.parent
-        return [*found, os.environ.get(name, "")]
+        return [*found, os.environ.get(name, UNSET)]
 
     def set_by(self, program: Program, name: str) -> Optional[List[str]]:
         """The values that a program gives a macro for what it starts; None where nobody knows."""
@@ -145,9 +145,9 @@ class Surroundings:
         bases = [one.base for one in words.rounds] if words is not None else []
         if words is None or not bases or {name, ANY_MACRO} & self.changing(life, words):
             return None
-        found = [""]
+        found = [UNSET]
         for base in bases:
-            text = None if base is None or name in base.bodies else expanded(base, base.values.get(name, ""))
+            text = None if base is None or name in base.bodies else expanded(base, base.values.get(name, UNSET))
             if text is None:
                 return None
             found.append(text)

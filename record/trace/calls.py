@@ -148,7 +148,7 @@ class Calls(Opened):
         if life.cut:
             self.holes.append("the words of a program are too many to be seen: " + " ".join(argv)[:100])
         life.ran.append(argv)
-        self.begin_program(life, self.first_words(found.path))
+        self.begin_program(life, words[1] if words[1:] else words[0], self.first_words(found.path))
         if life.is_wrapper:
             return
         self.note_rights(life, found.path)

@@ -38,6 +38,8 @@ class Program:
     life: "Life"
     argv: List[str]
     place: int
+    name: str = ""  # as who started it named it
+    folder: str = ""
     script: str = ""  # the file of a shell's script, by its whole path
     shell: str = ""  # the file of that shell
     option: str = ""  # what the first line of the script hands to it
