@@ -40,6 +40,7 @@ class Scripts:
         self.known: Dict[int, Optional[Said]] = {}
         self.runs: Dict[int, Dict[str, int]] = {}
         self.has_functions = any(name.startswith(FUNCTION) for name in os.environ)
+        self.has_traces = re.search(r"[`$]", os.environ.get("PS4", "")) is not None  # what `set -x` prints may run commands
 
     def patterns(self, one: Listed, lists: Sequence[Listed]) -> List[str]:
         """The patterns of names that a list is about; none where they are not known. `lists`: all of this folder by the same process."""
@@ -79,7 +80,7 @@ class Scripts:
         if name not in READ_AS or shell not in KNOWN_SHELLS or not all(NO_CHANGE.fullmatch(word) for word in [*options, program.option or "-e"]):
             return False
         started = self.around.outside(program, "BASH_ENV") if name == "bash" else []
-        if shell == "bash" and self.has_functions or started is None or {*started} - {"", UNSET}:
+        if self.has_traces or shell == "bash" and self.has_functions or started is None or {*started} - {"", UNSET}:
             return False
         return ("R", program.script) in program.life.events
 

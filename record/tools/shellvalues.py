@@ -20,6 +20,7 @@ from record.trace.system import OF_SYSTEM
 MAGIC = re.compile(r"[*?\[]")
 NAMES = re.compile(r"[*?\[{~]")
 HIDDEN = "[\x01\x05]"  # what stands for a text that is not known
+ODD = re.compile(r"\\|[^\S \t\n]")  # shells differ in what a backslash is in a value, and other blanks cut no words
 POSITION = re.compile(r"[1-9@*]")  # `$1`, `$@` and the like
 ANY, ONE, BLANK, COUNT = "\x01", "\x03", "\x04", "\x05"  # some text without a pattern, one sign that is none, a blank that does not cut a word, a number
 LIMIT, DEPTH, KEPT = 64, 6, 1024
@@ -142,8 +143,8 @@ class Values:
         if piece.quoted:
             return [quoted(one) for one in self.of_piece(piece, word) or [ANY]]
         texts = self.known(self.of_piece(piece, word))
-        if any("\\" in one for one in texts):
-            raise Unread  # shells differ in what it is there
+        if any(ODD.search(one) for one in texts):
+            raise Unread
         return [one.replace(BLANK, " ") for one in texts]
 
     def of_piece(self, piece: Piece, word: Word) -> Optional[List[str]]:

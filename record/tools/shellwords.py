@@ -13,7 +13,7 @@ HIDES = {"eval", ".", "source", "set", "shift", "read", "getopts", "unset", "exp
          "let", "trap", "alias", "shopt", "case", "select", "function", "coproc", "[[", "enable", "hash", "jobs", "fc", "bind"}
 RUN = {"!", "command", "builtin", "exec", "time"}
 CLOSES = {"fi", "done", "}"}
-OWN = {"PWD", "OLDPWD", "_", "RANDOM", "SECONDS", "LINENO", "PPID", "REPLY", "OPTARG", "OPTIND", "IFS"}  # a shell sets these itself
+OWN = {"PWD", "OLDPWD", "_", "RANDOM", "SECONDS", "LINENO", "PPID", "REPLY", "OPTARG", "OPTIND", "IFS", "PS4"}  # a shell sets these itself
 # Bash sets a macro by more than `=`; braces, and a pattern that fits a file, may give the name of a command.
 BASH = re.compile(r"[A-Za-z_]\w*(?:\+=|\[)|[^/]*\{[^/]*,|[^/]*(?:[*?]|\[.)")
 ENDS = (";", "\n", "&&", "||", ")", "(")  # what stands behind an assignment that lasts

@@ -30,13 +30,14 @@ EVAL = re.compile(r"\beval\b")
 WRITTEN_AGAIN = (".d", ".Po", ".Plo", ".Pc", ".P", ".dep", ".depend")  # files that compilers write
 READ_AS = ("sh", "dash", "bash")
 SIGNS = re.compile(r"[\w./:+,@%%%s-]*" % COUNT)  # none of them says anything to a shell
+ODD = re.compile(r"[\x00-\x08]|[^\S \t\n]")  # signs that stand for something here, and blanks that do not cut words
 KEPT = 1024
 
 
 @lru_cache(KEPT)
 def script_of_text(text: str) -> Optional[Script]:
     """The text of a shell or of a script, where it can be read."""
-    if len(text) >= shelltext.LARGE or re.search("[\x00-\x08\r]", text) or shelltext.OPTIONS.search(text):
+    if len(text) >= shelltext.LARGE or ODD.search(text) or shelltext.OPTIONS.search(text):
         return None
     try:
         return ScriptReader(text).script

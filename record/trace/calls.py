@@ -129,8 +129,9 @@ class Calls(Opened):
             return
         if not ok:
             if not life.is_wrapper:
-                self.look(life, program, False, True)
+                found = self.look(life, program, False, True)
                 self.look_at_interpreters(life, program)
+                life.taken += (found.path,) if call.error == "ENOEXEC" and life.traits().is_shell else ()  # bash reads it as a script
             return
         words = [program, *texts(call.args)[1:]]
         argv = words[1:]

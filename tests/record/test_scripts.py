@@ -8,7 +8,7 @@ from record.tools.scriptcut import ScriptCutter
 from record.tools.scripts import Said, said_by
 from record.tools.shellcut import UNSET
 from record.tools.shellvalues import Values
-from record.tools.surroundings import script_of_text
+from record.tools.surroundings import changed_in, script_of_text
 from test_small import Small, test_of
 
 
@@ -62,7 +62,7 @@ UNKNOWN: List[Text] = [
     Text("cat << EOF\n`echo \\\"*\\\"`\nEOF\nls *.c\n"), Text("cat << EOF\nx\n"), Text("cat <<< *; ls *.c"), Text("case a in a) ls *.c ;& b) ls *.h;; esac"), Text("x=$(case a in a) ls *.q;; esac); ls *.c"),
     Text("$x ls *.c", (), {"x": ["", "eval"]}), Text("wc() { :; }; eval \"`a | wc`\"; ls *.c"), Text("ls *.c `use`; use() { :; }"), Text("x='\\*'; ls $x"), Text("echo $da\\\nta*"), Text("test() { ls; }; printf $x; ls *.c", (), {"x": ["-v"]}),
     Text("eval \"`a`\" $x; ls *.c", (), {"x": ["b"]}), Text("for f in $(cat list); do ls $f; done"), Text("local IFS; ls *.c"), Text("read() { :; }; ls *.c"), Text("ls *.c\r\nls *.h"), Text("declare x=a; ls *.c"),
-    Text("time -p ls *.c"), Text("command -p read x; ls *.c"), Text("jobs -x eval x=a; ls *.c"), Text("x=1; ls $((x)) *.c"), Text("exec 3< f; getopts a x; ls *.c"), Text("select x in *; do ls *.c; done"),
+    Text("PS4='`ls *.h`'; set -x; ls *.c"), Text("x=a\xa0*; ls $x"), Text("time -p ls *.c"), Text("command -p read x; ls *.c"), Text("jobs -x eval x=a; ls *.c"), Text("x=1; ls $((x)) *.c"), Text("exec 3< f; getopts a x; ls *.c"), Text("select x in *; do ls *.c; done"),
 ]
 
 OSDEF = """#! /bin/sh
@@ -151,6 +151,10 @@ SCRIPTS: Dict[str, Small] = {
     "script_that_prints_names_before_a_script": Small("race", CURSES % "b", {**KEY, "MKkeys.sh": KEYS % "x=`echo '*' | sed p`\n: $x\n./t.sh\nsh ./u.sh Ca*\n", "t.sh": "#!/bin/sh\n:\n", "u.sh": ":\n"}, "chmod +x t.sh"),
     "script_that_prints_names_before_a_command_in_a_pipe": Small("race", CURSES % "b", {**KEY, "MKkeys.sh": KEYS % "x=`echo '*' | sed p`\n: $x\nrm -f pass9*_ | cat\n"}),
     "script_that_prints_names_before_a_command_elsewhere": Small("race", CURSES % "b", {**KEY, "MKkeys.sh": KEYS % "x=`echo '*' | sed p`\n: $x\ncat h/k*\n", "h/k": ""}),
+    "script_that_prints_names_of_a_folder_before_a_command": Small("race", CURSES % "h/b.q b", {**KEY, "MKkeys.sh": KEYS % "x=`echo 'h/*' | sed p`\n: $x\ncat Ca*\n", "h/k": ""}),
+    "script_that_prints_names_before_a_command_without_a_pattern": Small("race", CURSES % "b", {**KEY, "MKkeys.sh": KEYS % "x=`echo '*' | sed p`\n: $x\nrm -f nofile\n"}),
+    "script_that_prints_names_before_a_command_that_finds_none": Small("race", CURSES % "b", {**KEY, "MKkeys.sh": KEYS % "x=`echo '*' | sed p`\n: $x\nset -f\nrm -f pass9*\n"}),
+    "script_that_prints_names_after_a_text_that_a_program_prints": Small("race", CURSES % "b", {**KEY, "MKkeys.sh": KEYS % "eval \"`echo 'echo *' | sed -n p`\"\nrm -f pass9*\n"}),
     # what comes from the environment
     "script_of_a_list": Small("safe", RUNS % "sh ./s.sh", runs("ls h/*.h")),
     "script_of_a_list_of_what_is_made": Small("race", RUNS % "sh ./s.sh", runs("ls h/*.q")),
@@ -181,6 +185,8 @@ SCRIPTS: Dict[str, Small] = {
     "script_behind_an_option_of_its_first_line": Small("race", RUNS % "./s.sh", {**runs(""), "s.sh": "#!/bin/bash -k\necho x=1 h/*.h\n"}, "chmod +x s.sh"),
     "script_of_bash": Small("safe", RUNS % "bash ./s.sh", runs("ls h/*.h")),
     "script_behind_a_file_of_bash": Small("race", RUNS % "BASH_ENV=./e bash ./s.sh", runs("ls h/*.h", {"e": "echo h/*\n"})),
+    "script_that_runs_a_text_without_a_first_line": Small("race", RUNS % "bash ./s.sh", runs("./u\nls h/*.h", {"u": "echo h/*\n"}), "chmod +x u"),
+    "text_that_runs_a_text_without_a_first_line": Small("race", "SHELL = /bin/bash\n" + RUNS % "ls h/*.h; (./u)", runs("", {"u": "echo h/*\n"}), "chmod +x u"),
     "script_of_a_program_that_prints_a_pattern": Small("race", RUNS % "sh ./s.sh", runs("x=`echo 'h/*' | sed -n p`\nls h/*.h $x")),
     "script_of_a_text_that_a_program_prints": Small("race", RUNS % "sh ./s.sh", runs("ls h/*.h\neval \"`echo 'ls h/*' | sed -n p`\"")),
     "script_in_a_shell_below": Small("safe", RUNS % "sh ./s.sh", runs("(cd h && ls *.h | cat)")),
@@ -212,6 +218,14 @@ class Texts(unittest.TestCase):
     def test_unknown(self) -> None:
         for one in UNKNOWN:
             self.assertIsNone(said(one), one.text)
+
+
+class Changing(unittest.TestCase):
+    """Macros that makefiles change while recipes run."""
+
+    def test_names(self) -> None:
+        for wanted, text in (("", "X := 1\n"), ("X", "a: ; $(eval X := 1)"), ("X", "a: ; $(call eval,X := 1)"), ("*", "a: ; $(eval $(X))"), ("*", "E = eval\na: ; $(call $E,X := 1)")):
+            self.assertEqual(set(wanted), changed_in(text), text)
 
 
 class Makefiles(unittest.TestCase):
