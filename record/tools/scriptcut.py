@@ -8,7 +8,6 @@ from record.tools.shellcut import NAME, Cutter, Piece, Token, Unread
 
 DOCUMENT = "<<"
 LONG = 4096  # how long a name in braces may be
-ENDS_BRANCH = (";;&", ";&")  # of bash: the next branch runs too
 DEFAULT = re.compile(r"\{([A-Za-z_]\w*|\d)(:?[-=+?])([^{}'\"`$\\~]*)\}")
 COUNTS = re.compile(r"\{#[A-Za-z_]\w*\}|\{#[@*\d]?\}")
 CUT_OFF = re.compile(r"\{([A-Za-z_]\w*|\d)(##?|%%?)")
@@ -39,8 +38,6 @@ class ScriptCutter(Cutter):
         return self.inside and self.text[self.at] == ")" and self.depth == 0
 
     def operator(self) -> str:
-        if self.text.startswith("<<<", self.at) or self.text.startswith(ENDS_BRANCH, self.at):
-            raise Unread
         if self.text.startswith(DOCUMENT, self.at):
             return "<<-" if self.text.startswith("<<-", self.at) else DOCUMENT
         return super().operator()
@@ -48,8 +45,6 @@ class ScriptCutter(Cutter):
     def end_word(self, found: List[Token]) -> None:
         """The word that ends here; that behind `<<` says how a here-document ends."""
         if not self.is_word or not self.begun:
-            if self.inside and self.is_word and [piece.text for piece in self.pieces] == ["case"]:
-                raise Unread  # its brackets have no partner
             return super().end_word(found)
         if any(piece.kind != "text" for piece in self.pieces):
             raise Unread

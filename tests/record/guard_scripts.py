@@ -24,8 +24,6 @@ TEXT_GUARDS: List[Guard] = [
     Guard("texts: folders above", "tools/shellvalues.py", 'before = [] if ANY in part or part.startswith(".") and MAGIC.search(part) else [*before, pattern]', "before.append(pattern)", "test_shellvalues.Texts.test_folders_of_other_spellings"),
     Guard("scripts: a line behind a backslash", "tools/scriptcut.py", 'raise Unread  # shells differ in whether this line ends it', "pass", TEXTS + "unknown"),
     Guard("scripts: quotes in a here-document", "tools/scriptcut.py", 'raise Unread  # shells differ in what these are there', "pass", TEXTS + "unknown"),
-    Guard("scripts: case in a command", "tools/scriptcut.py", 'raise Unread  # its brackets have no partner', "pass", TEXTS + "unknown"),
-    Guard("scripts: here-strings, and branches that go on", "tools/scriptcut.py", 'if self.text.startswith("<<<", self.at) or self.text.startswith(ENDS_BRANCH, self.at):', "if False:", TEXTS + "unknown"),
     Guard("scripts: words behind a file", "tools/scriptwords.py", "raise Unread  # words of such a command behind a file that it reads", "pass", TEXTS + "unknown"),
     Guard("scripts: values that are several words", "tools/surroundings.py", "all(len(one) <= 1 for one in fields)", "True", TEXTS + "unknown"),
     Guard("scripts: words that are options", "tools/surroundings.py", 'all(one and re.match(r"\\w", one[0]) for one in first)', "True", TEXTS + "unknown"),
