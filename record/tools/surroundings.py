@@ -11,7 +11,7 @@ from typing import Dict, Iterator, List, Optional, Sequence, Set, Tuple
 from record.make.database import Base
 from record.make.globs import with_values
 from record.make.macros import ANY as ANY_MACRO
-from record.make.macros import evals, with_functions
+from record.make.macros import COMPUTED, evals, with_functions
 from record.make.owners import Owners
 from record.make.words import Words, makefiles
 from record.tools import shelltext
@@ -26,7 +26,8 @@ from record.trace.lives import Life, Program
 SHELLS_OWN = re.compile(r"SHELL$|IFS$|PS\d$|DIRSTACK$|MAPFILE$|COPROC$|BASH(?!_ENV$)|COMP_|READLINE|MAKE|MFLAGS$|GNUMAKEFLAGS$|[A-Z]+OPTS$")
 HANDS_ON = {*shelltext.PASSING} - {"env"}  # programs that leave the environment as it is
 REFERENCE = re.compile(r"\$(?:\(([A-Za-z_][\w.-]*)\)|\{([A-Za-z_][\w.-]*)\}|([A-Za-z_]))")
-EVAL = re.compile(r"\beval\b")
+ANYTHING = "$(eval $(text))"  # what may stand in a makefile that nobody can read
+EVAL = re.compile(r"(?<![\w./-])eval(?![\w./-])")
 WRITTEN_AGAIN = (".d", ".Po", ".Plo", ".Pc", ".P", ".dep", ".depend")  # files that compilers write
 READ_AS = ("sh", "dash", "bash")
 SIGNS = re.compile(r"[\w./:+,@%%%s-]*" % COUNT)  # none of them says anything to a shell
@@ -80,7 +81,7 @@ class Surroundings:
         script = shelltext.script_of(program.argv)
         if not script or script not in program.argv[1:]:
             return None
-        words = program.argv[program.argv.index(script, 1):]
+        words = [program.given or script, *program.argv[program.argv.index(script, 1) + 1:]]
         return words[1:] if name == "@" else words[int(name):int(name) + 1] or [""]
 
     def inherited(self, program: Program, name: str) -> Optional[List[str]]:
@@ -166,17 +167,15 @@ class Surroundings:
         for path in (os.path.normpath(os.path.join(folder, name)) for name in makefiles(words)):
             read, later = life.events.get(("R", path), 0), self.changed.get(path, 0)
             is_other = not os.path.isfile(path) and read or read < later and not path.endswith(WRITTEN_AGAIN)
-            yield "$(eval" if is_other else shelltext.contents(path)
+            yield ANYTHING if is_other else shelltext.contents(path)
         yield " ".join((words.args, words.flags))
 
 
 def changed_in(text: str) -> Set[str]:
-    """The macros that `eval` may set in the text of a makefile."""
-    if not EVAL.search(text):
-        return set()
+    """The macros that `eval` may set in the text of a makefile; a function whose name is a macro's value may be `eval`."""
     plain = with_functions(text)
-    found = {one.name for one in evals(plain)}
-    return found if len(EVAL.findall(plain)) == len(list(evals(plain))) and len(text) < shelltext.LARGE else {ANY_MACRO}
+    is_open = len(text) >= shelltext.LARGE or COMPUTED.search(plain) and EVAL.search(plain)
+    return {ANY_MACRO} if is_open else {one.name for one in evals(plain)}
 
 
 def expanded(base: Base, text: str) -> Optional[str]:

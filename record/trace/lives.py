@@ -43,6 +43,7 @@ class Program:
     script: str = ""  # the file of a shell's script, by its whole path
     shell: str = ""  # the file of that shell
     option: str = ""  # what the first line of the script hands to it
+    given: str = ""  # the script as who started it named it, where its first line says which shell runs it
     is_ninja: bool = False
 
 

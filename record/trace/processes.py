@@ -58,12 +58,13 @@ class Processes(Moves):
         if ok and re.search(r"CLONE_(?:FS|NEWNS|NEWUSER)\b", call.args):
             life.leave_threads()
 
-    def begin_program(self, life: Life, called: str, first: List[str]) -> None:
-        """What a process runs from now on; which script, where it is a shell. `first`: the words of the first line, where a script was started."""
+    def begin_program(self, life: Life, words: List[str], first: List[str]) -> None:
+        """What a process runs from now on; which script, where it is a shell. `words`: the program, and the words that it is handed; `first`: the
+        words of the first line, where that is a script."""
         name = shelltext.script_of(life.argv)
         script = self.names.find(life.folder, name, True).path if name else ""
         shell = self.names.find(life.folder, first[0], True).path if name and first else life.program if name else ""
-        life.running = Program(life, life.argv, self.place, called, life.folder, script, shell, "".join(first[1:]), life.is_ninja)
+        life.running = Program(life, life.argv, self.place, words[1] if words[1:] else words[0], life.folder, script, shell, "".join(first[1:]), words[0] if first else "", life.is_ninja)
         life.programs.append(life.running)
 
     def put_lists(self, life: Life, folder: str, patterns: List[str], is_end: bool) -> None:

@@ -8,7 +8,7 @@ from record.tools.scriptcut import ScriptCutter
 from record.tools.scripts import Said, said_by
 from record.tools.shellcut import UNSET
 from record.tools.shellvalues import Values
-from record.tools.surroundings import changed_in, script_of_text
+from record.tools.surroundings import ANYTHING, changed_in, script_of_text
 from test_small import Small, test_of
 
 
@@ -160,6 +160,7 @@ SCRIPTS: Dict[str, Small] = {
     "script_of_a_list_of_what_is_made": Small("race", RUNS % "sh ./s.sh", runs("ls h/*.q")),
     "script_by_its_first_line": Small("safe", RUNS % "./s.sh", runs("ls h/*.h"), "chmod +x s.sh"),
     "script_by_a_link": Small("safe", RUNS % "sh l.sh", runs("ls h/*.h"), "ln -s s.sh l.sh"),
+    "script_of_its_own_name": Small("race", RUNS.replace("h/b.q", "h/b.sh2") % "h/b.sh", runs("", {"h/c.sh": "#!/bin/sh\necho h/*.h $0*\n"}), "chmod +x h/c.sh; ln -s c.sh h/b.sh"),
     "script_of_words": Small("safe", RUNS % "sh ./s.sh a '*.h'", runs("ls h/$2")),
     "script_of_words_that_are_made": Small("race", RUNS % "sh ./s.sh a 'h/*'", runs("ls h/*.h $2")),
     "script_with_a_pattern_of_a_makefile": Small("race", "export P = h/*\n" + RUNS % "sh ./s.sh", runs("ls h/*.h $P")),
@@ -224,7 +225,7 @@ class Changing(unittest.TestCase):
     """Macros that makefiles change while recipes run."""
 
     def test_names(self) -> None:
-        for wanted, text in (("", "X := 1\n"), ("X", "a: ; $(eval X := 1)"), ("X", "a: ; $(call eval,X := 1)"), ("*", "a: ; $(eval $(X))"), ("*", "E = eval\na: ; $(call $E,X := 1)")):
+        for wanted, text in (("", "X := 1\na: eval.o ; eval x\n"), ("X", "a: ; $(eval X := 1)"), ("X", "a: ; $(call eval,X := 1)"), ("*", "a: ; $(eval $(X))"), ("*", ANYTHING), ("*", "E = eval\na: ; $(call $E,X := 1)")):
             self.assertEqual(set(wanted), changed_in(text), text)
 
 
