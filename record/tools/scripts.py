@@ -44,13 +44,13 @@ class Scripts:
 
     def patterns(self, one: Listed, lists: Sequence[Listed]) -> List[str]:
         """The patterns of names that a list is about; none where they are not known. `lists`: all of this folder by the same process."""
-        program = one.program
-        if program is None:
+        program = one.program()
+        if program is None or not program.script:
             return []
         if id(program) not in self.known:
             self.known[id(program)] = self.said(program) if self.is_plain(program) else None
         said = self.known[id(program)]
-        asked = said.asked if said is not None and self.are_to_come(program, said.barred, one.place) else self.accounted(one, lists)
+        asked = said.asked if said is not None and self.are_to_come(program, said.barred, one.place) else self.accounted(program, one, lists)
         return parts_in(one.life, one.folder, asked or ())
 
     def are_to_come(self, program: Program, names: Iterable[str], place: int) -> bool:
@@ -58,11 +58,10 @@ class Scripts:
         runs = self.first_runs(program)
         return all(runs.get(name, place) >= place for name in names)
 
-    def accounted(self, one: Listed, lists: Sequence[Listed]) -> Optional[Set[Asked]]:
+    def accounted(self, program: Program, one: Listed, lists: Sequence[Listed]) -> Optional[Set[Asked]]:
         """The patterns of a command to which a list surely belongs; None where it may be that of another."""
-        program = one.program
-        script = self.around.script(program) if program is not None and self.is_plain(program) else None
-        if program is None or script is None or not may_be_read(script, whole_text(program.script)):
+        script = self.around.script(program) if self.is_plain(program) else None
+        if script is None or not may_be_read(script, whole_text(program.script)):
             return None
         values = self.around.values(program, script)
         try:
@@ -121,7 +120,7 @@ def settle_scripts(lists: Sequence[Listed], lives: Sequence[Life], logs: Sequenc
     groups: Dict[Tuple[int, str], List[Listed]] = {}
     for one in lists:
         groups.setdefault((id(one.life), one.folder), []).append(one)
-    known = [group for group in groups.values() if all(one.program is not None for one in group)]
+    known = [group for group in groups.values() if all(one.is_plain for one in group)]
     scripts = Scripts(lives, logs) if known else None
     for group in known:
         found = [scripts.patterns(one, group) for one in group] if scripts is not None else []

@@ -145,11 +145,12 @@ class Surroundings:
         """The same by its data bases, which hold the environment too."""
         words = self.logs.get((life.pid, life.number))
         bases = [one.base for one in words.rounds] if words is not None else []
-        if words is None or not bases or {name, ANY_MACRO} & self.changing(life, words):
+        changing = self.changing(life, words) if words is not None else {ANY_MACRO}
+        if not bases or ANY_MACRO in changing:
             return None
         found = [UNSET]
         for base in bases:
-            text = None if base is None or name in base.bodies else expanded(base, base.values.get(name, UNSET))
+            text = None if base is None else expanded(base, name, changing)
             if text is None:
                 return None
             found.append(text)
@@ -178,11 +179,17 @@ def changed_in(text: str) -> Set[str]:
     return {ANY_MACRO} if is_open else {one.name for one in evals(plain)}
 
 
-def expanded(base: Base, text: str) -> Optional[str]:
-    """The text of a macro with the values of others in it; None where it asks for a function."""
-    for _ in range(2):
-        text = REFERENCE.sub(lambda found: found.group() if (found.group(1) or found.group(2) or found.group(3)) in {*base.values, *base.bodies} else "", with_values(text, base.values))
-    return None if "$" in text else text
+def expanded(base: Base, name: str, changing: Set[str]) -> Optional[str]:
+    """The text of a macro with the values of others in it; None where it asks for a function, or for a macro that has several values."""
+    several = changing | {*base.bodies}
+    values = {one: text for one, text in base.values.items() if one not in several}
+
+    def value(found: "re.Match[str]") -> str:
+        one = found.group(1) or found.group(2) or found.group(3)
+        return found.group() if one in several or one in values else ""
+
+    text = REFERENCE.sub(value, with_values(values.get(name, UNSET), values))
+    return None if name in several or "$" in text else text
 
 
 def whole_text(path: str) -> str:

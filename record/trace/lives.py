@@ -79,7 +79,6 @@ class Life:
     known: Optional[Traits] = None
     begun: int = 0  # where the program began that runs now
     programs: List[Program] = field(default_factory=list)  # all that it ran itself
-    running: Optional[Program] = None  # what runs now
 
     def traits(self) -> Traits:
         """What the words say of its looks."""
@@ -126,10 +125,22 @@ class Life:
 
 
 class Listed(NamedTuple):
-    """A folder that a process lists, for any name as far as its words say. `program`: whose script may say more; `is_end`: all names were read."""
+    """A folder that a process lists, for any name as far as its words say. `is_plain`: no more than the text of a script may be run; `is_end`: all
+    names were read."""
 
     life: Life
     place: int
     folder: str
-    program: Optional[Program]
+    is_plain: bool
     is_end: bool
+
+    def program(self) -> Optional[Program]:
+        """The program that listed it."""
+        life: Optional[Life] = self.life
+        place = self.place
+        while life is not None:
+            found = [one for one in life.programs if one.place < place]
+            if found:
+                return found[-1]
+            place, life = life.born, life.parent
+        return None

@@ -91,7 +91,7 @@ class Replay:
     @staticmethod
     def inherit(child: Life, parent: Life) -> None:
         child.folder, child.cut, child.mask, child.taken = parent.folder, parent.cut, parent.mask, parent.taken
-        child.argv, child.running = child.argv or parent.argv, child.running or parent.running
+        child.argv = child.argv or parent.argv
         child.is_wrapper = parent.is_wrapper if not child.ran else child.is_wrapper
 
     def play(self, event: Event) -> None:

@@ -167,6 +167,7 @@ SCRIPTS: Dict[str, Small] = {
     "script_with_a_name_of_a_makefile": Small("safe", "export P = h/k\n" + RUNS % "sh ./s.sh", runs("ls h/*.h $P")),
     "script_with_a_pattern_that_a_makefile_works_out": Small("race", "export P = $(shell echo 'h/*')\n" + RUNS % "sh ./s.sh", runs("ls h/*.h $P")),
     "script_with_a_pattern_of_one_target": Small("race", "a: export P = h/*\n" + RUNS % "sh ./s.sh", runs("ls h/*.h $P")),
+    "script_with_a_pattern_of_one_target_by_another_macro": Small("race", "export P = $(X)\na: X = h/*\nX = h/k\n" + RUNS % "sh ./s.sh", runs("ls h/*.h $P")),
     "script_with_a_pattern_that_a_recipe_sets": Small("race", "export P = h/k\n" + RUNS % "$(eval P := h/*)sh ./s.sh" + "c: a ; $(eval P := h/k)touch c\nall: c\n", runs("ls h/*.h $P")),
     "script_with_a_pattern_of_a_shell": Small("race", RUNS % "P='h/*' sh ./s.sh", runs("ls h/*.h $P")),
     "script_with_a_pattern_of_a_program": Small("race", RUNS % "env P='h/*' sh ./s.sh", runs("ls h/*.h $P")),
