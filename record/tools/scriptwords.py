@@ -30,10 +30,10 @@ class ScriptReader(Reader):
         if operator == DOCUMENT:
             self.word(tokens[at - 1][1], state.blocks)  # the commands in it run
             return at
+        state.is_closed = state.is_closed and operator[0] in "<>"
         if operator == ";;":
             self.end_branch(state)
             return self.branch(state, tokens, at)
-        state.is_closed = state.is_closed and operator[0] in "<>"
         return super().sign(state, operator, tokens, at)
 
     def text_word(self, state: State, pieces: List[Piece], tokens: List[Token], at: int) -> int:

@@ -27,6 +27,7 @@ KNOWN: List[Tuple[str, Text]] = [
     ("*.o", Text("P='*.o'; rm $P")),
     ("*.o", Text("rm $P", (), {"P": ["*.o"]})),
     ("*.h *.q", Text("case $1 in *.c) ls *.h;; (*.d|e) ls f;; *) ls *.q; esac", ("a",))),
+    ("*.h", Text("while test $# -gt 0; do\n  case $1 in\n  -a) shift ;;\n  *) break ;;\n  esac\ndone\nls *.h\n", ("-a",))),
     ("*.c", Text("use() {\n  ls \"$1\"\n}\nuse *.c\n")),
     ("a*.c", Text("ls $1*.c", ("a", "b"))),
     ("a*.c", Text("for f do ls $f*.c; done", ("a",))),
