@@ -31,6 +31,7 @@ from record.tools.exists import credit_makes, settle_exists
 from record.tools.jvm import settle_machines
 from record.tools.modules import settle_modules
 from record.tools.python import settle
+from record.tools.scripts import settle_scripts
 from record.trace.calls import Calls
 from record.trace.lives import Life
 from record.trace.names import Names, mount_points
@@ -67,10 +68,11 @@ class Imported:
 
 def settle_all(replay: Calls, spool: Path, assumed: Assumptions) -> Owners:
     """Puts what is meant in the place of what known programs did; who did what."""
+    logs = list(read_logs(spool))
+    settle_scripts(replay.lists, replay.all, logs)
     for kind, example in chain(settle(replay.all, replay.tops), settle_modules(replay.all)):
         assumed.add(kind, example)
     settle_machines(replay.all)
-    logs = list(read_logs(spool))
     markers = settle_exists(replay.all, logs)
     for name in sorted(markers.paths):
         assumed.add("makers", name)

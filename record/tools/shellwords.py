@@ -1,39 +1,23 @@
-"""The words of a shell's text, cut as a shell cuts them: what each is made of, and which macros the text sets."""
+"""The words of a shell's text: what each is made of, where it stands, and which macros the text sets."""
 
 import re
 from dataclasses import dataclass, field
-from typing import Dict, List, Tuple
+from typing import Dict, List, Set, Tuple
 
-SEPARATES = " \t"
-GOES_ON = "\\\n"
-OPERATORS = ("&&", "||", ";;", ";", "|", "&", "\n", "(", ")")
-REDIRECTS = re.compile(r"<<|[<>]+[&|]?")
-NAME = re.compile(r"[A-Za-z_]\w*")
+from record.tools.shellcut import NAME, Cutter, Piece, Token, Unread
+
 ASSIGNS = re.compile(r"[A-Za-z_]\w*=")
 RESERVED = {"if", "then", "else", "elif", "fi", "do", "done", "while", "until", "!", "{", "}", "command", "builtin", "exec", "time"}
 # What sets macros in another way, or runs a text that is not to be seen here.
 HIDES = {"eval", ".", "source", "set", "shift", "read", "getopts", "unset", "export", "readonly", "local", "declare", "typeset", "printf", "mapfile", "readarray",
-         "let", "trap", "alias", "shopt", "case", "select", "function", "coproc", "[[", "enable", "hash"}
+         "let", "trap", "alias", "shopt", "case", "select", "function", "coproc", "[[", "enable", "hash", "jobs", "fc", "bind"}
 RUN = {"!", "command", "builtin", "exec", "time"}
 CLOSES = {"fi", "done", "}"}
-OWN = {"PWD", "OLDPWD", "_", "RANDOM", "SECONDS", "LINENO", "PPID", "REPLY", "OPTARG", "OPTIND", "IFS"}  # a shell sets these itself
+OWN = {"PWD", "OLDPWD", "_", "RANDOM", "SECONDS", "LINENO", "PPID", "REPLY", "OPTARG", "OPTIND", "IFS", "PS4"}  # a shell sets these itself
 # Bash sets a macro by more than `=`; braces, and a pattern that fits a file, may give the name of a command.
 BASH = re.compile(r"[A-Za-z_]\w*(?:\+=|\[)|[^/]*\{[^/]*,|[^/]*(?:[*?]|\[.)")
 ENDS = (";", "\n", "&&", "||", ")", "(")  # what stands behind an assignment that lasts
 KEEPS = re.compile(r"[-+][ehuvx]+")
-
-
-class Unread(Exception):
-    """A text that is not read here."""
-
-
-@dataclass
-class Piece:
-    """A part of a word: `text`, `macro` (its name), `command` (its text), or `unknown`."""
-
-    kind: str
-    text: str
-    quoted: bool
 
 
 @dataclass
@@ -65,130 +49,49 @@ class Script:
     """A text: the words that a shell expands, and what it sets macros to."""
 
     words: List[Word] = field(default_factory=list)
-    starts: List[Word] = field(default_factory=list)  # those of them that are names of commands
+    starts: List[List[Word]] = field(default_factory=list)  # commands whose name is computed or quoted
     settings: Dict[str, List[Setting]] = field(default_factory=dict)
+    # Of scripts alone:
+    commands: List[List[Word]] = field(default_factory=list)  # all commands: the name, and the words behind it
+    functions: Set[str] = field(default_factory=set)
+    bodies: Set[int] = field(default_factory=set)  # blocks in which `$1` and the like are not those of the script
+    single: List[Word] = field(default_factory=list)  # what is read right only where each of these is one word
+    parameters: List[Word] = field(default_factory=list)  # what is read right only where none of these begins like an option
+    simple: List[Word] = field(default_factory=list)  # what is read right only where these have no sign that shells know
+    barring: List[Piece] = field(default_factory=list)  # commands that print a text which is run
 
 
-class Cutter:
-    """Cuts a text into words and operators."""
-
-    def __init__(self, text: str) -> None:
-        self.text, self.at = text, 0
-        self.pieces: List[Piece] = []
-        self.is_word = False
-
-    def tokens(self) -> List[Tuple[str, List[Piece]]]:
-        """Operators, and words (with no operator) with their pieces."""
-        found: List[Tuple[str, List[Piece]]] = []
-        while self.at < len(self.text):
-            if self.text.startswith(GOES_ON, self.at):
-                self.at += len(GOES_ON)
-                continue
-            operator = self.operator()
-            if operator or self.text[self.at] in SEPARATES:
-                if self.is_word:
-                    found.append(("", self.pieces))
-                    self.pieces, self.is_word = [], False
-                self.at += len(operator) or 1
-                found += [(operator, [])] if operator else []
-            elif self.text[self.at] == "#" and not self.is_word:
-                self.at = len(self.text) if "\n" not in self.text[self.at:] else self.text.index("\n", self.at)
-            else:
-                self.is_word = True
-                self.part()
-        return found + ([("", self.pieces)] if self.is_word else [])
-
-    def operator(self) -> str:
-        """The operator that stands here."""
-        redirect = REDIRECTS.match(self.text, self.at)
-        if redirect and redirect.group().startswith("<<"):
-            raise Unread
-        return redirect.group() if redirect else next((one for one in OPERATORS if self.text.startswith(one, self.at)), "")
-
-    def part(self) -> None:
-        """A part of a word that is not in double quotes."""
-        char = self.text[self.at]
-        if char == "'":
-            end = self.find("'", self.at + 1)
-            self.add("text", self.text[self.at + 1:end], True)
-            self.at = end + 1
-        elif char == '"':
-            self.at += 1
-            self.add("text", "", True)
-            while self.text[self.at:self.at + 1] != '"':
-                self.inner(True)
-            self.at += 1
-        else:
-            self.inner(False)
-
-    def inner(self, quoted: bool) -> None:
-        """One more sign, or what a `$`, a backslash or a backtick begins."""
-        char = self.text[self.at:self.at + 1]
-        if not char:
-            raise Unread
-        if char == "\\":
-            after = self.text[self.at + 1:self.at + 2]
-            is_kept = quoted and after not in ('"', "$", "`", "\\")
-            if after != "\n":
-                self.add("text", (char if is_kept else "") + after, True)
-            self.at += 2
-        elif char == "`":
-            end = self.find("`", self.at + 1)
-            self.add("command", re.sub(r"\\([$`\\])", r"\1", self.text[self.at + 1:end]), quoted)
-            self.at = end + 1
-        elif char == "$":
-            self.macro(quoted)
-        else:
-            self.add("text", char, quoted)
-            self.at += 1
-
-    def macro(self, quoted: bool) -> None:
-        """What a `$` begins."""
-        rest = self.text[self.at + 1:]
-        name, braces = NAME.match(rest), re.match(r"\{([^{}'\"`$\\]*)\}", rest)
-        if rest[:1] in ("(", "'", '"') or rest[:1] == "{" and (braces is None or "=" in braces.group(1)):
-            raise Unread
-        if braces is not None:
-            is_plain = NAME.fullmatch(braces.group(1)) is not None
-            self.add("macro" if is_plain else "unknown", braces.group(1), quoted)
-            self.at += 1 + braces.end()
-        elif name is not None:
-            self.add("macro", name.group(), quoted)
-            self.at += 1 + name.end()
-        elif rest[:1] and rest[0] in "$?#!":
-            self.add("number", rest[0], quoted)
-            self.at += 2
-        else:
-            is_lone = not rest or rest[0] in SEPARATES + "\n"
-            self.add("text" if is_lone else "unknown", "$", True if is_lone else quoted)
-            self.at += 1 if is_lone else 2
-
-    def find(self, mark: str, start: int) -> int:
-        """Where a quote ends."""
-        at = start
-        while self.text[at:at + 1] != mark:
-            if at >= len(self.text):
-                raise Unread
-            at += 2 if self.text[at] == "\\" and mark == "`" else 1
-        return at
-
-    def add(self, kind: str, text: str, quoted: bool) -> None:
-        """One more piece."""
-        last = self.pieces[-1] if self.pieces else None
-        if last is not None and last.kind == kind == "text" and last.quoted == quoted:
-            last.text += text
-        else:
-            self.pieces.append(Piece(kind, text, quoted))
-
-
-def keeps(plain: str, behind: List[Tuple[str, List[Piece]]]) -> bool:
+def keeps(plain: str, behind: List[Token]) -> bool:
     """Whether a word that may hide something does not: `set` with options that change no words, and `printf` without options."""
-    words = [Word(pieces).plain() if pieces else "" for _, pieces in behind[:next((n for n, one in enumerate(behind) if one[0]), len(behind))]]
-    return plain == "set" and bool(words) and all(KEEPS.fullmatch(word) for word in words) or plain == "printf" and not "".join(words[:1]).startswith("-")
+    pieces = [one[1] for one in behind[:next((n for n, one in enumerate(behind) if one[0]), len(behind))]]
+    words = [Word(one).plain() for one in pieces]
+    return plain == "set" and bool(words) and all(KEEPS.fullmatch(word) for word in words) or plain == "printf" and not may_be_option(pieces[0] if pieces else [])
+
+
+def may_be_option(pieces: List[Piece]) -> bool:
+    """Whether a word begins like an option, or may do so."""
+    first = next((piece for piece in pieces if piece.text or piece.kind != "text"), None)
+    return first is not None and (first.kind != "text" or first.text.startswith(("-", "+")))
+
+
+@dataclass
+class State:
+    """How far one text has been read."""
+
+    blocks: List[int]
+    is_start: bool = True  # the next word begins a command
+    is_sure: bool = True  # what comes next runs in any case
+    is_target: bool = False  # the next word is a file that a command reads or writes
+    has_assigned: bool = False
+    is_closed: bool = False  # of scripts: a command that sets macros has all its words
+    command: List[Word] = field(default_factory=list)
+    cases: List[int] = field(default_factory=list)  # how many blocks were open at each `case`
 
 
 class Reader:
     """Reads a text, and those of the commands in its words, into one script."""
+
+    cutter = Cutter
 
     def __init__(self, text: str) -> None:
         self.script, self.count = Script(), 0
@@ -196,43 +99,62 @@ class Reader:
 
     def read(self, text: str, outer: Tuple[int, ...]) -> None:
         """One text, which stands in some blocks."""
-        blocks, is_start, is_sure, is_target, loop = list(outer), True, True, False, ""
-        tokens, at, has_assigned = Cutter(text).tokens(), 0, False
+        state, at = State(list(outer)), 0
+        tokens = self.cutter(text).tokens()
         while at < len(tokens):
             operator, pieces = tokens[at]
-            behind = tokens[at + 1][0] if at + 1 < len(tokens) else "\n"
-            at += 1
             self.count += 1
-            if operator and operator[0] in "<>":
-                is_target = True
-                continue
-            if operator:
-                blocks = self.bracket(operator, blocks, not is_start or has_assigned or behind == "(")
-                is_sure = operator in (";", "\n", "(", "&") or operator == "&&" and is_sure and is_start
-                is_start, has_assigned = True, False
-                continue
-            word = self.word(pieces, blocks)
-            plain = word.plain()
-            if is_target or not is_start:
-                self.script.words.append(word)
-                is_target = False
-            elif plain.isdigit() and behind[0:1] in ("<", ">"):
-                continue  # the number of a descriptor
-            elif plain == "for":
-                at = self.loop(tokens, at, blocks)
-            elif plain in RESERVED:
-                blocks = self.block(plain, blocks)
-                is_sure = self.still(is_sure, tokens[at:at + 1]) if plain in RUN else True
-            elif pieces[0].kind == "text" and not pieces[0].quoted and ASSIGNS.match(pieces[0].text):
-                self.assign(word, is_sure and behind in ENDS)
-                has_assigned = True
-            elif plain in HIDES and not keeps(plain, tokens[at:]) or BASH.match(pieces[0].text):
-                raise Unread
-            else:
-                is_start = is_sure = False
-                at = self.skip_status(plain, tokens, at)
-                self.script.words.append(word)
-                self.script.starts += [] if plain else [word]
+            at = self.sign(state, operator, tokens, at + 1) if operator else self.text_word(state, pieces, tokens, at + 1)
+
+    def sign(self, state: State, operator: str, tokens: List[Token], at: int) -> int:
+        """An operator: where it goes on."""
+        if operator[0] in "<>":
+            state.is_target = True
+            return at
+        behind = tokens[at][0] if at < len(tokens) else "\n"
+        state.blocks = self.bracket(operator, state.blocks, not state.is_start or state.has_assigned or behind == "(")
+        state.is_sure = operator in (";", "\n", "(", "&") or operator == "&&" and state.is_sure and state.is_start
+        state.is_start, state.has_assigned, state.command = True, False, []
+        return at
+
+    def text_word(self, state: State, pieces: List[Piece], tokens: List[Token], at: int) -> int:
+        """A word: where it goes on."""
+        word = self.word(pieces, state.blocks)
+        if not state.is_target and state.is_start:
+            return self.first(state, word, tokens, at)
+        self.script.words.append(word)
+        state.command += [] if state.is_target else [word]
+        state.is_target = False
+        return at
+
+    def first(self, state: State, word: Word, tokens: List[Token], at: int) -> int:
+        """The first word of a command, or one before it."""
+        plain, behind = word.plain(), tokens[at][0] if at < len(tokens) else "\n"
+        if plain.isdigit() and behind[0:1] in ("<", ">"):
+            return at  # the number of a descriptor
+        if plain == "for":
+            return self.loop(tokens, at, state.blocks)
+        if plain in RESERVED:
+            state.blocks = self.block(plain, state.blocks)
+            state.is_sure = self.still(state.is_sure, tokens[at:at + 1]) if plain in RUN else True
+        elif word.pieces[0].kind == "text" and not word.pieces[0].quoted and ASSIGNS.match(word.pieces[0].text):
+            self.assign(word, state.is_sure and behind in ENDS)
+            state.has_assigned = True
+        else:
+            return self.begin(state, word, tokens, at)
+        return at
+
+    def begin(self, state: State, word: Word, tokens: List[Token], at: int) -> int:
+        """The name of a command."""
+        plain = word.plain()
+        if plain in HIDES and not keeps(plain, tokens[at:]) or BASH.match(word.pieces[0].text):
+            raise Unread
+        state.is_start = state.is_sure = False
+        state.command = [word]
+        self.script.words.append(word)
+        self.script.commands.append(state.command)
+        self.script.starts += [] if plain else [state.command]
+        return self.skip_status(plain, state, tokens, at)
 
     def word(self, pieces: List[Piece], blocks: List[int]) -> Word:
         """A word at this place; the commands in it are read too."""
@@ -249,7 +171,7 @@ class Reader:
         return blocks + [self.count] if operator == "(" else blocks[:-1] if operator == ")" else blocks
 
     @staticmethod
-    def still(is_sure: bool, behind: List[Tuple[str, List[Piece]]]) -> bool:
+    def still(is_sure: bool, behind: List[Token]) -> bool:
         """Whether what stands behind `command` and the like is sure; an option there, or a quoted name, may run anything."""
         if behind and not behind[0][0] and Word(behind[0][1]).plain()[:1] in ("-", ""):
             raise Unread
@@ -263,12 +185,15 @@ class Reader:
             return blocks[:-1] + [self.count]
         return blocks[:-1] if plain in CLOSES else blocks
 
-    @staticmethod
-    def skip_status(plain: str, tokens: List[Tuple[str, List[Piece]]], at: int) -> int:
-        """`exit` and `return` fail where their word is no number, so it is no pattern."""
-        return at + 1 if plain in ("exit", "return") and at < len(tokens) and not tokens[at][0] else at
+    def skip_status(self, plain: str, state: State, tokens: List[Token], at: int) -> int:
+        """`exit` and `return` fail where their word is no number, so it is no pattern; a command in it runs."""
+        if plain not in ("exit", "return") or at >= len(tokens) or tokens[at][0]:
+            return at
+        self.count += 1
+        self.word(tokens[at][1], state.blocks)
+        return at + 1
 
-    def loop(self, tokens: List[Tuple[str, List[Piece]]], at: int, blocks: List[int]) -> int:
+    def loop(self, tokens: List[Token], at: int, blocks: List[int]) -> int:
         """`for NAME in WORDS`: where it goes on, before its `do`."""
         name, within = (Word(pieces).plain() for pieces in ([*(t[1] for t in tokens[at:at + 2]), [Piece("text", "", True)], [Piece("text", "", True)]])[:2])
         if not NAME.fullmatch(name) or within != "in":

@@ -128,9 +128,7 @@ class Calls(Opened):
         if not program:
             return
         if not ok:
-            if not life.is_wrapper:
-                self.look(life, program, False, True)
-                self.look_at_interpreters(life, program)
+            self.fail_to_run(life, program, call.error)
             return
         words = [program, *texts(call.args)[1:]]
         argv = words[1:]
@@ -148,6 +146,7 @@ class Calls(Opened):
         if life.cut:
             self.holes.append("the words of a program are too many to be seen: " + " ".join(argv)[:100])
         life.ran.append(argv)
+        self.begin_program(life, words, self.first_words(found.path))
         if life.is_wrapper:
             return
         self.note_rights(life, found.path)
@@ -163,6 +162,13 @@ class Calls(Opened):
         self.look(life, words[0], True, True, "R")
         self.look_at_interpreters(life, words[0])
         self.note_handed(life)
+
+    def fail_to_run(self, life: Life, program: str, error: str) -> None:
+        """A program did not start. Where the kernel does not know what kind of file it is, bash reads it itself, as a script."""
+        if not life.is_wrapper:
+            found = self.look(life, program, False, True)
+            self.look_at_interpreters(life, program)
+            life.taken += (found.path,) if error == "ENOEXEC" and life.traits().is_shell else ()
 
     def note_handed(self, life: Life) -> None:
         """A program may ask how old a file is that a shell has opened for it, and no call names that."""
@@ -303,8 +309,7 @@ class Calls(Opened):
         elif where[0] == "/proc":
             self.watchers.append(" ".join(life.argv)[:100])
         else:
-            for pattern in listed.patterns(life, where[0], self.is_open_shell):
-                self.put(life, "L", where[0] + "\0" + pattern)
+            self.put_lists(life, where[0], listed.patterns(life, where[0], self.is_open_shell), call.result == 0)
             if not shelltext.sorts_names(life.argv):
                 self.put(life, "l", where[0])
 

@@ -14,7 +14,7 @@ the trace is kept. Kinds:
 """
 
 from dataclasses import dataclass, field
-from typing import Dict, Iterable, List, Optional, Set, Tuple
+from typing import Dict, Iterable, List, NamedTuple, Optional, Set, Tuple
 
 from record.tools.shelltext import Traits
 
@@ -29,6 +29,22 @@ class Act:
     kind: str
     path: str
     word: str = ""  # the path as make spelled it, where it looked with `stat`
+
+
+@dataclass(eq=False)
+class Program:
+    """A program that a process has begun to run. Processes that this one starts run it too, as long as they begin no other."""
+
+    life: "Life"
+    argv: List[str]
+    place: int
+    name: str = ""  # as who started it named it
+    folder: str = ""
+    script: str = ""  # the file of a shell's script, by its whole path
+    shell: str = ""  # the file of that shell
+    option: str = ""  # what the first line of the script hands to it
+    given: str = ""  # the script as who started it named it, where its first line says which shell runs it
+    is_ninja: bool = False
 
 
 @dataclass(eq=False)
@@ -62,6 +78,7 @@ class Life:
     opened: Set[str] = field(default_factory=set)  # files that it opened while it ran a shell: who it starts may have them open too
     known: Optional[Traits] = None
     begun: int = 0  # where the program began that runs now
+    programs: List[Program] = field(default_factory=list)  # all that it ran itself
 
     def traits(self) -> Traits:
         """What the words say of its looks."""
@@ -105,3 +122,25 @@ class Life:
         while life is not None:
             yield life
             life = life.parent
+
+
+class Listed(NamedTuple):
+    """A folder that a process lists, for any name as far as its words say. `is_plain`: no more than the text of a script may be run; `is_end`: all
+    names were read."""
+
+    life: Life
+    place: int
+    folder: str
+    is_plain: bool
+    is_end: bool
+
+    def program(self) -> Optional[Program]:
+        """The program that listed it."""
+        life: Optional[Life] = self.life
+        place = self.place
+        while life is not None:
+            found = [one for one in life.programs if one.place < place]
+            if found:
+                return found[-1]
+            place, life = life.born, life.parent
+        return None

@@ -4,8 +4,10 @@ import os
 import re
 import stat
 from functools import lru_cache
+from typing import List
 
-from record.trace.lives import Life
+from record.tools import shelltext
+from record.trace.lives import Life, Listed, Program
 from record.trace.moves import Moves
 from record.trace.strace import Call
 
@@ -55,3 +57,18 @@ class Processes(Moves):
         """A thread that asks for a folder of its own, or for what includes that."""
         if ok and re.search(r"CLONE_(?:FS|NEWNS|NEWUSER)\b", call.args):
             life.leave_threads()
+
+    def begin_program(self, life: Life, words: List[str], first: List[str]) -> None:
+        """What a process runs from now on; which script, where it is a shell. `words`: the program, and the words that it is handed; `first`: the
+        words of the first line, where that is a script."""
+        name = shelltext.script_of(life.argv)
+        script = self.names.find(life.folder, name, True).path if name else ""
+        shell = self.names.find(life.folder, first[0], True).path if name and first else life.program if name else ""
+        life.programs.append(Program(life, life.argv, self.place, words[1] if words[1:] else words[0], life.folder, script, shell, "".join(first[1:]), words[0] if first else "", life.is_ninja))
+
+    def put_lists(self, life: Life, folder: str, patterns: List[str], is_end: bool) -> None:
+        """A folder was listed for names of these patterns. The text of a script may say more of a list for any name (record/tools/scripts.py)."""
+        for pattern in patterns:
+            self.put(life, "L", folder + "\0" + pattern)
+        if patterns == ["*"]:
+            self.lists.append(Listed(life, self.place, folder, not (self.is_open_shell or life.taken or life.cut), is_end))

@@ -5,7 +5,7 @@ import re
 from typing import Dict, List, Set, Tuple
 
 from record.tools import shelltext
-from record.trace.lives import Act, Life
+from record.trace.lives import Act, Life, Listed
 from record.trace.names import Found, Inode, Names
 from record.trace.proc import NUMBER, is_hidden, plain_path
 from record.trace.strace import Begun, Call, Ended, Event, Unread
@@ -46,6 +46,7 @@ class Replay:
         self.watchers: List[str] = []  # who lists the processes that run, or waits for changes of files
         self.changes: List[Tuple[int, str, str]] = []  # names that come and go, in order
         self.askers: List[str] = []  # who asks when a file was read last
+        self.lists: List[Listed] = []  # lists of folders that may be about any name
         self.is_open_shell = bool(shelltext.SHELL_MACROS & {*os.environ})  # shells may have other options than their words say
 
     # ---------------------------------------------------------------- processes

@@ -25,6 +25,11 @@ KNOWN: Dict[str, str] = {
     "echo 'a*'b? $$": "a?b?",
     "d='a b'; ls \"$d\"*": "a?b*",
     "echo \"$x\"; awk '{print $1}' *.txt; exit $?": "*.txt",
+    # a quote behind a dollar and a backslash, and behind a backslash in backticks; a program that prints nothing; a command in a word that is no pattern
+    "d=a; echo \"a$\\\"b\" $d/*.c \"x$\\\"y\" z": "*.c",
+    "d=a; echo \"`echo \\\"'\\\" *.q \\\"'\\\"`\" $d*": "a* *.q",
+    "d=a; ls `sed p f`*.c $d": "*.c",
+    "d=a; ls $d; exit `ls *.c`": "*.c",
 }
 UNKNOWN = (
     "for f in $list; do echo $f; done; echo *.x", "for f in *.c; do b=`basename $f .c`; echo $b*; done", "echo $1 *.c", "if test x; then d=out; fi; ls $d/*.h", "eval ls *.c $x",
@@ -35,6 +40,7 @@ UNKNOWN = (
     # what sets macros under another spelling
     "d=a; \\eval 'd=b'; ls $d*", "d=a; e=eval; $e 'd=b'; ls $d*", "d=a; \"read\" d; ls $d*", "d=a; \"$e\" d=b; ls $d*", "d=a; command -p eval d=b; ls $d*",
     "d=a; 2>f read d; ls $d*", "d=a >f cmd; ls $d*", "d=a; d+=b; ls $d*", "d[0]=a; ls $d*", "d=(a); ls $d*", "d=a; {eval,d=b}; ls $d*", "d=a; e* d=b; ls $d*", "d=a; [e]val d=b; ls $d*", "d=1; ((d++)); ls $d*", "PWD=a; ls $PWD*",
+    "d=a; e=; $e eval 'd=b'; ls $d*", "e=echo; d=a; test y && e=eval; $e 'd=b'; ls $d*", "d=a; `sed p f` eval 'd=b'; ls $d*", "d=a; x=-v; printf $x d b; ls $d*", "d=a; jobs -x eval d=b; ls $d*",
     # what prints names, and is no program of its own
     "cat `exec cat x` *.h", "cat `builtin echo x` *.h", "cat `dirs` *.h",
 )
@@ -82,7 +88,7 @@ class Texts(unittest.TestCase):
         self.assertEqual({("out", "*.c"), ("", "*.h"), ("", "*.x"), ("", "s*"), ("s*", "y*")}, {tuple(one) for one in found[0]} if found else None)
 
     def test_folders_of_other_spellings(self) -> None:
-        for text, wanted in (("d=out/; ls $d/*.c", ("out", "*.c")), ("d=x; ls ~/a/*.c", ("", "*.c")), ("d=x; ls {a/b,c}*.c", ("", "*"))):
+        for text, wanted in (("d=out/; ls $d/*.c", ("out", "*.c")), ("d=x; ls ~/a/*.c", ("", "*.c")), ("d=x; ls $d/\"$e\"/*.c", ("", "*.c")), ("d=x; ls $d/.*/*.c", ("", "*.c")), ("d=x; ls {a/b,c}*.c", ("", "*"))):
             found = patterns_of(text)
             self.assertIn(wanted, {tuple(one) for one in found[0]} if found else set(), text)
 
