@@ -30,7 +30,8 @@ WORD_LINE = re.compile(
     rb"|No recipe for " + QUOTED + rb" and no prerequisites actually changed\.$|Target " + QUOTED
     + rb" is double-colon and has no prerequisites\.$|Making " + QUOTED + rb" due to always-make flag\.$"
     rb"|Makefile " + QUOTED + rb" might loop; not remaking it\.$|Re-executing\[\d+\]:"
-    rb"|Removing intermediate files\.\.\.$|Skipping UTF-8 BOM in makefile (?:buffer|" + QUOTED + rb")$|Loading symbol [^\n]* from [^\n]*$|Got a SIGCHLD; \d+ unreaped|(Putting|Live|Reaping winning|Reaping losing|Removing) child 0x[0-9a-f]+ "
+    rb"|Removing intermediate files\.\.\.$|Skipping UTF-8 BOM in makefile (?:buffer|" + QUOTED + rb")$|Loading symbol [^\n]* from [^\n]*$"
+    rb"|Got a SIGCHLD; \d+ unreaped|(Putting|Live|Reaping winning|Reaping losing|Removing) child 0x[0-9a-f]+ "
     rb"|(Released|Obtained) token for child 0x|Need a job token; we |Jobserver (setup|client) \()")
 SIZE, SET_SIZE = 1 << 20, 1031  # bytes of the pipe, and what asks for them
 LONG = 4096  # bytes: a longer text comes in pieces

@@ -219,8 +219,8 @@ class Calls(Opened):
     on_execveat = on_execve
 
     def on_chdir(self, life: Life, call: Call, ok: bool) -> None:
-        path = first_text(call.args)
-        if path is None:  # no text of the process
+        path = first_text(call.args) or ""
+        if not path:  # none that the process can read
             return
         found = self.look(life, path, ok, True)
         if ok:
@@ -385,7 +385,7 @@ class Calls(Opened):
 
     def on_change(self, life: Life, call: Call, ok: bool) -> None:
         base, path = self.base_and_path(life, call) if call.name not in BY_NUMBER else ("", "")
-        path = path or "".join(folders(call.args)[:1])
+        path = path or next(iter(folders(call.args)), "")
         if not path or not path.startswith("/") and call.name in BY_NUMBER:
             return
         if not ok:
