@@ -10,6 +10,7 @@ from record.make.owners import Make, Owners, Work
 from record.make.words import makefiles
 from record.ninja.runs import Ninja
 from record.tools import shelltext
+from record.tools.texts import text_of
 from record.trace.lives import Life
 from record.trace.names import Names
 from record.warm import is_beyond
@@ -60,8 +61,7 @@ def named_flags(make: Make, works: List[Work], assumed: Assumptions, spool: str)
     """Makefiles and recipes that name what holds the recorder's words: MAKEFLAGS, and PATH."""
     for name in sorted(makefiles(make.words)):
         try:
-            with open(os.path.join(make.folder, name), errors="replace") as file:
-                found = FLAGS.search(file.read())
+            found = FLAGS.search(text_of(os.path.join(make.folder, name)))
         except OSError:
             continue
         if found:

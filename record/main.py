@@ -47,7 +47,7 @@ with open(%r, "rb") as file:
     for name, code in marshal.load(file):
         sys.modules[name] = module = type(sys)(name)
         exec(code, module.__dict__)
-module.main()
+module.main(%r)
 """
 PACKAGES = {"make": "make", "ninja": "ninja-build", "cmake": "cmake", "meson": "meson"}  # of Debian, by what builds
 ASKED = min(4, os.cpu_count() or 1)  # how many builds `race` is asked about at once
@@ -89,7 +89,7 @@ def prepare_spool(spool: Path, real: str) -> None:
         note_output(str(spool), stream, "")
     codes = [(name, find_spec(name).loader.get_code(name)) for name in WRAPPER]  # type: ignore[union-attr]
     (spool / "wrapper").write_bytes(marshal.dumps(codes))
-    text = PROGRAM % (sys.executable, str(spool / "wrapper"))
+    text = PROGRAM % (sys.executable, str(spool / "wrapper"), str(spool))
     for name in ("make", "gmake"):
         if shutil.which(name):
             path = spool / "bin" / name

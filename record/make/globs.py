@@ -26,7 +26,12 @@ EVALS = re.compile(r"[({]eval[\s\\]|[({]call\s+eval\b|(?m:^)(?:(?!\t)|\t[ \t]*(?
 NAMED_BY_MACRO = re.compile(r"\$[({][^(){}\s,:]*\$(?!\$)")
 # A line of a makefile that is a rule, up to its recipe, and one that includes makefiles: make looks for the names in them.
 RULE = re.compile(r"(?m)^(?!\t)((?:[^\n=#:;]*\\\n)*[^\n=#;]*?:(?![:=])(?:[^\n;#=]*\\\n)*[^\n;#]*)")
-INCLUDE = re.compile(r"(?m)^ *[-s]?include[ \t]+((?:[^\n#]*\\\n)*[^\n#]*)")
+INCLUDE = re.compile(r"(?m)^[ \t]*[-s]?include[ \t]+((?:[^\n#]*\\\n)*[^\n#]*)")
+# A line that begins with a reference: what that comes to is a line of the makefile.
+BARE = re.compile(r"(?m)^ *(\$[({](?!(?:eval|info|warning|error)[ \t])(?:[^\n]*\\\n)*[^\n]*)")
+COLON = re.compile(r":(?!=)")
+INNERMOST = re.compile(r"\$\([^(){}]*\)|\$\{[^(){}]*\}")
+NAMES = re.compile(r"\$[({](?:(?:call|value)[ \t]+)?([\w.-]+)")
 BRACKETS = {"(": ")", "{": "}"}
 PLAIN = re.compile(r"\$(?:[({]([\w.-]+)[)}]|(\w))")
 DEPTH = 8  # how often macros are put in the places of their names
@@ -101,6 +106,18 @@ class Macros:
             self.are_plain = is_known and all("$" not in name and (is_plain_call and name.strip() not in held or self.is_plain(words)) for name, _, words in calls)
         return self.are_plain
 
+    def may_be_rule(self, text: str) -> bool:
+        """Whether a reference may come to a rule with a pattern, as far as its own text and those of the macros that it leads to say so."""
+        if re.search("[:=]", outside(text)):  # a rule or an assignment, whose text says so
+            return False
+        todo, seen = [text], {text}
+        for one in todo:
+            names = [found.group(1) for found in NAMES.finditer(one)]
+            more = {value for name in names for value in [*self.assigned(name), self.values.get(name, "")]} - seen
+            seen |= more
+            todo += more
+        return any(map(COLON.search, todo)) and any(map(MAGIC.search, todo))
+
     def is_plain(self, text: str) -> bool:
         """Whether what a text comes to holds no pattern. What `wildcard` gives are names of files."""
         for call in set(arguments(text)):
@@ -110,6 +127,14 @@ class Macros:
         names = [found.group(1) or found.group(2) or found.group(3) for found in REFERENCE.finditer(text)]
         rest = QUIET.sub("", REFERENCE.sub(NAMED, text))
         return not MAGIC.search(rest) and "$" not in rest.replace("$$", "") and all(self.has_no_pattern(name) for name in names)
+
+
+def outside(text: str) -> str:
+    """A text without its references."""
+    count = 1
+    while count:
+        text, count = INNERMOST.subn("", text)
+    return text
 
 
 def with_values(text: str, values: Dict[str, str]) -> str:
@@ -138,7 +163,11 @@ def listed(texts: List[str], values: Dict[str, str], names: Iterable[str] = ("*"
     """The patterns in rules and in lines that include makefiles, and in macros that stand there; `*` where one of these may hold any."""
     macros = Macros("\n".join(texts), values, names)
     found: Set[str] = set()
+    if any(macros.may_be_rule(text) for text in BARE.findall(macros.text)):
+        found.add("*")
     for text in [*RULE.findall(macros.text), *INCLUDE.findall(macros.text)]:
+        if any(text.count(one) > text.count(other) for one, other in BRACKETS.items()):
+            found.add("*")  # a function goes on behind what looks like the end of the rule
         if not macros.is_plain(text):
             for word in (word for word in text.replace("\\\n", " ").split() if "$" not in word or not macros.is_plain(word)):
                 found |= parts(word, macros) if "$" in word else {part for part in loose(word).split("/") if MAGIC.search(part)}

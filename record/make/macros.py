@@ -5,7 +5,6 @@ import re
 from dataclasses import dataclass, field
 from fnmatch import fnmatchcase
 from functools import cached_property, lru_cache
-from pathlib import Path
 from typing import Dict, Iterable, Iterator, List, NamedTuple, Set, Tuple
 
 from record.make.database import Base
@@ -13,6 +12,8 @@ from record.make.database import LINES_TEXT as LINES
 from record.make.owners import Make
 from record.make.words import makefiles
 from record.tools.shelltext import shell_text
+from record.tools.texts import is_plain
+from record.tools.texts import text_of as plain_text
 
 BEGIN = re.compile(r"\$(?:[({](?:(?:call|value|origin|flavor)[ \t]+)?|(\w))")
 EVAL = re.compile(r"\$([({])eval[ \t]")
@@ -140,7 +141,7 @@ class Macros:
         self.make, self.base = make, base
         paths = [os.path.join(make.folder, name) for name in sorted(makefiles(make.words)) if not make.never_read(name)]
         self.text = "\n".join(text_of(path) for path in paths)
-        self.is_lost = bool(make.stale) or not all(os.path.exists(path) for path in paths)  # then macros of several lines may hold anything
+        self.is_lost = bool(make.stale) or not all(map(is_plain, paths))  # then macros of several lines may hold anything
         recipes = (line for lines in base.recipes.values() for line in lines)
         self.is_used = self.is_lost and LINES in base.values.values() or any("eval" in text for text in (self.text, *base.values.values(), *recipes, *(line for lines in base.bodies.values() for line in lines)))
         self.named: Dict[str, Set[str]] = {}
@@ -268,7 +269,7 @@ class Macros:
 def text_of(path: str) -> str:
     """A makefile's text; nothing where it is gone."""
     try:
-        return Path(path).read_text(errors="replace")
+        return plain_text(path)
     except OSError:
         return ""
 

@@ -14,6 +14,8 @@ if TYPE_CHECKING:
     from record.make.build import Builder
 
 LIBRARIES = "lib%.so lib%.a"
+UNCLEAR = re.compile(r"[$\\~]")  # a macro without a value, a word that goes on behind a blank, somebody's home folder
+LOOP = re.compile(r"\$[({](?:foreach|let)\s+([^,$]+),")
 
 
 def place_listings(builder: "Builder") -> None:
@@ -83,10 +85,17 @@ def words_asked(known: Macros, node: Node) -> Optional[List[str]]:
     if ANY in reached or sum(one.count("wildcard") for one in texts) > len(calls) or None in calls or BOUND.search("\n".join(texts)):
         return None
     own = [with_target(call or "", node.name) for call in calls]
+    if not known.reached("\n".join(own)).isdisjoint({*base.bodies, *(name for one in texts for name in looped(one))}):
+        return None  # a macro has another value for some targets, or in a loop
     words = [word for one in own for word in with_values(one, base.values).split()]
-    if any("$" in one for one in own) and (base.scoped or known.changed) or any("$" in word or MAGIC.search(os.path.dirname(word)) for word in words):
+    if any("$" in one for one in own) and (base.scoped or known.changed) or any(UNCLEAR.search(word) or MAGIC.search(os.path.dirname(word)) for word in words):
         return None
     return words
+
+
+def looped(text: str) -> Iterator[str]:
+    """The macros that stand for each word of a loop."""
+    return (name for found in LOOP.finditer(text) for name in found.group(1).split())
 
 
 def folders_asked(known: Macros, names: Names, node: Node) -> Optional[Set[str]]:

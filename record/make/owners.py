@@ -6,7 +6,6 @@ import os
 import re
 from dataclasses import dataclass, field
 from functools import cached_property
-from pathlib import Path
 from typing import TYPE_CHECKING, Dict, Iterable, List, Optional, Set, Tuple
 
 from record.make.database import Base
@@ -14,6 +13,7 @@ from record.make.globs import listed, patterns
 from record.make.options import asks_jobs
 from record.make.programs import Programs
 from record.make.words import SEVERAL, Job, Round, Words, makefiles
+from record.tools.texts import text_of
 from record.trace.lives import Act, Key, Life
 
 if TYPE_CHECKING:
@@ -198,7 +198,7 @@ class Owners:
             return ["*"], []
         for name in makefiles(make.words):
             try:
-                texts.append(Path(make.folder, name).read_text(errors="replace"))
+                texts.append(text_of(os.path.join(make.folder, name)))
             except OSError:
                 if not make.never_read(name):
                     return ["*"], []

@@ -6,11 +6,13 @@ SPOOL/PID.make, and passes everything else on byte for byte. Queries (`make -n`,
 that were asked for debug words run untouched.
 """
 
+import fcntl
 import os
 import re
 import select
 import signal
 import sys
+from contextlib import suppress
 
 from record.make.options import WORDS, asked, asks_jobs, jobs_of_call, plain_args, speak_english, without_words
 from record.make.outputs import goes_to, is_closed, is_one_file, note_output
@@ -28,8 +30,10 @@ WORD_LINE = re.compile(
     rb"|No recipe for " + QUOTED + rb" and no prerequisites actually changed\.$|Target " + QUOTED
     + rb" is double-colon and has no prerequisites\.$|Making " + QUOTED + rb" due to always-make flag\.$"
     rb"|Makefile " + QUOTED + rb" might loop; not remaking it\.$|Re-executing\[\d+\]:"
-    rb"|Removing intermediate files\.\.\.$|Got a SIGCHLD; \d+ unreaped|(Putting|Live|Reaping winning|Reaping losing|Removing) child 0x[0-9a-f]+ "
+    rb"|Removing intermediate files\.\.\.$|Skipping UTF-8 BOM in makefile (?:buffer|" + QUOTED + rb")$|Loading symbol [^\n]* from [^\n]*$"
+    rb"|Got a SIGCHLD; \d+ unreaped|(Putting|Live|Reaping winning|Reaping losing|Removing) child 0x[0-9a-f]+ "
     rb"|(Released|Obtained) token for child 0x|Need a job token; we |Jobserver (setup|client) \()")
+SIZE, SET_SIZE = 1 << 20, 1031  # bytes of the pipe, and what asks for them
 LONG = 4096  # bytes: a longer text comes in pieces
 BEGINS = re.compile(rb" *(?:(?:Reading|Considering|Pruning|Finished|Must|Successfully|Failed|Still|Giving|Recently|Ignoring|File|No|Prerequisite|The|Recipe|Target|Making|Makefile)"
                     rb" [a-z ]*'|(?:Putting|Live|Reaping (?:winning|losing)) child 0x)")
@@ -40,6 +44,7 @@ MUST = re.compile(rb" *Must remake target '(.*)'\.\n")
 STARTED = re.compile(rb"(?:Putting|Live) child (0x[0-9a-f]+) \((.*)\) PID ")  # no line is put where the first names a program that is not there
 REMADE = re.compile(rb" *(?:Successfully remade|Failed to remake) target file '(.*)'\.\n")
 OF_JOB = re.compile(rb"(Live|Reaping winning|Reaping losing|Removing) child (0x[0-9a-f]+) |Got a SIGCHLD; \d+ unreaped")
+REAPING = b"Reaping winning child 0x"
 INCLUDED = re.compile(rb"Reading makefile " + QUOTED + rb"( \([^)]*\))+\.\.\.\n")
 ENDS_OF_RECIPE = re.compile(rb"(?:Got a SIGCHLD; \d+ unreaped children\.\n)*(?:Live|Reaping winning|Reaping losing|Removing)\Z")
 BASE = b"# Make data base, printed on"
@@ -268,8 +273,9 @@ def relay(splitter, reading):
             os._exit(0)
 
 
-def serve(splitter, child, reading):
-    """Reads what make writes until it has ended; gives its raw status."""
+def serve(splitter, child, reading, writing):
+    """Reads what make writes until it has ended; gives its raw status. A recipe may have asked the pipe not to wait: then make would fail where
+    that is full, which it hardly is without the recorder's words."""
     watch = os.pidfd_open(child)
     poller = select.poll()
     poller.register(reading, select.POLLIN)
@@ -279,6 +285,8 @@ def serve(splitter, child, reading):
     while True:
         if not ended:
             ended = watch in [fd for fd, _ in poller.poll()]
+            if ended:
+                os.close(writing)
         try:
             packet = os.read(reading, 65536)
         except BlockingIOError:
@@ -291,6 +299,8 @@ def serve(splitter, child, reading):
         if not packet:
             splitter.end()
             break
+        if packet.startswith(REAPING) and not ended:
+            os.set_blocking(writing, True)
         splitter.take(packet)
     return os.waitpid(child, 0)[1]
 
@@ -313,6 +323,8 @@ def run_logged(spool, name, real, args, flags, below, slots):
     where, errors = goes_to(spool, 1), "joined" if is_one_file(1, 2) else goes_to(spool, 2)
     split = args.index("--") if "--" in args else len(args)
     reading, writing = os.pipe2(os.O_DIRECT | os.O_CLOEXEC)
+    with suppress(OSError):  # it may be as large as it is
+        fcntl.fcntl(writing, SET_SIZE, SIZE)
     note_output(spool, writing, where)
     child = os.fork()
     if child == 0:
@@ -321,13 +333,12 @@ def run_logged(spool, name, real, args, flags, below, slots):
             os.dup2(writing, 2)
         os.dup2(writing, 1)
         os.execv(real, [name] + args[:split] + extra + args[split:])
-    os.close(writing)
     signal.signal(signal.SIGTERM, lambda *_: os.kill(child, signal.SIGTERM))
     with open_log(spool, child) as log:
         note_start(log.name, real, name, args)
         log.write(head_of(args, flags, below, slots, where, errors, spoken))
         try:
-            raw = serve(Splitter(log, 1, where != ""), child, reading)
+            raw = serve(Splitter(log, 1, where != ""), child, reading, writing)
         except OSError:  # nobody reads it, or the device is full: make finds that out by itself
             os.close(reading)
             raw = os.waitpid(child, 0)[1]
@@ -335,11 +346,18 @@ def run_logged(spool, name, real, args, flags, below, slots):
     return raw
 
 
-def main():
+def called_as(me, spool):
+    """The name by which make was called: where a link leads to the wrapper, that link's, as a whole path if PATH does not lead to it."""
+    name = os.path.basename(me)
+    places = (os.path.join(folder, name) for folder in os.environ.get("PATH", "").split(":"))
+    is_own = os.path.dirname(me) == spool + "/bin"
+    return name if is_own or next((place for place in places if os.access(place, os.X_OK)), "") == me else me
+
+
+def main(spool):
     """Runs the real make, as the caller asked."""
     signal.signal(signal.SIGINT, signal.SIG_IGN)
-    me = os.path.abspath(sys.argv[0])
-    spool, name, args = os.path.dirname(os.path.dirname(me)), os.path.basename(me), sys.argv[1:]
+    name, args = called_as(sys.argv[0], spool), sys.argv[1:]
     with open(spool + "/real") as file:
         real = file.read()
     if WORDS[0] in args and "MAKE_RESTARTS" in os.environ:  # make has remade a makefile and begins again

@@ -11,6 +11,7 @@ from typing import Dict, Iterator, List, Sequence, Set, Tuple
 from record.missing.looked import BYTE_CODE
 from record.tools import shelltext
 from record.tools.makedirs import settle_made
+from record.tools.texts import text_of
 from record.trace.lives import Life
 
 PYTHON = re.compile(r"(?:.*/)?python[\d.]*$")
@@ -149,7 +150,6 @@ def lists_folders(path: str) -> bool:
     if not path.endswith(".py"):
         return True
     try:
-        with open(path, errors="replace") as file:
-            return bool(LISTS.search(file.read()))
+        return bool(LISTS.search(text_of(path)))
     except OSError:
         return True

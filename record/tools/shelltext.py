@@ -5,6 +5,7 @@ import re
 from functools import lru_cache
 from typing import Iterable, List, Optional, Set, Tuple
 
+from record.tools.texts import text_of
 from record.trace.system import OF_SYSTEM
 
 SHELLS = ("sh", "dash", "bash", "ksh", "zsh", "ash")
@@ -19,6 +20,7 @@ AGELESS = frozenset((
 VERSIONED = re.compile(r"(?:[\w.]+-linux-gnu-)?([a-z+\[.][a-z0-9+.]*?)(?:-[\d.]+)?$")
 PROGRESS = ("cmake_progress_start", "cmake_progress_report", "cmake_echo_color")
 SORTERS = ("make", "gmake", "rm", "chmod", "chown", "rmdir", "git")  # a folder that `cp` or `mv` copies gets its names in that order
+NAMING = ("rm", "rmdir", "chmod", "chown")  # with `-v` or `-c` they say in which order they come to names
 COMPRESSORS = ("gzip", "pigz", "bzip2", "xz", "lzma", "lzip", "zstd", "compress")  # they refuse a file that has two names
 MAKERS = ("install-sh", "mkinstalldirs", "libtool")
 EXTUTILS = re.compile(r"-MExtUtils::Command -e mkpath$|-MExtUtils::Install -e pm_to_blib\(")  # what Perl's makefiles make folders by
@@ -31,9 +33,10 @@ SHELL_MACROS = {"BASHOPTS", "SHELLOPTS"}
 SETS_OPTIONS = re.compile(r"\b(BASHOPTS|SHELLOPTS|BASH_FUNC_)|\bexport\s+-\w*f|\b(declare|typeset)\s+-(?=\w*x)\w*f")
 READ_TIMES = re.compile(r"(?:\btest|\[)\s[^;&|\n]*-N\s|\bfind\b[^;|\n]*\s-(?:anewer|amin|atime|used|newera\w|newer\wa)\s|\bstat\b[^;|&\n]*%[-+ 0#'\d.]*[xX]"
                         r"|\bls\s([^;|&\n]*?\s)?(?:-\w*u|--time=(?:a|u))")
+READ_TIME = re.compile(r"\b(?:st_|get)?atime\b|(?<!\S)-A\s")  # of an interpreter's text
 QUALIFIED = re.compile(r"[\w*?\])/>]\(")  # a pattern of zsh that may ask for ages, as `*(om)` does
 KEPT = 4096  # how many files are remembered
-LARGE = 1 << 18  # how much of a script is read
+LARGE = 1 << 22  # how much of a script is read
 PASSING = ("env", "nice", "ionice", "setsid", "timeout", "flock", "time", "stdbuf")  # they leave errors to who runs in their place
 WORD = re.compile(r"[^\s;|&<>()'\"`]+")  # a text without a word may be long: each sign is looked at once
 MAGIC = re.compile(r"[*?\[]")
@@ -49,6 +52,8 @@ SHOWS_AGES = {
     "mv": re.compile(r"\s(-\w*u|--u)"),
     "du": re.compile(r"\s--ti"),
 }
+SIZE_OF_STAT = re.compile(r"%[-+ 0#'\d.]*[sbB]")
+SHOWS_SIZES = {"ls": re.compile(r"\s(-\w*[sS]|--si|--so\w*[= ]s)"), "find": re.compile(r"\s-size\s")}
 # `ar` with `u` is not among them: it compares a file with its archive alone (record/make/ages.py).
 AGES = re.compile(
     r"(^|\s|\[)[\"'\\]*-[\"'\\]*-?([no][\"'\\]*t|[ac]?newer[\w-]*|mtime|mmin|atime|amin|cmin|ctime|f?printf)[\"'\\]*[\s=]|\b(cp|mv|rsync|tar)\s+([^;|&\n]*?\s)?(-\w*u|--update)"
@@ -262,8 +267,9 @@ def sorts_names(argv: List[str]) -> bool:
     """Whether a program that lists a folder sorts what it finds, or does the same with each name."""
     name = base_name(argv)
     if name == "ls":
-        return not any(re.match(r"-[a-zA-Z]*[Uf]|--sort=none", word) for word in argv[1:])
-    return name in SHELLS or name in SORTERS
+        return not any(re.match(r"-\w*[Uf]|--so\w*(?:=n|$)", word) for word in argv[1:])
+    is_loud = name in NAMING and any(re.match(r"-\w*[vc]|--[vc]", word) for word in argv[1:])
+    return name in SHELLS or name in SORTERS and not is_loud
 
 
 def is_interpreter(argv: List[str]) -> bool:
@@ -279,12 +285,11 @@ def names_here(argv: List[str]) -> bool:
 def script_compares(path: str, folder: str, depth: int = 0) -> bool:
     """Whether the text of a script compares ages, or that of a script that it takes in; so may one that cannot be read."""
     try:
-        with open(path, errors="replace") as file:
-            text = file.read(LARGE)
+        text = text_of(path, LARGE)
     except OSError:
         return True
     taken = [name.strip("'\"") for name in TAKEN.findall(text)]
-    return bool(AGES.search(text) or COMPUTED.search(text)) or depth > 3 or any("$" in n or script_compares(os.path.join(folder, n), folder, depth + 1) for n in taken)
+    return len(text) == LARGE or bool(AGES.search(text) or COMPUTED.search(text)) or depth > 3 or any("$" in n or script_compares(os.path.join(folder, n), folder, depth + 1) for n in taken)
 
 
 def shows_ages(argv: List[str]) -> bool:
@@ -299,13 +304,18 @@ def shows_ages(argv: List[str]) -> bool:
 
 def asks_size(argv: List[str]) -> bool:
     """Whether a program shows how large a folder is: some file systems count its names."""
-    text = "".join(" " + word for word in argv[1:]) + " "
-    return base_name(argv) == "stat" and (not FORMAT_OF_STAT.search(text) or bool(re.search(r"%[-+ 0#'\d.]*[sbB]", text)))
+    name, text = base_name(argv), "".join(" " + word for word in argv[1:]) + " "
+    if name == "stat":
+        return not FORMAT_OF_STAT.search(text) or bool(SIZE_OF_STAT.search(text))
+    return name in SHOWS_SIZES and bool(SHOWS_SIZES[name].search(text))
 
 
 def asks_reads(argv: List[str], folder: str) -> bool:
     """Whether a program, or a script, may ask when a file was read last."""
     is_known = base_name(argv) in SHELLS or base_name(argv) in ("test", "[", "find", "stat", "ls")
+    if is_interpreter(argv):
+        script = next((word for word in argv[1:] if not word.startswith("-")), "")
+        return bool(READ_TIME.search(" ".join(argv)) or READ_TIME.search(contents(os.path.join(folder, script))))
     return is_known and (bool(READ_TIMES.search(" ".join(argv) + " ")) or bool(script_of(argv)) and asks_reads_in(os.path.join(folder, script_of(argv))))
 
 
@@ -319,8 +329,7 @@ def asks_reads_in(path: str) -> bool:
 def contents(path: str) -> str:
     """The text of a script; nothing where it is gone."""
     try:
-        with open(path, errors="replace") as file:
-            return file.read(LARGE)
+        return text_of(path, LARGE)
     except OSError:
         return ""
 
@@ -358,8 +367,7 @@ def sets_options(argv: List[str], folder: str) -> bool:
 def sets_options_in(path: str) -> bool:
     """Whether a makefile or a script does so."""
     try:
-        with open(path, errors="replace") as file:
-            return bool(SETS_OPTIONS.search(file.read(1 << 22)))
+        return bool(SETS_OPTIONS.search(text_of(path, LARGE)))
     except OSError:
         return False
 

@@ -17,6 +17,7 @@ from record.trace.opened import CHANGING, OF_KERNEL, READING, Opened, requests
 from record.trace.processes import Processes
 from record.trace.replay import DEVICES
 from record.trace.strace import BARE, MAKES_PROCESS, Call, first_text, folders, is_cut, texts, unescape
+from record.trace.system import SETTINGS
 
 LOOKS = {"stat", "lstat", "access", "getxattr", "lgetxattr", "listxattr", "llistxattr", "statfs", "newfstatat",
          "faccessat", "faccessat2", "name_to_handle_at", "statx", "fstatat64", "readlink", "readlinkat", "statfs64", "stat64", "lstat64",
@@ -28,13 +29,15 @@ CHANGES = {"chmod", "chown", "lchown", "utime", "utimes", "truncate", "setxattr"
            "truncate64", "ftruncate64", "chown32", "lchown32", "fchown32", "utimensat_time64",
            "setxattrat", "removexattrat", "file_setattr"}
 TIMES = {"utime", "utimes", "utimensat", "futimesat", "utimensat_time64"}
-OF_PROCESS = re.compile(r"/proc/(?:(\d+)/|loadavg$)")
+OF_PROCESS = re.compile(r"/proc/(?:(\d+)(?:/|$)|loadavg$)")
 SOCKET = re.compile(r'sun_path="((?:[^"\\]|\\.)*)"')
 OF_WRAPPER = {"execve", *MAKES_PROCESS}  # what counts of the recorder's own wrapper
+NUMBERED = {"umask", "kill", "tkill", "tgkill", "rt_sigqueueinfo", "rt_tgsigqueueinfo", "pidfd_open"}  # calls whose first number is no descriptor
 SCRIPTS = 5  # how many scripts may be the interpreter of one another; the kernel allows no more
 BY_NUMBER = {"fchmod", "fchown", "fchown32", "ftruncate", "ftruncate64", "fsetxattr", "fremovexattr"}
 GIVEN_TIME = re.compile(r"tv_[nu]sec=\d+\}(?: /\*[^*]*\*/)?\]|modtime=")
 MODE = re.compile(r", (0[0-7]*)$")
+GIVEN_MODE = re.compile(r", (0[0-7]+)(?:, [A-Z0-9_|]+)?$")  # a later call has options behind it
 TIMED = re.compile(r"\s(-\w*w|--(wait|timeout))")  # `flock -w SECONDS`
 ANY_PORT = re.compile(r"_port=htons\(0\)")
 
@@ -49,7 +52,7 @@ class Calls(Opened):
         if life.is_wrapper and name not in OF_WRAPPER:
             return
         if handler is not None:
-            if ok and call.args[:1].isdigit() and name != "umask" and BARE.match(call.args):
+            if ok and call.args[:1].isdigit() and name not in NUMBERED and BARE.match(call.args):
                 self.put_bare(life, call)
             handler(self, life, call, ok)
         elif name in SHARING and ok:
@@ -91,6 +94,8 @@ class Calls(Opened):
             life.folder = folder
         if not path or is_open:
             return
+        if path.startswith("/proc/"):
+            self.note_watcher(life, path)
         follow = not at_link and call.name not in NOFOLLOW
         plain = path if call.name == "stat" or (call.name == "newfstatat" and follow and not path.startswith("/")) else ""
         link = call.name.startswith("readlink") and ok
@@ -136,7 +141,7 @@ class Calls(Opened):
         forked = was_wrapper and not life.ran
         life.taken = ()
         found = self.names.find(life.folder, words[0], True)
-        life.is_wrapper = words[0].startswith(self.spool + "/bin/")
+        life.is_wrapper = found.path.startswith(self.spool + "/bin/")
         argv = argv if life.is_wrapper else shelltext.with_interpreter(argv, found.path, self.first_words(found.path))
         life.program = found.path
         life.is_ninja = argv == words[1:] and bool(shelltext.NINJA.match(os.path.basename(found.path)))
@@ -148,6 +153,7 @@ class Calls(Opened):
         life.ran.append(argv)
         self.begin_program(life, words, self.first_words(found.path))
         if life.is_wrapper:
+            self.put_links(life, found)
             return
         self.note_rights(life, found.path)
         self.is_open_shell = self.is_open_shell or shelltext.sets_options(argv, life.folder)
@@ -219,7 +225,10 @@ class Calls(Opened):
     on_execveat = on_execve
 
     def on_chdir(self, life: Life, call: Call, ok: bool) -> None:
-        found = self.look(life, texts(call.args)[0], ok, True)
+        path = first_text(call.args) or ""
+        if not path:  # none that the process can read
+            return
+        found = self.look(life, path, ok, True)
         if ok:
             life.enter(found.path)
             self.put(life, "U", found.path)
@@ -233,6 +242,8 @@ class Calls(Opened):
         base, path, folder, flags, changes, follow = opening(call.args)
         if folder:
             life.folder = folder
+        if ok and changes and SETTINGS.match(call.opened or path):
+            self.put_unfollowed(life, "the change of " + path)
         if ok and DEVICES.match(path):
             if not call.opened.startswith("/") or DEVICES.match(call.opened) and not self.is_inside(call.opened):
                 self.note_watcher(life, path)
@@ -378,10 +389,8 @@ class Calls(Opened):
     on_rmdir = on_unlinkat = on_unlink
 
     def on_change(self, life: Life, call: Call, ok: bool) -> None:
-        base, path = self.base_and_path(life, call)
-        if not path:
-            where = folders(call.args)
-            path = where[0] if where else ""
+        base, path = self.base_and_path(life, call) if call.name not in BY_NUMBER else ("", "")
+        path = path or next(iter(folders(call.args)), "")
         if not path or not path.startswith("/") and call.name in BY_NUMBER:
             return
         if not ok:
@@ -391,7 +400,7 @@ class Calls(Opened):
         if call.name in TIMES and GIVEN_TIME.search(TEXT_END.sub("", call.args)):
             self.put(life, "c", found.path + "\0")
         if found.inode is not None and found.inode.kind == "d":
-            mode = MODE.search(call.args)
+            mode = GIVEN_MODE.search(call.args) if "chmod" in call.name else None
             self.put(life, *(("t", found.path) if call.name in TIMES else ("m", "%s\0%o" % (found.path, int(mode.group(1), 8) if mode else -1))))
         else:
             self.write(life, found, False)

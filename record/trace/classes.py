@@ -25,8 +25,8 @@ REASONS: Dict[str, str] = {
     "memory": """mmap mmap2 munmap mremap mprotect pkey_mprotect pkey_alloc pkey_free madvise process_madvise mincore mlock mlock2 mlockall munlock munlockall
         msync brk sbrk remap_file_pages mbind get_mempolicy set_mempolicy set_mempolicy_home_node migrate_pages move_pages mseal map_shadow_stack userfaultfd
         process_mrelease membarrier rseq cacheflush riscv_flush_icache""",
-    # Processes, signals, rights and limits. Who signals a process of another recipe has its number from a file, or from /proc, which counts.
-    "processes": """exit exit_group wait4 waitid waitpid kill tkill tgkill rt_sigqueueinfo rt_tgsigqueueinfo pidfd_open pidfd_send_signal kcmp pause alarm
+    # Processes, rights and limits. Signals are traced: who signals a process of another recipe may have its number from a file that both read.
+    "processes": """exit exit_group wait4 waitid waitpid pidfd_send_signal kcmp pause alarm
         rt_sigaction rt_sigpending rt_sigprocmask rt_sigreturn rt_sigsuspend rt_sigtimedwait rt_sigtimedwait_time64 sigaction sigaltstack sigpending
         sigprocmask sigreturn sigsuspend sgetmask ssetmask restart_syscall getpid getppid gettid getpgid getpgrp getsid setpgid setsid getuid getuid32 geteuid
         geteuid32 getgid getgid32 getegid getegid32 getresuid getresuid32 getresgid getresgid32 getgroups getgroups32 setuid setuid32 setgid setgid32 setreuid
@@ -42,7 +42,7 @@ REASONS: Dict[str, str] = {
         clock_nanosleep_time64 clock_gettime clock_gettime64 clock_getres clock_getres_time64 gettimeofday time times getitimer setitimer timer_create
         timer_delete timer_getoverrun timer_gettime timer_gettime64 timer_settime timer_settime64""",
     # What the machine is, and mounts by their numbers: no file of a build.
-    "the machine": """uname olduname oldolduname sysinfo syslog sysfs getcpu getrandom sethostname setdomainname vhangup lookup_dcookie ustat statmount listmount
+    "the machine": """uname olduname oldolduname sysinfo syslog sysfs getcpu getrandom vhangup lookup_dcookie ustat statmount listmount
         listns riscv_hwprobe fsopen fsconfig""",
     # The kernel has these no more, or never had them.
     "gone": """afs_syscall bdflush break create_module ftime get_kernel_syms gtty idle lock mpx prof profil query_module security stty tuxcall ulimit vserver
@@ -58,7 +58,7 @@ SHARING = {"shmget", "semget", "msgget", "mq_open", "mq_unlink", "add_key", "req
 # Known calls that nobody follows, since a build hardly needs them: they change files by other ways, files of others, the clock or the kernel.
 UNFOLLOWED = {"acct", "swapon", "swapoff", "quotactl", "quotactl_fd", "uselib", "nfsservctl", "_sysctl", "pidfd_getfd", "bpf", "init_module", "finit_module",
               "delete_module", "kexec_load", "kexec_file_load", "reboot", "settimeofday", "stime", "clock_settime", "clock_settime64", "clock_adjtime",
-              "clock_adjtime64", "adjtimex"}
+              "clock_adjtime64", "adjtimex", "sethostname", "setdomainname"}
 
 # The newest calls by their numbers, which are the same on most machines: an older strace knows no names of them.
 FIRST = 441

@@ -16,9 +16,9 @@ MOUNT_ESCAPE = re.compile(r"\\([0-7]{3})")
 
 
 class Inode:
-    """A file (`f`), folder (`d`) or link (`l`); a folder knows its place, a file all of its names."""
+    """A file (`f`), folder (`d`) or link (`l`); a folder knows its place, a file its names, and how many more it had when it was first met."""
 
-    __slots__ = ("kind", "entries", "target", "parent", "name", "walked", "names", "first")
+    __slots__ = ("kind", "entries", "target", "parent", "name", "walked", "names", "first", "unknown")
 
     def __init__(self, kind: str, target: str = "") -> None:
         self.kind = kind
@@ -29,6 +29,7 @@ class Inode:
         self.walked = False
         self.names: List[Tuple["Inode", str]] = []
         self.first = False
+        self.unknown = 0
 
     def path(self) -> str:
         """The folder's path."""
@@ -47,6 +48,14 @@ def mount_points() -> Set[str]:
     except OSError:
         return set()
     return {MOUNT_ESCAPE.sub(lambda found: chr(int(found.group(1), 8)), line.split(" ")[4]) for line in lines}
+
+
+def number_of(path: str) -> Tuple[str, Optional[os.stat_result]]:
+    """A file with its device and number; none where it is gone."""
+    try:
+        return path, os.lstat(path)
+    except OSError:
+        return path, None
 
 
 def join(folder: str, name: str) -> str:
@@ -90,6 +99,7 @@ class Names:
         self.modes: Dict[str, Set[str]] = {}  # folders that were made: with which modes
         self.numbers: Dict[Tuple[int, int], str] = {}  # folders that were walked, by device and number
         self.twice: List[Tuple[str, str]] = []  # folders with two names, as far as numbers say so
+        self.files: Dict[Tuple[int, int], Inode] = {}  # files with several names, by device and number
 
     def walk(self, top: str) -> None:
         """Takes in the tree below a real path, as it is now. A folder that is not there yet is empty, and made by the build."""
@@ -100,7 +110,6 @@ class Names:
             self.absent.add(next(path for path in [*above, top] if not os.path.isdir(path)))
             return
         node = self.folder(top)
-        files: Dict[Tuple[int, int], Inode] = {}
         todo = [(node, top)]
         self.before[top] = "d"
         while todo:
@@ -112,7 +121,7 @@ class Names:
                 continue
             for entry in entries:
                 found = entry.stat(follow_symlinks=False)
-                child = self.made_of(found, join(path, entry.name), files)
+                child = self.made_of(found, join(path, entry.name))
                 self.put(node, entry.name, child)
                 child.first = True
                 self.before[join(path, entry.name)] = child.kind
@@ -127,17 +136,26 @@ class Names:
 
     def mounted(self, mounts: Set[str]) -> List[str]:
         """What is wrong with names of which a mount has made two."""
-        return ["a folder is mounted a second time, so its files have two names: %s and %s" % pair for pair in self.twice if not mounts.isdisjoint(pair)]
+        twice = [pair for pair in self.twice if not mounts.isdisjoint(pair)]
+        mounted = [path for path in sorted(mounts) if self.before.get(path) == "f"]
+        numbers = {(found.st_dev, found.st_ino): path for path, found in map(number_of, mounted) if found is not None}
+        others = (number_of(path) for path, kind in self.before.items() if numbers and kind == "f" and path not in mounts)
+        files = [(numbers[found.st_dev, found.st_ino], path) for path, found in others if found is not None and (found.st_dev, found.st_ino) in numbers]
+        return ["%s is mounted a second time, so its files have two names: %s and %s" % (what, *pair) for what, pairs in (("a folder", twice), ("a file", files)) for pair in pairs]
 
-    @staticmethod
-    def made_of(found: os.stat_result, path: str, files: Dict[Tuple[int, int], Inode]) -> Inode:
-        """What the disk has, as a node of the model."""
+    def made_of(self, found: os.stat_result, path: str) -> Inode:
+        """What the disk has, as a node of the model: one for all names of a file."""
         if stat.S_ISDIR(found.st_mode):
             return Inode("d")
         if stat.S_ISLNK(found.st_mode):
             return Inode("l", os.readlink(path))
         if found.st_nlink > 1:
-            return files.setdefault((found.st_dev, found.st_ino), Inode("f"))
+            key = (found.st_dev, found.st_ino)
+            if key not in self.files:
+                self.files[key] = Inode("f")
+                self.files[key].unknown = found.st_nlink
+            self.files[key].unknown -= 1
+            return self.files[key]
         return Inode("f")
 
     def folder(self, path: str) -> Inode:
@@ -188,7 +206,7 @@ class Names:
         if path in self.absent:
             return None
         try:
-            child = self.made_of(os.lstat(path), path, {})
+            child = self.made_of(os.lstat(path), path)
         except OSError:
             return None
         self.put(folder, name, child)

@@ -12,6 +12,19 @@ from record.trace.moves import Moves
 from record.trace.strace import Call
 
 
+NUMBER = re.compile(r"-?(\d+)\b")  # of a process, or of the first one of a group
+
+
+def first_of(life: Life) -> Life:
+    """The process of a recipe that make or ninja started, by one of those below it."""
+    found = life
+    for up in life.up():
+        if up.is_make or up.is_ninja:
+            break
+        found = up
+    return found
+
+
 @lru_cache(None)
 def lends_rights(program: str, user: int) -> bool:
     """Whether the kernel runs a program with the rights of its owner or group. It does not where the process is traced, except for root."""
@@ -49,6 +62,15 @@ class Processes(Moves):
         """A program such as `sudo` has been started, and does not get the rights that it has in a build by itself."""
         if lends_rights(program, os.geteuid()):
             self.holes.append("a program does not get the rights of its owner while a build is recorded: " + " ".join(life.argv)[:100])
+
+    def on_kill(self, life: Life, call: Call, ok: bool) -> None:
+        """A signal, or the question whether a process is there: that of another recipe may have ended by then. Make ends its own children."""
+        match = NUMBER.match(call.args)
+        other = self.lives.get(int(match.group(1))) if match is not None else None
+        if not life.is_make and (other is None or first_of(other) is not first_of(life)):
+            self.watchers.append(" ".join(life.argv)[:100])
+
+    on_tkill = on_tgkill = on_rt_sigqueueinfo = on_rt_tgsigqueueinfo = on_pidfd_open = on_kill
 
     def on_umask(self, life: Life, call: Call, ok: bool) -> None:
         life.set_mask(int(call.args, 8))

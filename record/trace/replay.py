@@ -217,6 +217,8 @@ class Replay:
             created = True
             self.put(life, "C", found.path)
         self.put(life, "W", found.path)
+        if found.inode is not None and found.inode.unknown > 0:
+            self.hard_links.append(found.path)
         if found.inode is not None and len(found.inode.names) > 1:
             for other in self.names.aliases(found.inode):
                 self.put(life, "W", other)

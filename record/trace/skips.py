@@ -5,7 +5,7 @@ a time and by bytes: most of its lines are such looks, and one regular expressio
 import os
 import re
 from pathlib import Path
-from typing import Callable, Iterable, Iterator, List, Optional, Set
+from typing import Callable, Iterable, Iterator, List, Optional, Set, Tuple
 
 from record.trace.arguments import read_ahead
 from record.trace.strace import unescape
@@ -47,17 +47,17 @@ def has_change(lines: bytes, changes: "re.Pattern[bytes]") -> bool:
 
 
 class Skip:
-    """Looks at the system's folders by names of which no link leads to a top, and not at modules that Python or OCaml may take in."""
+    """Looks at the system's folders by names of which no link leads elsewhere, and not at modules that Python or OCaml may take in."""
 
-    def __init__(self, looks: "re.Pattern[bytes]", changes: "re.Pattern[bytes]", tops: List[str]) -> None:
-        self.looks, self.changes, self.tops = looks, changes, tops
+    def __init__(self, looks: "re.Pattern[bytes]", changes: "re.Pattern[bytes]", tops: List[str], inside: Tuple[str, ...] = ("/",)) -> None:
+        self.looks, self.changes, self.tops, self.inside = looks, changes, tops, inside
         self.known: Set[Optional[bytes]] = {None}  # spellings that were looked up; a look at an open file has none
         self.counting: Set[Optional[bytes]] = set()  # those of them that count
 
     def counts(self, spelling: bytes) -> bool:
-        """Whether a look by a name is read all the same: the name leads to a top, or Python or OCaml may take in what is there."""
+        """Whether a look by a name is read all the same: the name leads out of these folders, or Python or OCaml may take in what is there."""
         real = os.path.realpath(unescape(spelling.decode("latin-1")))
-        return any((real + "/").startswith(top.rstrip("/") + "/") for top in self.tops) or bool(MODULES.match(spelling))
+        return any((real + "/").startswith(top.rstrip("/") + "/") for top in self.tops) or not (real + "/").startswith(self.inside) or bool(MODULES.match(spelling))
 
     def rest(self, lines: bytes) -> bytes:
         """What is left of some lines, each behind a newline, without such looks."""
@@ -76,7 +76,8 @@ def skipping(tops: List[str]) -> Optional[Skip]:
     if not safe:
         return None
     folders_of_system = "/(?:%s)(?=[/\">])" % "|".join(safe)
-    return Skip(*(re.compile(text.replace("FOLDERS", folders_of_system).encode()) for text in (LOOKING, CHANGING)), tops)
+    looks, changes = (re.compile(text.replace("FOLDERS", folders_of_system).encode()) for text in (LOOKING, CHANGING))
+    return Skip(looks, changes, tops, tuple("/%s/" % name for name in safe))
 
 
 def unseen_changes(changed: Iterable[str]) -> List[str]:

@@ -1,0 +1,61 @@
+"""The guards of what was taken to be true and is not always so: see guard_table.py, and test_late.py for the tests."""
+
+from typing import List
+
+from guard_table import FALSE_RACE, UNSAID, YES, Guard
+
+
+def late(name: str) -> str:
+    """The test of a makefile of test_late.py."""
+    return "test_late.Makefiles.test_" + name
+
+
+def trace(name: str) -> str:
+    """The test of lines of a trace there."""
+    return "test_late.Traces.test_" + name
+
+
+LATE_GUARDS: List[Guard] = [
+    Guard("orders of names: that ls shows", "tools/shelltext.py", r'r"-\w*[Uf]|', r'r"-[a-zA-Z]*[Uf]|', late("order_that_ls_shows"), UNSAID),
+    Guard("orders of names: that ls shows by a word", "tools/shelltext.py", r"|--so\w*(?:=n|$)", "|--sort=none", late("order_that_ls_shows_by_a_word"), UNSAID),
+    Guard("orders of names: that rm says", "tools/shelltext.py", "name in SORTERS and not is_loud", "name in SORTERS", late("order_that_rm_says"), UNSAID),
+    Guard("orders of names: that rm does not say", "tools/shelltext.py", "name in SORTERS and not is_loud", "name in SORTERS and name not in NAMING", late("order_that_rm_does_not_say"), "True is not false"),
+    Guard("folders: how large ls shows them", "tools/shelltext.py", '"ls": re.compile(r"\\s(-\\w*[sS]|', '"ls": re.compile(r"\\s(-\\w*[S]|', late("size_of_a_folder_by_ls"), YES),
+    Guard("folders: how large find finds them", "tools/shelltext.py", ', "find": re.compile(r"\\s-size\\s")', "", late("size_of_a_folder_by_find"), YES),
+    Guard("ages: at the end of a long script", "tools/shelltext.py", "LARGE = 1 << 22", "LARGE = 1 << 18", late("ages_at_the_end_of_a_long_script"), YES,
+          ("tools/shelltext.py", "return len(text) == LARGE or ", "return ")),
+    Guard("makes inside: an include behind a tab", "make/globs.py", r"(?m)^[ \t]*[-s]?include", r"(?m)^ *[-s]?include", late("include_behind_a_tab"), YES),
+    Guard("makes inside: a rule that is a macro", "make/globs.py", "if any(macros.may_be_rule(text) for", "if any(False for", late("rule_that_is_a_macro"), YES),
+    Guard("makes inside: a rule that a function gives", "make/globs.py", "(?:(?:call|value)[ \\t]+)?([\\w.-]+)", "([\\w.-]+)", late("rule_that_a_function_gives"), YES),
+    Guard("makes inside: a macro that is no rule with a pattern", "make/globs.py", " and any(map(MAGIC.search, todo))", "", late("rule_that_is_a_macro_without_a_pattern"), FALSE_RACE),
+    Guard("makes inside: a rule that begins with a macro", "make/globs.py", 'if re.search("[:=]", outside(text)):', "if False:", late("rule_that_begins_with_a_macro"), FALSE_RACE),
+    Guard("makes inside: a line that only says something", "make/globs.py", "(?!(?:eval|info|warning|error)[ \\t])", "", late("line_that_says_something"), FALSE_RACE),
+    Guard("makes inside: a rule with a semicolon", "make/globs.py", "if any(text.count(one) > text.count(other) for", "if any(False for", late("rule_with_a_semicolon"), YES),
+    Guard("wildcard: a macro in a loop", "make/memory.py", "*(name for one in texts for name in looped(one))", "", late("wildcard_of_a_macro_in_a_loop"), YES),
+    Guard("wildcard: a macro of a pattern", "make/memory.py", "{*base.bodies, ", "{", late("wildcard_of_a_macro_of_a_pattern"), YES),
+    Guard("wildcard: at home", "make/memory.py", r'r"[$\\~]"', r'r"[$\\]"', late("wildcard_at_home"), YES),
+    Guard("wildcard: a blank", "make/memory.py", r'r"[$\\~]"', r'r"[$~]"', late("wildcard_with_a_blank"), YES),
+    Guard("processes: signals", "trace/processes.py", "self.watchers.append(", "str(", late("signal_for_another_recipe"), UNSAID),
+    Guard("processes: signals inside of a recipe", "trace/processes.py", "first_of(other) is not first_of(life)", "other is not life", late("signal_for_its_own_process"), "True is not false"),
+    Guard("processes: looks at one", "trace/calls.py", "            self.note_watcher(life, path)\n        follow", "            pass\n        follow", late("process_that_is_looked_for"), UNSAID),
+    Guard("signals: no descriptors", "trace/calls.py", '"umask", "kill", "tkill", "tgkill", ', '"umask", ', trace("signal_is_no_descriptor")),
+    Guard("read times: words of interpreters", "tools/shelltext.py", 'return bool(READ_TIME.search(" ".join(argv)) or ', "return bool(", late("read_time_in_a_word"), UNSAID),
+    Guard("read times: scripts of interpreters", "tools/shelltext.py", " or READ_TIME.search(contents(os.path.join(folder, script))))", ")", late("read_time_in_a_script"), UNSAID),
+    Guard("names of files: elsewhere", "trace/replay.py", "found.inode.unknown > 0:", "False:", late("name_outside_of_the_project"), UNSAID),
+    Guard("names of files: elsewhere, that is written", "trace/names.py", "            if key not in self.files:\n", "            if True:\n", late("name_outside_that_is_written"), YES),
+    Guard("names of files: in two tops", "trace/names.py", "            if key not in self.files:\n", "            if True:\n", "test_late.Tops.test_file_with_a_name_in_each", YES),
+    Guard("trace: files with two names, by a mount", "trace/names.py", "(found.st_dev, found.st_ino) in numbers]", "False]", "test_late.Tops.test_file_that_is_mounted_a_second_time"),
+    Guard("attributes: by the number of a file", "trace/calls.py", 'if call.name not in BY_NUMBER else ("", "")', "", trace("attribute_by_a_number")),
+    Guard("folders: whose owner changes", "trace/calls.py", 'GIVEN_MODE.search(call.args) if "chmod" in call.name else None', "MODE.search(call.args)", trace("owner_of_a_folder")),
+    Guard("settings of the kernel: files", "trace/calls.py", "if ok and changes and SETTINGS.match(call.opened or path):", "if False:", trace("settings_of_the_kernel")),
+    Guard("settings of the kernel: calls", "trace/classes.py", ', "sethostname", "setdomainname"}', "}", trace("settings_of_the_kernel"), "",
+          ("trace/classes.py", "getcpu getrandom vhangup", "getcpu getrandom sethostname vhangup")),
+    Guard("calls: a folder without a name", "trace/calls.py", "        if not path:  # none that the process can read\n            return\n", "", trace("folder_without_a_name")),
+    Guard("system: links that lead out", "trace/skips.py", " or not (real + \"/\").startswith(self.inside)", "", trace("link_that_leads_out_of_the_system")),
+    Guard("texts: what cannot be read again", "tools/texts.py", "return os.path.isfile(path) and not", "return os.path.exists(path) and not", "test_late.Texts.test_what_cannot_be_read_again"),
+    Guard("texts: what is of each process", "tools/texts.py", " and not os.path.normpath(path).startswith(OF_PROCESS)", "", "test_late.Texts.test_what_cannot_be_read_again"),
+    Guard("words of make: marks of an encoding", "make/wrapper.py", 'Skipping UTF-8 BOM in makefile (?:buffer|" + QUOTED + rb")$|', "", "test_late.Changed.test_makefile_with_a_mark_of_its_encoding"),
+    Guard("wrapper: by a link", "trace/calls.py", "life.is_wrapper = found.path.startswith(", "life.is_wrapper = words[0].startswith(", "test_late.Changed.test_link_to_make"),
+    Guard("wrapper: names of a link", "make/wrapper.py", 'return name if is_own or next((place for place in places if os.access(place, os.X_OK)), "") == me else me', "return name", "test_late.Changed.test_link_to_make"),
+    Guard("wrapper: a pipe that does not wait", "make/wrapper.py", "            os.set_blocking(writing, True)\n", "            pass\n", "test_late.Changed.test_recipe_that_lets_no_write_wait"),
+]

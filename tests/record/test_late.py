@@ -1,0 +1,168 @@
+"""Small makefiles of which something was taken to be true that is not always so: what lists a folder and how large it is, patterns in lines
+that macros give, names that a recipe looks for by a macro of two values, files with a name elsewhere, signals, and what cannot be read again."""
+
+import os
+import re
+import tempfile
+import unittest
+from typing import Dict
+
+import support
+import test_output
+from record.tools.shelltext import asks_reads
+from record.tools.texts import is_plain, text_of
+from record.trace.names import Names
+from record.trace.skips import Skip
+from test_replay import TOP, events_of, lives_of, played
+from test_small import Small, test_of
+
+ORDER = "all: c\nd: ; mkdir d\na: | d ; touch d/a a\nb: | d ; touch d/b b\nc: a b ; %s\n"
+LISTS = "programs that list a folder"
+PAIR = "all: c\na: ; touch a\nb: ; touch b\nc: a b ; %s\n"
+SIZE = "all: a b\na: ; touch d/x a\nb: ; %s > b\n"
+LONG = "# ...............................................................\n" * 5000
+INSIDE = "all: a b\na: ; $(MAKE) -f in.mk\nb: ; echo 'V = 2' > y.x; touch b\n"
+TAKES = "a: ; echo '$^$(V)' > a\n"
+LATER = "D = d1\nall: a c b.q\na: ; touch d2/n.x a\nc: ; touch c\n%s\n"
+FOLDERS = "mkdir d1 d2 'd 2'"
+SEES = "who lists the processes that run"
+READ = "who asks when a file was read last"
+LINKED = "files got a second name"
+
+LATE: Dict[str, Small] = {
+    # the order in which a folder shows its names, and its size
+    "order_that_ls_shows": Small("safe", ORDER % "ls -1U d > c", says=LISTS),
+    "order_that_ls_shows_by_a_word": Small("safe", ORDER % "ls --sort none d > c", says=LISTS),
+    "order_that_ls_does_not_show": Small("safe", ORDER % "ls -1 d > c", lacks=LISTS),
+    "order_that_rm_says": Small("safe", ORDER % "rm -rv d > c", says=LISTS),
+    "order_that_chmod_says": Small("safe", ORDER % "chmod -R --verbose 755 d > c", says=LISTS),
+    "order_that_rm_does_not_say": Small("safe", ORDER % "rm -r d; touch c", lacks=LISTS),
+    "size_of_a_folder_by_ls": Small("race", SIZE % "ls -sd d", setup="mkdir d"),
+    "size_of_a_folder_by_find": Small("race", SIZE % "find d -maxdepth 0 -size +5k", setup="mkdir d"),
+    "folder_that_ls_names": Small("safe", SIZE % "ls -d d", setup="mkdir d"),
+    # a script of which the recorder read the beginning alone
+    "ages_at_the_end_of_a_long_script": Small("race", PAIR % "sh s; touch c", {"s": LONG + "test a -nt b || true\n"}),
+    # patterns in lines of makes inside
+    "include_behind_a_tab": Small("race", INSIDE, {"in.mk": "X = 1\nifdef X\n\t-include *.x\nendif\n" + TAKES}),
+    "rule_that_is_a_macro": Small("race", INSIDE, {"in.mk": "X = a: *.x\n$(X)\n" + TAKES, "z.x": ""}),
+    "rule_that_a_function_gives": Small("race", INSIDE, {"in.mk": "r = $1: $2\n$(call r,a,*.x)\n" + TAKES, "z.x": ""}),
+    "rule_with_a_semicolon": Small("race", INSIDE, {"in.mk": "a: $(subst ;,,*.x)\n" + TAKES, "z.x": ""}),
+    "rule_that_is_a_macro_and_comes_first": Small("safe", INSIDE.replace("b:", "b: a"), {"in.mk": "X = a: *.x\n$(X)\n" + TAKES, "z.x": ""}),
+    "rule_that_is_a_macro_without_a_pattern": Small("safe", INSIDE, {"in.mk": "X = a: z.x\n$(X)\n" + TAKES, "z.x": ""}),
+    "rule_that_begins_with_a_macro": Small("safe", INSIDE, {"in.mk": "T = a\n$(T): z.x ; echo '$^' > a; rm -f *.q\n", "z.x": ""}),
+    "line_that_says_something": Small("safe", INSIDE, {"in.mk": "X = a: *.x\n$(info $(X))\n" + TAKES}),
+    # where a recipe looks for names
+    "wildcard_of_a_macro_in_a_loop": Small("race", LATER % "b.q: c ; echo $(foreach D,d2,$(wildcard $(D)/*.x)) > b.q", setup=FOLDERS),
+    "wildcard_of_a_macro_of_a_pattern": Small("race", LATER % "%.q: D = d2\n%.q: c ; echo $(wildcard $(D)/*.x) > b.q", setup=FOLDERS),
+    "wildcard_of_a_macro_of_one_value": Small("safe", LATER % "b.q: c ; echo $(wildcard $(D)/*.x) $(foreach E,d2,$(E)) > b.q", setup=FOLDERS),
+    "wildcard_at_home": Small("race", "HOME := $(CURDIR)/d2\n" + LATER % "b.q: c ; echo $(wildcard ~/*.x) > b.q", setup=FOLDERS),
+    "wildcard_with_a_blank": Small("race", LATER.replace("d2/n.x", "'d 2/n.x'") % "b.q: c ; echo $(wildcard d\\ 2/*.x) > b.q", setup=FOLDERS),
+    # processes of other recipes
+    "signal_for_another_recipe": Small("safe", "all: b\na: ; sleep 9 > /dev/null 2>&1 & echo $$! > a\nb: a ; kill `cat a`; touch b\n", says=SEES),
+    "signal_for_its_own_process": Small("safe", "all: ; sleep 9 & kill $$!; touch all\n", lacks=SEES),
+    "process_that_is_looked_for": Small("safe", "all: ; test -d /proc/$$PPID; touch all\n", says=SEES),
+    # when a file was read last
+    "read_time_in_a_word": Small("safe", "all: ; python3 -c \"import os; os.stat('k').st_atime\"; touch all\n", {"k": "k"}, says=READ),
+    "read_time_in_a_script": Small("safe", "all: ; python3 p.py; touch all\n", {"k": "k", "p.py": "import os\nos.path.getatime('k')\n"}, says=READ),
+    # files with a name elsewhere
+    "name_outside_of_the_project": Small("safe", "all: ; echo 1 > x; touch all\n", setup="echo 0 > ../y; ln ../y x", says=LINKED),
+    "name_outside_that_is_written": Small("race", "all: a b\na: ; echo 1 > ../y; touch a\nb: ; cat x > b\n", setup="echo 0 > ../y; ln ../y x"),
+    "name_outside_that_nobody_writes": Small("safe", "all: ; cat x > all\n", setup="echo 0 > ../y; ln ../y x", lacks=LINKED),
+    "script_that_is_a_pipe": Small("safe", "all: ; mkfifo p; echo 'touch all' > p & sh p; wait\n"),
+}
+
+
+class Makefiles(unittest.TestCase):
+    """A test for each makefile."""
+
+
+for key, one in LATE.items():
+    setattr(Makefiles, "test_" + key, test_of(key, one))
+
+
+class Changed(unittest.TestCase):
+    """A recorded build does what a plain one does."""
+
+    both, one = test_output.Output.both, staticmethod(test_output.Output.one)
+
+    def test_makefile_with_a_mark_of_its_encoding(self) -> None:
+        self.assertEqual(0, self.both("\ufeffall: ; @echo x > all\n"))
+
+    def test_link_to_make(self) -> None:
+        text = "all: t/gmake ; t/gmake -f in.mk; rm -r t\nt/gmake: ; mkdir t; ln -s `command -v make` $@\n"
+        self.assertEqual(0, self.both(text, in_mk="all: ; echo $(MAKE) > all\n"))
+
+    def test_recipe_that_lets_no_write_wait(self) -> None:
+        macros = "".join("V%d := %s\n" % (number, "v" * 500) for number in range(1500))
+        self.assertEqual(0, self.both("all: b\na: ; @python3 -c 'import os; os.set_blocking(1, False)'; touch a\nb: a ; echo b > b\n" + macros))
+
+
+class Tops(unittest.TestCase):
+    """Names in two folders."""
+
+    def test_file_with_a_name_in_each(self) -> None:
+        with support.Project({"Makefile": "all: a b\na: ; echo 1 > x; touch a\nb: ; cat ../other/y > b\n"}) as project:
+            project.sh("mkdir ../other; echo 0 > ../other/y; ln ../other/y x")
+            self.assertEqual(1, project.record(options=["--top", "../other"]).status)
+
+    def test_file_that_is_mounted_a_second_time(self) -> None:
+        with tempfile.TemporaryDirectory() as room:
+            room = os.path.realpath(room)
+            os.mknod(room + "/x")
+            os.link(room + "/x", room + "/y")
+            names = Names()
+            names.walk(room)
+            self.assertEqual([1, 0], [len(names.mounted(mounts)) for mounts in ({room + "/x", "/"}, {"/"})])
+
+
+class Traces(unittest.TestCase):
+    """Lines of a trace."""
+
+    def test_attribute_by_a_number(self) -> None:
+        for name in ("fsetxattr(3<%s/x>, \"user.k\", \"v\", 1, 0)", "fremovexattr(3<%s/x>, \"user.k\")"):
+            life = lives_of(played("1 " + name % TOP + " = 0"), 1)[0]
+            self.assertIn(("W", "x"), events_of(life), name)
+
+    def test_owner_of_a_folder(self) -> None:
+        life = lives_of(played('1 mkdir("d", 0777) = 0', '1 chown("d", 0, 0) = 0', '1 fchmodat2(AT_FDCWD<%s>, "d", 0750, 0) = 0' % TOP), 1)[0]
+        self.assertEqual({("m", "d\0-1"), ("m", "d\x00750")}, {event for event in events_of(life) if event[0] == "m"})
+
+    def test_settings_of_the_kernel(self) -> None:
+        opened = '1 openat(AT_FDCWD</w>, "/proc/sys/kernel/hostname", %s) = 3</proc/sys/kernel/hostname>'
+        self.assertEqual([1, 0], [len(played(opened % flags).holes) for flags in ("O_WRONLY|O_TRUNC", "O_RDONLY")])
+        self.assertEqual(1, len(played('1 sethostname("x", 1) = 0').holes))
+
+    def test_signal_is_no_descriptor(self) -> None:
+        replay = played("1 kill(5, SIGTERM) = 0", "1 tgkill(1, 1, SIGABRT) = 0")
+        self.assertEqual([], replay.holes)
+        self.assertEqual(1, len(replay.watchers))
+
+    def test_folder_without_a_name(self) -> None:
+        self.assertEqual(set(), events_of(lives_of(played("1 chdir(NULL) = -1 EFAULT (Bad address)"), 1)[0]))
+
+    def test_link_that_leads_out_of_the_system(self) -> None:
+        with tempfile.TemporaryDirectory() as room:
+            room = os.path.realpath(room)
+            os.mkdir(room + "/usr")
+            os.symlink("../opt", room + "/usr/link")
+            looks, lines = re.compile((r'\n\d+ stat\("(%s/usr/[^"]*)"[^\n]*' % re.escape(room)).encode()), ['\n7 stat("%s/usr/%s", 0x1) = 0' % (room, n) for n in ("link/x", "x")]
+            self.assertEqual(lines[0].encode(), Skip(looks, looks, [], (room + "/usr/",)).rest("".join(lines).encode()))
+
+
+class Texts(unittest.TestCase):
+    """Files that are read when the build has ended."""
+
+    def test_what_cannot_be_read_again(self) -> None:
+        with tempfile.TemporaryDirectory() as room:
+            os.mkfifo(room + "/pipe")
+            for path in (room + "/pipe", room, room + "/no", "/dev/stdin", "/dev/fd/0", "/proc/self/status", "/x/../dev/stdin"):
+                self.assertFalse(is_plain(path), path)
+            self.assertRaises(OSError, text_of, room + "/no")
+
+    def test_words_about_read_times(self) -> None:
+        for argv, wanted in ((["perl", "-e", "print -A $f"], True), (["python3", "-c", "x.st_atime"], True), (["python3", "-c", "x.st_mtime"], False)):
+            self.assertEqual(wanted, asks_reads(argv, "/"), argv)
+
+
+if __name__ == "__main__":
+    unittest.main()
