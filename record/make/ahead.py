@@ -27,10 +27,11 @@ def makes_ahead(builder: "Builder", at: int, folder: str) -> bool:
     It works out all lines of a recipe before it starts the first one, and those of two recipes never at once. So whichever
     recipe comes first makes the folder, before anything of it runs.
     """
-    task, base, known = builder.build.tasks[at], builder.graph.base, builder.known
-    if builder.build.tool != "make" or task.kind not in ("recipe", "look") or ".SECONDEXPANSION" in base.prerequisites:
+    task = builder.build.tasks[at]
+    if builder.build.tool != "make" or task.kind not in ("recipe", "look"):
         return False
-    lines = base.recipes.get(task.node.name, [])
+    base, known = builder.graph.base, builder.known
+    lines = base.recipes.get(task.node.name, []) if ".SECONDEXPANSION" not in base.prerequisites else []
     for place, line in enumerate(lines):
         found = MAKES.fullmatch(text_for(known, task.node.name, line))
         if found is not None:
