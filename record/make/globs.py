@@ -27,8 +27,9 @@ NAMED_BY_MACRO = re.compile(r"\$[({][^(){}\s,:]*\$(?!\$)")
 # A line of a makefile that is a rule, up to its recipe, and one that includes makefiles: make looks for the names in them.
 RULE = re.compile(r"(?m)^(?!\t)((?:[^\n=#:;]*\\\n)*[^\n=#;]*?:(?![:=])(?:[^\n;#=]*\\\n)*[^\n;#]*)")
 INCLUDE = re.compile(r"(?m)^[ \t]*[-s]?include[ \t]+((?:[^\n#]*\\\n)*[^\n#]*)")
-# A line that begins with a reference: what that comes to is a line of the makefile.
-BARE = re.compile(r"(?m)^ *(\$[({](?!(?:eval|info|warning|error)[ \t])(?:[^\n]*\\\n)*[^\n]*)")
+LINE = re.compile(r"(?m)^(?:[^\n]*\\\n)*[^\n]+")
+# Lines that are no rules whatever their references come to: recipes, words of make, and functions that say something or whose text `eval` reads.
+OTHER = re.compile(r"\t|[ ]*(?:if|else|endif|define|endef|export|unexport|undefine|vpath|[-s]?include|-?load|#|\$[({](?:eval|info|warning|error)[ \t])")
 COLON = re.compile(r":(?!=)")
 INNERMOST = re.compile(r"\$\([^(){}]*\)|\$\{[^(){}]*\}")
 NAMES = re.compile(r"\$[({](?:(?:call|value)[ \t]+)?([\w.-]+)")
@@ -107,8 +108,8 @@ class Macros:
         return self.are_plain
 
     def may_be_rule(self, text: str) -> bool:
-        """Whether a reference may come to a rule with a pattern, as far as its own text and those of the macros that it leads to say so."""
-        if re.search("[:=]", outside(text)):  # a rule or an assignment, whose text says so
+        """Whether a line may come to a rule with a pattern by its references, as far as its own text and those of the macros that it leads to say so."""
+        if "$" not in text or OTHER.match(text) or re.search("[:=]", outside(text)):  # (or it is a rule, or an assignment, by its own text)
             return False
         todo, seen = [text], {text}
         for one in todo:
@@ -163,7 +164,7 @@ def listed(texts: List[str], values: Dict[str, str], names: Iterable[str] = ("*"
     """The patterns in rules and in lines that include makefiles, and in macros that stand there; `*` where one of these may hold any."""
     macros = Macros("\n".join(texts), values, names)
     found: Set[str] = set()
-    if any(macros.may_be_rule(text) for text in BARE.findall(macros.text)):
+    if any(macros.may_be_rule(line.group()) for line in LINE.finditer(macros.text)):
         found.add("*")
     for text in [*RULE.findall(macros.text), *INCLUDE.findall(macros.text)]:
         if any(text.count(one) > text.count(other) for one, other in BRACKETS.items()):

@@ -45,6 +45,8 @@ LATE: Dict[str, Small] = {
     # patterns in lines of makes inside
     "include_behind_a_tab": Small("race", INSIDE, {"in.mk": "X = 1\nifdef X\n\t-include *.x\nendif\n" + TAKES}),
     "rule_that_is_a_macro": Small("race", INSIDE, {"in.mk": "X = a: *.x\n$(X)\n" + TAKES, "z.x": ""}),
+    "rule_with_a_colon_in_a_macro": Small("race", INSIDE, {"in.mk": "C = :\na $(C) *.x\n" + TAKES, "z.x": ""}),
+    "recipe_that_is_no_rule": Small("safe", INSIDE, {"in.mk": "X = a: *.q\na: z.x\n\techo '$^' > a\n\techo '$(X)' \\\n $(X)\n", "z.x": ""}),
     "rule_that_a_function_gives": Small("race", INSIDE, {"in.mk": "r = $1: $2\n$(call r,a,*.x)\n" + TAKES, "z.x": ""}),
     "rule_with_a_semicolon": Small("race", INSIDE, {"in.mk": "a: $(subst ;,,*.x)\n" + TAKES, "z.x": ""}),
     "rule_that_is_a_macro_and_comes_first": Small("safe", INSIDE.replace("b:", "b: a"), {"in.mk": "X = a: *.x\n$(X)\n" + TAKES, "z.x": ""}),
