@@ -29,7 +29,7 @@ RULE = re.compile(r"(?m)^(?!\t)((?:[^\n=#:;]*\\\n)*[^\n=#;]*?:(?![:=])(?:[^\n;#=
 INCLUDE = re.compile(r"(?m)^[ \t]*[-s]?include[ \t]+((?:[^\n#]*\\\n)*[^\n#]*)")
 LINE = re.compile(r"(?m)^(?:[^\n]*\\\n)*[^\n]+")
 # Lines that are no rules whatever their references come to: recipes, words of make, and functions that say something or whose text `eval` reads.
-OTHER = re.compile(r"\t|[ ]*(?:if|else|endif|define|endef|export|unexport|undefine|vpath|[-s]?include|-?load|#|\$[({](?:eval|info|warning|error)[ \t])")
+OTHER = re.compile(r"\t| *(?:(?:ifn?eq|ifn?def|else|endif|define|endef|export|unexport|undefine|vpath|[-s]?include|-?load)(?![\w.-])|#|\$[({](?:eval|info|warning|error)[ \t])")
 COLON = re.compile(r":(?!=)")
 INNERMOST = re.compile(r"\$\([^(){}]*\)|\$\{[^(){}]*\}")
 NAMES = re.compile(r"\$[({](?:(?:call|value)[ \t]+)?([\w.-]+)")
