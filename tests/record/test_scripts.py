@@ -149,7 +149,7 @@ SCRIPTS: Dict[str, Small] = {
     "script_that_removes_files_of_another": Small("race", CURSES % "pass1_b b", KEY),
     "script_that_removes_its_own_files_and_prints_others": Small("race", CURSES % "b", {**KEY, "MKkeys.sh": KEYS % "echo $maxkey p*\n"}),
     "script_that_prints_names_before_a_command": Small("race", CURSES % "b", {**KEY, "MKkeys.sh": KEYS % "x=`echo '*' | sed -n p`\n: $x\nwc Ca*\n"}),
-    "script_that_prints_names_before_a_script": Small("race", CURSES % "b", {**KEY, "MKkeys.sh": KEYS % "x=`echo '*' | sed -n p`\n: $x\n./t.sh\nsh ./u.sh Ca*\n", "t.sh": "#!/bin/sh\n:\n", "u.sh": ":\n"}, "chmod +x t.sh"),
+    "script_that_prints_names_before_a_script": Small("race", CURSES % "b", {**KEY, "MKkeys.sh": KEYS % "x=`echo '*' | sed -n p`\n: $x\n./t.sh\nhead Ca*\n", "t.sh": "#!/usr/bin/head\n"}, "chmod +x t.sh"),
     "script_that_prints_names_before_a_file_without_a_first_line": Small("race", CURSES % "b", {**KEY, "MKkeys.sh": KEYS % "x=`echo '*' | sed -n p`\n: $x\n./t\nsh ./u.sh Ca*\n", "t": ":\n", "u.sh": ":\n"}, "chmod +x t"),
     "script_that_prints_names_before_a_command_in_a_pipe": Small("race", CURSES % "b", {**KEY, "MKkeys.sh": KEYS % "x=`echo '*' | sed -n p`\n: $x\nrm -f pass9*_ | cat\n"}),
     "script_that_prints_names_before_a_command_elsewhere": Small("race", CURSES % "b", {**KEY, "MKkeys.sh": KEYS % "x=`echo '*' | sed -n p`\n: $x\ncat h/k*\n", "h/k": ""}),
