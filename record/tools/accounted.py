@@ -1,13 +1,15 @@
 """Lists of folders that a command of a script surely asks for, where other words of the script may be any pattern.
 
 A command with a pattern among its words lists a folder each time before its program begins to run. Where a shell lists that folder once
-between the process that it started before and this program, the list is that of this command.
+between the process that it started before and this program, the list is that of this command. Dash starts a shell for a file without a first line,
+whatever the command is named, so a shell is no such program.
 """
 
 import os
 import re
 from typing import List, Optional, Sequence, Set, Tuple
 
+from record.tools.shelltext import SHELLS
 from record.tools.shellvalues import HIDDEN, Asked, Values, parts_of
 from record.tools.shellwords import Script, Word
 from record.trace.lives import Life, Listed, Program
@@ -19,7 +21,7 @@ NO_NAMES = re.compile(r"\bset\s+(?:-\S+\s+)*[-+](?:\w*f|o)|\bnoglob\b")
 def accounted(one: Listed, lists: Sequence[Listed], script: Script, values: Values) -> Optional[Set[Asked]]:
     """The patterns of the commands to one of which a list belongs; None where it may be that of another. `lists`: all that the same process did."""
     first, last, program = window(one)
-    if program is None or program.folder != one.folder or sum(first < other.place < last and other.folder == one.folder and other.is_end for other in lists) != 1:
+    if program is None or os.path.basename(program.name) in SHELLS or program.folder != one.folder or sum(first < other.place < last and other.folder == one.folder and other.is_end for other in lists) != 1:
         return None
     commands = [command for command in script.commands if may_run(command, program, values)]
     found: Set[Asked] = set()
