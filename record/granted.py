@@ -17,6 +17,7 @@ from record.warm import is_beyond
 
 FLAGS = re.compile(r"\bM(?:AKE)?FLAGS\b")
 HANDS_JOBS = re.compile(r"\$(?:\(MAKE\)|\{MAKE\})|^[\s@-]*\+")  # lines of recipes that get the jobs of their make
+CHANGES, TOUCHES = "WCDMTX", "WCDMTXRSNEx"  # kinds of events of a file or a folder
 GROUPS = re.compile(r"(?:^|\s)(?:-[a-zA-Z]*O|--output-sync)")
 ENVIRONMENT = re.compile(r"(^|[;&|(\n`]\s*)(printenv\b|env\s*($|[|>;&])|export\s+-p|set\s*($|[|>;&]))|\$\{?PATH\b|\b(which|command\s+-[vV]|type)\s+g?make\b")
 
@@ -114,7 +115,7 @@ def says_jobs(owners: Owners, make: Make) -> bool:
 
 def does_more(owners: Owners, life: Life) -> bool:
     """Whether a process or one below it changes files, or is a make, which prints."""
-    return any(one.is_make or any(kind in "WCDMTX" for kind, _ in one.events) for one in owners.below(life))
+    return any(one.is_make or any(kind in CHANGES for kind, _ in one.events) for one in owners.below(life))
 
 
 def at_once(owners: Owners, assumed: Assumptions) -> None:
@@ -128,10 +129,10 @@ def at_once(owners: Owners, assumed: Assumptions) -> None:
 
 def at_once_in(work: Work, target: str, assumed: Assumptions) -> None:
     """Files that two processes of one work touch at the same time."""
-    written = {path for life in work.lives for kind, path in life.events if kind in "WD"}
+    written = {path for life in work.lives for kind, path in life.events if kind in CHANGES}
     table: Dict[str, List[Life]] = {}
     for life in sorted(work.lives, key=lambda life: life.born):
-        for path in {path for kind, path in life.events if kind in "RWD" and path in written}:
+        for path in {path for kind, path in life.events if kind in TOUCHES and path in written}:
             table.setdefault(path, []).append(life)
     beside_others = branches(work)
     for path, who in table.items():
@@ -186,7 +187,7 @@ def beside(owners: Owners, assumed: Assumptions) -> None:
 
 def changes_beside(life: Life, top: Life) -> bool:
     """Whether a process changes files while a make runs; one that is above the make may wait for it."""
-    places = [place for (kind, _), place in life.events.items() if kind in "WCDMTX"]
+    places = [place for (kind, _), place in life.events.items() if kind in CHANGES]
     if life in top.up():
         return any(top.born < place < top.died for place in places)
     return bool(places) and life.born < top.died and life.died > top.born
@@ -195,7 +196,7 @@ def changes_beside(life: Life, top: Life) -> bool:
 def outlived_of(life: Life, owners: Owners, assumed: Assumptions) -> None:
     """What a recipe, or a call of `$(shell ..)`, left running, and what may then change files: those that it opens, and those that it or who started it had opened."""
     for one in owners.below(life):
-        if one.died > life.died and any(k in "WCDMTX" for up in until(one, life) for k, _ in up.events):
+        if one.died > life.died and any(k in CHANGES for up in until(one, life) for k, _ in up.events):
             assumed.add("outlives", " ".join(one.argv)[:60])
 
 
@@ -219,13 +220,13 @@ def overlap(path: str, who: List[Life]) -> bool:
 
 
 def writes(life: Life, path: str) -> bool:
-    """Whether a process writes or removes a file."""
-    return ("W", path) in life.events or ("D", path) in life.events
+    """Whether a process writes, makes or removes a file or a folder."""
+    return any((kind, path) in life.events for kind in CHANGES)
 
 
 def touches_beside(older: Life, life: Life, path: str) -> bool:
     """Whether one of two processes may touch a file while the other one does: of one that started the other, whether it does so while that lives."""
     if older not in life.up():
         return True
-    places = [older.events.get((kind, path), -1) for kind in "RWD"] + [older.changed.get(path, -1)]
+    places = [older.events.get((kind, path), -1) for kind in TOUCHES] + [older.changed.get(path, -1)]
     return any(life.born < place < life.died for place in places)

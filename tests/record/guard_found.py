@@ -27,6 +27,8 @@ FOUND_GUARDS: List[Guard] = [
     Guard("several jobs: not what a recipe prints", "make/wrapper.py", "or running and running.group(1) == self.target:", "or running:", several("words_about_another_recipe")),
     Guard("several jobs: letters of the environment", "make/options.py", "bool(own_jobs([letters])) or ", "", several("letters_of_the_environment")),
     Guard("several jobs: letters that a recipe sets", "make/owners.py", "or asks_jobs([], self.words.flags))", 'or "-j" in self.words.flags)', found("jobs_by_letters_that_a_recipe_sets"), YES),
+    Guard("at once: looks", "granted.py", '"WCDMTXRSNEx"', '"WCDMTXR"', found("look_beside_a_process_that_makes"), UNSAID),
+    Guard("at once: folders", "granted.py", 'CHANGES, TOUCHES = "WCDMTX"', 'CHANGES, TOUCHES = "WD"', found("folder_that_is_made_beside_a_look"), UNSAID),
     Guard("at once: many processes", "granted.py", "    for path, who in table.items():\n        if overlap", "    for path, who in table.items():\n        if len(who) < 40 and overlap", found("many_processes_at_once"), UNSAID,
           ("granted.py", " or beside_others and overlap_above(path, who, beside_others):", ":")),
     Guard("at once: who started the other", "granted.py", "    places = [older", "    return False\n    places = [older", found("process_beside_its_shell"), UNSAID),

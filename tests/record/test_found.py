@@ -56,6 +56,9 @@ FOUND: Dict[str, Small] = {
     "order_of_a_folder_that_is_copied": Small("safe", ORDER % "cp -r d e", setup="mkdir -p d/s", says="programs that list a folder"),
     "order_of_a_folder_that_is_moved": Small("safe", ORDER % "mv d e", setup="mkdir -p d/s", says="programs that list a folder"),
     # processes of one recipe
+    "look_beside_a_process_that_makes": Small("safe", "y: ; (test -f x && echo yes > y || echo no > y; sleep 0.4) & sleep 0.1; touch x; wait\n", says="two processes of one recipe touch a file"),
+    "folder_that_is_made_beside_a_look": Small("safe", "y: ; (test -d x && echo yes > y || echo no > y; sleep 0.4) & sleep 0.1; mkdir x; wait\n", says="two processes of one recipe touch a file"),
+    "look_before_a_process_that_makes": Small("safe", "y: ; test -f x || touch x; test -f x && cat x > y\n", lacks="two processes of one recipe touch a file"),
     "many_processes_at_once": Small("safe", MANY, says="two processes of one recipe touch a file"),
     "process_beside_its_shell": Small("safe", "all: ; (sleep 0.2; cat k > x) & sleep 0.1; echo b > x; wait; touch all\n", {"k": "k"}, says="two processes of one recipe touch a file"),
     "process_before_its_shell": Small("safe", "all: ; (cat k > x) & wait; echo b > x; touch all\n", {"k": "k"}, lacks="two processes of one recipe touch a file"),
