@@ -88,7 +88,7 @@ def words_asked(known: Macros, node: Node) -> Optional[List[str]]:
     if not known.reached("\n".join(own)).isdisjoint({*base.bodies, *(name for one in texts for name in looped(one))}):
         return None  # a macro has another value for some targets, or in a loop
     words = [word for one in own for word in with_values(one, base.values).split()]
-    if any("$" in one for one in own) and (base.scoped or known.changed) or any(UNCLEAR.search(word) or MAGIC.search(os.path.dirname(word)) for word in words):
+    if any("$" in one for one in own) and known.changed or any(UNCLEAR.search(word) or MAGIC.search(os.path.dirname(word)) for word in words):
         return None
     return words
 

@@ -23,13 +23,6 @@ MODULES = (".py", ".pyc", ".so")
 BUILDER = "cmake"  # it keeps its own account of what compilers read, which counts as it is at the end
 
 
-def found_by(argv: List[str]) -> str:
-    """The pattern that each name has which `find` prints; nothing where nobody can say it, or where this is not `find`."""
-    names = [word for before, word in zip(argv, argv[1:]) if before == "-name"]
-    is_plain = base_name(argv) == "find" and not any(word in ("-o", "-or", "!", "-not", ",", "-fprint", "-path", "-prune") for word in argv)
-    return names[0] if is_plain and len(names) == 1 and not set("[\\") & set(names[0]) else ""
-
-
 def is_idle(argv: List[str]) -> bool:
     """Whether a process does no more with what it finds than to remove it, or is CMake's own."""
     return is_removal(argv) or base_name(argv) == BUILDER
@@ -107,7 +100,6 @@ class Turned:
                 self.compare(life, mine, path, place)
             elif kind == "L":
                 folder, _, pattern = path.partition("\0")
-                pattern = found_by(life.argv) or pattern
                 for name in self.below(folder, shell_text(life.argv) == ""):
                     if self.is_there(name) != self.was_there(name, place) and name.endswith(ends) and fnmatchcase(os.path.basename(name), pattern):
                         self.compare(life, mine, name, place)

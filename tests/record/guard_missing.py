@@ -53,7 +53,7 @@ MISSING_GUARDS: List[Guard] = [
     Guard("missing: what later recipes make", "missing/turned.py", "            task = None if os.path.isdir(path) else self.task_apart(mine, chain)\n", "            continue\n", tree("a file that a later recipe makes")),
     Guard("missing: what later recipes list", "missing/turned.py", 'elif kind == "L":', "elif False:", tree("a pattern that a later recipe adds to")),
     Guard("missing: new folders", "missing/turned.py", "if one != folder and is_below(one, folder) and one not in self.names.before:", "if False:", tree("a new folder that is searched")),
-    Guard("missing: what find prints", "missing/turned.py", "pattern = found_by(life.argv) or pattern", "pattern = pattern", tree("a new folder that is searched")),
+    Guard("missing: what find prints", "tools/listed.py", " or find_patterns(life)", "", tree("a new folder that is searched")),
     Guard("missing: what later recipes remove", "missing/turned.py", 'return self.is_there(path) == (kind in "NR")', "return self.is_there(path)", tree("a file that a later recipe removes")),
     Guard("missing: lists in recipes", "missing/turned.py", "events.update(self.expanded_lists(build, known, task))", "pass", tree("a list that a recipe is expanded by")),
     Guard("missing: names in recipes", "missing/turned.py", 'yield ("S" if self.was_there(path, born) else "N", path), born', "pass", tree("a name that a recipe is expanded by")),

@@ -64,6 +64,7 @@ PROJECTS: Dict[str, Small] = {
     "list_beside_a_value_of_names_by_a_macro": Small("race", "L = $(wildcard d/*)\n" + ONCE % ("$$(L)", ""), {"d/y.s": "s", "e/k": "k"}),
     "list_beside_a_value_that_is_read": Small("race", ONCE % ("$(shell cat f)", ""), {"d/y.s": "s", "e/k": "k", "f": "$(wildcard d/*)\n"}),
     "list_of_a_name_beside_a_macro_of_a_target": Small("safe", "x: W = 1\n" + ONCE % ("$$(shell echo one)", "$(wildcard $(@D))"), {"d/y.s": "s", "e/k": "k"}),
+    "list_of_a_name_beside_a_macro_that_changes": Small("safe", ONCE % ("$$(shell echo one)", "$(wildcard $(@D))") + "all: s c\ns: ; touch s\nc: s ; $(eval Z := 1)touch c\n", {"d/y.s": "s", "e/k": "k"}),
     "list_by_a_macro_beside_a_macro_of_a_target": Small("race", "d/y: F = d\nF = e\n" + ONCE % ("$$(shell echo one)", "$(wildcard $F/*)"), {"d/y.s": "s", "e/k": "k"}),
     "list_beside_a_macro_that_is_a_number": Small("safe", "N = 1\n" + ONCE % ("$$(shell echo one)", "$(N)"), {"d/y.s": "s", "e/k": "k"}),
     "list_beside_an_argument_that_is_set": Small("race", "define 1\nd/*\nendef\n" + ONCE % ("$$(shell echo one)", "$(wildcard $1)"), {"d/y.s": "s", "e/k": "k"}),
