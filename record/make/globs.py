@@ -22,7 +22,7 @@ BOUND = re.compile(r"\$[({](?:foreach|let)[ \t]+(?:[^,\n]*[^\w.,\s-]|(?:[^,\n]*\
                    r"|(?m:^)[ \t]*(?:(?:override|export|private)[ \t]+)*define[ \t]+(?:\d+|[@<^+*?|%])[ \t]*(?:[+?!]|::?:?)?\n")
 # What calls `eval`, or may hand its name to `call`. A shell's own `eval` stands in a recipe, and files may be called eval.c.
 WORD_EVAL = r"(?<![\w./+-])eval(?![\w./+-])"
-EVALS = re.compile(r"[({]eval[\s\\]|[({]call\s+eval\b|(?m:^)(?:(?!\t)|\t[ \t]*(?:override|export|private|define|[\w.-]+[ \t]*(?:[+?!]|::?:?)?=))[^\n]*?" + WORD_EVAL)
+EVALS = re.compile(r"[({,]\s*eval[\s\\,)}]|[({]call\s+eval\b|" + WORD_EVAL + r"[ \t]*[,)}]|(?m:^)(?:(?!\t)|\t[ \t]*(?:override|export|private|define|[\w.-]+[ \t]*(?:[+?!]|::?:?)?=))[^\n]*?" + WORD_EVAL)
 NAMED_BY_MACRO = re.compile(r"\$[({][^(){}\s,:]*\$(?!\$)")
 # A line of a makefile that is a rule, up to its recipe, and one that includes makefiles: make looks for the names in them.
 RULE = re.compile(r"(?m)^(?!\t)((?:[^\n=#:;]*\\\n)*[^\n=#;]*?:(?![:=])(?:[^\n;#=]*\\\n)*[^\n;#]*)")

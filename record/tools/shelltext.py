@@ -58,7 +58,7 @@ SHOWS_SIZES = {"ls": re.compile(r"\s(-\w*[sS]|--si|--so\w*[= ]s)"), "find": re.c
 AGES = re.compile(
     r"(^|\s|\[)[\"'\\]*-[\"'\\]*-?([no][\"'\\]*t|[ac]?newer[\w-]*|mtime|mmin|atime|amin|cmin|ctime|f?printf)[\"'\\]*[\s=]|\b(cp|mv|rsync|tar)\s+([^;|&\n]*?\s)?(-\w*u|--update)"
     r"|(?:\btest|\[)\s+(?:!\s+)?(?![-!])\S+\s+\"?-?\$\S+\s+[^\s;&|\])]|\btar\s+\w*u|\bls\s+([^;|&\n]*?\s)?-\w*[tlc]|\bstat\b[^;|&\n]*%[WXYZwxyz]|--sort[= ]t|\bdate\s+[^;|&\n]*-r")
-TAKEN = re.compile(r"(?m)(?:(?:^|[;&|{(!`]|\w=\S*[ \t])[ \t]*|\b(?:then|do|else|elif|if|while|until|time|command|builtin)[ \t]+)(?:\.|source)[ \t]+([^\s;&|)#]+)")  # scripts that a script takes in
+TAKEN = re.compile(r"(?m)(?:(?:^|[;&|{(!]|=`|\w=\S*[ \t])[ \t]*|\b(?:then|do|else|elif|if|while|until|time|command|builtin)[ \t]+)(?:\.|source)[ \t]+([^\s;&|)#]+)")  # scripts that a script takes in
 COMPUTED = re.compile(r"\beval[ \t]+[\"']?(?:\$\(|`)")  # the text that a program prints
 # What is thrown away, and errors that are not: a folder that is there already is reported there.
 NOWHERE = re.compile(r"(?:\b2\s*|&)?>>?\s*/dev/null(?:\s*2>&1)?")

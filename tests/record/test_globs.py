@@ -40,7 +40,7 @@ class Globs(unittest.TestCase):
             macros = text.replace("all: ; eval", "all:\n\teval") + "D := src\nD += lib\nS := $(wildcard $(D)/*.c)\n"
             self.assertEqual({"*.c"}, patterns([macros], {"D": "src lib"}), text)
         for text in ("$(eval D := a*)\n", "X = $(call eval,D := a*)\n", "N = eval\n", "all:\n\t@$(foreach d,a b,$(eval D := $d*))\n", "define N\neval\nendef\n", "\tN = eval\n", "${eval\\\nD := a*}\n",
-                     ".RECIPEPREFIX = >\nall:\n\tN eval\n", "N = $(E)eval\n", "all:\n\t$(eval $(shell cat f))\n", "all: ; x $(call  eval,D := a*)\n"):
+                     ".RECIPEPREFIX = >\nall:\n\tN eval\n", "N = $(E)eval\n", "all:\n\t$(eval $(shell cat f))\n", "all:\n\t$(foreach f,eval,$(call $f,$(X)))\n", "all:\n\t$(call $(or eval),$(X))\n", "all: ; x $(call  eval,D := a*)\n"):
             self.assertIn("*", patterns([text + "D := src\nD += lib\nS := $(wildcard $(D)/*.c)\n"], {"D": "src lib"}), text)
 
     def test_what_cannot_be_known(self) -> None:
