@@ -132,7 +132,7 @@ def listed(holes: List[str], out: Path) -> List[str]:
 
 
 def no_verdict(record: Dict[str, Any], judged: List[Judged], out: Path) -> List[str]:
-    """Why there is no verdict, and where it stands what to do; nothing where there is one."""
+    """Why there is no verdict, and which page says what to do; nothing where there is one."""
     refused = ["  - no verdict on build %s: %s" % (one.number, explained(one.verdict.refused)) for one in judged if one.verdict.refused]
     if not refused and not record["holes"]:
         return []
