@@ -27,6 +27,7 @@ from record.ninja.builds import versions as ninja_versions
 from record.ninja.log import Kept
 from record.ninja.runs import Ninja
 from record.progress import watched
+from record.tools.caches import settle_caches
 from record.tools.exists import credit_makes, settle_exists
 from record.tools.jvm import settle_machines
 from record.tools.modules import settle_modules
@@ -73,6 +74,8 @@ def settle_all(replay: Calls, spool: Path, assumed: Assumptions) -> Owners:
     for kind, example in chain(settle(replay.all, replay.tops), settle_modules(replay.all)):
         assumed.add(kind, example)
     settle_machines(replay.all)
+    for words in settle_caches(replay.all, replay.tops):
+        assumed.add("caches", words)
     markers = settle_exists(replay.all, logs)
     for name in sorted(markers.paths):
         assumed.add("makers", name)

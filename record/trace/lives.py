@@ -45,6 +45,7 @@ class Program:
     option: str = ""  # what the first line of the script hands to it
     given: str = ""  # the script as who started it named it, where its first line says which shell runs it
     is_ninja: bool = False
+    file: str = ""  # what runs
 
 
 @dataclass(eq=False)

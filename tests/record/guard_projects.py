@@ -35,6 +35,11 @@ def compilers(name: str) -> str:
     return "test_compilers." + name
 
 
+def caches(name: str) -> str:
+    """A test of what ccache keeps, by lines of a trace."""
+    return "test_caches.Kept.test_" + name
+
+
 def shells(name: str) -> str:
     """A test of the texts of shells."""
     return "test_shellvalues." + name
@@ -149,6 +154,10 @@ PROJECT_GUARDS: List[Guard] = [
     Guard("classes: comments that count", "tools/modules.py", 'any("doc" in word for word in life.ran[-1])', "False", compilers("Compilers.test_classes_that_comments_name")),
     Guard("machines: who looks at them", "tools/jvm.py", "    if any(path.startswith(PLACE) and KEPT.match(path) for life in lives if id(life) not in known", "    if any(False for life in lives if id(life) not in known", compilers("Machines.test_that_others_look_at")),
     Guard("machines: who shows them", "tools/jvm.py", "    if any(os.path.basename(argv[0]) in READERS", "    if any(False", compilers("Machines.test_that_others_look_at")),
+    Guard("caches: who else is there", "tools/caches.py", "if life not in known or place < known[life]]", "if False]", caches("that_others_look_at")),
+    Guard("caches: what came before ccache", "tools/caches.py", " or place < known[life]]", "]", caches("that_a_process_looked_at_before")),
+    Guard("caches: a ccache of the project", "tools/caches.py", "and not any(is_in(program.file, top) for top in tops)", "", caches("of_the_project")),
+    Guard("caches: files that are not there", "tools/caches.py", "elif path not in made and any(is_in(path, folder) for folder in folders):", "else:", caches("other_files")),
     Guard("tools: of the system alone", "tools/shelltext.py", 'TOOLS.match("".join(argv[1:2])) is not None', "True", compilers("Tools.test_scripts")),
     Guard("tools: compare no ages", "trace/calls.py", "        if traits.is_tool and not life.is_query:\n", "        if False:\n", compilers("Tools.test_looks")),
     Guard("libtool: words that are patterns", "tools/listed.py", "        found.update(shelltext.loose(part)", "        set(shelltext.loose(part)", compilers("Libtool.test_link")),
