@@ -1,42 +1,56 @@
-"""What ccache keeps in its folder: what compilers gave, by what they were given.
+"""What some programs keep for later runs of their own, such as ccache what compilers gave.
 
-Who compiled the same before changes how long a compilation takes, and not what it leaves. So what ccache does there is left out. Where
-another program touched that folder, all stays as it is.
+What lies there changes how long they take, and not what they leave. So what they do there is left out. Where another program touched
+that folder or file, all stays as it is.
 """
 
 import os
 import re
-from typing import Dict, List, Sequence, Set
+from dataclasses import dataclass
+from typing import Dict, Iterator, List, Pattern, Sequence, Set
 
 from record.trace.lives import Life, Program
 
-NAME = "ccache"
-KEPT = re.compile(r"(/.+?)/(?:tmp/\.cleaned|(?:[0-9a-f]/){1,2}(?:stats|CACHEDIR\.TAG))$")  # names that it gives to files of its own
-MADE = {"M": "T", "E": "T", "S": "K", "N": "K", "R": "K"}  # what its acts on a folder count as that it makes if it is not there
+
+@dataclass(frozen=True)
+class Keeper:
+    """A program that keeps files for itself: the names of its program, and names that lead to a folder or file of its own (the first group)."""
+
+    programs: Pattern[str]
+    kept: Pattern[str]
 
 
-def settle_caches(lives: Sequence[Life], tops: Sequence[str]) -> List[str]:
-    """Leaves out what ccache did in its folders; the words of each process that ran it."""
-    callers = {life: place for life in lives for place in starts_of(life, tops)}
-    known = {one: place for life, start in callers.items() for one, place in below(life, start).items()}
-    folders = {match[1] for life in known for _, path in life.events for match in [KEPT.match(path)] if match is not None}
-    for life in lives if folders else ():
-        others = [path for (_, path), place in life.events.items() if life not in known or place < known[life]]
-        folders = {folder for folder in folders if not any(is_in(path, folder) for path in others)}
-    made = {path for life in known for kind, path in life.events if kind in "ME" and any(is_in(folder, path) for folder in folders)}
-    for life in known if folders else ():
-        leave_out(life, folders, made)
-    return [" ".join(life.argv)[:60] for life in callers]
+KEEPERS = (
+    Keeper(re.compile(r"ccache"), re.compile(r"(/.+?)/(?:tmp/\.cleaned|(?:[0-9a-f]/){1,2}(?:stats|CACHEDIR\.TAG))")),
+    Keeper(re.compile(r"cargo"), re.compile(r"(/.+/\.(?:global-cache(?:-journal)?|package-cache(?:-mutate)?))")),
+    Keeper(re.compile(r"go"), re.compile(r"(/.+?)/[0-9a-f]{2}/[0-9a-f]{64}-[ad]|(/.+/go/telemetry)/local/.+")),
+    Keeper(re.compile(r"guile(?:-[\d.]+)?"), re.compile(r"(/.+/guile/ccache)/.+\.go(?:\..+)?")),
+    Keeper(re.compile(r"dot|fc-\w+|gnuplot(?:-\w+)?|inkscape|rsvg-convert|convert|magick|(?:xe|lua)latex"), re.compile(r"(/.+/fontconfig)/[^/]+\.cache-\d+(?:\..+)?")),
+)
+LOOKS = "MESNRP"  # acts on a folder that mean no more than that it makes it if it is not there
 
 
-def starts_of(life: Life, tops: Sequence[str]) -> List[int]:
-    """Where a process first began to run ccache, if it did."""
-    return [one.place for one in life.programs if is_ccache(one, tops)][:1]
+def settle_caches(lives: Sequence[Life], tops: Sequence[str]) -> Iterator[str]:
+    """Leaves out what such programs did in folders of their own; the words of each process that ran one."""
+    for keeper in KEEPERS:
+        callers = {life: place for life in lives for place in starts_of(life, keeper, tops)}
+        known = {one: place for life, start in callers.items() for one, place in below(life, start).items()}
+        folders = own_folders(keeper, lives, known)
+        made = {path for life in known for kind, path in life.events if kind in "ME" and any(is_in(folder, path) for folder in folders)}
+        for life in known if folders else ():
+            leave_out(life, folders, made)
+        yield from (" ".join(life.argv)[:60] for life in callers if folders or keeper is KEEPERS[0])
 
 
-def is_ccache(program: Program, tops: Sequence[str]) -> bool:
-    """Whether a program is ccache, also where it is called by the name of a compiler. One of the project is not known to be it."""
-    return os.path.basename(program.file) == NAME and not any(is_in(program.file, top) for top in tops)
+def starts_of(life: Life, keeper: Keeper, tops: Sequence[str]) -> List[int]:
+    """Where a process first began to run such a program, if it did."""
+    return [one.place for one in life.programs if runs(one, keeper, tops)][:1]
+
+
+def runs(program: Program, keeper: Keeper, tops: Sequence[str]) -> bool:
+    """Whether a program is the one of that name, or was called by it. One of the project is not known to be it."""
+    is_named = any(keeper.programs.fullmatch(os.path.basename(name)) for name in (program.file, program.name))
+    return is_named and not any(is_in(program.file, top) for top in tops)
 
 
 def below(life: Life, place: int) -> Dict[Life, int]:
@@ -50,16 +64,28 @@ def below(life: Life, place: int) -> Dict[Life, int]:
     return found
 
 
+def own_folders(keeper: Keeper, lives: Sequence[Life], known: Dict[Life, int]) -> Set[str]:
+    """The folders and files of its own in which nobody else was."""
+    matches = [match for life in known for _, path in life.events for match in [keeper.kept.fullmatch(path)] if match is not None]
+    folders = {next(filter(None, match.groups())) for match in matches}
+    for life in lives if folders else ():
+        others = [path for (_, path), place in life.events.items() if life not in known or place < known[life]]
+        folders = {folder for folder in folders if not any(is_in(path, folder) for path in others)}
+    return folders
+
+
 def is_in(path: str, folder: str) -> bool:
     """Whether a path, or a list, is about a folder or what is below it."""
     return path.startswith(folder) and path[len(folder):len(folder) + 1] in ("", "/", "\0")
 
 
 def leave_out(life: Life, folders: Set[str], made: Set[str]) -> None:
-    """Takes out what a process did in these folders. Of those that ccache makes it asks no more than that they are there."""
-    for (kind, path), place in list(life.events.items()):
-        if path in made and kind in MADE:
+    """Takes out what a process did in these folders. Each that is there makes them, and those above, if they are not there."""
+    within = [(kind, path) for kind, path in life.events if any(is_in(path, folder) for folder in folders)]
+    first = min((life.events[event] for event in within), default=0)
+    for kind, path in within:
+        if path.rstrip("/") not in made or kind in LOOKS:
             del life.events[kind, path]
-            life.events.setdefault((MADE[kind], path), place)
-        elif path not in made and any(is_in(path, folder) for folder in folders):
-            del life.events[kind, path]
+    for path in made if within else ():
+        places = [place for place in (life.events.pop((kind, path), None) for kind in LOOKS) if place is not None]
+        life.events.setdefault(("T", path), min([first, *places]))

@@ -85,8 +85,10 @@ class Replay:
         return [path for life in self.all for path, place in life.changed.items() if place > self.scripts.get(path, 1 << 60)]
 
     def strays(self) -> List[str]:
-        """Processes of which nobody knows who started them: in a name space of its own a process has another number than in the trace."""
-        return [" ".join(life.argv)[:100] for life in self.all[1:] if not life.adopted] + ["number %d" % pid for pid in self.waiting]
+        """Processes that did something, and of which nobody knows who started them: in a name space of its own a process has another number
+        than in the trace. A thread may come to its end with its process before the call that started it is finished."""
+        known = [" ".join(life.argv)[:100] for life in self.all[1:] if not life.adopted and (life.ran or life.events or life.children)]
+        return known + ["number %d" % pid for pid, events in self.waiting.items() if any(isinstance(event, Call) for event in events)]
 
     @staticmethod
     def inherit(child: Life, parent: Life) -> None:

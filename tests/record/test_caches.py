@@ -1,4 +1,4 @@
-"""What ccache keeps in its folder, from lines of a trace, and with ccache itself where it is there."""
+"""What ccache and others keep in folders of their own, from lines of a trace, and with ccache itself where it is there."""
 
 import shutil
 import unittest
@@ -15,13 +15,13 @@ KEEPS = ['1 mkdir("%s", 0777) = 0' % PLACE, '1 mkdir("%s/0", 0777) = 0' % PLACE,
 COMPILES = ['1 vfork() = 2', '2 execve("/usr/bin/cc", ["cc", "-E"], 0x1) = 0', '2 openat(AT_FDCWD</w>, "%s/tmp/x.i", O_WRONLY|O_CREAT, 0666) = 3<%s/tmp/x.i>' % (PLACE, PLACE)]
 OTHER = ['3 openat(AT_FDCWD</w>, "%s/0/stats", O_RDONLY) = 3<%s/0/stats>' % (PLACE, PLACE)]
 MAKEFILE = "export CCACHE_DIR := $(CURDIR)/../kept\nall: a.o b.o c\n%.o: %.c ; ccache cc -c -o $@ $<\nc: ; "
-LEFT: Set[Tuple[str, str]] = {("T", "")}  # it makes the folder, and who looks for that makes it too
+LEFT: Set[Tuple[str, str]] = {("T", ""), ("C", "/")}  # the folder gets a name in the one above, and who looks for it makes it too
 
 
 def left(*lines: str) -> Set[Tuple[str, str]]:
     """The events on that folder that are left, and the paths below it."""
     replay = played(*lines)
-    settle_caches(replay.all, [TOP])
+    list(settle_caches(replay.all, [TOP]))
     return {(kind, path[len(PLACE):]) for life in replay.all for kind, path in life.events if path.startswith(PLACE)}
 
 
@@ -47,12 +47,18 @@ class Kept(unittest.TestCase):
         self.assertIn(("M", ""), left(OF_PROJECT, *KEEPS))
 
     def test_its_words(self) -> None:
-        self.assertEqual(["ccache cc -c a.c"], settle_caches(played(CALL, *KEEPS).all, [TOP]))
-        self.assertEqual([], settle_caches(played(OF_PROJECT, *KEEPS).all, [TOP]))
+        self.assertEqual(["ccache cc -c a.c"], list(settle_caches(played(CALL, *KEEPS).all, [TOP])))
+        self.assertEqual([], list(settle_caches(played(OF_PROJECT, *KEEPS).all, [TOP])))
+
+    def test_of_other_programs(self) -> None:
+        for program, name in (("cargo", "/.global-cache"), ("go", "/c/ab/%s-d" % ("0a" * 32)), ("guile-3.0", "/guile/ccache/3.0/x.scm.go.A1"), ("dot", "/fontconfig/ab-le64.cache-8")):
+            opened = '1 openat(AT_FDCWD</w>, "%s", O_WRONLY|O_CREAT, 0666) = 3<%s>' % (PLACE + name, PLACE + name)
+            self.assertEqual(set(), left(CALL.replace("/usr/bin/ccache", "/race-test-bin/" + program), opened), program)
+            self.assertIn(("C", name), left(CALL, opened), program)
 
     def test_other_files(self) -> None:
         life = lives_of(played(CALL, *KEEPS, '1 openat(AT_FDCWD<%s>, "a.o", O_WRONLY|O_CREAT, 0666) = 3<%s/a.o>' % (TOP, TOP)), 1)[0]
-        settle_caches([life], [TOP])
+        list(settle_caches([life], [TOP]))
         self.assertIn(("C", TOP + "/a.o"), life.events)
 
 
@@ -69,7 +75,7 @@ class Builds(unittest.TestCase):
     def test_two_files(self) -> None:
         status, text = self.said("true")
         self.assertEqual(0, status, text)
-        self.assertIn("ccache gives what its compiler would give", text)
+        self.assertIn("what ccache, cargo, go, guile and fontconfig keep", text)
 
     def test_folder_that_a_recipe_lists(self) -> None:
         self.assertEqual(1, self.said("ls ../kept || true")[0])

@@ -93,6 +93,12 @@ class Traces(unittest.TestCase):
         lines = ("1 vfork() = 2", '2 chdir("d") = 0', "1 vfork( <unfinished ...>", "2 vfork( <unfinished ...>", '77 execve("/bin/cat", ["cat"], 0x1 /* 1 var */) = 0')
         self.assertEqual(["number 77"], played(*lines).strays())
 
+    def test_thread_that_only_ends(self) -> None:
+        one = ('1 execve("/bin/go", ["go"], 0x1 /* 1 var */) = 0', "1 clone(child_stack=0x1, flags=CLONE_VM|CLONE_THREAD <unfinished ...>")
+        self.assertEqual([], played(*one, "77 +++ exited with 0 +++").strays())
+        several = ("1 vfork() = 2", '2 chdir("d") = 0', "1 vfork( <unfinished ...>", "2 vfork( <unfinished ...>")
+        self.assertEqual([], played(*several, "77 +++ exited with 0 +++").strays())
+
     def test_memory_of_a_process_that_a_signal_ends(self) -> None:
         self.assertIn("core dumped", "".join(played('1 access("x", F_OK) = 0', "1 +++ killed by SIGSEGV (core dumped) +++").holes))
         self.assertEqual([], played('1 access("x", F_OK) = 0', "1 +++ killed by SIGSEGV +++").holes)
