@@ -29,7 +29,7 @@ TEXTS = {
     "makers": "scripts that make folders for themselves (install-sh, mkinstalldirs, libtool, cmake, ExtUtils of Perl, os.makedirs of Python with exist_ok) ask no more than that it is there; libtool compares no ages, and lists folders for outputs of the same library",
     "compilers": "OCaml's and Java's compilers look in folders for modules whose names stand in what they read, and no variable of their environment (CLASSPATH, JDK_JAVAC_OPTIONS, OCAMLPARAM) asks for others",
     "bytecode": "what Python keeps in __pycache__ does what its source does, whichever recipe wrote it; its bytes may differ",
-    "caches": "what ccache, cargo, go, guile and fontconfig keep for themselves changes how long they take, and nothing else; what was taken from there needed no compiler, so files for which one would have looked were not seen (CCACHE_RECACHE=1 and an empty GOCACHE show them)",
+    "caches": "what ccache, cargo, go, guile, npm and fontconfig keep for themselves, and git's notes of what it looked at, change how long they take, and nothing else; what was taken from there needed no compiler, so files for which one would have looked were not seen (CCACHE_RECACHE=1 and an empty GOCACHE show them)",
     "progress": "what CMake counts in CMakeFiles/Progress changes the percentages that it prints, and nothing else; nobody else looks there",
     "outlives": "a process lived on, and may have changed files, when its recipe had ended",
     "tops": "two makes or ninjas ran at once, and no make or ninja started them",

@@ -157,6 +157,7 @@ PROJECT_GUARDS: List[Guard] = [
     Guard("caches: who else is there", "tools/caches.py", "if life not in known or place < known[life]]", "if False]", caches("that_others_look_at")),
     Guard("caches: what came before ccache", "tools/caches.py", " or place < known[life]]", "]", caches("that_a_process_looked_at_before")),
     Guard("caches: a ccache of the project", "tools/caches.py", " and not any(is_in(program.file, top) for top in tops)", "", caches("of_the_project")),
+    Guard("caches: git that changes more", "tools/caches.py", 'keeper.words.match(" ".join(program.argv[1:])) is not None', "True", caches("index_of_git")),
     Guard("caches: files that are not there", "tools/caches.py", " for kind, path in life.events if any(is_in(path, folder) for folder in folders)]", " for kind, path in life.events]", caches("other_files")),
     Guard("caches: the name of the folder", "tools/caches.py", 'if path.rstrip("/") not in made or kind in LOOKS:', "if True:", caches("what_it_keeps")),
     Guard("caches: who makes the folder", "tools/caches.py", '        life.events.setdefault(("T", path), min([first, *places]))\n', "", caches("what_it_keeps")),

@@ -51,10 +51,16 @@ class Kept(unittest.TestCase):
         self.assertEqual([], list(settle_caches(played(OF_PROJECT, *KEEPS).all, [TOP])))
 
     def test_of_other_programs(self) -> None:
-        for program, name in (("cargo", "/.global-cache"), ("go", "/c/ab/%s-d" % ("0a" * 32)), ("guile-3.0", "/guile/ccache/3.0/x.scm.go.A1"), ("dot", "/fontconfig/ab-le64.cache-8")):
+        for program, name in (("cargo", "/.global-cache"), ("go", "/c/ab/%s-d" % ("0a" * 32)), ("guile-3.0", "/guile/ccache/3.0/x.scm.go.A1"), ("dot", "/fontconfig/ab-le64.cache-8"),
+                              ("npm-cli.js", "/.npm/_logs/1-debug-0.log")):
             opened = '1 openat(AT_FDCWD</w>, "%s", O_WRONLY|O_CREAT, 0666) = 3<%s>' % (PLACE + name, PLACE + name)
             self.assertEqual(set(), left(CALL.replace("/usr/bin/ccache", "/race-test-bin/" + program), opened), program)
             self.assertIn(("C", name), left(CALL, opened), program)
+
+    def test_index_of_git(self) -> None:
+        index = '1 openat(AT_FDCWD</w>, "%s/.git/index", O_RDWR|O_CREAT, 0666) = 3<%s/.git/index>' % (PLACE, PLACE)
+        for words, is_left in (('"-C", "x", "status"', False), ('"describe"', False), ('"add", "x"', True), ('"status-x"', True), ('"-c", "a=b", "checkout"', True)):
+            self.assertEqual(is_left, left('1 execve("/usr/bin/git", ["git", %s], 0x1) = 0' % words, index) != set(), words)
 
     def test_other_files(self) -> None:
         life = lives_of(played(CALL, *KEEPS, '1 openat(AT_FDCWD<%s>, "a.o", O_WRONLY|O_CREAT, 0666) = 3<%s/a.o>' % (TOP, TOP)), 1)[0]
@@ -75,7 +81,7 @@ class Builds(unittest.TestCase):
     def test_two_files(self) -> None:
         status, text = self.said("true")
         self.assertEqual(0, status, text)
-        self.assertIn("what ccache, cargo, go, guile and fontconfig keep", text)
+        self.assertIn("what ccache, cargo, go, guile, npm and fontconfig keep", text)
 
     def test_folder_that_a_recipe_lists(self) -> None:
         self.assertEqual(1, self.said("ls ../kept || true")[0])
