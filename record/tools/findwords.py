@@ -39,6 +39,7 @@ class Expression:
         self.words, self.at = words, 0
         self.patterns: Set[str] = set()
         self.is_of_folders = False  # behind `-type d`
+        self.depth = ""  # how deep it goes, by the last word that says so
 
     def word(self) -> str:
         """The next word; nothing at the end."""
@@ -98,12 +99,18 @@ class Expression:
         """A test of a name, of its kind, or of something else."""
         if word not in VALUED:
             raise Unread
+        self.depth = value if word == "-maxdepth" else self.depth
         if word == "-type" and value == "d":
             self.patterns.add(FOLDERS)
             return Part(True, True)
         if word in ("-name", "-iname") and not self.is_of_folders:
-            self.patterns.add(loose(value) if word == "-name" else re.sub("[A-Za-z]", "?", loose(value)))
+            self.patterns.add(loose(value) if word == "-name" else in_any_case(loose(value)))
         return Part(word in ("-name", "-iname"))
+
+
+def in_any_case(pattern: str) -> str:
+    """A pattern for names with letters of either case. Where a letter is not of ASCII, the other case may have another length."""
+    return re.sub(r"[^\x00-\x7f]+", "*", re.sub("[A-Za-z]", "?", pattern))
 
 
 def expression_of(argv: List[str]) -> List[str]:
@@ -119,13 +126,11 @@ def find_patterns(life: Life) -> List[str]:
     """
     if base_name(life.argv) != "find" or not PROGRAM.match(life.program):
         return []
-    words = expression_of(life.argv)
-    reader = Expression(words)
+    reader = Expression(expression_of(life.argv))
     try:
         found = reader.alternatives()
     except Unread:
         return []
     if reader.word() or found.is_open or not (found.is_narrow or found.acts):
         return []
-    is_flat = ("-maxdepth", "1") in zip(words, words[1:])
-    return sorted(reader.patterns | (set() if is_flat else {FOLDERS}))
+    return sorted(reader.patterns | (set() if reader.depth == "1" else {FOLDERS}))

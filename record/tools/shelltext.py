@@ -64,6 +64,8 @@ COMPUTED = re.compile(r"\beval[ \t]+[\"']?(?:\$\(|`)")  # the text that a progra
 NOWHERE = re.compile(r"(?:\b2\s*|&)?>>?\s*/dev/null(?:\s*2>&1)?")
 KEPT_ERRORS = re.compile(r"\b2\s*>|&>|>\s*&|\|&")
 REMOVES = re.compile(r"\s*rm\s[^;&|<>`$()\n]*$")  # a text that runs nothing else
+FORCES, SAYS = re.compile(r"-[a-zA-Z]*f[a-zA-Z]*|--force"), re.compile(r"-[a-zA-Z]*[viI][a-zA-Z]*|--(?:verbose|interactive.*)")  # options of rm
+SHOWS = re.compile(r"-(?:print|ls|fprint|fls|exec|ok)")  # what find does beside
 DIRECTORY = r"(?:\"[^\"]*\"|'[^']*'|[^\s;|&<>()'\"`]+)"
 
 
@@ -73,9 +75,13 @@ def base_name(argv: List[str]) -> str:
 
 
 def is_removal(argv: List[str]) -> bool:
-    """Whether a process does no more with what it finds than to remove it."""
+    """Whether a process does no more with what it finds than to remove it: it does not say what it found, by its status or its output."""
     name = base_name(argv)
-    return name in ("rm", "rmdir") or bool(REMOVES.match(shell_text(argv))) or name == "find" and "-delete" in argv
+    if name == "find":
+        return "-delete" in argv and not any(SHOWS.match(word) for word in argv)
+    words = argv if name == "rm" else shell_text(argv).split() if REMOVES.match(shell_text(argv)) else []
+    options = [word for word in words[1:] if word.startswith("-")]
+    return any(FORCES.fullmatch(word) for word in options) and not any(SAYS.fullmatch(word) for word in options)
 
 
 def shell_words(argv: List[str]) -> Tuple[str, str]:

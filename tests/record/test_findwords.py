@@ -27,6 +27,8 @@ class Words(unittest.TestCase):
             ("find . ( -name a -o -name b ) -print".replace("(", "'('").replace(")", "')'"), ["**/", "a", "b"]), ("find . -name .git -prune -o -name '*.c' -print", ["**/", "*.c", ".git"]),
             ("find . -name x -exec sh -c 'a -o b' {} \\; -print", ["**/", "x"]), ("find . -name x -exec ls {} +", ["**/", "x"]), ("find . -iname a.C", ["**/", "?.?"]),
             ("find . -maxdepth 1 -name x -delete", ["x"]), ("find . -name x , -name y -print", ["**/", "x", "y"]), ("find . -type f -o -name x -print", ["**/", "x"]),
+            ("find . -name x -exec find {} -maxdepth 1 ';'", ["**/", "x"]), ("find . -maxdepth 1 -maxdepth 2 -name x", ["**/", "x"]), ("find . -maxdepth 2 -name x -maxdepth 1", ["x"]),
+            ("find . -iname 'Ä.C'", ["**/", "*.?"]), ("find . -name 'Ä*'", ["**/", "Ä*"]),
         ):
             self.assertEqual(patterns, asked(words), words)
 

@@ -27,6 +27,12 @@ class Words(unittest.TestCase):
                                     ("bash --norc --rcfile y -- script", "", "script"), ("sh -s x", "", ""), ("sh -", "", ""), ("sh -c", "", "")):
             self.assertEqual((text, script), (shelltext.shell_text(words.split()), shelltext.script_of(words.split())), words)
 
+    def test_removals(self) -> None:
+        for words, is_one in (("rm -f x", True), ("rm -rf x y", True), ("rm --force x", True), ("rm x", False), ("rm -fv x", False), ("rm -f --verbose x", False), ("rm -if x", False),
+                              ("rmdir d", False), ("find d -name x -delete", True), ("find d -name x -print -delete", False), ("find d -delete -execdir ls {} ;", False), ("find d", False)):
+            self.assertEqual(is_one, shelltext.is_removal(words.split()), words)
+        self.assertEqual([True, False, False], [shelltext.is_removal(sh(text)) for text in ("rm -f x", "rm x", "rm -f x; ls y")])
+
     def test_interpreters(self) -> None:
         names = ("python3", "/usr/bin/perl5.36", "node", "pythonic", "cc")
         self.assertEqual([True, True, True, False, False], [shelltext.is_interpreter([n]) for n in names])
