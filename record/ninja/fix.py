@@ -26,20 +26,19 @@ def users_of(edge: Edge, manifest: Manifest) -> List[Edge]:
 
 
 def cmake_target(edge: Edge, manifest: Manifest) -> str:
-    """The target of CMakeLists.txt that a statement belongs to."""
+    """The target of CMakeLists.txt that a statement belongs to, or the one that was made for what it writes."""
     for path in edge.makes():
         match = CMAKE_OBJECT.search(path) or CMAKE_TARGET.search(path)
         if match:
             return match.group(1) or match.group(match.lastindex or 1)
     link = CMAKE_LINK.match(edge.rule)
-    if link:
-        return link.group(1)
-    for user in users_of(edge, manifest):
-        for path in user.makes():
-            match = CMAKE_TARGET.search(path)
-            if match:
-                return match.group(1) or match.group(2)
-    return ""
+    return link.group(1) if link else next(iter(cmake_users(edge, manifest, 1)), "")
+
+
+def cmake_users(edge: Edge, manifest: Manifest, group: int) -> List[str]:
+    """The targets that wait for a statement: those of `add_custom_target` (1), or those that have what it writes among their sources (2)."""
+    matches = (CMAKE_TARGET.search(path) for user in users_of(edge, manifest) for path in user.makes())
+    return [match.group(group) for match in matches if match and match.group(group)]
 
 
 def meson_target(edge: Edge) -> str:
@@ -53,27 +52,31 @@ def meson_target(edge: Edge) -> str:
 
 
 def owner_of(edge: Edge, manifest: Manifest) -> Dict[str, str]:
-    """What wrote the manifest, and the name of the target there."""
+    """What wrote the manifest, the name of the target there, and where a statement of CMake has none, a target that uses what it writes."""
     by = generator_of(manifest)
-    return {"by": by, "target": cmake_target(edge, manifest) if by == "cmake" else meson_target(edge) if by == "meson" else ""}
+    target = cmake_target(edge, manifest) if by == "cmake" else meson_target(edge) if by == "meson" else ""
+    user = next(iter(cmake_users(edge, manifest, 2)), "") if by == "cmake" and not target else ""
+    return {"by": by, "target": target, **({"user": user} if user else {})}
 
 
 def fix_text(labels: Dict[str, Any], first: str, second: str, path: str) -> str:
-    """What to write so that `second` waits for `first`."""
+    """What to write so that `second` waits for `first`. A target that only uses a file may need the target that would wait for it."""
     early, late = owner(labels, first), owner(labels, second)
     if late[0] == "cmake" and late[1]:
         if early[1] and early[1] != late[1]:
             return "add_dependencies(%s %s)" % (late[1], early[1])
+        if not early[1] and early[2] not in ("", late[1]):
+            return "add_custom_target(NAME DEPENDS %s), add_dependencies(%s NAME) and add_dependencies(%s NAME)" % (path, late[1], early[2])
         return "target_sources(%s PRIVATE %s), with %s among the outputs of the command that writes it" % (late[1], path, path)
     if late[0] == "meson" and late[1]:
         return "in meson.build, put the target that makes %s into the sources of '%s'" % (first, late[1])
     return "build %s: .. || %s" % (second, first)
 
 
-def owner(labels: Dict[str, Any], label: str) -> Tuple[str, str]:
-    """Generator and target of a label."""
+def owner(labels: Dict[str, Any], label: str) -> Tuple[str, str, str]:
+    """Generator, target and user of a label."""
     found = labels.get(label, {}).get("owner", {})
-    return found.get("by", ""), found.get("target", "")
+    return found.get("by", ""), found.get("target", ""), found.get("user", "")
 
 
 def pool_text(labels: Dict[str, Any], first: str, second: str) -> str:

@@ -132,6 +132,13 @@ class Fixes(unittest.TestCase):
         self.assertEqual("add_dependencies(my_prog header)", self.fix(self.CMAKE, "gen.h", "my_prog"))
         self.assertTrue(self.fix(self.CMAKE, "lone.h", "my_prog").startswith("target_sources(my_prog PRIVATE lone.h)"))
 
+    def test_cmake_with_a_user(self) -> None:
+        used = self.CMAKE + "build cmake_object_order_depends_target_user: phony gen.h lone.h\nbuild CMakeFiles/other.dir/b.c.o: CC b.c || cmake_object_order_depends_target_user\n"
+        before = used.replace("build CMakeFiles/header", "build cmake_object_order_depends_target_first: phony gen.h\nbuild CMakeFiles/header")
+        for text in (used, before):
+            self.assertEqual("add_dependencies(my_prog header)", self.fix(text, "gen.h", "my_prog"))
+        self.assertEqual("add_custom_target(NAME DEPENDS lone.h), add_dependencies(my_prog NAME) and add_dependencies(user NAME)", self.fix(used, "lone.h", "my_prog"))
+
     def test_meson(self) -> None:
         text = "rule REGENERATE_BUILD\n  command = meson\nrule c\n  command = cc\nbuild liblate.so.1.p/a.c.o: c a.c\nbuild gen.h: c g\n"
         self.assertIn("into the sources of 'late'", self.fix(text, "gen.h", "liblate.so.1.p/a.c.o"))
