@@ -34,8 +34,7 @@ WORD = re.compile(r"[\w.-]+")
 GIVEN = re.compile(r"(?:^| )([\w.-]+)(?:[+?!]|:{1,3})?=")  # a macro that the words of make set
 BRACKETS = {"(": ")", "{": "}"}
 ANY = "*"  # macros that nobody can name
-STATUS = ".SHELLSTATUS"  # the macro that each `$(shell ..)` sets, and each `!=`
-RUNS = re.compile(r"\$[({](?:call[ \t]+)?shell[ \t,]|!=")
+ACTS = re.compile(r"\$[({](?:call[ \t]+)?(?:shell|eval|file|wildcard|realpath)[ \t,]")  # what makes a value by way of the disk, or of other macros
 # What each recipe asks for without a word: macros that make itself reads.
 IMPLIED = frozenset(("SHELL", ".SHELLFLAGS", "MAKEFLAGS", "MFLAGS", "GNUMAKEFLAGS", "MAKEOVERRIDES", "MAKE", "VPATH", "GPATH", ".LIBPATTERNS"))
 
@@ -149,8 +148,7 @@ class Macros:
         self.is_lost = bool(make.stale) or not all(map(is_plain, paths))  # then macros of several lines may hold anything
         recipes = (line for lines in base.recipes.values() for line in lines)
         texts = [self.text, *base.values.values(), *recipes, *(line for lines in base.bodies.values() for line in lines)]
-        self.asks_status = any(STATUS in text for text in texts)
-        self.is_used = self.is_lost and LINES in base.values.values() or self.asks_status or any("eval" in text for text in texts) or composes("\n".join(texts), "eval")
+        self.is_used = self.is_lost and LINES in base.values.values() or any("eval" in text for text in texts) or composes("\n".join(texts), "eval")
         self.named: Dict[str, Set[str]] = {}
         self.ways: Dict[str, Set[str]] = {}
         self.changed: Set[str] = set()  # those that recipes change
@@ -212,6 +210,12 @@ class Macros:
         found = {name for name in self.texts if self.is_exported(name)}
         return found.union(*map(self.reached_from, found), self.reached(self.exported))
 
+    def works_late(self) -> bool:
+        """Whether make may do something when it works out the exported macros of a recipe: that comes when the recipe starts, and all else before."""
+        bodies = {name: "\n".join(lines) for name, lines in self.base.bodies.items()}
+        acting = {name for known in (self.base.values, bodies) for name, text in known.items() if ACTS.search(text) or self.is_lost and text == LINES}
+        return bool(acting) and any(map(self.is_exported, self.reaching(acting)))
+
     def is_named_in_export(self, name: str) -> bool:
         """Whether a makefile exports a macro, by its name or with all others, or for a target; or the words of make give it a value."""
         return self.exports_all or name in self.exported_words
@@ -271,21 +275,11 @@ class Macros:
             before = self.reached(text[:one.end])
             if one.is_fresh and one.start in sure and one.name not in before:
                 found.reads.discard(one.name)
-        self.add_status(found, text, sure)
         return found
-
-    def add_status(self, found: Use, text: str, sure: Set[int]) -> None:
-        """Each `$(shell ..)` sets the macro of its status. One that a recipe surely comes to first hides what was there before."""
-        if not self.asks_status or not any(map(RUNS.search, (text, *map(self.text_of, found.reads)))):
-            return
-        found.writes.add(STATUS)
-        first = next((one for one in RUNS.finditer(text) if one.start() in sure), None)
-        if first is not None and STATUS not in self.reached(text[:end_of(text, first.start() + 1)]):
-            found.reads.discard(STATUS)
 
     def implied(self) -> Use:
         """What each recipe does without a word: make works out the macros that it exports, and those that it reads itself, for each of them."""
-        setting = {name for name, texts in self.texts.items() if any(EVAL.search(one) or self.asks_status and RUNS.search(one) for one in texts)}
+        setting = {name for name, texts in self.texts.items() if any(EVAL.search(one) for one in texts)}
         names = {name for name in self.reaching(setting) if name in IMPLIED or name in os.environ or self.is_lost or self.is_named_in_export(name)} if setting else set()
         return self.use("".join("$(%s)" % name for name in sorted(names))) if names else Use()
 

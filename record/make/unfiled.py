@@ -24,7 +24,7 @@ def add_macros(builder: "Builder", created: Created) -> None:
         use = builder.macros.get(node.name) if builder.build.tasks[at].kind == "recipe" else None
         if use is None:
             continue
-        looker = builder.look_of.get(label, at)
+        looker = builder.acts_at.get(label, at)
         who.setdefault(node.name, []).append(looker)
         for names, is_read in ((use.reads, True), (use.writes, False)):
             for name in names:

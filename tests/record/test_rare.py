@@ -1,4 +1,4 @@
-"""Small makefiles with what is rare: macros that make exports by way of others, the status of `$(shell ..)`, names of functions that are put
+"""Small makefiles with what is rare: macros that make exports by way of others, names of functions that are put
 together, `.NOTPARALLEL` that is no target, quotes in the names of folders, and recipes that look into the output of their own make."""
 
 import unittest
@@ -16,6 +16,7 @@ SETS = "$(eval V = 2)"
 SHOWS = 'echo "$$W"'
 FINDS = "all: a b\n%ss: ; touch s\na: s ; touch d/n.x a\nb: t ; echo %s > b\nt: ; touch t\n"
 ROW = "all: a b%s\na: ; echo 1 > x; touch a\nb: ; cat x > b\n%s"
+LOAD = "%sall: c b a\nc: ; touch c\nb: ; echo \"$$X\" > b\na: ; %s; touch a\nx:\n"
 QUOTE = "all: a b\na: ; touch 'q\"1/x' a\nb:%s ; cd 'q\"1' && test -f x && r=1 || r=0; cd ..; echo $$r > b\n"
 KEPT = "all: ; $(MAKE) -f in.mk > log\n"
 INNER = "x: a b\ns: ; touch s\na: s ; @echo said; touch a\nb:%s ; @%s\n"
@@ -30,19 +31,18 @@ RARE: Dict[str, Small] = {
     "macro_that_the_words_of_make_set": Small("race", "all: ; $(MAKE) -f in.mk x 'W=$$(V)'\n", {"in.mk": LATE.replace("all:", "x:") % ("", SETS, SHOWS)}),
     "macro_that_no_exported_one_names": Small("safe", LATE % ("X = $(V)\nW = 1\nexport W\n", SETS, SHOWS)),
     "macro_of_an_exported_one_in_order": Small("safe", LATE.replace("b: ;", "b: a ;") % ("W = $(V)\nexport W\n", SETS, SHOWS)),
-    # the status of what make runs by itself
-    "status_of_another_recipe": Small("race", LATE % ("", "$(shell exit 3)", "echo '$(.SHELLSTATUS)'")),
-    "status_by_an_assignment": Small("race", LATE % ("", "$(eval X != exit 3)", "echo '$(.SHELLSTATUS)'")),
-    "status_in_an_exported_macro": Small("race", LATE % ("W = $(.SHELLSTATUS)\nexport W\n", "$(shell exit 3)", SHOWS)),
-    "status_of_an_exported_macro": Small("race", LATE % ("W = $(if $(filter a,$@),$(shell exit 3))\nexport W\n", "", "echo '$(.SHELLSTATUS)'")),
-    "status_of_its_own": Small("safe", LATE % ("", "$(shell exit 3)", "$(shell exit 2)echo '$(.SHELLSTATUS)'")),
-    "status_that_nobody_asks_for": Small("safe", LATE % ("", "$(shell exit 3)", "$(shell exit 2)echo")),
     # functions of make whose names are put together
     "eval_whose_name_is_put_together": Small("race", LATE % ("E = ev\n", "$(call $(E)al,V = 2)", "echo $(V)")),
     "eval_whose_name_a_macro_puts_together": Small("race", LATE % ("E = ev\nF = $(E)al\n", "$(call $(F),V = 2)", "echo $(V)")),
     "wildcard_whose_name_is_put_together": Small("race", FINDS % ("W = wild\n", "$(call $(W)card,d/*.x)"), {"d/k": ""}),
     "wildcard_beside_one_whose_name_is_put_together": Small("race", FINDS % ("W = wild\n", "$(wildcard e/*.x)$(call $(W)card,d/*.x)"), {"d/k": "", "e/k": ""}),
     "function_whose_name_is_put_together": Small("safe", FINDS % ("W = g\ng_f = 1\n", "$(call $(W)_f)$(wildcard d/*.q)"), {"d/k": ""}),
+    # what make does for a recipe when that starts, which a bound on the load lets wait
+    "exported_macro_that_reads_a_file": Small("race", LOAD % ("X = $(if $(filter b,$@),$(shell cat x))\nexport X\n", "echo 1 > x")),
+    "exported_macro_of_lines_that_reads_a_file": Small("race", LOAD % ("define X\n\n$(if $(filter b,$@),$(shell cat x))\nendef\nexport X\n", "echo 1 > x")),
+    "exported_macro_that_sets_another": Small("race", LOAD % ("V = 1\nexport X = $(V)$(if $(filter b,$@),$(eval V = 3))\n", ":$(eval V = 2)")),
+    "exported_macro_that_was_worked_out": Small("safe", LOAD.replace("$$X", "$(shell cat x)") % ("X := $(shell pwd)\nexport X\n", "echo 1 > x")),
+    "macro_that_reads_a_file_and_is_not_exported": Small("safe", LOAD.replace("$$X", "$(X)") % ("X = $(shell cat x)\n", "echo 1 > x")),
     # one job at a time
     "not_parallel_as_a_prerequisite": Small("race", ROW % ("", "c: .NOTPARALLEL\n")),
     "not_parallel_by_a_pattern": Small("race", ROW % (" .NOTPARALLEL", ".PHONY: all\n%: ; @:\n")),
