@@ -16,6 +16,7 @@ from record.make.inner import add_inner
 from record.make.macros import Macros, Use, uses
 from record.make.memory import libraries, place_listings, share_listings
 from record.make.owners import Make, Work
+from record.make.programs import are_inside
 from record.make.unfiled import add_macros, add_outputs, count_listings
 from record.make.words import makefiles
 from record.trace.names import Names, join
@@ -51,7 +52,7 @@ class Builder:
         self.holes: List[str] = []
         self.known = Macros(make, self.graph.base)
         self.macros: Dict[str, Use] = uses(self.known)
-        self.works_late = self.known.works_late()
+        self.works_late = self.known.works_late() or are_inside(self.graph.base, make.folder, names.tops)
 
     def path_of(self, name: str) -> str:
         """The real path of a target, as it was before the build or is now."""

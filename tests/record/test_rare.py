@@ -17,6 +17,7 @@ SHOWS = 'echo "$$W"'
 FINDS = "all: a b\n%ss: ; touch s\na: s ; touch d/n.x a\nb: t ; echo %s > b\nt: ; touch t\n"
 ROW = "all: a b%s\na: ; echo 1 > x; touch a\nb: ; cat x > b\n%s"
 LOAD = "%sall: c b a\nc: ; touch c\nb: ; echo \"$$X\" > b\na: ; %s; touch a\nx:\n"
+PATH = "export PATH := %s:$(PATH)\nall: c b a\nc: ; touch c\nb: ; cp y b\na: ; ln -s /bin/mv bin/cp; touch a\n"
 QUOTE = "all: a b\na: ; touch 'q\"1/x' a\nb:%s ; cd 'q\"1' && test -f x && r=1 || r=0; cd ..; echo $$r > b\n"
 KEPT = "all: ; $(MAKE) -f in.mk > log\n"
 INNER = "x: a b\ns: ; touch s\na: s ; @echo said; touch a\nb:%s ; @%s\n"
@@ -41,6 +42,9 @@ RARE: Dict[str, Small] = {
     "exported_macro_that_reads_a_file": Small("race", LOAD % ("X = $(if $(filter b,$@),$(shell cat x))\nexport X\n", "echo 1 > x")),
     "exported_macro_of_lines_that_reads_a_file": Small("race", LOAD % ("define X\n\n$(if $(filter b,$@),$(shell cat x))\nendef\nexport X\n", "echo 1 > x")),
     "exported_macro_that_sets_another": Small("race", LOAD % ("V = 1\nexport X = $(V)$(if $(filter b,$@),$(eval V = 3))\n", ":$(eval V = 2)")),
+    "program_in_a_folder_of_path": Small("race", PATH % "$(CURDIR)/bin", {"bin/k": "", "y": ""}),
+    "program_in_a_relative_folder_of_path": Small("race", "all: ; $(MAKE) -C d\n", {"d/Makefile": (PATH % "../bin").replace(" bin/cp", " ../bin/cp"), "bin/k": "", "d/y": ""}),
+    "program_in_a_folder_of_path_elsewhere": Small("safe", LOAD.replace("$$X", "$(shell cat x)") % ("export PATH := /usr/bin:$(PATH)\n", "echo 1 > x")),
     "exported_macro_that_was_worked_out": Small("safe", LOAD.replace("$$X", "$(shell cat x)") % ("X := $(shell pwd)\nexport X\n", "echo 1 > x")),
     "macro_that_reads_a_file_and_is_not_exported": Small("safe", LOAD.replace("$$X", "$(X)") % ("X = $(shell cat x)\n", "echo 1 > x")),
     # one job at a time
