@@ -32,6 +32,7 @@ RARE: Dict[str, Small] = {
     "macro_that_the_words_of_make_set": Small("race", "all: ; $(MAKE) -f in.mk x 'W=$$(V)'\n", {"in.mk": LATE.replace("all:", "x:") % ("", SETS, SHOWS)}),
     "macro_that_no_exported_one_names": Small("safe", LATE % ("X = $(V)\nW = 1\nexport W\n", SETS, SHOWS)),
     "macro_of_an_exported_one_in_order": Small("safe", LATE.replace("b: ;", "b: a ;") % ("W = $(V)\nexport W\n", SETS, SHOWS)),
+    "status_of_another_recipe": Small("safe", LATE % ("", "$(shell exit 3)", "echo '$(.SHELLSTATUS)'")),
     # functions of make whose names are put together
     "eval_whose_name_is_put_together": Small("race", LATE % ("E = ev\n", "$(call $(E)al,V = 2)", "echo $(V)")),
     "eval_whose_name_a_macro_puts_together": Small("race", LATE % ("E = ev\nF = $(E)al\n", "$(call $(F),V = 2)", "echo $(V)")),
