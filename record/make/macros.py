@@ -211,10 +211,12 @@ class Macros:
         return found.union(*map(self.reached_from, found), self.reached(self.exported))
 
     def works_late(self) -> bool:
-        """Whether make may do something when it works out the exported macros of a recipe: that comes when the recipe starts, and all else before."""
+        """Whether make may do something when it works out the exported macros of a recipe, or find others in them: that comes when the recipe
+        starts, and all else before."""
         bodies = {name: "\n".join(lines) for name, lines in self.base.bodies.items()}
         acting = {name for known in (self.base.values, bodies) for name, text in known.items() if ACTS.search(text) or self.is_lost and text == LINES}
-        return bool(acting) and any(map(self.is_exported, self.reaching(acting)))
+        is_acting = bool(acting) and any(map(self.is_exported, self.reaching(acting)))
+        return is_acting or any(name == ANY or self.is_exported(name) or name in self.handed_on for name in self.changed)
 
     def is_named_in_export(self, name: str) -> bool:
         """Whether a makefile exports a macro, by its name or with all others, or for a target; or the words of make give it a value."""
