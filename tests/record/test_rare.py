@@ -43,7 +43,7 @@ RARE: Dict[str, Small] = {
     "exported_macro_that_reads_a_file": Small("race", LOAD % ("X = $(if $(filter b,$@),$(shell cat x))\nexport X\n", "echo 1 > x")),
     "exported_macro_of_lines_that_reads_a_file": Small("race", LOAD % ("define X\n\n$(if $(filter b,$@),$(shell cat x))\nendef\nexport X\n", "echo 1 > x")),
     "exported_macro_that_sets_another": Small("race", LOAD % ("V = 1\nexport X = $(V)$(if $(filter b,$@),$(eval V = 3))\n", ":$(eval V = 2)")),
-    "macro_that_is_handed_on_when_a_recipe_starts": Small("race", LOAD % ("V = 1\nexport X = $(V)\n", ":$(eval V = 2)")),
+    "macro_that_is_handed_on_when_a_recipe_starts": Small("race", LOAD % ("V = 1\nX = $(V)\nexport X\n", ":$(eval V = 2)")),
     "shell_that_another_recipe_sets": Small("race", LOAD.replace("$$X", "$$BASH_VERSION") % ("", ":$(eval SHELL = /bin/bash)")),
     "macro_that_a_leaf_asks_for": Small("safe", LOAD.replace("$$X", "$(V)") % ("V = 1\n", ":$(eval V = 2)")),
     "program_in_a_folder_of_path": Small("race", PATH % "$(CURDIR)/bin", {"bin/k": "", "y": ""}),
