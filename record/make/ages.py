@@ -36,7 +36,7 @@ def works_of(builder: "Builder", at: int) -> List[Tuple[int, Work]]:
     """What a task ran, and what make itself ran for it, as by `$(shell ..)`, with the task that has that."""
     task = builder.build.tasks[at]
     acts = builder.acts_work(task.node) if builder.build.tool == "make" and task.kind == "recipe" else None
-    return [*((at, work) for work in task.works), *([(builder.look_of.get(task.label, at), acts)] if acts is not None else [])]
+    return [*((at, work) for work in task.works), *([(builder.acts_at.get(task.label, at), acts)] if acts is not None else [])]
 
 
 def note_sources(builder: "Builder") -> None:

@@ -16,6 +16,7 @@ from record.make.inner import add_inner
 from record.make.macros import Macros, Use, uses
 from record.make.memory import libraries, place_listings, share_listings
 from record.make.owners import Make, Work
+from record.make.programs import are_inside
 from record.make.unfiled import add_macros, add_outputs, count_listings
 from record.make.words import makefiles
 from record.trace.names import Names, join
@@ -28,6 +29,7 @@ class Builder:
     """Makes the tasks of a round."""
 
     events_of_all: Optional[Events] = None
+    works_late = False  # make does something for a recipe when that starts
 
     def __init__(self, make: Make, number: int, names: Names, assumed: Assumptions, before: Optional[Dict[str, str]] = None) -> None:
         self.graph = Graph(make, number)
@@ -50,6 +52,7 @@ class Builder:
         self.holes: List[str] = []
         self.known = Macros(make, self.graph.base)
         self.macros: Dict[str, Use] = uses(self.known)
+        self.works_late = self.known.works_late() or are_inside(self.graph.base, make.folder, names.tops)
 
     def path_of(self, name: str) -> str:
         """The real path of a target, as it was before the build or is now."""
@@ -99,6 +102,12 @@ class Builder:
         for work in task.works:
             yield from work.events
 
+    @property
+    def acts_at(self) -> Dict[str, int]:
+        """By label: the look that has what make did by itself for a recipe. What it does when the recipe starts may come later, as
+        where a bound on the load (`-l`) lets that wait: then the recipe has all."""
+        return {} if self.works_late else self.look_of
+
     def acts_work(self, node: Node) -> Optional[Work]:
         """What make did itself for a target; of a double-colon target it may have been for each of its rules."""
         return self.make.acts.get((self.number, node.name))
@@ -115,7 +124,7 @@ class Builder:
         """Which recipe writes, creates or removes which name, and who makes which folder."""
         found: Dict[str, Set[int]] = {}
         for at, task in enumerate(self.build.tasks):
-            looker = self.look_of.get(task.label, at) if task.kind == "recipe" else at
+            looker = self.acts_at.get(task.label, at) if task.kind == "recipe" else at
             acts = self.acts_of(task.node) if task.kind == "recipe" else ()
             for who, events in ((at, self.events(task)), (looker, acts)):
                 for kind, path in events:
@@ -317,7 +326,7 @@ class Builder:
             task, node = build.tasks[at], self.graph.nodes[label]
             self.add_events(at, self.events(task), created)
             looker = self.look_of.get(label, at)
-            self.add_events(looker, self.acts_of(node), created)
+            self.add_events(self.acts_at.get(label, at), self.acts_of(node), created)
             if task.kind != "group":
                 self.add_decision(looker, at, node, node.label in asked)
         for label, at in self.first_of.items():
@@ -337,7 +346,7 @@ class Builder:
         for at, task in enumerate(self.build.tasks):
             if task.kind != "recipe":
                 continue
-            looker = self.look_of.get(task.label, at)
+            looker = self.acts_at.get(task.label, at)
             for who, events in ((at, self.events(task)), (looker, self.acts_of(task.node))):
                 for kind, path in events:
                     if kind in "CDX":

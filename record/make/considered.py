@@ -159,8 +159,9 @@ def stems_of(pattern: str, name: str) -> Iterator[Tuple[str, str]]:
 
 
 def is_row(base: Base, words: Words) -> bool:
-    """Whether a makefile says that its recipes run one at a time: from a version on `.NOTPARALLEL` with names is about these alone."""
-    return base.serial and (version(words.version) < LATER or not base.prerequisites.get(".NOTPARALLEL"))
+    """Whether a makefile says that its recipes run one at a time: from a version on `.NOTPARALLEL` with names is about these alone. Where make
+    has searched a rule for it, another target asks for it, and the data base does not show whether a makefile has a rule of its own."""
+    return base.serial and ".NOTPARALLEL" not in base.implicit and (version(words.version) < LATER or not base.prerequisites.get(".NOTPARALLEL"))
 
 
 def version(text: str) -> Tuple[int, ...]:

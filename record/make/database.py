@@ -12,6 +12,7 @@ VALUE = re.compile(r"^([^\s:#=]+) (?:=|:=|::=|:::=) ?(.*)$")
 LINES_TEXT = "$(lines)*"  # what stands for a macro of several lines
 LINES = re.compile(r"^define ([^\s:#=]+)")
 PATTERN = re.compile(r"^([^#\t:=]*%[^:=]*)(::?)(?!=) *(.*)$")
+NO_TARGET = "# Not a target:"
 SEARCH = re.compile(r"^vpath (\S+) (.*)$")
 
 
@@ -56,14 +57,14 @@ class _Files:
 
     def __init__(self, base: Base) -> None:
         self.base, self.name = base, ""
-        self.is_macro = False  # the next line sets a macro of one target
+        self.is_macro = self.is_other = False  # the next line sets a macro of one target; it is about a name that is no target
         self.is_recipe = self.goes_on = False  # inside of a recipe; inside of one of its lines
 
     def line(self, text: str) -> None:
         if self.is_recipe and (text or self.goes_on):
             self.recipe(text)
         elif text == "":
-            self.name, self.is_recipe = "", False
+            self.name, self.is_recipe, self.is_other = "", False, False
         elif text.startswith("#") and text[1:2] in ("", " "):
             self.remark(text)
         elif not self.name and not text.startswith("\t"):
@@ -80,6 +81,7 @@ class _Files:
     def remark(self, text: str) -> None:
         base = self.base
         self.is_macro = not self.name and bool(ORIGIN.match(text))
+        self.is_other = text == NO_TARGET
         if not text.startswith("#  "):
             return
         self.is_recipe = self.is_recipe or text.startswith("#  recipe to execute")
@@ -105,7 +107,7 @@ class _Files:
             return
         base, self.name = self.base, match.group(1)
         first, _, second = ((match.group(3) or "") + " ").partition("| ")
-        if self.name == ".NOTPARALLEL":
+        if self.name == ".NOTPARALLEL" and not self.is_other:  # (as a prerequisite alone it says nothing)
             base.serial = True
         base.prerequisites.setdefault(self.name, []).extend(first.split())
         base.order_only.setdefault(self.name, set()).update(second.split())

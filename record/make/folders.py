@@ -173,7 +173,7 @@ def put_together(builder: "Builder") -> Events:
             found.append((at, [(k, p, s) for w in task.works for (k, p), s in w.events.items()]))
             acts = builder.acts_work(task.node) if builder.build.tool == "make" else None
             if acts is not None:
-                looker = builder.look_of.get(task.label, at)
+                looker = builder.acts_at.get(task.label, at)
                 found.append((looker, [(k, p, s) for (k, p), s in acts.events.items()]))
         elif task.kind in ("decision", "look"):
             own = builder.of_node.get(task.node.label, at)

@@ -1,6 +1,7 @@
 """The patterns of `$(wildcard ..)` in makefiles: which names a listing of a folder by make can be about."""
 
 import re
+from fnmatch import fnmatchcase
 from functools import cached_property
 from typing import Dict, Iterable, Iterator, List, Optional, Set
 
@@ -23,6 +24,8 @@ BOUND = re.compile(r"\$[({](?:foreach|let)[ \t]+(?:[^,\n]*[^\w.,\s-]|(?:[^,\n]*\
 # What calls `eval`, or may hand its name to `call`. A shell's own `eval` stands in a recipe, and files may be called eval.c.
 WORD_EVAL = r"(?<![\w./+-])eval(?![\w./+-])"
 EVALS = re.compile(r"[({,]\s*eval[\s\\,)}]|[({]call\s+eval\b|" + WORD_EVAL + r"[ \t]*[,)}]|(?m:^)(?:(?!\t)|\t[ \t]*(?:override|export|private|define|[\w.-]+[ \t]*(?:[+?!]|::?:?)?=))[^\n]*?" + WORD_EVAL)
+ONE = r"\$(?:\([\w.-]+\)|\{[\w.-]+\}|\w)"  # a macro
+COMPOSED = re.compile(r"(\$[({]call[ \t]+|)(?<![\w.$-])([\w.-]*(?:%s[\w.-]*)+)" % ONE)  # a name with macros in it
 NAMED_BY_MACRO = re.compile(r"\$[({][^(){}\s,:]*\$(?!\$)")
 # A line of a makefile that is a rule, up to its recipe, and one that includes makefiles: make looks for the names in them.
 RULE = re.compile(r"(?m)^(?!\t)((?:[^\n=#:;]*\\\n)*[^\n=#;]*?:(?![:=])(?:[^\n;#=]*\\\n)*[^\n;#]*)")
@@ -155,7 +158,7 @@ def patterns(texts: List[str], values: Dict[str, str], names: Iterable[str] = ("
     calls = list(arguments(macros.text))
     for words in calls:
         found.update(parts(words, macros))
-    if macros.text.count("wildcard") > len(calls):
+    if macros.text.count("wildcard") > len(calls) or composes(macros.text, "wildcard"):
         found.add("*")
     return found
 
@@ -173,6 +176,13 @@ def listed(texts: List[str], values: Dict[str, str], names: Iterable[str] = ("*"
             for word in (word for word in text.replace("\\\n", " ").split() if "$" not in word or not macros.is_plain(word)):
                 found |= parts(word, macros) if "$" in word else {part for part in loose(word).split("/") if MAGIC.search(part)}
     return found
+
+
+def composes(text: str, function: str) -> bool:
+    """Whether `call` may call a function whose name is put together by macros: where it stands, or in a macro that `call` names."""
+    words = [(bool(found.group(1)), re.sub(ONE, "*", found.group(2))) for found in COMPOSED.finditer(text)] if CALLS.search(text) else []
+    is_open = (True, "*") in words
+    return any(fnmatchcase(function, word) for is_called, word in words if word != "*" and (is_called or is_open and word.strip("*")))
 
 
 def uses_arguments(text: str) -> int:

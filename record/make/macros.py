@@ -9,6 +9,7 @@ from typing import Dict, Iterable, Iterator, List, NamedTuple, Set, Tuple
 
 from record.make.database import Base
 from record.make.database import LINES_TEXT as LINES
+from record.make.globs import composes
 from record.make.owners import Make
 from record.make.words import makefiles
 from record.tools.shelltext import shell_text
@@ -29,8 +30,11 @@ RULE = re.compile(r"(?m)^(?!\t)[^\n=#]*?:(?![:=])((?:[^\n;#=]*\\\n)*[^\n;#]*)")
 EXPORT = r"(?m)^(?:[^\t\n#][^\n]*?:)??[ \t]*(?:(?:override|private)[ \t]+)*export\b"
 EXPORTED = re.compile(EXPORT + r"([^\n]*)")
 EXPORTS_ALL = re.compile(EXPORT + r"[ \t]*$|\.EXPORT_ALL_VARIABLES")
+WORD = re.compile(r"[\w.-]+")
+GIVEN = re.compile(r"(?:^| )([\w.-]+)(?:[+?!]|:{1,3})?=")  # a macro that the words of make set
 BRACKETS = {"(": ")", "{": "}"}
 ANY = "*"  # macros that nobody can name
+ACTS = re.compile(r"\$[({](?:call[ \t]+)?(?:shell|eval|file|wildcard|realpath)[ \t,]")  # what makes a value by way of the disk, or of other macros
 # What each recipe asks for without a word: macros that make itself reads.
 IMPLIED = frozenset(("SHELL", ".SHELLFLAGS", "MAKEFLAGS", "MFLAGS", "GNUMAKEFLAGS", "MAKEOVERRIDES", "MAKE", "VPATH", "GPATH", ".LIBPATTERNS"))
 
@@ -143,7 +147,8 @@ class Macros:
         self.text = "\n".join(text_of(path) for path in paths)
         self.is_lost = bool(make.stale) or not all(map(is_plain, paths))  # then macros of several lines may hold anything
         recipes = (line for lines in base.recipes.values() for line in lines)
-        self.is_used = self.is_lost and LINES in base.values.values() or any("eval" in text for text in (self.text, *base.values.values(), *recipes, *(line for lines in base.bodies.values() for line in lines)))
+        texts = [self.text, *base.values.values(), *recipes, *(line for lines in base.bodies.values() for line in lines)]
+        self.is_used = self.is_lost and LINES in base.values.values() or any("eval" in text for text in texts) or composes("\n".join(texts), "eval")
         self.named: Dict[str, Set[str]] = {}
         self.ways: Dict[str, Set[str]] = {}
         self.changed: Set[str] = set()  # those that recipes change
@@ -159,7 +164,8 @@ class Macros:
     @cached_property
     def names_eval(self) -> bool:
         """Whether a macro may hold the name of `eval`, by which a recipe may call it."""
-        return any(BARE.search(text) for texts in self.texts.values() for text in texts)
+        found = [self.text, *(text for texts in self.texts.values() for text in texts)]
+        return any(map(BARE.search, found)) or composes("\n".join(found), "eval")
 
     @cached_property
     def rule_words(self) -> Set[str]:
@@ -198,9 +204,29 @@ class Macros:
         """Whether each process of a recipe finds a macro in its environment, or make itself reads it for each recipe."""
         return self.is_lost or self.is_named_in_export(name) or name in IMPLIED or self.is_inherited(name)
 
+    @cached_property
+    def handed_on(self) -> Set[str]:
+        """The exported macros, and all macros that their values refer to, also by way of others: make works these out for each recipe."""
+        found = {name for name in self.texts if self.is_exported(name)}
+        return found.union(*map(self.reached_from, found), self.reached(self.exported))
+
+    def works_late(self) -> bool:
+        """Whether make may do something when it works out the exported macros of a recipe, or find others in them: that comes when the recipe
+        starts, and all else before."""
+        bodies = {name: "\n".join(lines) for name, lines in self.base.bodies.items()}
+        acting = {name for known in (self.base.values, bodies) for name, text in known.items() if ACTS.search(text) or self.is_lost and text == LINES}
+        is_acting = bool(acting) and any(map(self.is_exported, self.reaching(acting)))
+        return is_acting or any(name == ANY or self.is_exported(name) or name in self.handed_on for name in self.changed)
+
     def is_named_in_export(self, name: str) -> bool:
-        """Whether a makefile exports a macro, by its name or with all others, or for a target."""
-        return self.exports_all or bool(self.exported) and re.search(r"\b%s\b" % re.escape(name), self.exported) is not None
+        """Whether a makefile exports a macro, by its name or with all others, or for a target; or the words of make give it a value."""
+        return self.exports_all or name in self.exported_words
+
+    @cached_property
+    def exported_words(self) -> Set[str]:
+        """The words behind `export`, those of macros that are named there, and names with a value among the words of make."""
+        texts = (self.exported, *map(self.text_of, self.reached(self.exported)))
+        return {word for text in texts for word in WORD.findall(text)}.union(GIVEN.findall(" ".join((self.make.words.args, self.make.words.flags))))
 
     @cached_property
     def exports_all(self) -> bool:
@@ -253,7 +279,6 @@ class Macros:
                 found.reads.discard(one.name)
         return found
 
-
     def implied(self) -> Use:
         """What each recipe does without a word: make works out the macros that it exports, and those that it reads itself, for each of them."""
         setting = {name for name, texts in self.texts.items() if any(EVAL.search(one) for one in texts)}
@@ -282,7 +307,7 @@ def uses(macros: Macros) -> Dict[str, Use]:
     implied = macros.implied()
     found = {name: macros.use("\n".join(lines)).joined(implied) for name, lines in base.recipes.items()}
     changed = macros.changed = {name for use in found.values() for name in use.writes}
-    exported = {name for name in changed if name != ANY and macros.is_exported(name)}
+    exported = {name for name in changed if name != ANY and (macros.is_exported(name) or name in macros.handed_on)}
     exported |= {one.name for lines in base.recipes.values() for one in evals(with_functions("\n".join(lines))) if one.is_exported}
     for use in found.values():
         patterns = [name for name in use.reads if "*" in name]

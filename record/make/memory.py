@@ -4,7 +4,7 @@ import os
 import re
 from typing import TYPE_CHECKING, Dict, Iterator, List, Optional, Set
 
-from record.make.globs import BOUND, MAGIC, WORD_EVAL, arguments, with_values
+from record.make.globs import BOUND, MAGIC, WORD_EVAL, arguments, composes, with_values
 from record.make.graph import Node
 from record.make.macros import ANY, Macros, evals
 from record.make.owners import Work
@@ -82,7 +82,7 @@ def words_asked(known: Macros, node: Node) -> Optional[List[str]]:
     reached = known.reached(text)
     texts = [text, *map(known.text_of, reached)]
     calls = [call for one in texts for call in arguments(one)]
-    if ANY in reached or sum(one.count("wildcard") for one in texts) > len(calls) or None in calls or BOUND.search("\n".join(texts)):
+    if ANY in reached or composes("\n".join(texts), "wildcard") or sum(one.count("wildcard") for one in texts) > len(calls) or None in calls or BOUND.search("\n".join(texts)):
         return None
     own = [with_target(call or "", node.name) for call in calls]
     if not known.reached("\n".join(own)).isdisjoint({*base.bodies, *(name for one in texts for name in looped(one))}):

@@ -15,18 +15,34 @@ def goes_to(spool, number):
         return ""
     if stat.S_ISCHR(found.st_mode):
         return ""
+    known = noted(spool, found)
+    return known[0] if known is not None else "file" if stat.S_ISREG(found.st_mode) else "pipe"
+
+
+def file_of(spool, number):
+    """The path of the file in which what is written to a descriptor is kept; nothing where it is in none."""
     try:
-        with open("%s/outputs/%d.%d" % (spool, found.st_dev, found.st_ino)) as file:
-            return file.read()
+        found = os.fstat(number)
+        known = noted(spool, found)
+        return known[1] if known is not None else os.readlink("/proc/self/fd/%d" % number) if stat.S_ISREG(found.st_mode) else ""
     except OSError:
-        return "file" if stat.S_ISREG(found.st_mode) else "pipe"
+        return ""
 
 
-def note_output(spool, number, where):
+def noted(spool, found):
+    """What a make above has kept about where a descriptor leads: the place, and the path of a file."""
+    try:
+        with open("%s/outputs/%d.%d" % (spool, found.st_dev, found.st_ino), errors="surrogateescape") as file:
+            return file.read().split("\0")
+    except OSError:
+        return None
+
+
+def note_output(spool, number, where, path=""):
     """Keeps where what is written to a descriptor goes, for the makes below."""
     found = os.fstat(number)
-    with open("%s/outputs/%d.%d" % (spool, found.st_dev, found.st_ino), "w") as file:
-        file.write(where)
+    with open("%s/outputs/%d.%d" % (spool, found.st_dev, found.st_ino), "w", errors="surrogateescape") as file:
+        file.write(where + "\0" + path)
 
 
 def is_one_file(first, second):

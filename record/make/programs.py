@@ -4,7 +4,7 @@ Where such a folder has a relative name, a program there may be a target: then t
 """
 
 import os
-from typing import TYPE_CHECKING, Set
+from typing import TYPE_CHECKING, Iterable, Set
 
 from record.make.globs import with_values
 
@@ -31,9 +31,19 @@ class Programs:
 
 def folders_of(base: "Base") -> Set[str]:
     """The relative folders in all that PATH may be."""
+    return {folder for folder in path_of(base) if not folder.startswith("/")}
+
+
+def path_of(base: "Base") -> Set[str]:
+    """The folders in all that PATH may be."""
     values = [base.values.get("PATH", ""), *(line.partition("=")[2].strip() for line in base.bodies.get("PATH", ()))]
-    found = {folder or "." for value in values if value for folder in with_values(value, base.values).split(":")}
-    return {folder for folder in found if not folder.startswith("/")}
+    return {folder or "." for value in values if value for folder in with_values(value, base.values).split(":")}
+
+
+def are_inside(base: "Base", where: str, tops: Iterable[str]) -> bool:
+    """Whether PATH may lead into the folders that the build works in, for a make in a folder."""
+    below = tuple(top.rstrip("/") + "/" for top in tops)
+    return any("$" in folder or (os.path.realpath(os.path.join(where, folder)) + "/").startswith(below) for folder in path_of(base))
 
 
 def names_in(base: "Base") -> Set[str]:

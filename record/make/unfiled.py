@@ -24,7 +24,7 @@ def add_macros(builder: "Builder", created: Created) -> None:
         use = builder.macros.get(node.name) if builder.build.tasks[at].kind == "recipe" else None
         if use is None:
             continue
-        looker = builder.look_of.get(label, at)
+        looker = builder.acts_at.get(label, at)
         who.setdefault(node.name, []).append(looker)
         for names, is_read in ((use.reads, True), (use.writes, False)):
             for name in names:
@@ -79,14 +79,16 @@ def add_keepers(builder: "Builder", targets: List[str], who: Dict[str, List[int]
 
 
 def add_outputs(builder: "Builder") -> None:
-    """The lines of a make whose output is kept in a file come in the order of its recipes; another program may drop that order."""
+    """The lines of a make whose output is kept in a file come in the order of its recipes, and a recipe may look into that file; another
+    program may drop that order."""
     words = builder.make.words
     if not words.output and not words.errors:
         return
     tasks = builder.build.tasks
     said = [at for at in builder.of_node.values() if any(job.is_said for job in tasks[at].node.jobs)]
     if words.output == "file":
-        mark(builder, own_path(builder.make, "output"), "the order of what make prints, which is kept in a file", set(), set(said))
+        seeing = {at for at, events in each(builder) if words.log and any(path == words.log for _, path, _ in events)}
+        mark(builder, own_path(builder.make, "output"), "the order of what make prints, which is kept in a file", seeing, set(said))
     unseen = [at for at in builder.of_node.values() if tasks[at].node.jobs] if words.errors else said if words.output == "pipe" else []
     if next(unordered(builder, sorted(unseen)), None) is not None:
         builder.assumed.add("output", "make " + words.args if words.args else "make")

@@ -88,6 +88,7 @@ class Words:
     below: bool = False  # the words of a make above came with MAKEFLAGS
     slots: str = ""  # how many jobs its own words ask for: digits, or `all`
     output: str = ""  # where its output goes, if that is not the build's own: `file` or `pipe`
+    log: str = ""  # the path of the file that keeps its output
     errors: str = ""  # the same of standard error, where that is not with its output
     is_joined: bool = False  # standard error goes where its output goes
     spoken: bool = False  # it would have spoken another language than English
@@ -197,6 +198,8 @@ class _Reader:
             words.slots = text[5:]
         elif text.startswith("OUTPUT "):
             words.output = text[7:]
+        elif text.startswith("LOG "):
+            words.log = text[4:]
         elif text.startswith("ERRORS "):
             words.is_joined = text[7:] == "joined"
             words.errors = "" if words.is_joined else text[7:]

@@ -15,7 +15,7 @@ import sys
 from contextlib import suppress
 
 from record.make.options import WORDS, asked, asks_jobs, jobs_of_call, plain_args, speak_english, without_words
-from record.make.outputs import goes_to, is_closed, is_one_file, note_output
+from record.make.outputs import file_of, goes_to, is_closed, is_one_file, note_output
 
 VERSION_LINE = re.compile(rb"# (GNU Make \d|Built for |Copyright \(C\)|License |This is free software|There is NO WARR)")
 QUOTED = rb"'[^\n]*'"
@@ -305,9 +305,9 @@ def serve(splitter, child, reading, writing):
     return os.waitpid(child, 0)[1]
 
 
-def head_of(args, flags, below, slots, where, errors, spoken):
+def head_of(args, flags, below, slots, where, path, errors, spoken):
     """The first lines of a log: the words of make, where its output goes, and whether it speaks English for the recorder alone."""
-    lines = (("ARGS", " ".join(args)), ("FLAGS", flags), ("BELOW", "%d" % below), ("JOBS", slots), ("OUTPUT", where), ("ERRORS", errors), ("SPOKEN", "%d" % spoken))
+    lines = (("ARGS", " ".join(args)), ("FLAGS", flags), ("BELOW", "%d" % below), ("JOBS", slots), ("OUTPUT", where), ("LOG", path), ("ERRORS", errors), ("SPOKEN", "%d" % spoken))
     return "".join("%s %s\n" % (key, text.replace("\n", " ")) for key, text in lines).encode("utf-8", "surrogateescape")
 
 
@@ -320,12 +320,12 @@ def as_usual():
 def run_logged(spool, name, real, args, flags, below, slots):
     """Runs make with the recorder's words and keeps what it says; gives its raw status."""
     extra, spoken = WORDS + (["-j1"] if asks_jobs(args, flags) else []), speak_english(os.environ)
-    where, errors = goes_to(spool, 1), "joined" if is_one_file(1, 2) else goes_to(spool, 2)
+    where, path, errors = goes_to(spool, 1), file_of(spool, 1), "joined" if is_one_file(1, 2) else goes_to(spool, 2)
     split = args.index("--") if "--" in args else len(args)
     reading, writing = os.pipe2(os.O_DIRECT | os.O_CLOEXEC)
     with suppress(OSError):  # it may be as large as it is
         fcntl.fcntl(writing, SET_SIZE, SIZE)
-    note_output(spool, writing, where)
+    note_output(spool, writing, where, path)
     child = os.fork()
     if child == 0:
         as_usual()
@@ -336,7 +336,7 @@ def run_logged(spool, name, real, args, flags, below, slots):
     signal.signal(signal.SIGTERM, lambda *_: os.kill(child, signal.SIGTERM))
     with open_log(spool, child) as log:
         note_start(log.name, real, name, args)
-        log.write(head_of(args, flags, below, slots, where, errors, spoken))
+        log.write(head_of(args, flags, below, slots, where, path, errors, spoken))
         try:
             raw = serve(Splitter(log, 1, where != ""), child, reading, writing)
         except OSError:  # nobody reads it, or the device is full: make finds that out by itself

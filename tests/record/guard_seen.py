@@ -66,7 +66,7 @@ SEEN_GUARDS: List[Guard] = [
     Guard("ages: operators behind a backslash", "tools/shelltext.py", r"""[\"'\\]*-[\"'\\]*-?(""", "-(", words("operators_that_are_spelled_in_another_way")),
     Guard("ages: negated operators", "tools/shelltext.py", r"(?:!\s+)?(?![-!])", "(?![-!])", seen("ages_by_a_negated_macro"), YES),
     Guard("ages: by words of their own", "tools/shelltext.py", "    if shows_ages(argv):\n        return True\n", "", seen("ages_by_all_of_stat"), YES),
-    Guard("ages: of what make calls", "make/ages.py", ", *([(builder.look_of.get(task.label, at), acts)] if acts is not None else [])", "", seen("ages_by_a_function"), YES),
+    Guard("ages: of what make calls", "make/ages.py", ", *([(builder.acts_at.get(task.label, at), acts)] if acts is not None else [])", "", seen("ages_by_a_function"), YES),
     Guard("ages: of makes that make calls", "make/owners.py", "    work.makes += ran.makes\n", "", seen("ages_in_a_make_of_a_function"), YES),
     Guard("ages: that make copies", "make/owners.py", "    work.lives += ran.lives\n", "", seen("age_that_a_function_copies"), YES),
     Guard("ages: scripts behind if", "tools/shelltext.py", "|elif|if|while|until|time|command|builtin)[ \\t]+)(?:", ")[ \\t]+)(?:", seen("ages_by_a_script_behind_if"), YES),

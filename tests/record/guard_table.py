@@ -266,7 +266,7 @@ UNFILED: List[Guard] = [
     Guard("macros: that keep what they read", "make/unfiled.py", "builder.add_events(looker, events, created)", "pass", small("macro_that_keeps_what_it_read"), YES),
     Guard("macros: that keep a value", "make/macros.py", "if one.name == name and one.is_fresh else", "if False else", small("macro_that_keeps_its_value"), FALSE_RACE),
     Guard("output in a file", "make/unfiled.py", 'if words.output == "file":', "if False:", small("output_in_a_file"), YES),
-    Guard("output: of makes below", "make/wrapper.py", "    note_output(spool, writing, where)\n", "    note_output(spool, writing, '')\n", small("output_of_a_make_below"), YES),
+    Guard("output: of makes below", "make/wrapper.py", "    note_output(spool, writing, where, path)\n", "    note_output(spool, writing, '', '')\n", small("output_of_a_make_below"), YES),
     Guard("output: of recipes that print", "make/unfiled.py", "if any(job.is_said for job in tasks[at].node.jobs)]", "if tasks[at].node.jobs]", small("output_in_a_file_of_one_recipe"), FALSE_RACE),
     Guard("said: output for others", "make/unfiled.py", 'builder.assumed.add("output"', '(lambda *_: None)("output"', small("output_for_a_program"), UNSAID),
     Guard("what CMake counts", "trace/replay.py", "if PROGRESS in path and", "if False and", "test_generators.Makefiles.test_targets_side_by_side", "(0, []) != (1"),
