@@ -86,7 +86,7 @@ class Replay:
 
     def strays(self) -> List[str]:
         """Processes that did something, and of which nobody knows who started them: in a name space of its own a process has another number
-        than in the trace. A thread may come to its end with its process before the call that started it is finished."""
+        than in the trace. A thread may end with its process before the call that started it is finished."""
         known = [" ".join(life.argv)[:100] for life in self.all[1:] if not life.adopted and (life.ran or life.events or life.children)]
         return known + ["number %d" % pid for pid, events in self.waiting.items() if any(isinstance(event, Call) for event in events)]
 
