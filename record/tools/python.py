@@ -22,6 +22,7 @@ LISTS = re.compile(r"listdir|scandir|glob|walk|iterdir|\bPath\b|pathlib|\bexec\b
 SYSTEM = re.compile(r"/etc/|(?:/usr)?/lib(?:32|64)?/(?!python)")
 PACKAGES = re.compile(r"/(?:site|dist)-packages/(?!_distutils_hack/|apport_python_hook\.)")  # the exceptions are what setuptools and Ubuntu run at each start
 TEXTS = (".py", ".pyc", ".so", ".zip", ".egg", ".whl", ".pyz")  # how the names of files end that modules may come from
+OPTIONS, VALUED = re.compile(r"-[bBdEhiIOPqRsSuvVx]*c"), ("-W", "-X", "--check-hash-based-pycs")  # how `-c` is given; options with a value of their own
 MODULES = ("*.py", "*.pyc", "*.so", "*.pth", "*/")  # what an import, or the start of Python, looks for in a list; the last is any folder
 
 
@@ -83,6 +84,19 @@ def sources_of(life: Life) -> Dict[str, int]:
     return found if script_of(life) in map(os.path.basename, found) else {}
 
 
+def given_text(life: Life) -> str:
+    """The text of `python -c TEXT`, else nothing."""
+    words = iter(life.argv[1:] if not life.cut else ())
+    for word in words:
+        if OPTIONS.fullmatch(word):
+            return next(words, "")
+        if word in VALUED:
+            next(words, "")
+        elif not word.startswith("-") or word in ("-", "--", "-m"):
+            return ""
+    return ""
+
+
 def modules_of(life: Life) -> Dict[str, int]:
     """The modules that it reads, except those that come with Python itself, with when it did."""
     library = library_of(life)
@@ -116,15 +130,18 @@ def is_named(path: str, texts: str) -> bool:
 
 
 def settle_lists(life: Life, sources: Dict[str, int], own: List[str], written: Dict[str, int]) -> None:
-    """Lists of folders in which it finds modules. A text that was written later may have listed folders."""
-    begun = read_at(life, sources)
+    """Lists of folders in which it finds modules, or of its own one where it is handed a text. A text that was written later may have
+    listed folders."""
+    begun, text = read_at(life, sources), given_text(life)
+    if text:
+        sources, own = modules_of(life), [*modules_of(life)]
     lists = {path: place for (kind, path), place in life.events.items() if kind == "L" and path.endswith("\0*") and place > life.begun}
-    if not lists or not sources or any(lists_folders(path) or written.get(path, 0) > begun for path in own):
+    if not lists or not (sources or text) or LISTS.search(text) or any(lists_folders(path) or written.get(path, 0) > begun for path in own):
         return
     is_all = not any(lists_folders(path) for path in sources if path not in own)
     for path, place in lists.items():
         folder = path.partition("\0")[0]
-        if (place > begun or is_all) and any(os.path.dirname(source) == folder for source in sources):
+        if (place > begun or is_all) and (text and folder == life.folder or any(os.path.dirname(source) == folder for source in sources)):
             del life.events["L", path]
             for pattern in MODULES:
                 life.events.setdefault(("L", folder + "\0" + pattern), place)

@@ -104,6 +104,8 @@ PROJECT_GUARDS: List[Guard] = [
     Guard("find: what is done for any name", "tools/findwords.py", "found.is_open or one.is_open and not found.is_narrow", "found.is_open", "test_findwords.Words.test_any_name"),
     Guard("find: tests that are turned round", "tools/findwords.py", "return Part(acts=one.acts, is_open=one.is_open)", "return one", "test_findwords.Words.test_any_name"),
     Guard("find: folders that are made", "tools/findwords.py", '(set() if reader.depth == "1" else {FOLDERS})', "set()", finds("find_in_a_folder_that_is_made"), YES),
+    Guard("Python: texts that list", "tools/python.py", " or LISTS.search(text) or", " or", "test_python.Python.test_text_in_its_words"),
+    Guard("Python: texts in words", "tools/python.py", "text and folder == life.folder or", "", "test_python.Python.test_text_in_its_words"),
     Guard("fixes: a target of CMake that was made for the file", "ninja/fix.py", 'next(iter(cmake_users(edge, manifest, 1)), "")', 'next(iter(cmake_users(edge, manifest, 2)), "")', "test_again.Fixes.test_cmake_with_a_user"),
     Guard("find: how deep another one goes", "tools/findwords.py", "        self.depth = value if word == \"-maxdepth\" else self.depth\n", "        self.depth = \"1\" if \"-maxdepth 1\" in \" \".join(self.words) else \"\"\n", "test_findwords.Words.test_names"),
     Guard("find: letters that are not of ASCII", "tools/findwords.py", 're.sub(r"[^\\x00-\\x7f]+", "*", re.sub("[A-Za-z]", "?", pattern))', 're.sub("[A-Za-z]", "?", pattern)', "test_findwords.Words.test_names"),

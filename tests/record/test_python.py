@@ -6,12 +6,15 @@ import unittest
 from typing import Dict
 
 import support
-from record.tools.python import is_of_python, lists_folders, own_sources, settle, settle_lists, sources_of
+from record.tools.python import given_text, is_of_python, lists_folders, own_sources, settle, settle_lists, sources_of
 from record.trace.lives import Life
 
 HELPER = {"t/lib.py": "def text():\n    return 'x'\n"}
 SCRIPT = "import sys, lib\nopen(sys.argv[1], 'w').write(lib.text())\n"
 TWO = "all: t/x.c t/y.c\nt/x.c: ; python3 -S t/gen.py t/x.c\nt/y.c: ; python3 -S t/gen.py t/y.c\n"
+
+
+TEXT = "all: a b\na: ; touch %s a\nb: ; python3 -S -c '%s' > b\n"
 
 
 def settled(life: Life) -> None:
@@ -34,6 +37,15 @@ class Python(unittest.TestCase):
 
     def test_modules_and_byte_code(self) -> None:
         self.of(TWO, SCRIPT, 0, "what Python keeps in __pycache__")
+
+    def test_text_in_its_words(self) -> None:
+        for made, text, status in (("x.txt", "import json", 0), ("x.txt", "import os; print(os.listdir(\".\"))", 1), ("json.py", "import json", 1)):
+            self.of(TEXT % (made, text), SCRIPT, status, files={"lib.py": "x = 1\n"})
+        self.of(TEXT % ("x.txt", "import lib"), SCRIPT, 1, files={"lib.py": "import os\nprint(os.listdir('.'))\n"})
+
+    def test_words_that_hold_a_text(self) -> None:
+        for words, text in ((["-c", "x"], "x"), (["-Ec", "x"], "x"), (["-W", "-c", "-c", "x"], "x"), (["-m", "m", "-c", "x"], ""), (["s.py", "-c", "x"], ""), (["-", "-c", "x"], ""), ([], "")):
+            self.assertEqual(text, given_text(Life(1, argv=["python3", *words])), words)
 
     def test_script_that_lists_the_folder(self) -> None:
         self.of(TWO, "import os\n" + SCRIPT + "os.listdir(os.path.dirname(os.path.abspath(__file__)))\n", 1)
