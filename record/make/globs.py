@@ -4,7 +4,7 @@ import re
 from functools import cached_property
 from typing import Dict, Iterable, Iterator, List, Optional, Set
 
-from record.tools.shelltext import loose
+from record.tools.shelltext import folders_of, loose
 
 CALL = re.compile(r"\$([({])wildcard[ \t]+")
 CALLS = re.compile(r"\$([({])call[ \t]+")
@@ -15,6 +15,7 @@ HEAD = re.compile(r"(?<![\w$({.%/-])([\w.-]+)[ \t]*(?:[+?!]|::?:?)?=")  # of an 
 VALUE = re.compile(r"(?:[^\n]*\\\n)*[^\n]*")
 BINDS = re.compile(r"\b(?:define|undefine|foreach|let)\s")
 REFERENCE = re.compile(r"\$(?:\(([\w.-]+)(?::[^$(){}*?\[]*)?\)|\{([\w.-]+)(?::[^$(){}*?\[]*)?\}|(\w))")
+COMPUTED = re.compile(r"\$(?:\(([\w.-]*)\$(?:\(([\w.-]+)\)|\{([\w.-]+)\}|(\w))([\w.-]*)\)|\{([\w.-]*)\$(?:\(([\w.-]+)\)|\{([\w.-]+)\}|(\w))([\w.-]*)\})")  # a name with one macro in it
 MAGIC = re.compile(r"[*?\[]")
 # What gives a value to a name of a target or to an argument: a loop over such a name, or one that is computed, and an assignment.
 BOUND = re.compile(r"\$[({](?:foreach|let)[ \t]+(?:[^,\n]*[^\w.,\s-]|(?:[^,\n]*\s)?\d)[^,\n]*,"
@@ -32,12 +33,13 @@ LINE = re.compile(r"(?m)^(?:[^\n]*\\\n)*[^\n]+")
 OTHER = re.compile(r"\t| *(?:(?:ifn?eq|ifn?def|else|endif|define|endef|export|unexport|undefine|vpath|[-s]?include|-?load)(?![\w.-])|#|\$[({](?:eval|info|warning|error)[ \t])")
 COLON = re.compile(r":(?!=)")
 INNERMOST = re.compile(r"\$\([^(){}]*\)|\$\{[^(){}]*\}")
-NAMES = re.compile(r"\$[({](?:(?:call|value)[ \t]+)?([\w.-]+)")
+NAMES = re.compile(r"\$(?:[({](?:(?:call|value)[ \t]+)?([\w.-]*)(\$?)|(\w))")  # the second: the name goes on with a macro
 BRACKETS = {"(": ")", "{": "}"}
 PLAIN = re.compile(r"\$(?:[({]([\w.-]+)[)}]|(\w))")
 DEPTH = 8  # how often macros are put in the places of their names
 NAMED = "\x01"  # names without a pattern
 UNKNOWN = "\x02"  # anything
+SIGN = "\x03"  # a sign of a name that is none of a reference
 # Functions whose text has no pattern where their arguments have none.
 QUIET = re.compile(r"\$[({](?:dir|notdir|basename|suffix|addprefix|addsuffix|join|patsubst|subst|strip|sort|filter|filter-out|firstword"
                    r"|lastword|word|wordlist|abspath|realpath|if|or|and|findstring)[ \t]")
@@ -91,9 +93,37 @@ class Macros:
         if fixed is not None:
             return not MAGIC.search(fixed)
         if name not in self.plain:
+            before = len(self.plain)
             self.plain[name] = True  # a macro that names itself
-            self.plain[name] = all(self.is_plain(text) for text in [*self.assigned(name), self.values.get(name, "")])
+            if not all(self.is_plain(text) for text in [*self.assigned(name), self.values.get(name, "")]):
+                for other in [*self.plain][before:]:  # these may be plain only if it is
+                    self.plain.pop(other)
+                self.plain[name] = False
         return self.plain[name]
+
+    def is_plain_computed(self, found: "re.Match[str]") -> bool:
+        """Whether no macro whose name fits holds a pattern, where another macro gives a part of the name, and nothing else: no `:` for which
+        make would put one text in the place of another."""
+        head, *inner, tail = (one or "" for one in found.groups()[:5] if found.group().startswith("$(")) if found.group()[1] == "(" else (one or "" for one in found.groups()[5:])
+        name = "".join(inner)
+        if not head + tail or not self.has_no_pattern(name) or any(":" in text for text in self.texts_from("$(%s)" % name)):
+            return False
+        fits = re.compile(re.escape(head) + r".*" + re.escape(tail))
+        return all(self.has_no_pattern(one) for one in {*self.assignments, *self.values} if fits.fullmatch(one))
+
+    def begun(self, name: str, is_begin: bool) -> Iterable[str]:
+        """A name, or all that begin with it."""
+        return [one for one in {*self.assignments, *self.values} if one.startswith(name)] if is_begin else [name]
+
+    def texts_from(self, text: str) -> List[str]:
+        """A text, and those of the macros that it leads to."""
+        todo, seen = [text], {text}
+        for one in todo:
+            names = {name for found in NAMES.finditer(one) for name in self.begun(found.group(1) or found.group(3) or "", bool(found.group(2)))}
+            more = {value for name in names for value in [*self.assigned(name), self.values.get(name, "")]} - seen
+            seen |= more
+            todo += more
+        return todo
 
     def has_plain_arguments(self) -> bool:
         """Whether no argument of `call` holds a pattern, of all functions that hand one to `wildcard`."""
@@ -111,13 +141,12 @@ class Macros:
         """Whether a line may come to a rule with a pattern by its references, as far as its own text and those of the macros that it leads to say so."""
         if "$" not in text or OTHER.match(text) or re.search("[:=]", outside(text)):  # (or it is a rule, or an assignment, by its own text)
             return False
-        todo, seen = [text], {text}
-        for one in todo:
-            names = [found.group(1) for found in NAMES.finditer(one)]
-            more = {value for name in names for value in [*self.assigned(name), self.values.get(name, "")]} - seen
-            seen |= more
-            todo += more
+        todo = self.texts_from(text)
         return any(map(COLON.search, todo)) and any(map(MAGIC.search, todo))
+
+    def is_plain_later(self, text: str) -> bool:
+        """Whether what a second expansion of prerequisites makes of a text holds no pattern."""
+        return self.target == NAMED and self.is_plain(AUTOMATIC.sub(NAMED, text.replace("$$", "$")))
 
     def is_plain(self, text: str) -> bool:
         """Whether what a text comes to holds no pattern. What `wildcard` gives are names of files."""
@@ -125,6 +154,7 @@ class Macros:
             if call is None:
                 return False
             text = re.sub(r"\$[({]wildcard[ \t]+%s[)}]" % re.escape(call), NAMED, text)
+        text = COMPUTED.sub(lambda found: NAMED if self.is_plain_computed(found) else found.group(), text)
         names = [found.group(1) or found.group(2) or found.group(3) for found in REFERENCE.finditer(text)]
         rest = QUIET.sub("", REFERENCE.sub(NAMED, text))
         return not MAGIC.search(rest) and "$" not in rest.replace("$$", "") and all(self.has_no_pattern(name) for name in names)
@@ -169,10 +199,12 @@ def listed(texts: List[str], values: Dict[str, str], names: Iterable[str] = ("*"
     for text in [*RULE.findall(macros.text), *INCLUDE.findall(macros.text)]:
         if any(text.count(one) > text.count(other) for one, other in BRACKETS.items()):
             found.add("*")  # a function goes on behind what looks like the end of the rule
+        if "$$" in text and macros.is_plain_later(text):
+            text = text.replace("$$", SIGN)
         if not macros.is_plain(text):
             for word in (word for word in text.replace("\\\n", " ").split() if "$" not in word or not macros.is_plain(word)):
-                found |= parts(word, macros) if "$" in word else {part for part in loose(word).split("/") if MAGIC.search(part)}
-    return found
+                found |= parts(word, macros) if "$" in word else set(parts_of(word))
+    return {part.replace(SIGN, "?") for part in found}
 
 
 def uses_arguments(text: str) -> int:
@@ -205,5 +237,12 @@ def parts(words: Optional[str], macros: Macros) -> Set[str]:
         if any(mark in word for mark in (UNKNOWN, "$", "(", "{")):
             found.add("*")
         else:
-            found.update(part for part in loose(word).split("/") if MAGIC.search(part))
+            found.update(parts_of(word))
     return {part.replace(NAMED, "*") for part in found}
+
+
+def parts_of(word: str) -> Iterator[str]:
+    """The parts of a path that hold a pattern; all but the last are about folders."""
+    *before, last = loose(word).split("/")
+    yield from (folders_of(part) for part in before if MAGIC.search(part))
+    yield from [last] if MAGIC.search(last) else []

@@ -10,6 +10,7 @@ from typing import TYPE_CHECKING, Dict, Iterable, List, Optional, Set, Tuple
 
 from record.make.database import Base
 from record.make.globs import listed, patterns
+from record.make.idle import idle_of, without_idle
 from record.make.options import asks_jobs
 from record.make.programs import Programs
 from record.make.words import SEVERAL, Job, Round, Words, makefiles
@@ -193,12 +194,12 @@ class Owners:
     @staticmethod
     def patterns_of(make: Make) -> Tuple[List[str], List[str]]:
         """The patterns of `$(wildcard ..)` in the makefiles that were read, and those of rules."""
-        texts = [make.words.args, make.words.flags]
+        texts, idle = [make.words.args, make.words.flags], idle_of(make.words)
         if make.stale:
             return ["*"], []
         for name in makefiles(make.words):
             try:
-                texts.append(text_of(os.path.join(make.folder, name)))
+                texts.append(without_idle(text_of(os.path.join(make.folder, name)), name, make.words, idle))
             except OSError:
                 if not make.never_read(name):
                     return ["*"], []
