@@ -1,8 +1,10 @@
 """The patterns of `$(wildcard ..)` in makefiles: which names a listing of a folder by make can be about."""
 
+import os
 import re
+from fnmatch import fnmatchcase
 from functools import cached_property
-from typing import Dict, Iterable, Iterator, List, Optional, Set
+from typing import Callable, Dict, Iterable, Iterator, List, Optional, Set
 
 from record.tools.shelltext import folders_of, loose
 
@@ -35,6 +37,7 @@ COLON = re.compile(r":(?!=)")
 INNERMOST = re.compile(r"\$\([^(){}]*\)|\$\{[^(){}]*\}")
 NAMES = re.compile(r"\$(?:[({](?:(?:call|value)[ \t]+)?([\w.-]*)(\$?)|(\w))")  # the second: the name goes on with a macro
 BRACKETS = {"(": ")", "{": "}"}
+PLAIN_NAME = re.compile(r"[\w./+-]+")
 PLAIN = re.compile(r"\$(?:[({]([\w.-]+)[)}]|(\w))")
 DEPTH = 8  # how often macros are put in the places of their names
 NAMED = "\x01"  # names without a pattern
@@ -190,8 +193,11 @@ def patterns(texts: List[str], values: Dict[str, str], names: Iterable[str] = ("
     return found
 
 
-def listed(texts: List[str], values: Dict[str, str], names: Iterable[str] = ("*",)) -> Set[str]:
-    """The patterns in rules and in lines that include makefiles, and in macros that stand there; `*` where one of these may hold any."""
+def listed(texts: List[str], values: Dict[str, str], names: Iterable[str] = ("*",), asked: Callable[[], Set[str]] = lambda: {"*"}) -> Set[str]:
+    """The patterns in rules and in lines that include makefiles, and in macros that stand there; `*` where one of these may hold any.
+
+    `asked` gives all names that make has considered, or may have looked for to find an implicit rule.
+    """
     macros = Macros("\n".join(texts), values, names)
     found: Set[str] = set()
     if any(macros.may_be_rule(line.group()) for line in LINE.finditer(macros.text)):
@@ -201,10 +207,28 @@ def listed(texts: List[str], values: Dict[str, str], names: Iterable[str] = ("*"
             found.add("*")  # a function goes on behind what looks like the end of the rule
         if "$$" in text and macros.is_plain_later(text):
             text = text.replace("$$", SIGN)
-        if not macros.is_plain(text):
+        if not macros.is_plain(text) and not is_unasked(text, macros, asked):
             for word in (word for word in text.replace("\\\n", " ").split() if "$" not in word or not macros.is_plain(word)):
                 found |= parts(word, macros) if "$" in word else set(parts_of(word))
     return {part.replace(SIGN, "?") for part in found}
+
+
+def is_unasked(text: str, macros: Macros, names: Callable[[], Set[str]]) -> bool:
+    """Whether a text is a rule of which make has considered no target, and asked for no name that its patterns fit: then it makes no difference
+    which names they find."""
+
+    def value(found: "re.Match[str]") -> str:
+        name = found.group(1) or found.group(2) or found.group(3)
+        fixed = macros.fixed(name) if ":" not in found.group(0) else None
+        return fixed if fixed is not None else NAMED if macros.has_no_pattern(name) else UNKNOWN
+
+    head, colon, rest = REFERENCE.sub(value, text.replace("\\\n", " ")).partition(":")
+    targets, words = {os.path.normpath(one) for one in head.split()}, rest.replace(":", " ").replace("|", " ").split()
+    if not colon or not targets or any(one.startswith(".") or not PLAIN_NAME.fullmatch(one) for one in targets) or any(sign in rest for sign in (UNKNOWN, SIGN, "$")):
+        return False
+    asked = {os.path.normpath(name) for name in names()}
+    patterns_of_rule = [os.path.normpath(loose(word).replace(NAMED, "*")) for word in words if MAGIC.search(word)]
+    return "*" not in asked and targets.isdisjoint(asked) and not any(fnmatchcase(name, one) for one in patterns_of_rule for name in asked)
 
 
 def uses_arguments(text: str) -> int:

@@ -13,6 +13,7 @@ from record.make.globs import listed, patterns
 from record.make.idle import idle_of, without_idle
 from record.make.options import asks_jobs
 from record.make.programs import Programs
+from record.make.searches import asked_names
 from record.make.words import SEVERAL, Job, Round, Words, makefiles
 from record.tools.texts import text_of
 from record.trace.lives import Act, Key, Life
@@ -204,7 +205,7 @@ class Owners:
                 if not make.never_read(name):
                     return ["*"], []
         names = [name for one in make.words.rounds for name in one.nodes]
-        return sorted(patterns(texts, make.words.values(), names)), sorted(listed(texts, make.words.values(), names))
+        return sorted(patterns(texts, make.words.values(), names)), sorted(listed(texts, make.words.values(), names, lambda: asked_names(make.words)))
 
     def match_jobs(self, make: Make) -> None:
         """Make names the processes of its jobs in the order in which it starts them. Others that it starts may have had their numbers: in a

@@ -7,6 +7,7 @@ import support  # noqa: F401
 from record.make.database import read_base
 from record.make.globs import Macros, listed, patterns
 from record.make.idle import Idle, idle_in, idle_of, recipe_lines, unread, without_idle
+from record.make.searches import asked_names
 from record.make.words import Considered, Round, Words
 from test_replay import TOP, played
 from test_small import Small, test_of
@@ -37,6 +38,12 @@ UNREAD: Dict[str, Small] = {
     "branch_around_one_that_is_not_read": Small("race", MAKES, {"in.mk": "N = 1\n" + LISTS + "ifdef N\nL := $(wildcard *.x)\nifdef M\ni: ; touch i\nendif\nendif\n"}),
     "branch_with_a_rule_in_a_macro": Small("race", MAKES, {"in.mk": "N = 1\n" + LISTS + "ifdef N\ndefine D\ni: j ; touch i\nendef\nL := $(wildcard *.x)\nendif\n"}),
     "branch_with_a_rule_for_a_file_in_a_search_path": Small("race", MAKES, {"in.mk": "N = 1\nVPATH = d\nz: j ; touch z\nd/j:\nifdef N\nL := $(wildcard *.x)\nj:\nendif\n", "d/j": ""}),
+    # rules of no goal
+    "rule_of_no_goal": Small("safe", MAKES, {"in.mk": "P = vim\n" + LISTS + "$(P).pot: *.x \\\n ../*.h\n\techo $^\n"}),
+    "rule_of_a_goal": Small("race", MAKES, {"in.mk": "P = z\nz: $(wildcard *.q)\n$(P): *.x ; echo $^ > z\n", "w.x": ""}),
+    "rule_of_no_goal_and_a_name_that_it_fits": Small("race", MAKES, {"in.mk": "z: $(wildcard *.q) w.x ; touch z\nP: *.x ; echo $^\n%.x: ; touch $@\n", "w.x": ""}),
+    "rule_of_no_goal_and_a_name_that_is_searched": Small("race", MAKES.replace("a b", "b a", 1), {"in.mk": "z: $(wildcard *.q) y ; touch z\nP: *.x ; echo $^\n%: %.x ; echo x > $@\n%: %.k ; echo k > $@\n", "y.k": ""}),
+    "rule_of_no_target_that_is_known": Small("race", MAKES, {"in.mk": "z: $(wildcard *.q) ; touch z\nP = y\nP = z\n$(P): *.x ; echo $^ > z\n", "w.x": ""}),
     # comments
     "comment": Small("safe", MAKES, {"in.mk": LISTS + "# what wildcard finds, and \\\n$(wildcard *.x)\n"}),
     "comment_of_a_recipe": Small("race", MAKES, {"in.mk": "z:\n\t# $(wildcard *.x)\n\ttouch z\n"}),
@@ -134,6 +141,24 @@ class Texts(unittest.TestCase):
         self.assertEqual(set(), listed([text % ("a", "O-b = $(O-$(T)) q")], {}))
         for one, other in (("a", "O-b = *.c"), ("*", ""), ("$(X)", "X = a:p=*"), ("$(shell x)", ""), ("a", "O-b = $(shell x)")):
             self.assertIn("*", {part[:1] for part in listed([text % (one, other)], {})}, (one, other))
+
+    def test_rules_that_nothing_asks_for(self) -> None:
+        for text, asked, wanted in (("z: *.x", "y", ""), ("z: *.x", "z", "*.x"), ("z: *.x", "y w.x", "*.x"), ("z: d/*.x", "y w.x", ""), ("z: ./*.x", "y ./w.x", "*.x"), ("z: *.x", "*", "*.x"),
+                                    (".z: *.x", "y", "*.x"), ("$(Z): *.x", "y", "*.x"), ("z%: *.x", "y", "*.x"), ("z: *.x $$(a)", "y", "*.x *"), ("include *.x", "y", "*.x"), ("a z: *.x", "z", "*.x")):
+            found = listed([text + "\nZ = a\nZ = b\n"], {}, ["y"], lambda names={*asked.split()}: names)  # type: ignore[misc]
+            self.assertEqual({*wanted.split()}, found, (text, asked))
+
+    def test_names_that_are_asked_for(self) -> None:
+        base = read_base(["# Implicit Rules", "%.o: %.c", "# Files", "# Not a target:", "a.o:", "#  Implicit rule search has been done.", ""])
+        words = Words(1, 0, rounds=[Round("goals", 0, {"a.o": Considered("a.o", 0, 0)}, base=base)])
+        self.assertEqual({"a.o", "a.c"}, asked_names(words))
+        base.search.append(("%", ["src"]))
+        self.assertEqual({"*"}, asked_names(words))
+        base.search.clear()
+        base.patterns.append((["%.o"], ["$(call f,%)"]))
+        self.assertEqual({"*"}, asked_names(words))
+        words.rounds[0].base = None
+        self.assertEqual({"*"}, asked_names(words))
 
     def test_parts_of_paths(self) -> None:
         self.assertEqual({"?*/", "a*/", "*.c"}, patterns(["S := $(wildcard */a*/x/*.c)\n"], {}))
