@@ -107,7 +107,7 @@ class Macros:
     def is_plain_computed(self, found: "re.Match[str]") -> bool:
         """Whether no macro whose name fits holds a pattern, where another macro gives a part of the name, and nothing else: no `:` for which
         make would put one text in the place of another."""
-        head, *inner, tail = (one or "" for one in found.groups()[:5] if found.group().startswith("$(")) if found.group()[1] == "(" else (one or "" for one in found.groups()[5:])
+        head, *inner, tail = (one or "" for one in (found.groups()[:5] if found.group()[1] == "(" else found.groups()[5:]))
         name = "".join(inner)
         if not head + tail or not self.has_no_pattern(name) or any(":" in text for text in self.texts_from("$(%s)" % name)):
             return False

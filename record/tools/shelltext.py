@@ -136,7 +136,7 @@ def patterns(argv: List[str], cut: bool) -> Iterable[str]:
 
 def folders_of(pattern: str) -> str:
     """The pattern by which a shell looks for folders alone: there are more parts of the path behind it."""
-    return ("?*" if pattern == "*" else pattern) + "/"
+    return (pattern if pattern.strip("*") else "?*") + "/"
 
 
 def glob_words(text: str) -> List[str]:

@@ -77,6 +77,7 @@ UNREAD: Dict[str, Small] = {
     "folder_that_was_a_file_and_is_named": Small("race", SCRIPT % "rm y; mkdir y", {"s": "for f in y/*.c; do echo $f; done\n"}, TREE + "; touch y"),
     "file_with_a_slash_in_a_macro": Small("race", SCRIPT % "mkdir y; touch y/k.c", {"s": "read x < t; for f in *\"$x\".c; do echo \"$f\"; done\n", "t": "/k\n"}, TREE),
     "file_beside_folders_of_a_text": Small("safe", TEXT % ("echo */e/*.c", "touch y"), {}, TREE),
+    "link_beside_folders_behind_a_quote": Small("race", TEXT % ("echo ''*/e/*.c", "ln -s d y"), {}, TREE),
     "link_beside_folders_of_a_text": Small("race", TEXT % ("echo */e/*.c", "ln -s d y"), {}, TREE),
 }
 
