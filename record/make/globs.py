@@ -35,7 +35,8 @@ LINE = re.compile(r"(?m)^(?:[^\n]*\\\n)*[^\n]+")
 OTHER = re.compile(r"\t| *(?:(?:ifn?eq|ifn?def|else|endif|define|endef|export|unexport|undefine|vpath|[-s]?include|-?load)(?![\w.-])|#|\$[({](?:eval|info|warning|error)[ \t])")
 COLON = re.compile(r":(?!=)")
 INNERMOST = re.compile(r"\$\([^(){}]*\)|\$\{[^(){}]*\}")
-NAMES = re.compile(r"\$(?:[({](?:(?:call|value)[ \t]+)?([\w.-]*)(\$?)|(\w))")  # the second: the name goes on with a macro
+# The name of a macro; behind its beginning it may go on with another macro, and end with a text.
+NAMES = re.compile(r"\$(?:[({](?:(?:call|value)[ \t]+)?([\w.-]*)(?:(\$)(?:(?:\w|\([\w.-]+\)|\{[\w.-]+\})([\w.-]*)(?=[,)}\s]))?)?|(\w))")
 BRACKETS = {"(": ")", "{": "}"}
 PLAIN_NAME = re.compile(r"[\w./+-]+")
 PLAIN = re.compile(r"\$(?:[({]([\w.-]+)[)}]|(\w))")
@@ -114,15 +115,17 @@ class Macros:
         fits = re.compile(re.escape(head) + r".*" + re.escape(tail))
         return all(self.has_no_pattern(one) for one in {*self.assignments, *self.values} if fits.fullmatch(one))
 
-    def begun(self, name: str, is_begin: bool) -> Iterable[str]:
-        """A name, or all that begin with it."""
-        return [one for one in {*self.assignments, *self.values} if one.startswith(name)] if is_begin else [name]
+    def named(self, begin: Optional[str], goes_on: Optional[str], end: Optional[str], letter: Optional[str]) -> Iterable[str]:
+        """The name of a reference, or all that begin and end so."""
+        if goes_on is None:
+            return [begin or letter or ""]
+        return [one for one in {*self.assignments, *self.values} if one.startswith(begin or "") and one.endswith(end or "")]
 
     def texts_from(self, text: str) -> List[str]:
         """A text, and those of the macros that it leads to."""
         todo, seen = [text], {text}
         for one in todo:
-            names = {name for found in NAMES.finditer(one) for name in self.begun(found.group(1) or found.group(3) or "", bool(found.group(2)))}
+            names = {name for found in NAMES.finditer(one) for name in self.named(*found.groups())}
             more = {value for name in names for value in [*self.assigned(name), self.values.get(name, "")]} - seen
             seen |= more
             todo += more

@@ -57,6 +57,8 @@ UNREAD: Dict[str, Small] = {
     "computed_name_of_a_pattern": Small("race", MAKES, {"in.mk": "T = a\nO-a = p\nO-a = *.x\nz: $(O-$T) ; touch z\n", "w.x": ""}),
     "computed_name_with_another_text_in_its_place": Small("race", MAKES, {"in.mk": "T = a:p=q\nO-a = *.x\nz: $(O-$(T)-z) ; touch z\n", "w.x": ""}),
     "rule_of_a_computed_name": Small("race", MAKES, {"in.mk": "N = a\nR-a = z: *.x\n$(R-$(N))\nz: ; echo $^ > z\n", "w.x": ""}),
+    "rule_of_a_name_with_another_end": Small("safe", MAKES, {"in.mk": "N = a\nR-a-y = z: q\nR-a-x = z: *.x\n" + LISTS + "$(R-$(N)-y)\nq:\n"}),
+    "rule_of_a_name_with_two_macros": Small("race", MAKES, {"in.mk": "N = a\nM = -x\nR-a-x = z: *.x\n$(R-$(N)$(M))\nz: ; echo $^ > z\n", "w.x": ""}),
     "rule_of_one_letter": Small("race", MAKES, {"in.mk": "R = z: *.x\n$R\nz: ; echo $^ > z\n", "w.x": ""}),
     # prerequisites that are expanded a second time
     "names_of_a_second_expansion": Small("safe", MAKES, {"in.mk": ".SECONDEXPANSION:\nz: $(wildcard *.q) u.o ; touch z\n%.o: $$(firstword $$(subst u,k, $$*)).y ; touch $@\n", "k.y": ""}),
