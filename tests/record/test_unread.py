@@ -3,7 +3,7 @@
 import unittest
 from typing import Dict, List
 
-import support  # noqa: F401
+import support
 from record.make.database import read_base
 from record.make.globs import Macros, listed, patterns
 from record.make.idle import Idle, idle_in, idle_of, recipe_lines, unread, without_idle
@@ -94,6 +94,17 @@ class Makefiles(unittest.TestCase):
 
 for key, one in UNREAD.items():
     setattr(Makefiles, "test_" + key, test_of(key, one))
+
+
+class Later(unittest.TestCase):
+    """What a later build finds in the folders of a pattern."""
+
+    def test_folder_that_a_later_recipe_makes(self) -> None:
+        text = "all: b\na: t ; cat */*.q > a\nb: a ; %s; echo b > b\n"
+        for line, wanted in (("mkdir y; touch y/k.q", True), ("ln -s d y", True), ("echo x > y", False)):
+            with support.Project({"Makefile": text % line, "t": "", "d/a.q": "q\n"}) as project:
+                outcome = project.record(options=["--missing"])
+            self.assertEqual(wanted, any(one in outcome.text() for one in ("finds y otherwise", "LATE  y")), outcome.text())
 
 
 class Texts(unittest.TestCase):
