@@ -2,7 +2,7 @@
 them, and branches of conditions that it has not read."""
 
 import re
-from dataclasses import dataclass
+from dataclasses import dataclass, field
 from typing import Dict, Iterator, List, Optional, Set, Tuple
 
 from record.make.database import Base
@@ -14,6 +14,8 @@ DEFINE = re.compile(r"[ \t]*(?:(?:override|export|private)[ \t]+)*define(?=[ \t#
 ENDEF = re.compile(r"[ \t]*endef(?=[ \t#]|$)")
 EMPTY = re.compile(r"[ \t]*(?:#.*)?$")
 RULE = re.compile(r"(\w(?:[\w.+/-]*[\w.+-])?)[ \t]*::?(?![:=])[^=]*$")  # of one target, whose name stands there
+# Of a macro by its name, other than those that make sets itself, and words of makefiles.
+ASSIGNED = re.compile(r" *(?:(?:override|export|private)[ \t]+)*(?!MAKE|(?:[-s]?include|vpath|load|override|private|export|unexport|define)[ \t])(\w[\w.-]*)[ \t]*(?:[+?!]|:{1,3})?=")
 
 
 @dataclass
@@ -22,6 +24,7 @@ class Idle:
 
     recipes: Dict[Place, List[str]]  # those of which it has considered no target
     there: Set[str]  # all names that it knew, and their ends behind each slash: a search path may give a target another folder
+    macros: Set[str] = field(default_factory=set)  # all macros that it knew; none where one may be taken away
 
 
 def idle_of(words: Words) -> Optional[Idle]:
@@ -35,7 +38,7 @@ def idle_of(words: Words) -> Optional[Idle]:
         asked = {name for one in rounds for name in (*one.nodes, *one.must, *one.vpath.values())}
         recipes, there = idle_in(base, asked), ends({*base.prerequisites, *asked})
         found = found or Idle(recipes, set())
-        found = Idle({place: lines for place, lines in found.recipes.items() if recipes.get(place) == lines}, found.there | there)
+        found = Idle({place: lines for place, lines in found.recipes.items() if recipes.get(place) == lines}, found.there | there, found.macros | {*base.values, *base.bodies})
     return found
 
 
@@ -59,7 +62,7 @@ def without_idle(text: str, name: str, words: Words, idle: Optional[Idle]) -> st
         return text
     lines = text.split("\n")
     left_out = {at for begin, end, line in logical(lines) if re.match(" *#", line or "") for at in range(begin, end)}
-    left_out |= unread(lines, idle.there) if idle is not None else set()
+    left_out |= unread(lines, idle.there, idle.macros) if idle is not None else set()
     if idle is not None and name not in words.included and all(read.count(name) == 1 for read in words.read):
         held = {at for begin, end, line in logical(lines) if line is None for at in range(begin, end)}
         for (path, number), recipe in idle.recipes.items():
@@ -85,17 +88,17 @@ def logical(lines: List[str]) -> Iterator[Tuple[int, int, Optional[str]]]:
         yield begin, at, None if before and depth else text
 
 
-def unread(lines: List[str], there: Set[str]) -> Set[int]:
-    """The lines of branches in which a rule stands whose target make does not know: it has read no line of them. None where it is not plain
-    which lines are conditions, as behind a tab."""
+def unread(lines: List[str], there: Set[str], macros: Set[str]) -> Set[int]:
+    """The lines of branches in which a rule stands whose target make does not know, or an assignment to a macro that it does not know: it has
+    read no line of them. None where it is not plain which lines are conditions, as behind a tab."""
     found: Set[int] = set()
     open_branches: List[List[int]] = []  # where each begins, and whether it was left aside
     for begin, end, text in logical(lines):
         condition = CONDITION.match(text or "")
         if text is not None and text.startswith("\t") and (condition or DEFINE.match(text) or ENDEF.match(text)):
             return set()
-        rule = RULE.match(text or "")
-        if rule and not condition and open_branches and rule.group(1) not in there:
+        rule, assigned = RULE.match(text or ""), ASSIGNED.match(text or "") if macros else None
+        if not condition and open_branches and (rule and rule.group(1) not in there or assigned and assigned.group(1) not in macros):
             open_branches[-1][1] = 1
         if condition and condition.group(1) in ("else", "endif"):
             if not open_branches:

@@ -40,6 +40,9 @@ UNREAD: Dict[str, Small] = {
     "branch_that_is_read": Small("race", MAKES, {"in.mk": "N = 1\n" + LISTS + "ifdef N\nL := $(wildcard *.x)\ni: ; touch $(L)\nendif\n"}),
     "branch_beside_one_that_is_not_read": Small("race", MAKES, {"in.mk": "N = 1\n" + LISTS + "ifdef N\nL := $(wildcard *.x)\nelse\ni: ; touch i\nendif\n"}),
     "branch_around_one_that_is_not_read": Small("race", MAKES, {"in.mk": "N = 1\n" + LISTS + "ifdef N\nL := $(wildcard *.x)\nifdef M\ni: ; touch i\nendif\nendif\n"}),
+    "branch_that_is_not_read_by_a_macro": Small("safe", MAKES, {"in.mk": LISTS + "ifdef N\nM = 1\n$(eval L := *.x)\nendif\nD = d\nD += e\ni := $(wildcard $(D)/*.y)\n"}),
+    "branch_that_is_read_with_a_macro": Small("race", MAKES, {"in.mk": "N = 1\n" + LISTS + "ifdef N\nM = 1\nL := $(wildcard *.x)\nendif\n"}),
+    "branch_with_a_macro_that_is_taken_away": Small("race", MAKES, {"in.mk": "N = 1\n" + LISTS + "ifdef N\nM = 1\nL := $(wildcard *.x)\nendif\nundefine M\n"}),
     "branch_with_a_rule_in_a_macro": Small("race", MAKES, {"in.mk": "N = 1\n" + LISTS + "ifdef N\ndefine D\ni: j ; touch i\nendef\nL := $(wildcard *.x)\nendif\n"}),
     "branch_with_a_rule_for_a_file_in_a_search_path": Small("race", MAKES, {"in.mk": "N = 1\nVPATH = d\nz: j ; touch z\nd/j:\nifdef N\nL := $(wildcard *.x)\nj:\nendif\n", "d/j": ""}),
     # rules of no goal
@@ -143,12 +146,19 @@ class Texts(unittest.TestCase):
         self.assertEqual({"l/k", "n/k", "n/j"}, {path[len(TOP) + 1:] for path in replay.names.links})
 
     def test_branches(self) -> None:
-        self.assertEqual({1}, unread(["ifdef N", "i: j", "endif"], {"j"}))
+        self.assertEqual({1}, unread(["ifdef N", "i: j", "endif"], {"j"}, set()))
         for line in ("i: j = 1", "i := j", "$(I): j", "i%: j", "./i: j", "j: i", "# i: j", "\ti: j", "i/: j"):
-            self.assertEqual(set(), unread(["ifdef N", line, "endif"], {"j"}), line)
-        self.assertEqual({3}, unread(["ifdef N", "j:", "else ifdef M", "i:", "else", "j:", "endif"], {"j"}))
+            self.assertEqual(set(), unread(["ifdef N", line, "endif"], {"j"}, set()), line)
+        self.assertEqual({3}, unread(["ifdef N", "j:", "else ifdef M", "i:", "else", "j:", "endif"], {"j"}, set()))
         for lines in (["ifdef N", "i:"], ["ifdef N", "ifdef M", "i:", "endif"], ["ifdef N", "j:", "\telse", "i:", "endif"], ["i:", "endif"], ["ifdef N", "\tendif", "i:", "endif"], ["ifdef N", "\tdefine D", "i:", "\tendef", "endif"]):
-            self.assertEqual(set(), unread(lines, set()), lines)
+            self.assertEqual(set(), unread(lines, set(), set()), lines)
+
+    def test_branches_with_assignments(self) -> None:
+        for line in ("I = j", " I := j", "override I += j", "I?=j", "export I != j", "I ::= j"):
+            self.assertEqual({1}, unread(["ifdef N", line, "endif"], set(), {"J"}), line)
+        for line in ("J = j", "\tI = j", "$(I) = j", "I$(J) = j", "include = j", "vpath = j", "MAKEX = j", ".I = j", "# I = j", "ifdef I = j\nendif", "-I = j"):
+            self.assertEqual(set(), unread(["ifdef N", *line.split("\n"), "endif"], set(), {"J"}), line)
+        self.assertEqual(set(), unread(["ifdef N", "I = j", "endif"], set(), set()))
 
     def test_macros_that_lead_to_one_another(self) -> None:
         macros = Macros("A := $(B) $(C)\nA = z\nB := $(A)\nB = z\nC := *.c\nC = z\n", {"A": "z", "B": "z", "C": "z"})
