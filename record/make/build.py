@@ -3,7 +3,6 @@
 import bisect
 import os
 import re
-from fnmatch import fnmatchcase
 from typing import AbstractSet, Dict, Iterable, List, Optional, Set, Tuple
 
 from record.assumptions import Assumptions
@@ -19,6 +18,7 @@ from record.make.owners import Make, Work
 from record.make.programs import are_inside
 from record.make.unfiled import add_macros, add_outputs, count_listings
 from record.make.words import makefiles
+from record.tools.listed import fits
 from record.trace.names import Names, join
 
 CHANGES = "WCD"
@@ -364,7 +364,7 @@ class Builder:
             elif kind == "L":
                 folder, pattern = path.split("\0")
                 for name, who in created.get(folder, {}).items():
-                    if (who != {at}) and join(folder, name) not in self.made and fnmatchcase(name, pattern):
+                    if (who != {at}) and join(folder, name) not in self.made and fits(pattern, join(folder, name), self.names):
                         task.reads.add(join(folder, name))
             elif kind == "A":
                 self.timed.setdefault(path, set()).add(at)

@@ -1,11 +1,12 @@
 """The patterns of `$(wildcard ..)` in makefiles: which names a listing of a folder by make can be about."""
 
+import os
 import re
 from fnmatch import fnmatchcase
 from functools import cached_property
-from typing import Dict, Iterable, Iterator, List, Optional, Set
+from typing import Callable, Dict, Iterable, Iterator, List, Optional, Set
 
-from record.tools.shelltext import loose
+from record.tools.shelltext import folders_of, loose
 
 CALL = re.compile(r"\$([({])wildcard[ \t]+")
 CALLS = re.compile(r"\$([({])call[ \t]+")
@@ -16,6 +17,7 @@ HEAD = re.compile(r"(?<![\w$({.%/-])([\w.-]+)[ \t]*(?:[+?!]|::?:?)?=")  # of an 
 VALUE = re.compile(r"(?:[^\n]*\\\n)*[^\n]*")
 BINDS = re.compile(r"\b(?:define|undefine|foreach|let)\s")
 REFERENCE = re.compile(r"\$(?:\(([\w.-]+)(?::[^$(){}*?\[]*)?\)|\{([\w.-]+)(?::[^$(){}*?\[]*)?\}|(\w))")
+COMPUTED = re.compile(r"\$(?:\(([\w.-]*)\$(?:\(([\w.-]+)\)|\{([\w.-]+)\}|(\w))([\w.-]*)\)|\{([\w.-]*)\$(?:\(([\w.-]+)\)|\{([\w.-]+)\}|(\w))([\w.-]*)\})")  # a name with one macro in it
 MAGIC = re.compile(r"[*?\[]")
 # What gives a value to a name of a target or to an argument: a loop over such a name, or one that is computed, and an assignment.
 BOUND = re.compile(r"\$[({](?:foreach|let)[ \t]+(?:[^,\n]*[^\w.,\s-]|(?:[^,\n]*\s)?\d)[^,\n]*,"
@@ -35,12 +37,15 @@ LINE = re.compile(r"(?m)^(?:[^\n]*\\\n)*[^\n]+")
 OTHER = re.compile(r"\t| *(?:(?:ifn?eq|ifn?def|else|endif|define|endef|export|unexport|undefine|vpath|[-s]?include|-?load)(?![\w.-])|#|\$[({](?:eval|info|warning|error)[ \t])")
 COLON = re.compile(r":(?!=)")
 INNERMOST = re.compile(r"\$\([^(){}]*\)|\$\{[^(){}]*\}")
-NAMES = re.compile(r"\$[({](?:(?:call|value)[ \t]+)?([\w.-]+)")
+# The name of a macro; behind its beginning it may go on with another macro, and end with a text.
+NAMES = re.compile(r"\$(?:[({](?:(?:call|value)[ \t]+)?([\w.-]*)(?:(\$)(?:(?:\w|\([\w.-]+\)|\{[\w.-]+\})([\w.-]*)(?=[,)}\s]))?)?|(\w))")
 BRACKETS = {"(": ")", "{": "}"}
+PLAIN_NAME = re.compile(r"[\w./+-]+")
 PLAIN = re.compile(r"\$(?:[({]([\w.-]+)[)}]|(\w))")
 DEPTH = 8  # how often macros are put in the places of their names
 NAMED = "\x01"  # names without a pattern
 UNKNOWN = "\x02"  # anything
+SIGN = "\x03"  # a sign of a name that is none of a reference
 # Functions whose text has no pattern where their arguments have none.
 QUIET = re.compile(r"\$[({](?:dir|notdir|basename|suffix|addprefix|addsuffix|join|patsubst|subst|strip|sort|filter|filter-out|firstword"
                    r"|lastword|word|wordlist|abspath|realpath|if|or|and|findstring)[ \t]")
@@ -94,9 +99,39 @@ class Macros:
         if fixed is not None:
             return not MAGIC.search(fixed)
         if name not in self.plain:
+            before = len(self.plain)
             self.plain[name] = True  # a macro that names itself
-            self.plain[name] = all(self.is_plain(text) for text in [*self.assigned(name), self.values.get(name, "")])
+            if not all(self.is_plain(text) for text in [*self.assigned(name), self.values.get(name, "")]):
+                for other in [*self.plain][before:]:  # these may be plain only if it is
+                    self.plain.pop(other)
+                self.plain[name] = False
         return self.plain[name]
+
+    def is_plain_computed(self, found: "re.Match[str]") -> bool:
+        """Whether no macro whose name fits holds a pattern, where another macro gives a part of the name, and nothing else: no `:` for which
+        make would put one text in the place of another."""
+        head, *inner, tail = (one or "" for one in (found.groups()[:5] if found.group()[1] == "(" else found.groups()[5:]))
+        name = "".join(inner)
+        if not head + tail or not self.has_no_pattern(name) or any(":" in text for text in self.texts_from("$(%s)" % name)):
+            return False
+        fits = re.compile(re.escape(head) + r".*" + re.escape(tail))
+        return all(self.has_no_pattern(one) for one in {*self.assignments, *self.values} if fits.fullmatch(one))
+
+    def named(self, begin: Optional[str], goes_on: Optional[str], end: Optional[str], letter: Optional[str]) -> Iterable[str]:
+        """The name of a reference, or all that begin and end so."""
+        if goes_on is None:
+            return [begin or letter or ""]
+        return [one for one in {*self.assignments, *self.values} if one.startswith(begin or "") and one.endswith(end or "")]
+
+    def texts_from(self, text: str) -> List[str]:
+        """A text, and those of the macros that it leads to."""
+        todo, seen = [text], {text}
+        for one in todo:
+            names = {name for found in NAMES.finditer(one) for name in self.named(*found.groups())}
+            more = {value for name in names for value in [*self.assigned(name), self.values.get(name, "")]} - seen
+            seen |= more
+            todo += more
+        return todo
 
     def has_plain_arguments(self) -> bool:
         """Whether no argument of `call` holds a pattern, of all functions that hand one to `wildcard`."""
@@ -114,13 +149,12 @@ class Macros:
         """Whether a line may come to a rule with a pattern by its references, as far as its own text and those of the macros that it leads to say so."""
         if "$" not in text or OTHER.match(text) or re.search("[:=]", outside(text)):  # (or it is a rule, or an assignment, by its own text)
             return False
-        todo, seen = [text], {text}
-        for one in todo:
-            names = [found.group(1) for found in NAMES.finditer(one)]
-            more = {value for name in names for value in [*self.assigned(name), self.values.get(name, "")]} - seen
-            seen |= more
-            todo += more
+        todo = self.texts_from(text)
         return any(map(COLON.search, todo)) and any(map(MAGIC.search, todo))
+
+    def is_plain_later(self, text: str) -> bool:
+        """Whether what a second expansion of prerequisites makes of a text holds no pattern."""
+        return self.target == NAMED and self.is_plain(AUTOMATIC.sub(NAMED, text.replace("$$", "$")))
 
     def is_plain(self, text: str) -> bool:
         """Whether what a text comes to holds no pattern. What `wildcard` gives are names of files."""
@@ -128,6 +162,7 @@ class Macros:
             if call is None:
                 return False
             text = re.sub(r"\$[({]wildcard[ \t]+%s[)}]" % re.escape(call), NAMED, text)
+        text = COMPUTED.sub(lambda found: NAMED if self.is_plain_computed(found) else found.group(), text)
         names = [found.group(1) or found.group(2) or found.group(3) for found in REFERENCE.finditer(text)]
         rest = QUIET.sub("", REFERENCE.sub(NAMED, text))
         return not MAGIC.search(rest) and "$" not in rest.replace("$$", "") and all(self.has_no_pattern(name) for name in names)
@@ -163,8 +198,11 @@ def patterns(texts: List[str], values: Dict[str, str], names: Iterable[str] = ("
     return found
 
 
-def listed(texts: List[str], values: Dict[str, str], names: Iterable[str] = ("*",)) -> Set[str]:
-    """The patterns in rules and in lines that include makefiles, and in macros that stand there; `*` where one of these may hold any."""
+def listed(texts: List[str], values: Dict[str, str], names: Iterable[str] = ("*",), asked: Callable[[], Set[str]] = lambda: {"*"}) -> Set[str]:
+    """The patterns in rules and in lines that include makefiles, and in macros that stand there; `*` where one of these may hold any.
+
+    `asked` gives all names that make has considered, or may have looked for to find an implicit rule.
+    """
     macros = Macros("\n".join(texts), values, names)
     found: Set[str] = set()
     if any(macros.may_be_rule(line.group()) for line in LINE.finditer(macros.text)):
@@ -172,10 +210,30 @@ def listed(texts: List[str], values: Dict[str, str], names: Iterable[str] = ("*"
     for text in [*RULE.findall(macros.text), *INCLUDE.findall(macros.text)]:
         if any(text.count(one) > text.count(other) for one, other in BRACKETS.items()):
             found.add("*")  # a function goes on behind what looks like the end of the rule
-        if not macros.is_plain(text):
+        if "$$" in text and macros.is_plain_later(text):
+            text = text.replace("$$", SIGN)
+        if not macros.is_plain(text) and not is_unasked(text, macros, asked):
             for word in (word for word in text.replace("\\\n", " ").split() if "$" not in word or not macros.is_plain(word)):
-                found |= parts(word, macros) if "$" in word else {part for part in loose(word).split("/") if MAGIC.search(part)}
-    return found
+                found |= parts(word, macros) if "$" in word else set(parts_of(word))
+    return {part.replace(SIGN, "?") for part in found}
+
+
+def is_unasked(text: str, macros: Macros, names: Callable[[], Set[str]]) -> bool:
+    """Whether a text is a rule of which make has considered no target, and asked for no name that its patterns fit: then it makes no difference
+    which names they find."""
+
+    def value(found: "re.Match[str]") -> str:
+        name = found.group(1) or found.group(2) or found.group(3)
+        fixed = macros.fixed(name) if ":" not in found.group(0) else None
+        return fixed if fixed is not None else NAMED if macros.has_no_pattern(name) else UNKNOWN
+
+    head, colon, rest = REFERENCE.sub(value, text.replace("\\\n", " ")).partition(":")
+    targets, words = {os.path.normpath(one) for one in head.split()}, rest.replace(":", " ").replace("|", " ").split()
+    if not colon or not targets or any(one.startswith(".") or not PLAIN_NAME.fullmatch(one) for one in targets) or any(sign in rest for sign in (UNKNOWN, SIGN, "$")):
+        return False
+    asked = {os.path.normpath(name) for name in names()}
+    patterns_of_rule = [os.path.normpath(loose(word).replace(NAMED, "*")) for word in words if MAGIC.search(word)]
+    return "*" not in asked and targets.isdisjoint(asked) and not any(fnmatchcase(name, one) for one in patterns_of_rule for name in asked)
 
 
 def composes(text: str, function: str) -> bool:
@@ -215,5 +273,12 @@ def parts(words: Optional[str], macros: Macros) -> Set[str]:
         if any(mark in word for mark in (UNKNOWN, "$", "(", "{")):
             found.add("*")
         else:
-            found.update(part for part in loose(word).split("/") if MAGIC.search(part))
+            found.update(parts_of(word))
     return {part.replace(NAMED, "*") for part in found}
+
+
+def parts_of(word: str) -> Iterator[str]:
+    """The parts of a path that hold a pattern; all but the last are about folders."""
+    *before, last = loose(word).split("/")
+    yield from (folders_of(part) for part in before if MAGIC.search(part))
+    yield from [last] if MAGIC.search(last) else []

@@ -10,8 +10,10 @@ from typing import TYPE_CHECKING, Dict, Iterable, List, Optional, Set, Tuple
 
 from record.make.database import Base
 from record.make.globs import listed, patterns
+from record.make.idle import idle_of, without_idle
 from record.make.options import asks_jobs
 from record.make.programs import Programs
+from record.make.searches import asked_names
 from record.make.words import SEVERAL, Job, Round, Words, makefiles
 from record.tools.texts import text_of
 from record.trace.lives import Act, Key, Life
@@ -193,17 +195,21 @@ class Owners:
     @staticmethod
     def patterns_of(make: Make) -> Tuple[List[str], List[str]]:
         """The patterns of `$(wildcard ..)` in the makefiles that were read, and those of rules."""
-        texts = [make.words.args, make.words.flags]
+        texts: Dict[str, str] = {}
         if make.stale:
             return ["*"], []
         for name in makefiles(make.words):
             try:
-                texts.append(text_of(os.path.join(make.folder, name)))
+                texts[name] = text_of(os.path.join(make.folder, name))
             except OSError:
                 if not make.never_read(name):
                     return ["*"], []
         names = [name for one in make.words.rounds for name in one.nodes]
-        return sorted(patterns(texts, make.words.values(), names)), sorted(listed(texts, make.words.values(), names))
+        idle, own = idle_of(make.words), [make.words.args, make.words.flags]
+        if idle is not None and any("undefine" in text for text in (*own, *texts.values())):
+            idle.macros.clear()
+        used = own + [without_idle(text, name, make.words, idle) for name, text in texts.items()]
+        return sorted(patterns(used, make.words.values(), names)), sorted(listed(used, make.words.values(), names, lambda: asked_names(make.words)))
 
     def match_jobs(self, make: Make) -> None:
         """Make names the processes of its jobs in the order in which it starts them. Others that it starts may have had their numbers: in a

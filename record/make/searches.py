@@ -4,6 +4,7 @@ import os
 from typing import Dict, Iterable, Iterator, Set, Tuple
 
 from record.make.database import Base
+from record.make.words import Words
 
 DEPTH = 8  # how many implicit rules one file may go through
 ANY = "\x01"  # what stands for the first part of a name
@@ -44,6 +45,18 @@ def step(base: Base, name: str, is_first: bool) -> Iterable[Tuple[str, bool]]:
 def filled(word: str, stem: str, folder: str) -> str:
     """A prerequisite of an implicit rule, for a target."""
     return os.path.join(folder, word.replace("%", stem, 1)) if "%" in word else word
+
+
+def asked_names(words: Words) -> Set[str]:
+    """All names that a make has considered, or may have looked for to find an implicit rule; `*` where these may be any."""
+    found: Set[str] = set()
+    for one in words.rounds:
+        base = one.base
+        if base is None or base.search or any("$" in word for _, asked in base.patterns for word in asked):
+            return {"*"}
+        searches = Searches(base)
+        found.update(one.nodes, *(searches.names(target, DEPTH) for target in one.nodes if target in base.implicit))
+    return found
 
 
 class Searches:

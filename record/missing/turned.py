@@ -5,7 +5,6 @@ What make itself looks for is no part of it: anew.py compares what it knows.
 """
 
 import os
-from fnmatch import fnmatchcase
 from typing import Dict, Iterator, List, Optional, Sequence, Set, Tuple
 
 from record.make.called import called_by
@@ -15,6 +14,7 @@ from record.make.macros import Macros
 from record.make.memory import folders_asked
 from record.make.owners import Make, Work
 from record.missing.looked import BYTE_CODE, is_below
+from record.tools.listed import fits
 from record.tools.shelltext import base_name, is_removal, shell_text
 from record.trace.lives import Key, Life
 from record.trace.names import Names
@@ -101,7 +101,7 @@ class Turned:
             elif kind == "L":
                 folder, _, pattern = path.partition("\0")
                 for name in self.below(folder, shell_text(life.argv) == ""):
-                    if self.is_there(name) != self.was_there(name, place) and name.endswith(ends) and fnmatchcase(os.path.basename(name), pattern):
+                    if self.is_there(name) != self.was_there(name, place) and name.endswith(ends) and fits(pattern, name, self.names, not os.path.isfile(name)):
                         self.compare(life, mine, name, place)
 
     def below(self, folder: str, deep: bool) -> Iterator[str]:

@@ -135,9 +135,14 @@ def patterns(argv: List[str], cut: bool) -> Iterable[str]:
     if OPTIONS.search(" ".join(argv)) or TAKES_IN.search(text) or base_name(argv) in ("ksh", "zsh"):
         return ["*"]
     words = glob_words(text)
-    last = {os.path.basename(word.rstrip("/")) for word in words}
-    middle = {part for word in words for part in word.split("/") if re.search(r"[*?]", part)}
+    last = {os.path.basename(word) for word in words}
+    middle = {folders_of(part) for word in words for part in word.split("/")[:-1] if re.search(r"[*?]", part)}
     return sorted((last | middle) - {""}) or ["*"]
+
+
+def folders_of(pattern: str) -> str:
+    """The pattern by which a shell looks for folders alone: there are more parts of the path behind it."""
+    return (pattern if pattern.strip("*") else "?*") + "/"
 
 
 def glob_words(text: str) -> List[str]:

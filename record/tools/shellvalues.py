@@ -86,10 +86,14 @@ def parts_of(field: str) -> Iterator[Asked]:
     if re.search(r"[{}]", field):
         yield Asked("", "*")
     before: List[str] = []
-    for part in field.split("/"):
+    parts = field.split("/")
+    for at, part in enumerate(parts):
         pattern = "*" if re.search(r"[{}]", part) else shelltext.loose(re.sub(HIDDEN, "*", part.replace(ONE, "?")))
         if MAGIC.search(part):
-            yield Asked("" if field.startswith(("/", "~")) or ".." in before else "/".join(one for one in before if one not in (".", "")), pattern)
+            folder = "" if field.startswith(("/", "~")) or ".." in before else "/".join(one for one in before if one not in (".", ""))
+            yield Asked("" if ANY in part else folder, pattern if at == len(parts) - 1 else shelltext.folders_of(pattern))
+            if ANY in part and pattern != "*":  # there may be a slash in what is not known
+                yield Asked("", shelltext.folders_of("*"))
         before = [] if ANY in part or part.startswith(".") and MAGIC.search(part) else [*before, pattern]  # these may lead to the folder above
 
 

@@ -257,6 +257,9 @@ class Calls(Opened):
         if "O_TMPFILE" in flags:  # a file without a name, in a folder that must be there
             self.look(life, path, ok, follow, base=base)
             return
+        if not ok and call.error == "ENOTDIR" and "O_DIRECTORY" in flags and life.traits().is_shell:
+            self.look_for_folder(life, path, base)
+            return
         if not ok:
             found = self.look(life, path, call.error in ("EEXIST", "EISDIR", "ENXIO", "EACCES", "ENOTEMPTY"), follow, base=base)
             if changes and call.error == "ENOENT" and found.missing != found.path:
@@ -280,6 +283,13 @@ class Calls(Opened):
         self.write(life, found, False)
 
     on_openat = on_openat2 = on_creat = on_open
+
+    def look_for_folder(self, life: Life, path: str, base: str) -> None:
+        """A shell that looks for names asks for a folder where a file is, as for `*/x`: it goes on as where nothing is there. So a folder
+        or a link of this name counts, and no file."""
+        found = self.found(life, path, True, base)
+        folder, _, name = (found.path if found.inode is not None else found.missing or found.path).rpartition("/")
+        self.put(life, "L", "%s\0%s/" % (folder or "/", re.sub(r"[*?\[]", "?", name)))
 
     def note_watcher(self, life: Life, path: str) -> None:
         """What the kernel shows of another process, or of all of them."""

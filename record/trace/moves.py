@@ -55,6 +55,7 @@ class Moves(Replay):
                 self.put(life, "D", old.path + name)
                 self.put(life, "C", new.path + name)
                 self.put(life, "W", new.path + name)
+                self.names.links.update([new.path + name] if child.kind == "l" else ())
                 if child.kind == "d":
                     self.move_folder(life, old.path + name, new.path + name)
         self.names.put(new.folder, new.name, inode)

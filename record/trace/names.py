@@ -95,6 +95,7 @@ class Names:
         self.before: Dict[str, str] = {}
         self.tops: List[str] = []
         self.above = {"/tmp", "/var/tmp"}  # folders that are there before the build: those of the system, and those above the tops
+        self.links: Set[str] = set()  # names that were links at some time
         self.absent: Set[str] = set()  # names outside of the walked folders that were not there
         self.modes: Dict[str, Set[str]] = {}  # folders that were made: with which modes
         self.numbers: Dict[Tuple[int, int], str] = {}  # folders that were walked, by device and number
@@ -178,6 +179,12 @@ class Names:
             child.parent, child.name = folder, name
         else:
             child.names.append((folder, name))
+        if child.kind == "l":
+            self.links.add(join(folder.path(), name))
+
+    def is_link(self, path: str) -> bool:
+        """Whether a name is a link, or was one at some time."""
+        return path in self.links or os.path.islink(path)
 
     def take(self, folder: Inode, name: str) -> Optional[Inode]:
         """Takes a name away."""

@@ -23,7 +23,7 @@ HIDDEN_GUARDS: List[Guard] = [
     Guard("makes inside: search paths of other names", "make/inner.py", 'if pattern in (name, "%") or any(stems("/" + pattern, "/" + name)):', "if True:", hidden("search_path_of_other_names_inside"), FALSE_RACE),
     Guard("makes inside: search paths that are not needed", "make/inner.py", " and not is_there(builder, make, name))", ")", hidden("search_path_that_is_not_needed_inside"), FALSE_RACE),
     Guard("makes inside: patterns of rules", "make/owners.py", "[*make.globs, *make.listed_first] if make", "make.globs if make", hidden("pattern_of_a_rule_in_a_make_inside"), YES),
-    Guard("makes inside: patterns of other names", "make/globs.py", "        if not macros.is_plain(text):\n", '        found.add("*")\n        if not macros.is_plain(text):\n', hidden("pattern_of_other_names_inside"), FALSE_RACE),
+    Guard("makes inside: patterns of other names", "make/globs.py", "        if not macros.is_plain(text) and", '        found.add("*")\n        if not macros.is_plain(text) and', hidden("pattern_of_other_names_inside"), FALSE_RACE),
     Guard("makes inside: patterns of macros", "make/globs.py", 'found |= parts(word, macros) if "$" in word else', 'found |= {"*"} if "$" in word else', hidden("pattern_of_a_rule_by_a_macro_of_other_names_inside"), FALSE_RACE),
     Guard("makes inside: patterns of macros of one value", "make/globs.py", "or len(self.assigned(name)) > 1 or", "or", hidden("pattern_of_a_rule_by_a_macro_of_two_values_inside"), YES),
     Guard("makes inside: lines that include makefiles", "make/globs.py", ", *INCLUDE.findall(macros.text)]", "]", hidden("pattern_of_an_include_in_a_make_inside"), YES),

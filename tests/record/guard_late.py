@@ -27,7 +27,7 @@ LATE_GUARDS: List[Guard] = [
     Guard("makes inside: an include behind a tab", "make/globs.py", r"(?m)^[ \t]*[-s]?include", r"(?m)^ *[-s]?include", late("include_behind_a_tab"), YES),
     Guard("makes inside: a rule that is a macro", "make/globs.py", "if any(macros.may_be_rule(line.group()) for", "if any(False for", late("rule_that_is_a_macro"), YES),
     Guard("makes inside: a recipe that is no rule", "make/globs.py", r'OTHER = re.compile(r"\t|', r'OTHER = re.compile(r"', late("recipe_that_is_no_rule"), FALSE_RACE),
-    Guard("makes inside: a rule that a function gives", "make/globs.py", "(?:(?:call|value)[ \\t]+)?([\\w.-]+)", "([\\w.-]+)", late("rule_that_a_function_gives"), YES),
+    Guard("makes inside: a rule that a function gives", "make/globs.py", "(?:(?:call|value)[ \\t]+)?([\\w.-]*)(?:", "([\\w.-]*)(?:", late("rule_that_a_function_gives"), YES),
     Guard("makes inside: a macro that is no rule with a pattern", "make/globs.py", " and any(map(MAGIC.search, todo))", "", late("rule_that_is_a_macro_without_a_pattern"), FALSE_RACE),
     Guard("makes inside: a rule that begins with a macro", "make/globs.py", ' or re.search("[:=]", outside(text)):', ":", late("rule_that_begins_with_a_macro"), FALSE_RACE),
     Guard("makes inside: a line that only says something", "make/globs.py", "|\\$[({](?:eval|info|warning|error)[ \\t])", ")", late("line_that_says_something"), FALSE_RACE),

@@ -111,7 +111,7 @@ NAMES: List[Guard] = [
     Guard("lists of make: makefiles that are not there", "make/owners.py", 'return "N" in kinds', 'return False and "N" in kinds', small("search_that_lists_a_folder"), FALSE_RACE),
     Guard("lists of make: exported macros", "make/memory.py", "open_names = exported_lists(builder.known)", "open_names = False", small("wildcard_that_a_target_exports"), YES),
     Guard("macros: exports of a target", "make/macros.py", r"(?:[^\t\n#][^\n]*?:)??[ \t]*(?:(?:override|private)[ \t]+)*export", r"[ \t]*export", small("macro_that_a_target_exports"), YES),
-    Guard("patterns keep other names out", "make/build.py", " and fnmatchcase(name, pattern):", ":", case("glob-other-names"), FALSE_RACE),
+    Guard("patterns keep other names out", "make/build.py", " and fits(pattern, join(folder, name), self.names):", ":", case("glob-other-names"), FALSE_RACE),
     Guard("scripts are of their interpreter", "trace/calls.py", "argv = argv if life.is_wrapper else shelltext.with_interpreter(argv, found.path, self.first_words(found.path))", "pass", small("script_that_compares_ages"), YES),
 ]
 FOLDERS: List[Guard] = [

@@ -12,7 +12,7 @@ class Globs(unittest.TestCase):
 
     def test_plain_patterns(self) -> None:
         self.assertEqual({"*.c"}, patterns(["S := $(wildcard *.c src/*.c)\n"], {}))
-        self.assertEqual({"d*", "*.h"}, patterns(["S := $(sort ${wildcard d*/*.h})\n"], {}))
+        self.assertEqual({"d*/", "*.h"}, patterns(["S := $(sort ${wildcard d*/*.h})\n"], {}))
 
     def test_names_without_a_pattern(self) -> None:
         self.assertEqual(set(), patterns(["include $(wildcard x.d y.d)\n"], {}))
@@ -20,7 +20,7 @@ class Globs(unittest.TestCase):
     def test_macros_of_one_value(self) -> None:
         self.assertEqual({"*.c"}, patterns(["D := src\nS := $(wildcard $(D)/*.c)\n"], {"D": "src"}))
         self.assertEqual(set(), patterns(["P := a.d b.d\ninclude $(wildcard $(P))\n"], {"P": "a.d b.d"}))
-        self.assertEqual({"q*"}, patterns(["S := $(wildcard $(D)/x)\n"], {"D": "q*"}))
+        self.assertEqual({"q*/"}, patterns(["S := $(wildcard $(D)/x)\n"], {"D": "q*"}))
 
     def test_macros_without_a_pattern(self) -> None:
         for text in ("D := src\nD := lib\n", "D := src\nD += lib/$(E)\nE = $(notdir $(CURDIR))\n", "all: D = a\nD = src\n", "D ?= ./\n",

@@ -53,7 +53,7 @@ class Patterns(unittest.TestCase):
 
     def test_plain_patterns(self) -> None:
         self.assertEqual(["*.c"], self.of("cat src/*.c"))
-        self.assertEqual(["*", "f?"], self.of("cat src/*/f?"))
+        self.assertEqual(["?*/", "f?"], self.of("cat src/*/f?"))
 
     def test_everything(self) -> None:
         for text in ("echo $p*", "echo `ls`*", "eval 'echo x*'", "ls"):

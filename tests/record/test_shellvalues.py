@@ -85,7 +85,7 @@ class Texts(unittest.TestCase):
 
     def test_folders(self) -> None:
         found = patterns_of("d=out && ls $d/*.c ../*.h ./*.x s*/y*")
-        self.assertEqual({("out", "*.c"), ("", "*.h"), ("", "*.x"), ("", "s*"), ("s*", "y*")}, {tuple(one) for one in found[0]} if found else None)
+        self.assertEqual({("out", "*.c"), ("", "*.h"), ("", "*.x"), ("", "s*/"), ("s*", "y*")}, {tuple(one) for one in found[0]} if found else None)
 
     def test_folders_of_other_spellings(self) -> None:
         for text, wanted in (("d=out/; ls $d/*.c", ("out", "*.c")), ("d=x; ls ~/a/*.c", ("", "*.c")), ("d=x; ls $d/\"$e\"/*.c", ("", "*.c")), ("d=x; ls $d/.*/*.c", ("", "*.c")), ("d=x; ls {a/b,c}*.c", ("", "*"))):
