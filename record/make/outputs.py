@@ -6,6 +6,8 @@
 import os
 import stat
 
+from record.make.limits import keep
+
 
 def goes_to(spool, number):
     """Where what is written to a descriptor goes: `file`, `pipe`, or nothing where the build's own output or a device stands there."""
@@ -25,8 +27,7 @@ def goes_to(spool, number):
 def note_output(spool, number, where):
     """Keeps where what is written to a descriptor goes, for the makes below."""
     found = os.fstat(number)
-    with open("%s/outputs/%d.%d" % (spool, found.st_dev, found.st_ino), "w") as file:
-        file.write(where)
+    keep("%s/outputs/%d.%d" % (spool, found.st_dev, found.st_ino), where.encode())
 
 
 def is_one_file(first, second):
