@@ -31,6 +31,7 @@ OPTIONS = re.compile(r"\b(shopt|compgen|GLOBIGNORE)\b|\s[-+]O\s")  # of bash, by
 # Macros in the environment that give bash other options, and functions there: then the words of a shell do not say what it does.
 SHELL_MACROS = {"BASHOPTS", "SHELLOPTS"}
 SETS_OPTIONS = re.compile(r"\b(BASHOPTS|SHELLOPTS|BASH_FUNC_)|\bexport\s+-\w*f|\b(declare|typeset)\s+-(?=\w*x)\w*f")
+AT_ONCE = re.compile(r"\s(?:-\w*P\s*|--max-procs[= ])(?!\s|1\s)")  # words of xargs by which it runs several programs at once
 READ_TIMES = re.compile(r"(?:\btest|\[)\s[^;&|\n]*-N\s|\bfind\b[^;|\n]*\s-(?:anewer|amin|atime|used|newera\w|newer\wa)\s|\bstat\b[^;|&\n]*%[-+ 0#'\d.]*[xX]"
                         r"|\bls\s([^;|&\n]*?\s)?(?:-\w*u|--time=(?:a|u))")
 READ_TIME = re.compile(r"\b(?:st_|get)?atime\b|(?<!\S)-A\s")  # of an interpreter's text
@@ -378,6 +379,11 @@ def takes_in(argv: List[str], path: str) -> bool:
     if not text or OF_SYSTEM.match(path):
         return False
     return not re.search(r"<\s*[^\s;|&<>()]*" + re.escape(os.path.basename(path)), text)
+
+
+def runs_at_once(argv: List[str]) -> bool:
+    """Whether a program runs several others at once, and waits for them when it ends."""
+    return base_name(argv) == "parallel" or base_name(argv) == "xargs" and bool(AT_ONCE.search(" ".join(argv) + " "))
 
 
 def hands_on(argv: List[str]) -> bool:

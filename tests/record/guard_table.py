@@ -16,7 +16,7 @@ WITHHELD = "0 != 2"
 
 
 # What turns off that recipes see the listings which make keeps.
-MEMORY = ("make/memory.py", '                    work.add("L", folder + "\\0" + pattern, place)', "                    pass")
+MEMORY = ("make/memory.py", "add_list(make, make.acts.setdefault((builder.number, node.name), Work()), folder, place)", "pass")
 
 
 @dataclass(frozen=True)
@@ -107,7 +107,7 @@ NAMES: List[Guard] = [
     Guard("patterns of computed text are *", "tools/shelltext.py", 'cut or "$" in text or', "cut or", "test_shellvalues.Makefiles.test_loop_over_names_of_the_environment", YES),
     Guard("patterns of eval are *", "tools/shelltext.py", r' or re.search(r"\beval\b", text)', "", small("pattern_of_eval"), YES,
           ("tools/shelltext.py", 'OPTIONS.search(" ".join(argv)) or TAKES_IN.search(text)', "False")),
-    Guard("lists of make: a search", "make/memory.py", "for pattern in builder.make.globs if asked is None or path in asked else ():", "for pattern in builder.make.globs:", small("search_that_lists_a_folder"), FALSE_RACE),
+    Guard("lists of make: a search", "make/memory.py", "            if asked is None or path in asked:\n", "            if True:\n", small("search_that_lists_a_folder"), FALSE_RACE),
     Guard("lists of make: makefiles that are not there", "make/owners.py", 'return "N" in kinds', 'return False and "N" in kinds', small("search_that_lists_a_folder"), FALSE_RACE),
     Guard("lists of make: exported macros", "make/memory.py", "open_names = exported_lists(builder.known)", "open_names = False", small("wildcard_that_a_target_exports"), YES),
     Guard("macros: exports of a target", "make/macros.py", r"(?:[^\t\n#][^\n]*?:)??[ \t]*(?:(?:override|private)[ \t]+)*export", r"[ \t]*export", small("macro_that_a_target_exports"), YES),
@@ -236,7 +236,7 @@ UNFILED: List[Guard] = [
     Guard("macros: of the caller", "make/macros.py", "or self.is_inherited(name)", "", small("macro_that_the_caller_sets"), YES),
     Guard("macros: more than a macro", "make/macros.py", "set(changed) if ANY in changed else", "", small("search_path_that_a_recipe_sets"), YES),
     Guard("macros: second expansion", "make/unfiled.py", "(builder.known.changed or ", "(False or ", small("prerequisites_that_a_recipe_sets"), LOST_HOLE),
-    Guard("listings that make keeps", "make/memory.py", '                    work.add("L", folder + "\\0" + pattern, place)', "                    pass", small("listing_that_make_keeps"), YES),
+    Guard("listings that make keeps", "make/memory.py", "add_list(make, make.acts.setdefault((builder.number, node.name), Work()), folder, place)", "pass", small("listing_that_make_keeps"), YES),
     Guard("listings that make keeps: for who asks", "make/memory.py", "(asked is None or folder in asked)", "True", small("listing_that_nobody_else_asks_for"), FALSE_RACE),
     Guard("listings that make keeps: of other folders", "make/memory.py", "(asked is None or folder in asked)", "asked != set()", small("listings_of_two_folders"), FALSE_RACE),
     Guard("libraries by their short names", "make/memory.py", "if not stems or", "if True or", small("library_by_its_short_name"), YES),
