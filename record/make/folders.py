@@ -367,7 +367,7 @@ def add_modes(builder: "Builder") -> None:
     """The mode of a folder, and how many folders are in it."""
     table = each(builder)
     modes = changed_modes(builder, table)
-    closed = {path for path, given in modes.items() if not all(mode and int(mode, 8) & SEARCH for mode in given)}
+    closed = {path for path, given in modes.items() if not all(mode and is_open(mode) for mode in given)}
     links = {p for _, events in table for k, p, _ in events if k == "h"}
     for at, events in table if modes else ():
         for kind, path, _ in events:
@@ -390,6 +390,12 @@ def add_modes(builder: "Builder") -> None:
         for kind, path, _ in events:
             if kind == "h" and path in counted:
                 apart(builder, path + "/@links", "how many names %s has" % path, at, counted[path] - {at})
+
+
+def is_open(mode: str) -> bool:
+    """Whether who has a folder of this mode finds what is in it; an owner may stand behind the mode."""
+    number = mode.partition(" ")[0]
+    return bool(int(number, 8) & SEARCH) if re.fullmatch("-?[0-7]+", number) else False
 
 
 def changed_modes(builder: "Builder", table: Events) -> Dict[str, Set[str]]:

@@ -1,5 +1,6 @@
 """What the words of a process say: folders made for oneself, patterns of names, ages that are compared."""
 
+import getopt
 import os
 import re
 from functools import lru_cache
@@ -169,6 +170,20 @@ def is_quiet_mkdir(argv: List[str]) -> bool:
     if name == "mkdir":
         return not loud and any(w == "--parents" or re.match(r"-[a-zA-Z]*p", w) for w in words)
     return name in ("install", "ginstall") and not loud and any(w == "--directory" or re.match(r"-[a-zA-Z]*[dD]", w) for w in words)
+
+
+@lru_cache(KEPT)
+def given_by(argv: Tuple[str, ...]) -> Tuple[str, Tuple[str, ...]]:
+    """The mode and the owner that `install -d` gives to the folders that it names, and these; nothing where it gives no owner."""
+    if base_name([*argv]) not in ("install", "ginstall"):
+        return "", ()
+    try:
+        options, names = getopt.gnu_getopt([*argv[1:]], "bcCDpsTvdm:o:g:t:S:Z", ["directory", "mode=", "owner=", "group=", "verbose", "preserve-timestamps"])
+    except getopt.GetoptError:
+        return "", ()
+    found = {name.lstrip("-")[0]: value for name, value in options}
+    is_known = "d" in found and ("o" in found or "g" in found)
+    return ("%s %s:%s" % (found.get("m", "755"), found.get("o", ""), found.get("g", "")), tuple(names)) if is_known else ("", ())
 
 
 def maker_at(argv: List[str]) -> int:

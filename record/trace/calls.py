@@ -348,7 +348,7 @@ class Calls(Opened):
                 self.put_look(life, found, True, "S")  # a file, or a link, has the name
         if ok or call.error == "EEXIST":
             mode = MODE.search(call.args)
-            given = "%o" % (int(mode.group(1), 8) & ~life.mask if mode else -1)
+            given = self.given_by(life, found.path) or "%o" % (int(mode.group(1), 8) & ~life.mask if mode else -1)
             self.put(life, "o", found.path + "\0" + given)
             self.names.modes.setdefault(found.path, set()).add(given)
         else:
@@ -357,6 +357,12 @@ class Calls(Opened):
                 self.put(life, "N", found.missing)
 
     on_mkdirat = on_mkdir
+
+    def given_by(self, life: Life, path: str) -> str:
+        """The mode and the owner that a folder has when `install -d` has ended, which names it: who makes it, and in how many steps, makes no difference."""
+        given, names = shelltext.given_by(tuple(life.argv))
+        begun = next((up.programs[-1].folder for up in life.up() if up.programs), life.folder)  # it may go into a folder on the way
+        return given if given and any(self.names.find(begun, name, True).path == path for name in names) else ""
 
     def on_mknod(self, life: Life, call: Call, ok: bool) -> None:
         base, path = self.base_and_path(life, call)
@@ -401,7 +407,8 @@ class Calls(Opened):
             self.put(life, "c", found.path + "\0")
         if found.inode is not None and found.inode.kind == "d":
             mode = GIVEN_MODE.search(call.args) if "chmod" in call.name else None
-            self.put(life, *(("t", found.path) if call.name in TIMES else ("m", "%s\0%o" % (found.path, int(mode.group(1), 8) if mode else -1))))
+            given = self.given_by(life, found.path) or "%o" % (int(mode.group(1), 8) if mode else -1)
+            self.put(life, *(("t", found.path) if call.name in TIMES else ("m", "%s\0%s" % (found.path, given))))
         else:
             self.write(life, found, False)
 

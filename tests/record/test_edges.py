@@ -11,12 +11,14 @@ from typing import Dict, List, Optional
 import support
 import test_output
 from record.tools.background import background
+from test_replay import TOP, events_of, lives_of, played
 from test_small import Small, test_of
 
 UP_TO_DATE = "touch a"
 IDLE = "nothing was to be done"
 LIMITED = "all: ; %s; $(MAKE) -f in.mk; touch all\n"
 MANY = "all: " + " ".join("c%d" % number for number in range(400)) + " a b\nc%: ; @:\n"
+OWNED = "U := $(shell id -un)\nall: a b\na: ; install -d -o $U -m %s d; touch d/$@ $@\nb: ; install -d -o $U d -m %s; touch d/$@ $@\n"
 BESIDE = "all: ; %s; touch all\n"
 KEPT = {"k": "k"}
 AT_ONCE, OUTLIVES = "two processes of one recipe", "when its recipe had ended"
@@ -61,6 +63,12 @@ EDGES: Dict[str, Small] = {
     "several_at_once_by_xargs": Small("safe", BESIDE % "echo 1 2 3 | xargs -P2 -n1 sh -c 'test $$0 = 2 && sleep 1; test $$0 = 2 || touch x'", says=AT_ONCE),
     "one_at_a_time_by_xargs": Small("safe", BESIDE % "echo 1 2 | xargs -P 1 -n1 touch x", lacks=AT_ONCE),
     "background_that_nobody_waits_for": Small("safe", BESIDE % "cp k x & sleep 0.1", KEPT, says=OUTLIVES),
+    # folders that several recipes give an owner
+    "folder_of_one_owner": Small("safe", OWNED % ("755", "755")),
+    "folder_of_one_owner_and_two_modes": Small("race", OWNED % ("755", "700")),
+    "folder_of_one_owner_that_was_there": Small("race", OWNED % ("755", "755"), setup="mkdir -m 700 d"),
+    "folder_of_one_owner_in_one_more": Small("safe", OWNED.replace(" d;", " d/e;").replace(" d -m", " d/e -m").replace("d/$@", "d/e/$@") % ("755", "755")),
+    "folder_of_one_owner_whose_mode_is_changed": Small("race", OWNED % ("755", "755; chmod 700 d")),
     "background_that_its_shell_waits_for": Small("safe", BESIDE % "cp k x & sleep 0.1; wait", KEPT, lacks=OUTLIVES),
 }
 
@@ -130,6 +138,15 @@ class Reports(unittest.TestCase):
         self.assertEqual([2, 2], [again.status, shown.returncode])
         self.assertIn(IDLE, again.text())
         self.assertIn(IDLE, shown.stdout.decode())
+
+
+class Traces(unittest.TestCase):
+    """Lines of a trace."""
+
+    def test_folder_above_one_that_gets_an_owner(self) -> None:
+        run = '1 execve("/usr/bin/install", ["install", "-d", "-g", "w", "-o", "u", "-m", "750", "d/e"], 0x7 /* 9 vars */) = 0'
+        life = lives_of(played(run, '1 mkdir("d", 0755) = 0', '1 mkdir("d/e", 0700) = 0', '1 fchown(3<%s/d/e>, 1, 1) = 0' % TOP, '1 fchmod(3<%s/d/e>, 0750) = 0' % TOP), 1)[0]
+        self.assertEqual({("o", "d\0" + "755"), ("o", "d/e\x00750 u:w"), ("m", "d/e\x00750 u:w")}, {event for event in events_of(life) if event[0] in "om"})
 
 
 class Loaded(unittest.TestCase):
