@@ -54,6 +54,6 @@ EDGE_GUARDS: List[Guard] = [
     Guard("folders of one owner: modes", "tools/shelltext.py", '(found.get("m", "755"), found.get', '("755", found.get', edge("folder_of_one_owner_and_two_modes"), YES),
     Guard("folders of one owner: that were there", "make/folders.py", 'if builder.names.before.get(path) == "d" or len(modes) > 1 or', "if len(modes) > 1 or", edge("folder_of_one_owner_that_was_there"), YES),
     Guard("folders of one owner: other changes of the mode", "make/folders.py", 'if builder.names.before.get(path) == "d" or len(modes) > 1 or first[path] != modes', 'if builder.names.before.get(path) == "d" or not first[path] & modes', edge("folder_of_one_owner_whose_mode_is_changed"), YES),
-    Guard("folders of one owner: from where they are named", "trace/calls.py", "(up.programs[-1].folder for up in life.up() if up.programs)", "()", edge("folder_of_one_owner_in_one_more"), FALSE_RACE),
+    Guard("folders of one owner: from where they are named", "trace/calls.py", "(up.programs[-1].folder for up in life.up() if up.programs)", "iter(())", edge("folder_of_one_owner_in_one_more"), FALSE_RACE),
     Guard("folders of one owner: those above", "trace/calls.py", "return given if given and any(self.names.find(begun, name, True).path == path for name in names) else", "return given if given else", "test_edges.Traces.test_folder_above_one_that_gets_an_owner"),
 ]

@@ -42,7 +42,7 @@ HUNTED_GUARDS: List[Guard] = [
     Guard("absent folders: of files without a name", "trace/calls.py", "            self.look(life, path, ok, follow, base=base)\n            return\n", "            return\n", hunted("file_without_a_name_in_a_folder_that_is_absent"), YES),
     Guard("full folders: that another is moved over", "trace/moves.py", 'if call.error in ("ENOTEMPTY", "EEXIST"):', "if False:", hunted("folder_that_is_moved_over_a_full_one"), YES),
     Guard("modes: folders that are closed", "make/folders.py", 'closed if kind in "RSN" else ()', "()", hunted("folder_that_is_closed"), YES),
-    Guard("modes: folders that stay open", "make/folders.py", " if not all(mode and int(mode, 8) & SEARCH for mode in given)}", "}", hunted("folder_that_is_not_closed"), FALSE_RACE),
+    Guard("modes: folders that stay open", "make/folders.py", " if not all(mode and is_open(mode) for mode in given)}", "}", hunted("folder_that_is_not_closed"), FALSE_RACE),
     Guard("double colons: rules without a recipe", "make/graph.py", "is_known = not jobs or len(jobs) == len(own)", "is_known, own = True, parts", "test_graph.Nodes.test_double_colons_without_a_recipe"),
     Guard("double colons: who waits for the first job", "make/graph.py", "        if jobs and parts[0] is not first:", "        if False:", hunted("first_rule_without_a_recipe"), FALSE_RACE),
     Guard("double colons: what an unknown rule needs", "make/graph.py", "            if is_known:\n", "            if True:\n", "test_graph.Nodes.test_double_colons_of_which_not_every_rule_ran"),
