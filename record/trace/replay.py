@@ -4,7 +4,7 @@ import os
 import re
 from typing import Dict, List, Set, Tuple
 
-from record.tools import shelltext
+from record.tools import shellages, shelltext
 from record.trace.lives import Act, Life, Listed
 from record.trace.names import Found, Inode, Names
 from record.trace.proc import NUMBER, is_hidden, plain_path
@@ -68,12 +68,12 @@ class Replay:
     def ages(self, life: Life) -> bool:
         """Whether the process may compare ages."""
         traits = life.traits()
-        if traits.is_shell and (self.is_open_shell or any(shelltext.script_compares(path, life.folder) for path in life.taken)):
+        if traits.is_shell and (self.is_open_shell or any(shellages.script_compares(path, life.folder) for path in life.taken)):
             return True
         if traits.ages is None:
             key = "\0".join([life.folder, *life.argv])
             if key not in self.aged:
-                self.aged[key] = shelltext.compares_ages(life.argv, life.folder)
+                self.aged[key] = shellages.compares_ages(life.argv, life.folder)
             script = shelltext.script_of(life.argv)
             if not self.aged[key] and script:
                 self.scripts.setdefault(self.names.find(life.folder, script, True).path, self.place)

@@ -34,7 +34,7 @@ HIDDEN_GUARDS: List[Guard] = [
     Guard("makes inside: ages of folders for new targets", "make/inner.py", "target not in base.phony and not is_new:", "target not in base.phony:", hidden("age_of_a_folder_for_a_new_target_inside"), FALSE_RACE),
     Guard("holes: recipes that failed for a makefile", "make/words.py", "    words.holes += failures(words)\n", "", hidden("failure_for_a_makefile_that_need_not_be_there"), LOST_HOLE),
     Guard("holes: not makefiles that failed", "make/words.py", "if name in needed and not", "if not", hidden("failure_of_a_makefile_that_need_not_be_there"), "0 != 2"),
-    Guard("loaders are read", "trace/calls.py", "interpreter_words(path) if self.is_inside(path) else ", "", hidden("loader_that_a_recipe_makes"), YES),
+    Guard("loaders are read", "trace/started.py", "interpreter_words(path) if self.is_inside(path) else ", "", hidden("loader_that_a_recipe_makes"), YES),
     Guard("sockets: without a file", "trace/calls.py", "(ok or path is None)", "ok", hidden("socket_without_a_file_that_nobody_opened"), UNSAID),
     Guard("strays: in no process", "trace/replay.py", 'for life in self.all[1:] if not life.adopted]', "for life in ()]", trace("process_that_nobody_started")),
     Guard("strays: of several", "trace/replay.py", ' + ["number %d" % pid for pid in self.waiting]', "", trace("process_that_several_may_have_started")),

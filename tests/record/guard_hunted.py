@@ -29,7 +29,7 @@ HUNTED_GUARDS: List[Guard] = [
     Guard("output: a last line that starts nothing", "make/wrapper.py", "return not self.is_last(packet)", "return True", "test_hunted.Said.test_last_line"),
     Guard("makefiles: written again", "make/owners.py", "        if make.stale:\n", "        if False:\n", hunted("makefile_that_is_written_again"), YES),
     Guard("makefiles: not those written before", "make/owners.py", "any(first < place < last", "any(first < place", hunted("makefile_that_is_written_once"), FALSE_RACE),
-    Guard("folders: in another way too", "make/folders.py", "return found and all(is_of_form(life, folder, is_kept) for life in lives)", "return found", hunted("folder_that_a_script_makes_too"), YES),
+    Guard("folders: in another way too", "make/quiet.py", "return found and all(is_of_form(life, folder, is_kept) for life in lives)", "return found", hunted("folder_that_a_script_makes_too"), YES),
     Guard("folders: twice in a text", "tools/shelltext.py", """, r"\\bmkdir\\s+(?!-p\\b|--p)[^;&|\\n]*?"))""", ",))", hunted("folder_that_a_text_makes_twice"), YES),
     Guard("folders: a word that is cut", "tools/shelltext.py", 'w.startswith("--v")', 'w == "--verbose"', hunted("folder_that_is_told"), YES),
     Guard("names of files: compressors", "tools/shelltext.py", '"cpio", *COMPRESSORS)', '"cpio")', hunted("names_that_gzip_counts"), YES),

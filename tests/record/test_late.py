@@ -9,7 +9,7 @@ from typing import Dict
 
 import support
 import test_output
-from record.tools.shelltext import asks_reads
+from record.tools.shellages import asks_reads
 from record.tools.texts import is_plain, text_of
 from record.trace.names import Names
 from record.trace.skips import Skip

@@ -155,12 +155,12 @@ class Words(unittest.TestCase):
         shows = ("stat a", "stat -t a", "stat -c %Y a", "stat --printf=%.9Y a", "ls -g a", "ls --full-time", "date --reference=a", "date -ur a", "tar -cN ./a b",
                  "tar --after-date=./a b", "tar uf a b", "tar --keep-newer-files -xf a", "find a -ls ", "zsh -c echo*(om)", "cp --up a b", "mv -fu a b")
         hides = ("stat -c %s a", "stat -f -c %T a", "ls -1A a", "ls --file-type a", "date -R", "tar --null -cf a b", "tar xf a", "find a -name b", "zsh -c f;(a)", "cp -f a b")
-        self.assertEqual([True] * len(shows), [shelltext.shows_ages(text.split()) for text in shows])
-        self.assertEqual([False] * len(hides), [shelltext.shows_ages(text.split()) for text in hides])
+        self.assertEqual([True] * len(shows), [shellages.shows_ages(text.split()) for text in shows])
+        self.assertEqual([False] * len(hides), [shellages.shows_ages(text.split()) for text in hides])
 
     def test_operators_that_are_spelled_in_another_way(self) -> None:
         texts = ("[ a \\-nt b ]", '[ a -n"t" b ]', "[ a \"-\"ot b ]", "[ ! a $o b ]")
-        self.assertEqual([True] * len(texts), [shelltext.compares_ages(["sh", "-c", text], "/") for text in texts])
+        self.assertEqual([True] * len(texts), [shellages.compares_ages(["sh", "-c", text], "/") for text in texts])
 
     def test_who_sets_options(self) -> None:
         with support.Project({"s": "export -f show\n", "t": "export x\n"}) as project:
