@@ -155,6 +155,7 @@ def complete(record: Record, spool: Path, names: Names, kept: Kept, real: str, o
     found = import_record(spool, names, kept, real, record.folder, record)
     gc.enable()
     finish(record, found, names, options.warm)
+    record.holes = list(dict.fromkeys(record.holes))
     write_record(out, record, found.builds, found.assumed)
     for number, build in zip(record.builds, found.builds if options.footprints else ()):
         if build.tool == "make":

@@ -148,7 +148,7 @@ class Replay:
     def put(self, life: Life, kind: str, path: str, word: str = "") -> None:
         if path.startswith(KERNEL) and DEVICES.match(path) and not self.is_inside(path):
             if is_hidden(kind, path):
-                self.holes.append("a file is known by the number of its descriptor alone: %s of %s" % (path, " ".join(life.argv)[:60]))
+                self.holes.append("a file is known by the number of its descriptor alone: %s of %s" % (path, " ".join(life.argv)[:100]))
             for name in life.handed() if kind in "Aa" and NUMBER.match(path) else ():
                 self.put(life, kind, name)
             return

@@ -10,6 +10,7 @@ from typing import Dict, List, Optional
 
 import support
 import test_output
+from record.report import shortened
 from record.tools.background import background
 from test_replay import TOP, events_of, lives_of, played
 from test_small import Small, test_of
@@ -21,7 +22,7 @@ MANY = "all: " + " ".join("c%d" % number for number in range(400)) + " a b\nc%: 
 OWNED = "U := $(shell id -un)\nall: a b\na: ; install -d -o $U -m %s d; touch d/$@ $@\nb: ; install -d -o $U d -m %s; touch d/$@ $@\n"
 BESIDE = "all: ; %s; touch all\n"
 KEPT = {"k": "k"}
-AT_ONCE, OUTLIVES = "two processes of one recipe", "when its recipe had ended"
+AT_ONCE, OUTLIVES = "two processes of one recipe", "when its recipe has ended"
 DEEP = """python3 -c "import os
 for _ in range(20):
     os.mkdir('d' * 250)
@@ -138,6 +139,19 @@ class Reports(unittest.TestCase):
         self.assertEqual([2, 2], [again.status, shown.returncode])
         self.assertIn(IDLE, again.text())
         self.assertIn(IDLE, shown.stdout.decode())
+
+
+class Texts(unittest.TestCase):
+    """What is printed is short."""
+
+    def test_examples(self) -> None:
+        for example, wanted in (("/w/p/x in all", "x in all"), ("/w/other/x", "/w/other/x"), ("y" * 80, "y" * 80), ("y" * 81, "y" * 80 + "..")):
+            self.assertEqual(wanted, shortened(example, "/w/p"))
+
+    def test_one_hole_a_line(self) -> None:
+        with support.Project({"Makefile": "all: ; exec 3< Makefile; for i in 1 2 3; do chmod +x /dev/fd/3; done; touch all\n"}) as project:
+            holes = (project.record().record or {})["holes"]
+        self.assertEqual(1, len(holes), holes)
 
 
 class Traces(unittest.TestCase):

@@ -63,12 +63,12 @@ FOUND: Dict[str, Small] = {
     "order_of_a_folder_that_is_copied": Small("safe", ORDER % "cp -r d e", setup="mkdir -p d/s", says="programs that list a folder"),
     "order_of_a_folder_that_is_moved": Small("safe", ORDER % "mv d e", setup="mkdir -p d/s", says="programs that list a folder"),
     # processes of one recipe
-    "look_beside_a_process_that_makes": Small("safe", "y: ; (test -f x && echo yes > y || echo no > y; sleep 0.4) | (sleep 0.1; touch x)\n", says="two processes of one recipe touch a file"),
-    "folder_that_is_made_beside_a_look": Small("safe", "y: ; (test -d x && echo yes > y || echo no > y; sleep 0.4) | (sleep 0.1; mkdir x)\n", says="two processes of one recipe touch a file"),
-    "look_before_a_process_that_makes": Small("safe", "y: ; test -f x || touch x; test -f x && cat x > y\n", lacks="two processes of one recipe touch a file"),
-    "many_processes_at_once": Small("safe", MANY, says="two processes of one recipe touch a file"),
-    "process_beside_its_shell": Small("safe", "all: ; python3 p.py; touch all\n", {"k": "k", "p.py": STARTS}, says="two processes of one recipe touch a file"),
-    "process_before_its_shell": Small("safe", "all: ; (cat k > x) & wait; echo b > x; touch all\n", {"k": "k"}, lacks="two processes of one recipe touch a file"),
+    "look_beside_a_process_that_makes": Small("safe", "y: ; (test -f x && echo yes > y || echo no > y; sleep 0.4) | (sleep 0.1; touch x)\n", says="two processes of one recipe that may touch a file"),
+    "folder_that_is_made_beside_a_look": Small("safe", "y: ; (test -d x && echo yes > y || echo no > y; sleep 0.4) | (sleep 0.1; mkdir x)\n", says="two processes of one recipe that may touch a file"),
+    "look_before_a_process_that_makes": Small("safe", "y: ; test -f x || touch x; test -f x && cat x > y\n", lacks="two processes of one recipe that may touch a file"),
+    "many_processes_at_once": Small("safe", MANY, says="two processes of one recipe that may touch a file"),
+    "process_beside_its_shell": Small("safe", "all: ; python3 p.py; touch all\n", {"k": "k", "p.py": STARTS}, says="two processes of one recipe that may touch a file"),
+    "process_before_its_shell": Small("safe", "all: ; (cat k > x) & wait; echo b > x; touch all\n", {"k": "k"}, lacks="two processes of one recipe that may touch a file"),
 }
 COMMANDS["jobs_with_no_number_and_one_job"] = ["make", "-j1"]
 COMMANDS["jobs_by_letters_of_the_environment"] = ["env", "MAKEFLAGS=kj", "make"]

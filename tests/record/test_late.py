@@ -27,7 +27,7 @@ LATER = "D = d1\nall: a c b.q\na: ; touch d2/n.x a\nc: ; touch c\n%s\n"
 FOLDERS = "mkdir d1 d2 'd 2'"
 SEES = "who lists the processes that run"
 READ = "who asks when a file was read last"
-LINKED = "files got a second name"
+LINKED = "files that got or lost a second name"
 
 LATE: Dict[str, Small] = {
     # the order in which a folder shows its names, and its size

@@ -52,7 +52,7 @@ SEEN: Dict[str, Small] = {
     "ages_by_a_script_that_is_changed_then": Small("safe", PAIR + "echo 'test a -nt b' > s; sh s; echo : > s; touch c\n", says="programs that nobody knows look"),
     # what make does itself
     "act_of_a_second_rule": Small("race", "all: s a b\ns: ; touch s\na:: ; touch a\na:: s ; $(file >x,1)echo >> a\nb: ; cat x > b || true\n"),
-    "background_of_a_function": Small("safe", "X := $(shell (sleep 0.3; echo 1 > x) > /dev/null 2>&1 &)\nall: ; sleep 0.6; touch all\n", says="when its recipe had ended"),
+    "background_of_a_function": Small("safe", "X := $(shell (sleep 0.3; echo 1 > x) > /dev/null 2>&1 &)\nall: ; sleep 0.6; touch all\n", says="when its recipe has ended"),
     # folders that are made
     "folder_made_or_true_in_another_shell": Small("race", "all: a b\na b: ; sh -c 'mkdir d || true' 2> $@.log; touch $@\n"),
     "folder_made_or_true_for_a_program": Small("race", "all: a b\na b: ; python3 t/m.py; touch $@\n", {"t/m.py": "import subprocess\nsubprocess.run('mkdir d || true', shell=True)\n"}),
@@ -66,13 +66,13 @@ SEEN: Dict[str, Small] = {
                                                     {"in.mk": "define set\n$(eval X := set)\ntouch a\nendef\n"}),
     # what goes past files
     "name_of_a_socket": Small("race", "all: a b\na: ; python3 t/s.py; touch a\nb: ; if test -S s; then echo yes; fi > b\n", {"t/s.py": SOCKET}),
-    "memory": Small("safe", "all: ; python3 m.py; touch all\n", {"m.py": SHARED}, says="shares memory"),
+    "memory": Small("safe", "all: ; python3 m.py; touch all\n", {"m.py": SHARED}, says="memory is shared"),
     "processes": Small("safe", "all: ; ls /proc > /dev/null; touch all\n", says="who lists the processes"),
     "process_of_make": Small("safe", "all: ; cat /proc/$$PPID/stat > /dev/null; touch all\n", says="who lists the processes"),
     "process_of_its_own": Small("safe", "all: ; cat /proc/self/stat > /dev/null; touch all\n", lacks="who lists the processes"),
-    "process_beside_make": Small("safe", "all: ; touch go; " + WAIT % "x" + "touch all\n", says="a process that no recipe started"),
-    "script_beside_make": Small("safe", "all: ; touch go; " + WAIT % "x" + "touch all\n", says="a process that no recipe started"),
-    "script_before_make": Small("safe", "all: ; touch all\n", lacks="a process that no recipe started"),
+    "process_beside_make": Small("safe", "all: ; touch go; " + WAIT % "x" + "touch all\n", says="files that a process which no recipe started"),
+    "script_beside_make": Small("safe", "all: ; touch go; " + WAIT % "x" + "touch all\n", says="files that a process which no recipe started"),
+    "script_before_make": Small("safe", "all: ; touch all\n", lacks="files that a process which no recipe started"),
     "times_of_reading": Small("safe", "all: ; find f -anewer g > all\n", {"f": "f", "g": "g"}, says="when a file was read last"),
     "times_of_reading_by_a_script": Small("safe", "all: ; sh s > all\n", {"s": "if [ -N s ]; then echo new; fi\n"}, says="when a file was read last"),
 }
