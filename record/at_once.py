@@ -102,7 +102,8 @@ def in_background(child: Life) -> Optional[Background]:
         return AT_ONCE if program is not None and shelltext.runs_at_once(program.argv) else None
     text = shelltext.shell_text(program.argv) or (shelltext.contents(program.script) if program.script else "")
     found = background(text) if text else ALL
-    return found if found is not None and found.has(name_of(child)) else None
+    is_inner = child.parent is not None and not any(one.place < child.born for one in child.parent.programs)
+    return found if found is not None and found.has(name_of(child), is_inner) else None
 
 
 def is_left(life: Life, last: Life) -> bool:
@@ -129,11 +130,12 @@ def beside_left(work: Work, table: Dict[str, List[Life]]) -> Set[str]:
     found: Set[str] = set()
     for child in (child for life in work.lives for child in life.children):
         shell = in_background(child)
-        inside = {id(one) for one in below(child)} if shell is not None else ()
-        for path, who in table.items() if shell is not None else ():
-            wrote = any(writes(one, path) for one in who if id(one) in inside)
-            if any(id(one) in inside for one in who) and path not in found:
-                others = (one for one in who if id(one) not in inside and (wrote or writes(one, path)))
+        if shell is not None:
+            lives = {id(one): one for one in below(child)}
+            touched = {path for one in lives.values() for kind, path in one.events if kind in TOUCHES and path in table}
+            for path in touched - found:
+                wrote = any(writes(one, path) for one in lives.values())
+                others = (one for one in table[path] if id(one) not in lives and (wrote or writes(one, path)))
                 found.update(path for one in others if is_beside(child, shell, one, path))
     return found
 

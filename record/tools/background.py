@@ -4,7 +4,7 @@ import os
 import re
 from dataclasses import dataclass, field
 from functools import lru_cache
-from typing import List, Optional, Set, Tuple
+from typing import FrozenSet, List, Optional, Set, Tuple
 
 from record.tools.scriptcut import DOCUMENT, ScriptCutter
 from record.tools.shellcut import Piece, Token, Unread
@@ -25,18 +25,22 @@ LEAVES = ("exit", "exec", "return")
 @dataclass(frozen=True)
 class Background:
     """What a text starts in the background: the names of programs, whether it may be any program, whether it may be the shell itself, in a process
-    of its own. `after`: programs that run when all of that has surely ended; `is_waited`: whether the shell ends only then; `is_quiet`: whether it does
-    nothing until then."""
+    of its own. `inner`: what such processes start in the background themselves, or those of brackets. `after`: programs that run when all of that has
+    surely ended; `is_waited`: whether the shell ends only then; `is_quiet`: whether it does nothing until then."""
 
-    names: frozenset = frozenset()
+    names: FrozenSet[str] = frozenset()
     is_any: bool = False
     is_shell: bool = False
-    after: frozenset = frozenset()
+    after: FrozenSet[str] = frozenset()
     is_waited: bool = False
     is_quiet: bool = False
+    inner: FrozenSet[str] = frozenset()
 
-    def has(self, name: str) -> bool:
-        """Whether a process that the shell starts may be in the background; of a process that runs no program the name is empty."""
+    def has(self, name: str, is_inner: bool) -> bool:
+        """Whether a process that the shell starts may be in the background; of a process that runs no program the name is empty. `is_inner`: a process
+        of the shell starts it that has begun no program."""
+        if is_inner:
+            return self.is_any or name in self.inner or not name and bool(self.inner)
         return self.is_any or name in self.names or not name and self.is_shell
 
 
@@ -51,6 +55,8 @@ class Row:
     names: List[str] = field(default_factory=list)
     is_plain: bool = True  # one command of a program, and no more
     count: int = 0  # what is done in it and not in the background
+    is_piped: bool = False
+    jobs: Set[str] = field(default_factory=set)  # programs that are in the background of its brackets and loops
 
 
 @dataclass
@@ -61,6 +67,7 @@ class Frame:
     names: List[str] = field(default_factory=list)
     row: Row = field(default_factory=Row)
     jobs: int = 0
+    started: Set[str] = field(default_factory=set)
     count: int = 0
     is_job: bool = False  # what stands in it runs beside the rest, as `<(a)` of bash
 
@@ -71,6 +78,7 @@ class Reader:
     def __init__(self) -> None:
         self.frames = [Frame("")]
         self.jobs: Set[str] = set()
+        self.inner: Set[str] = set()
         self.is_shell = self.is_lost = False  # (lost: nobody waits for it, as in brackets)
         self.before: Set[str] = set()
         self.after: Optional[Set[str]] = None  # once all is waited for
@@ -101,7 +109,8 @@ class Reader:
             raise Unread
         self.end_row(False)
         after = self.after if self.after is not None and self.jobs else set()
-        return Background(frozenset(self.jobs), bool(self.jobs & {*ANY}), self.is_shell, frozenset(after - self.before), self.after is not None, self.after is not None and self.is_quiet)
+        return Background(frozenset(self.jobs), bool(self.jobs & {*ANY}), self.is_shell, frozenset(after - self.before), self.after is not None, self.after is not None and self.is_quiet,
+                          frozenset(self.inner))
 
     def look_into(self, pieces: List[Piece]) -> None:
         """Commands in a word run first."""
@@ -110,8 +119,14 @@ class Reader:
             inner = background(piece.text) if piece.kind == "command" else None
             if inner is not None:
                 self.jobs |= inner.names | ({""} if inner.is_any else set())
-                self.is_shell, self.is_lost = self.is_shell or inner.is_shell, True
-                self.after = None
+                self.is_shell, self.after = self.is_shell or inner.is_shell, None
+                self.lose({*inner.names, ""})
+
+    def lose(self, names: Set[str]) -> None:
+        """Programs that a process of the shell starts in the background: the shell itself does not wait for them."""
+        if names:
+            self.inner |= names
+            self.is_lost = True
 
     def redirect(self, tokens: List[Token], at: int) -> int:
         """A file, or a list of commands that bash runs beside the command."""
@@ -126,8 +141,9 @@ class Reader:
         """Whether a command may begin behind an operator."""
         if operator in ("&&", "||", "|"):
             self.frames[-1].row.is_plain = False
-            if operator == "|" and self.closed is not None and self.closed.jobs:
-                self.is_lost = True
+            if operator == "|":
+                self.frames[-1].row.is_piped = True
+                self.lose(self.closed.started if self.closed is not None else set())
         elif operator == "(":
             if not is_start:
                 raise Unread  # a function
@@ -158,7 +174,10 @@ class Reader:
         self.is_shell = self.is_shell or not row.is_plain or row.names[0] in PLAIN or row.names[0] in ANY
         self.after = None
         frame.jobs += 1
-        self.is_lost = self.is_lost or frame.is_job or any(one.end == ")" for one in self.frames)
+        frame.started |= {*row.names}
+        self.lose(row.jobs)
+        if frame.is_job or any(one.end == ")" for one in self.frames):
+            self.lose({*row.names})
 
     def close(self, end: str) -> None:
         """A bracket or a loop ends."""
@@ -170,6 +189,9 @@ class Reader:
         above.row.names += frame.names
         above.row.is_plain = False
         above.row.count += frame.count
+        above.row.jobs |= frame.started
+        above.started |= frame.started
+        self.lose(frame.started if above.row.is_piped else set())
         above.jobs += frame.jobs * (MANY if end == "done" else 1)
         if frame.is_job:
             self.add_job(Row(frame.names, False), frame)
@@ -195,6 +217,7 @@ class Reader:
         self.frames[-1].row.count += name != "wait"
         (self.before if self.after is None else self.after).add(name)
         self.may_leave = self.may_leave or name in LEAVES and bool(self.jobs)
+        self.jobs |= {""} if name == "coproc" else set()
         if name == "wait":
             self.wait(tokens, at + 1, last)
         return at + 1, name in ("exec", "command")

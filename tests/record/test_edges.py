@@ -52,6 +52,9 @@ EDGES: Dict[str, Small] = {
     "background_of_a_loop_and_its_last_number": Small("safe", BESIDE % "for i in x w; do cp k $$i & done; wait $$!; sleep 0.1; cat x w > y", KEPT, says=AT_ONCE),
     "background_in_brackets": Small("safe", BESIDE % "(cp k x & ); wait; sleep 0.1; cat x > y", KEPT, says=AT_ONCE),
     "brackets_in_the_background": Small("safe", BESIDE % "(cat k; echo b > x) & sleep 0.1; cat x > y", KEPT, says=AT_ONCE),
+    "commands_of_brackets_in_the_background": Small("safe", BESIDE % "(cp k x; cat x > y) & wait", KEPT, lacks=AT_ONCE),
+    "background_of_brackets_in_the_background": Small("safe", BESIDE % "(cp k x & sleep 0.1; cat x > y) & wait", KEPT, says=AT_ONCE),
+    "commands_of_brackets_in_a_loop": Small("safe", BESIDE % "for i in 1 2; do (cp k x$$i; cat x$$i > y$$i) & done; wait", KEPT, lacks=AT_ONCE),
     "shell_in_the_background": Small("safe", BESIDE % "echo b > x & sleep 0.1; cat x > y", says=AT_ONCE),
     "background_of_a_script": Small("safe", BESIDE % "sh s", {**KEPT, "s": "cp k x &\nsleep 0.1\ncat x > y\n"}, says=AT_ONCE),
     "background_of_another_line": Small("safe", "all:\n\tcp k x & sleep 0.1\n\tcat x > all\n", KEPT, says=AT_ONCE),
@@ -110,13 +113,18 @@ class Background(unittest.TestCase):
                              ("x=$(a & b)", "a"), ("diff <(a) <(b)", "a b"), ("while a; do b; done & c", "a b"), ("for x in a b; do c; done | d & e", "c d")):
             self.assertEqual(wanted.split(), self.names(text), text)
 
+    def test_names_of_brackets(self) -> None:
+        for text, wanted in (("(a; b) & c", ""), ("(a & b) & c", "a"), ("for x in 1; do (a; b) & done", ""), ("{ a & } | b", "a"), ("a | { b & }", "b"), ("{ a & b; }; c &", ""), ("{ a & b; } & c", "a")):
+            found = background(text)
+            self.assertEqual(wanted.split(), sorted(found.inner if found is not None else ["?"]), text)
+
     def test_any_name(self) -> None:
-        for text in ('"$x" & a', "f() { a & }; f", 'eval "a &"; b', "exec a & b", "a & b )", "a & x=$((y))"):
+        for text in ('"$x" & a', "f() { a & }; f", 'eval "a &"; b', "exec a & b", "a & b )", "coproc a; b", "a & x=$((y))"):
             self.assertEqual(["?"], self.names(text), text)
 
     def test_what_surely_comes_after(self) -> None:
         for text, wanted in (("a & wait; b", "b"), ("a; b & wait; a; c", "c"), ("a & wait || b", "b"), ("a & c && wait; b", ""), ("a & if c; then wait; fi; b", ""),
-                             ("a & wait $p; c & b", ""), ("a & exit 1; wait; b", ""), ("{ a & } | c; wait; b", ""), ("a & p=$!; b & wait $p; c", ""), ("wait; a & b", "")):
+                             ("a & wait $p; c & b", ""), ("a & exit 1; wait; b", ""), ("{ a & } | c; wait; b", ""), ("{ a & c; } & wait; b", ""), ("c | { a & }; wait; b", ""), ("c | d; { a & }; wait; b", "b"), ("(a; c) & wait; b", "b"), ("a & p=$!; b & wait $p; c", ""), ("wait; a & b", "")):
             found = background(text)
             self.assertEqual(wanted.split(), sorted(found.after if found is not None else ()), text)
 
