@@ -11,13 +11,19 @@ from record.tools.shellcut import Piece, Token, Unread
 from record.tools.shellvalues import PLAIN
 from record.tools.shelltext import KEPT
 
-LONE = re.compile(r"(?<![&<>|\\;])&(?![&>])")
+EVALS = re.compile(r"\beval\b[^\n]*(?<![&<>|\\;/])&(?![&>\w])")  # a text with `&` that a shell puts together
+SURE = re.compile(r"(?<=[\s)}])&(?=[\s)]|$)|(?<=\w)&(?=[ \t]*(?:\n|$))|(?<![\w$-])coproc[ \t]()")  # where quotes and documents may not be read as they are
+DOCUMENTS = re.compile(r"<<-?[ \t]*\\?(['\"]?)(\w+)\1[^\n]*\n(?:.*?\n)??\t*\2(?=\n|$)", re.S)
+COMMANDS = re.compile(r"(?:^|(?<![<>])[;|&({!]|\b(?:then|do|else|if|while|until|time))\s*(?:\w+=\S*\s+)*([^\s;|&(){}<>]+)")
+FUNCTIONS = re.compile(r"(?m)^[ \t]*(?:function[ \t]+)?([\w.-]+)[ \t]*\(\)")
+CLOSES = re.compile(r"\b(?:done|fi|esac)\b")
 QUOTED = re.compile(r"\\.|'[^']*'|\"(?:\\.|[^\"\\])*\"|(?:^|(?<=[\s;]))#[^\n]*", re.S)
 OTHER_OPERATORS = ((re.compile(r"\|&"), "|"), (re.compile(r";;?&"), ";;"), (re.compile(r"&>>?"), ">"))  # of bash
 ASSIGNS = re.compile(r"[A-Za-z_]\w*\+?=")
 OPENS = {"if": "fi", "while": "done", "until": "done", "{": "}", "for": "done", "select": "done", "case": "esac"}
 GOES_ON = ("then", "do", "else", "elif", "!", "time")
 ANY = ("", "eval", ".", "source", "command", "exec", "builtin")  # commands that may run any other
+LONG = 4096  # signs of a line that are read
 MANY = 1000  # as many as a loop may start
 LEAVES = ("exit", "exec", "return")
 
@@ -261,7 +267,21 @@ def background(text: str) -> Optional[Background]:
     try:
         found = Reader().read(ScriptCutter(text).tokens())
     except (Unread, RecursionError):
-        return ALL if LONE.search(QUOTED.sub("''", text)) else None
-    if "eval" in text and LONE.search(text) and not (found.names or found.is_shell):
+        return by_lines(QUOTED.sub("''", DOCUMENTS.sub("\n", text)))
+    if EVALS.search(text) and not (found.names or found.is_shell):
         return ALL
     return found if found.names or found.is_shell else None
+
+
+def by_lines(text: str) -> Optional[Background]:
+    """The same of a text without quotes that is not read: all programs of a line that ends in the background, where the line alone says which they are."""
+    names: Set[str] = set()
+    functions = {*FUNCTIONS.findall(text)}
+    for mark in SURE.finditer(text):
+        line = re.split(r"(?<!\\)\n", text[:mark.start()][-LONG:])[-1].replace("\\\n", " ")
+        found = {os.path.basename(name) for name in COMMANDS.findall(line)}
+        is_known = found and not found & functions and line.count("(") == line.count(")") and line.count("{") == line.count("}") and not CLOSES.search(line)
+        if not is_known or "coproc" in found or any("$" in name or "`" in name or "'" in name or name in ANY for name in found):
+            return ALL
+        names |= found
+    return Background(frozenset(names), is_shell=bool(names & {*PLAIN}), inner=frozenset(names)) if names else None

@@ -113,13 +113,18 @@ class Background(unittest.TestCase):
                              ("x=$(a & b)", "a"), ("diff <(a) <(b)", "a b"), ("while a; do b; done & c", "a b"), ("for x in a b; do c; done | d & e", "c d")):
             self.assertEqual(wanted.split(), self.names(text), text)
 
+    def test_texts_that_are_not_read(self) -> None:
+        for text, wanted in (("a & x=$((y))", ["a"]), ("( a 1 ) &\nx=$((y))", ["a"]), ("b\na x 2>&1 &\nc $((y))", ["a"]), ("x=$((y)); sed 's/a/&/' f", None), ("cat <<E\n a & b\nE\nx=$((y))", None),
+                             ("echo \"a & b\" $((y))", None), ("# a & b\nx=$((y))", None), ("a && b $((y))", None)):
+            self.assertEqual(wanted, self.names(text), text)
+
     def test_names_of_brackets(self) -> None:
         for text, wanted in (("(a; b) & c", ""), ("(a & b) & c", "a"), ("for x in 1; do (a; b) & done", ""), ("{ a & } | b", "a"), ("a | { b & }", "b"), ("{ a & b; }; c &", ""), ("{ a & b; } & c", "a")):
             found = background(text)
             self.assertEqual(wanted.split(), sorted(found.inner if found is not None else ["?"]), text)
 
     def test_any_name(self) -> None:
-        for text in ('"$x" & a', "f() { a & }; f", 'eval "a &"; b', "exec a & b", "a & b )", "coproc a; b", "a & x=$((y))"):
+        for text in ('"$x" & a', "f() { a & }; f", 'eval "a &"; b', "exec a & b", "coproc a; b", "coproc a; x=$((y))", "{ a\n} & x=$((y))", "'a' & x=$((y))", "$a & x=$((y))", "f() {\n a; }\nf & x=$((y))", "b; eval a & x=$((y))"):
             self.assertEqual(["?"], self.names(text), text)
 
     def test_what_surely_comes_after(self) -> None:
