@@ -38,9 +38,11 @@ def warm_names(builds: List[Build], ninjas: List[Ninja], names: Names) -> List[s
 
 
 def did_nothing(builds: List[Build]) -> bool:
-    """Whether no recipe ran, except those that call a make or a ninja and change no file: such a run is evidence of nothing."""
+    """Whether no recipe ran, except those that call a make or a ninja and change no file: such a run is evidence of nothing. Make itself may have
+    changed one, by `$(file ..)`."""
     works = [work for build in builds for task in build.tasks if task.kind == "recipe" for work in task.works]
-    return all((work.makes or work.ninjas) and not any(kind in CHANGES for kind, _ in work.events) for work in works)
+    acts = [work for build in builds if build.tool == "make" for work in build.make.acts.values()]
+    return all(work.makes or work.ninjas for work in works) and not any(kind in CHANGES for work in works + acts for kind, _ in work.events)
 
 
 def is_beyond(path: str, names: Names) -> bool:

@@ -12,8 +12,9 @@ def edge(name: str) -> str:
 
 EDGE_GUARDS: List[Guard] = [
     Guard("nothing to do", "importing.py", "        record.holes.append(IDLE)\n", "        pass\n", edge("nothing_to_do"), LOST_HOLE),
-    Guard("nothing to do: in a make inside", "warm.py", "return all((work.makes or work.ninjas) and", "return not works and all(", edge("nothing_to_do_in_a_make_inside"), LOST_HOLE),
-    Guard("nothing to do: a caller that does more", "warm.py", " and not any(kind in CHANGES for kind, _ in work.events) for work in works)", " for work in works)", edge("caller_of_a_make_that_does_more"), "0 != 2"),
+    Guard("nothing to do: in a make inside", "warm.py", "return all(work.makes or work.ninjas for work in works)", "return not works", edge("nothing_to_do_in_a_make_inside"), LOST_HOLE),
+    Guard("nothing to do: a caller that does more", "warm.py", " and not any(kind in CHANGES for work in works + acts for kind, _ in work.events)", "", edge("caller_of_a_make_that_does_more"), "0 != 2"),
+    Guard("nothing to do: what make does itself", "warm.py", "for work in works + acts for kind", "for work in works for kind", edge("file_that_make_writes"), "0 != 2"),
     Guard("names: paths that are too long", "importing.py", " + names.too_long()", "", edge("path_that_is_too_long"), LOST_HOLE),
     Guard("limits: a wrapper that raises its own", "make/limits.py", "for most in (resource.RLIM_INFINITY, hard):", "for most in ():", edge("limit_that_the_wrapper_may_raise"), "1 != 2"),
     Guard("limits: of what make says", "make/limits.py", "            note_cut(self.name)\n", "            pass\n", "test_edges.Limits.test_limit_says_so", UNSAID),

@@ -36,6 +36,7 @@ EDGES: Dict[str, Small] = {
     "nothing_to_do_in_a_make_inside": Small("no verdict", "all: ; $(MAKE) -f in.mk\n", {"in.mk": "all: a\na: ; touch a\n"}, UP_TO_DATE, IDLE),
     "no_recipe_at_all": Small("no verdict", "all: a\n", setup=UP_TO_DATE, says=IDLE),
     "recipe_that_always_runs": Small("safe", "all: a ; @echo done\na: ; touch a\n", setup=UP_TO_DATE),
+    "file_that_make_writes": Small("safe", "all: ; $(file >x,w)\n"),
     "caller_of_a_make_that_does_more": Small("safe", "all: ; $(MAKE) -f in.mk; touch all\n", {"in.mk": "all: a\na: ; touch a\n"}, UP_TO_DATE),
     # a path that the kernel does not take
     "path_that_is_too_long": Small("no verdict", "all: ; touch all\n", setup=DEEP, says="a path of the project is longer than 4,095 bytes"),
