@@ -14,6 +14,7 @@ from typing import Iterator
 
 STOPPING = (signal.SIGINT, signal.SIGTERM, signal.SIGHUP)
 FAILED = 3
+HELPS = {errno.ENOSPC: " (make room there, and run it again)", errno.EFBIG: " (raise the limit on the size of files, ulimit -f, and run it again)"}
 PATIENCE = 10  # so many seconds a build has to end
 OF_ITS_OWN = "Nothing of your project or its build is lost. Please report it: the command, and the lines above from Traceback on, which say where it stopped"
 
@@ -83,7 +84,7 @@ def close_output() -> None:
 def reason(error: OSError) -> str:
     """What the system says of a file, in a line."""
     what = error.strerror or str(error) or type(error).__name__
-    what += " (make room there, and run it again)" if error.errno == errno.ENOSPC else ""
+    what += HELPS.get(error.errno or 0, "")
     return "%s: %s" % (os.fsdecode(error.filename), what) if isinstance(error.filename, (str, bytes)) else what
 
 

@@ -2,10 +2,10 @@
 
 import os
 import re
-from itertools import combinations
-from typing import Dict, Iterator, List, Optional, Tuple
+from typing import Iterator, List
 
 from record.assumptions import Assumptions
+from record.at_once import CHANGES, at_once_in, is_left
 from record.make.owners import Make, Owners, Work
 from record.make.words import makefiles
 from record.ninja.runs import Ninja
@@ -16,8 +16,8 @@ from record.trace.names import Names
 from record.warm import is_beyond
 
 FLAGS = re.compile(r"\bM(?:AKE)?FLAGS\b")
+GUILE = re.compile(r"\$[({]guile\s")
 HANDS_JOBS = re.compile(r"\$(?:\(MAKE\)|\{MAKE\})|^[\s@-]*\+")  # lines of recipes that get the jobs of their make
-CHANGES, TOUCHES = "WCDMTX", "WCDMTXRSNEx"  # kinds of events of a file or a folder
 GROUPS = re.compile(r"(?:^|\s)(?:-[a-zA-Z]*O|--output-sync)")
 ENVIRONMENT = re.compile(r"(^|[;&|(\n`]\s*)(printenv\b|env\s*($|[|>;&])|export\s+-p|set\s*($|[|>;&]))|\$\{?PATH\b|\b(which|command\s+-[vV]|type)\s+g?make\b")
 
@@ -31,6 +31,8 @@ def add_granted(owners: Owners, assumed: Assumptions, spool: str) -> None:
         named_flags(make, works, assumed, spool)
         if make.words.spoken:
             assumed.add("language", "make " + make.words.args)
+        for name in make.words.loaded:
+            assumed.add("loaded", name)
     at_once(owners, assumed)
     outlived(owners, assumed)
     beside(owners, assumed)
@@ -59,14 +61,17 @@ def interpreters(work: Work, assumed: Assumptions) -> None:
 
 
 def named_flags(make: Make, works: List[Work], assumed: Assumptions, spool: str) -> None:
-    """Makefiles and recipes that name what holds the recorder's words: MAKEFLAGS, and PATH."""
+    """Makefiles and recipes that name what holds the recorder's words: MAKEFLAGS, and PATH; and makefiles that run programs inside of make."""
     for name in sorted(makefiles(make.words)):
         try:
-            found = FLAGS.search(text_of(os.path.join(make.folder, name)))
+            text = text_of(os.path.join(make.folder, name))
         except OSError:
             continue
+        found = FLAGS.search(text)
         if found:
             assumed.add("flags", "%s in %s" % (found.group(), name))
+        if GUILE.search(text):
+            assumed.add("loaded", "$(guile ..) in %s" % name)
     for argv in (a for work in works for life in work.lives if not life.is_make for a in life.ran):
         if sees_words(argv, spool):
             assumed.add("flags", " ".join(argv)[:60])
@@ -127,44 +132,6 @@ def at_once(owners: Owners, assumed: Assumptions) -> None:
                 at_once_in(work, job.target, assumed)
 
 
-def at_once_in(work: Work, target: str, assumed: Assumptions) -> None:
-    """Files that two processes of one work touch at the same time."""
-    written = {path for life in work.lives for kind, path in life.events if kind in CHANGES}
-    table: Dict[str, List[Life]] = {}
-    for life in sorted(work.lives, key=lambda life: life.born):
-        for path in {path for kind, path in life.events if kind in TOUCHES and path in written}:
-            table.setdefault(path, []).append(life)
-    beside_others = branches(work)
-    for path, who in table.items():
-        if overlap(path, who) or beside_others and overlap_above(path, who, beside_others):
-            assumed.add("at-once", "%s in %s" % (path, target))
-
-
-def branches(work: Work) -> Dict[int, List[Life]]:
-    """For each process of a work, by its id, those of it and of who started it that ran beside another child of one process."""
-    found: Dict[int, List[Life]] = {}
-    for life in sorted(work.lives, key=lambda life: life.born):
-        last: Optional[Life] = None
-        for child in sorted(life.children, key=lambda child: child.born):
-            above = found.setdefault(id(child), list(found.get(id(life), ())))
-            if last is not None and child.born < last.died:
-                found[id(last)] = list(dict.fromkeys([*found[id(last)], last]))
-                above.append(child)
-            last = child if last is None or child.died > last.died else last
-    return {key: lives for key, lives in found.items() if lives}
-
-
-def overlap_above(path: str, who: List[Life], beside_others: Dict[int, List[Life]]) -> bool:
-    """Whether two processes touch a file, one of which writes it, below two that one process started and that ran at the same time."""
-    table: Dict[int, Dict[int, Tuple[Life, bool]]] = {}
-    for life in who:
-        for up in beside_others.get(id(life), ()):
-            children = table.setdefault(id(up.parent), {})
-            children[id(up)] = (up, writes(life, path) or id(up) in children and children[id(up)][1])
-    pairs = (pair for children in table.values() for pair in combinations(children.values(), 2))
-    return any((wrote or wrote_too) and one.born < other.died and other.born < one.died for (one, wrote), (other, wrote_too) in pairs)
-
-
 def outlived(owners: Owners, assumed: Assumptions) -> None:
     """Processes that act on files when their recipe has ended, and makes that run beside each other without a make above."""
     for make in owners.makes:
@@ -194,9 +161,10 @@ def changes_beside(life: Life, top: Life) -> bool:
 
 
 def outlived_of(life: Life, owners: Owners, assumed: Assumptions) -> None:
-    """What a recipe, or a call of `$(shell ..)`, left running, and what may then change files: those that it opens, and those that it or who started it had opened."""
+    """What a recipe, or a call of `$(shell ..)`, left running, or did not wait for, and what may then change files: those that it opens, and
+    those that it or who started it had opened."""
     for one in owners.below(life):
-        if one.died > life.died and any(k in CHANGES for up in until(one, life) for k, _ in up.events):
+        if (one.died > life.died or is_left(one, life)) and any(k in CHANGES for up in until(one, life) for k, _ in up.events):
             assumed.add("outlives", " ".join(one.argv)[:60])
 
 
@@ -206,27 +174,3 @@ def until(life: Life, last: Life) -> Iterator[Life]:
         yield up
         if up is last:
             return
-
-
-def overlap(path: str, who: List[Life]) -> bool:
-    """Whether two processes touch a file at the same time, one of which writes it; `who` is in the order of their births."""
-    living: List[Life] = []
-    for life in who:
-        living = [other for other in living if other.died > life.born]
-        if any((writes(life, path) or writes(other, path)) and touches_beside(other, life, path) for other in living):
-            return True
-        living.append(life)
-    return False
-
-
-def writes(life: Life, path: str) -> bool:
-    """Whether a process writes, makes or removes a file or a folder."""
-    return any((kind, path) in life.events for kind in CHANGES)
-
-
-def touches_beside(older: Life, life: Life, path: str) -> bool:
-    """Whether one of two processes may touch a file while the other one does: of one that started the other, whether it does so while that lives."""
-    if older not in life.up():
-        return True
-    places = [older.events.get((kind, path), -1) for kind in TOUCHES] + [older.changed.get(path, -1)]
-    return any(life.born < place < life.died for place in places)

@@ -39,7 +39,10 @@ from record.trace.names import Names, mount_points
 from record.trace.past import Past, beginning
 from record.trace.skips import SYSTEM, unseen_changes
 from record.trace.strace import read_trace
-from record.warm import stand_alone, warm_names
+from record.warm import did_nothing, stand_alone, warm_names
+
+
+IDLE = "nothing was to be done, so nothing was seen: record a clean tree (make clean, or --fresh for ninja)"
 
 
 def replay_trace(spool: Path, names: Names, real: str, folder: str, tops: List[str]) -> Calls:
@@ -84,6 +87,12 @@ def settle_all(replay: Calls, spool: Path, assumed: Assumptions) -> Owners:
     return owners
 
 
+def cut_words(spool: Path, lives: List[Life]) -> List[str]:
+    """The makes whose words could not be kept."""
+    pids = sorted({int(path.name.split(".")[0]) for path in spool.glob("*.cut") if path.name[0].isdigit()})
+    return [next((" ".join(life.argv)[:100] for life in lives if life.pid == pid and life.is_make), "make") for pid in pids]
+
+
 def import_record(spool: Path, names: Names, kept: Kept, real: str, folder: str, record: Record) -> Imported:
     """Of a trace and make's words: the builds, the holes, and what was taken for granted."""
     assumed = Assumptions()
@@ -91,7 +100,8 @@ def import_record(spool: Path, names: Names, kept: Kept, real: str, folder: str,
     owners = settle_all(replay, spool, assumed)
     if owners.makes:
         assumed.add("serial", "")
-    record.holes += replay.holes + owners.holes + names.mounted(mount_points())
+    record.holes += ["a limit on the size of files (ulimit -f) cuts what a make says: " + one for one in cut_words(spool, replay.all)]
+    record.holes += replay.holes + owners.holes + names.mounted(mount_points()) + names.too_long()
     record.holes += ["nobody knows who started a process: " + one for one in replay.strays()]
     record.holes += ["a make ran past the recorder: " + p for p in replay.past]
     for path in sorted(spool.glob("*.past")):
@@ -120,6 +130,8 @@ def import_record(spool: Path, names: Names, kept: Kept, real: str, folder: str,
             builds.append(builder.run())
             record.holes += builder.holes
     builds = sorted(builds + of_ninja, key=lambda build: build.make.life.born)
+    if (owners.makes or ninjas) and record.status == 0 and did_nothing(builds):
+        record.holes.append(IDLE)
     return Imported(builds, assumed, replay.all, ninjas, idle_targets(owners, names), find_configured(owners.makes, replay.all, names))
 
 
@@ -146,6 +158,7 @@ def complete(record: Record, spool: Path, names: Names, kept: Kept, real: str, o
     found = import_record(spool, names, kept, real, record.folder, record)
     gc.enable()
     finish(record, found, names, options.warm)
+    record.holes = list(dict.fromkeys(record.holes))
     write_record(out, record, found.builds, found.assumed)
     for number, build in zip(record.builds, found.builds if options.footprints else ()):
         if build.tool == "make":

@@ -40,7 +40,7 @@ EXAMPLE = """examples:
   race-record --warm                   after WARM, where what it names is part of each clean tree: judge again, without a build
 statuses: 0 safe, with --missing also nothing missing, 1 races or missing inputs,
           2 no verdict on one of the two, 3 usage or a tool that is missing"""
-WRAPPER = ("record.make.options", "record.make.outputs", "record.make.wrapper")
+WRAPPER = ("record.make.limits", "record.make.options", "record.make.outputs", "record.make.wrapper")
 PROGRAM = """#!%s -ISBXutf8
 import marshal, sys
 with open(%r, "rb") as file:

@@ -14,6 +14,7 @@ from record.ninja.fix import fix_text, pool_text
 from record.pages import after_no_verdict
 
 SHOWN_RACES, SHOWN_HOLES = 30, 20
+SHOWN_SIGNS = 80  # of an example
 OWN_NAME = re.compile(r"(^|/)@(make|seen|gone|time|mode|links|age|macro|output)(/.*)?$")
 
 
@@ -120,9 +121,15 @@ def assumptions_text(record: Dict[str, Any], is_safe: bool) -> List[str]:
     """What was taken for granted."""
     lines = ["safe, if:" if is_safe else "Assumed:"]
     for one in record["assumptions"]:
-        example = "" if one["count"] == 1 and not one["example"] else " (%d, such as %s)" % (one["count"], one["example"][:60])
+        example = "" if one["count"] == 1 and not one["example"] else " (%d, such as %s)" % (one["count"], shortened(one["example"], record["folder"]))
         lines += textwrap.wrap(one["text"] + example, 78, initial_indent="  - ", subsequent_indent="    ", break_long_words=False, break_on_hyphens=False)
     return lines if len(lines) > 1 else []
+
+
+def shortened(example: str, folder: str) -> str:
+    """An example with names from the project's folder on; of a long one the beginning, and a mark that it goes on."""
+    text = example.replace(folder + "/", "")
+    return text if len(text) <= SHOWN_SIGNS else text[:SHOWN_SIGNS] + ".."
 
 
 def listed(holes: List[str], out: Path) -> List[str]:

@@ -9,6 +9,7 @@ from record.missing.looked import is_below
 from record.ninja.runs import Ninja
 from record.trace.names import Names
 
+CHANGES = "WCDMTX"  # kinds of events of a file or a folder
 BUILDS = re.compile(r"make|ninja", re.I)  # a recipe that may run several others
 MAKES_FOLDER = re.compile(r"\s*[@+-]*\s*mkdir\s+(?:(?:-p|--parents)\s+)?(?:\$@|\$\(@\)|([^\s;&|<>`$*?\[]+?))/?\s*")
 
@@ -34,6 +35,14 @@ def warm_names(builds: List[Build], ninjas: List[Ninja], names: Names) -> List[s
         found.update(targets_of(ninja, names, set()))
         beyond.update(path for path in targets_of(ninja, names, ran) if is_beyond(path, names))
     return sorted({*left, *(path for path in found if names.before.get(path) in ("f", "l")), *beyond & found})
+
+
+def did_nothing(builds: List[Build]) -> bool:
+    """Whether no recipe ran, except those that call a make or a ninja and change no file: such a run is evidence of nothing. Make itself may have
+    changed one, by `$(file ..)`."""
+    works = [work for build in builds for task in build.tasks if task.kind == "recipe" for work in task.works]
+    acts = [work for build in builds if build.tool == "make" for work in build.make.acts.values()]
+    return all(work.makes or work.ninjas for work in works) and not any(kind in CHANGES for work in works + acts for kind, _ in work.events)
 
 
 def is_beyond(path: str, names: Names) -> bool:

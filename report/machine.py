@@ -99,8 +99,6 @@ def location(recipe: Recipe, message: str, number: int | None = None) -> dict:
 def result(race: Race, report: Report) -> dict:
     """One race as a result, at the recipe that has to wait; both recipes are related places, the one that runs first in front."""
     late, early = race.second, race.first
-    if not race.fix.startswith(f"{late.recipe.target}: "):
-        late, early = early, late
     message = (f"{late.recipe.target} {late.does} {race.path}, {early.recipe.target} {early.does} it, and nothing orders the two. "
                f"Fix: {race.change}")
     return {

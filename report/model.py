@@ -84,9 +84,8 @@ class Race:
 
     @property
     def fix(self) -> str:
-        """The line that orders the two: the writer first, where one of them only reads."""
-        early, late = (self.second, self.first) if self.first.does == "reads" else (self.first, self.second)
-        return f"{late.recipe.target}: {early.recipe.target}"
+        """The line that orders the two as the serial build did: with all such lines `race fix` found the build safe."""
+        return f"{self.second.recipe.target}: {self.first.recipe.target}"
 
     @property
     def change(self) -> str:
@@ -208,8 +207,7 @@ class Build:
         other = lambda labels: tuple(it for it in self.targets(labels) if it not in targets)
         sides = [Side(self.recipe(it), does, other(self.after.get(it, [])), other(self.users.get(it, []))) for it, does in (first, second)]
         kind = kind_of(path, targets, (first[1], second[1]))
-        early, late = (second[0], first[0]) if first[1] == "reads" else (first[0], second[0])
-        in_project = fix_text(self.about["labels"], early, late, path) if self.about.get("tool") == "ninja" else ""
+        in_project = fix_text(self.about["labels"], first[0], second[0], path) if self.about.get("tool") == "ninja" else ""
         return Race(self.number, path, self.about.get("meanings", {}).get(path, ""), *sides, kind, in_project)
 
 

@@ -101,8 +101,7 @@ def github(report: Report) -> str:
     """An annotation for each race, at the recipe that has to wait; a warning for one that is known."""
     lines = []
     for race in report.races:
-        late = race.second.recipe if race.fix.startswith(f"{race.second.recipe.target}: ") else race.first.recipe
-        early = race.first.recipe if late is race.second.recipe else race.second.recipe
+        late, early = race.second.recipe, race.first.recipe
         message = (f"{late.target} and {early.target} both use {race.shown}, one of them writes it, and nothing orders the two. "
                    f"{early.target}: {early.place or 'no place known'}.\nFix: {race.change}")
         level = "warning" if race.fingerprint in report.known else "error"

@@ -6,7 +6,7 @@ from itertools import combinations
 from typing import TYPE_CHECKING, Dict, Iterator, List, Set, Tuple
 
 from record.make.owners import Make, Work
-from record.tools import shelltext
+from record.tools import shellages, shelltext
 
 PACKERS = ("tar", "bsdtar", "cpio", "pax", "zip")
 UPDATES = re.compile(r"-?[a-zA-Z]*u")  # the first word of `ar`, where it takes in newer files alone
@@ -44,7 +44,7 @@ def note_sources(builder: "Builder") -> None:
     and `touch -r` do, from what it looked at. An archive keeps the ages of what was put in."""
     for at in range(len(builder.build.tasks)):
         works = works_of(builder, at)
-        showing = (life for _, work in works for life in work.lives if any(map(shelltext.shows_ages, life.ran)))
+        showing = (life for _, work in works for life in work.lives if any(map(shellages.shows_ages, life.ran)))
         shown = {path for life in showing for kind, path in life.events if kind == "A"}  # a time may come from such a program, as a word
         for life in (life for _, work in works for life in work.lives):
             names = {path for kind, path in life.events if kind in "RS"} | (life.handed() | shown if any(kind == "c" for kind, _ in life.events) else set())

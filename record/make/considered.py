@@ -13,7 +13,7 @@ from record.make.database import Base
 from record.make.globs import MAGIC
 from record.make.graph import Node
 from record.make.searches import DEPTH, Searches, stems
-from record.make.words import Words
+from record.make.words import Words, numbers_of
 from record.tools.shelltext import loose
 from record.trace.names import join
 
@@ -118,7 +118,7 @@ class Considered:
         base = self.base
         if ".SECONDEXPANSION" not in base.prerequisites:
             return False
-        if version(self.builder.make.words.version) >= LATER:
+        if numbers_of(self.builder.make.words.version) >= LATER:
             return True
         fits = (any(stems(target, node.name)) for targets, asked in base.patterns if "$" in " ".join(asked) for target in targets)
         return node.name in base.implicit and any(fits)
@@ -161,9 +161,4 @@ def stems_of(pattern: str, name: str) -> Iterator[Tuple[str, str]]:
 def is_row(base: Base, words: Words) -> bool:
     """Whether a makefile says that its recipes run one at a time: from a version on `.NOTPARALLEL` with names is about these alone. Where make
     has searched a rule for it, another target asks for it, and the data base does not show whether a makefile has a rule of its own."""
-    return base.serial and ".NOTPARALLEL" not in base.implicit and (version(words.version) < LATER or not base.prerequisites.get(".NOTPARALLEL"))
-
-
-def version(text: str) -> Tuple[int, ...]:
-    """The numbers of a version."""
-    return tuple(int(part) for part in text.split(".") if part.isdigit())
+    return base.serial and ".NOTPARALLEL" not in base.implicit and (numbers_of(words.version) < LATER or not base.prerequisites.get(".NOTPARALLEL"))

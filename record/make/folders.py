@@ -13,8 +13,8 @@ from typing import TYPE_CHECKING, Dict, FrozenSet, List, NamedTuple, Set, Tuple
 
 from record.make.ahead import makes_ahead
 from record.make.owners import Work
+from record.make.quiet import excused, makes_itself
 from record.tools import shelltext
-from record.tools.traced import shows_commands
 from record.trace.lives import Life
 
 if TYPE_CHECKING:
@@ -51,64 +51,6 @@ class Makers(NamedTuple):
 
     made: Set[int]
     gone: Set[int]
-
-
-def excused(builder: "Builder", at: int, folder: str) -> bool:
-    """Whether a recipe makes a folder in a quiet form, which does not show who was first."""
-    lives = [life for work in builder.build.tasks[at].works for life in work.lives]
-    kept = builder.make.words.kept_errors if builder.build.tool == "make" else ""
-    if makes_quietly(lives, folder, bool(kept)) or not kept and is_ignored(builder, at, folder):
-        return True
-    found = kept == "pipe" and (makes_quietly(lives, folder, False) or is_ignored(builder, at, folder))
-    if found:  # who comes second says so, to a program
-        builder.assumed.add("output", "make " + builder.make.words.args)
-    return found
-
-
-def makes_quietly(lives: List[Life], folder: str, is_kept: bool) -> bool:
-    """Whether the processes of a recipe make a folder in a quiet form. `is_kept`: a make above keeps their errors."""
-    found = any(is_quiet(argv, folder, is_kept) and not keeps_errors(life, argv) for life in lives for argv in life.ran)
-    return found and all(is_of_form(life, folder, is_kept) for life in lives)
-
-
-def is_quiet(argv: List[str], folder: str, is_kept: bool) -> bool:
-    """Whether a shell's text makes a folder in a quiet form, and nothing shows which of its commands ran."""
-    return shelltext.is_excused(argv, folder, is_kept) and not shows_commands(argv, is_kept)
-
-
-def is_of_form(life: Life, folder: str, is_kept: bool) -> bool:
-    """Whether a process does not make a folder, or a shell starts it whose text makes that in a quiet form."""
-    if not life.events.keys() & {("M", folder), ("E", folder)}:
-        return True
-    starter = next((up for up in life.up() if up is not life and up.ran), life)
-    return any(is_quiet(argv, folder, is_kept) for argv in starter.ran)
-
-
-def is_ignored(builder: "Builder", at: int, folder: str) -> bool:
-    """Whether it is `-mkdir d` that makes a folder in a recipe: make itself runs it, and goes on where the folder is there."""
-    task = builder.build.tasks[at]
-    if builder.build.tool != "make" or task.kind != "recipe":
-        return False
-    makers = [life for work in task.works for life in work.lives if life.events.keys() & {("M", folder), ("E", folder)}]
-    heeded = [line for line in builder.graph.base.recipes.get(task.node.name, []) if not re.match(r"\s*[@+]*-", line)]
-    return bool(makers) and all(is_plain_mkdir(life) for life in makers) and not any(re.match(r"\s*[@+]*\s*(\S*mkdir|\$)", line) for line in heeded)
-
-
-def is_plain_mkdir(life: Life) -> bool:
-    """Whether make itself runs `mkdir` with no option."""
-    above = next((up for up in life.up() if up is not life), None)
-    return above is not None and above.is_make and [shelltext.base_name(argv) for argv in life.ran] == ["mkdir"] and not any(w.startswith("-") for w in life.argv[1:])
-
-
-def keeps_errors(life: Life, own: List[str]) -> bool:
-    """Whether who started a shell may keep its errors: another text of the recipe, or a program that is no shell."""
-    for up in life.up():
-        if up.is_make or up.is_ninja:
-            return False
-        ran = up.ran[:up.ran.index(own)] if up is life else up.ran
-        if not all(shelltext.hands_on(argv) for argv in ran):
-            return True
-    return False
 
 
 def parents(path: str) -> List[str]:
@@ -295,17 +237,6 @@ def shows_first(builder: "Builder", path: str, folder: Folder, at: int, makers: 
     return folder.first_used.get(at, 1 << 60) < folder.first_asked.get(at, 0) and not any(builder.build.is_before(m, at) for m in makers - {at})
 
 
-def makes_itself(builder: "Builder", at: int, path: str) -> bool:
-    """Whether a task is make's look at a folder that was there already, and its recipe, which did not run, is `mkdir -p` of the folder
-    alone: then whoever waits for this target finds the folder, and whether the recipe runs makes no difference."""
-    task = builder.build.tasks[at]
-    if builder.build.tool != "make" or task.kind != "decision" or task.node.path != path:
-        return False
-    lines = builder.graph.base.recipes.get(task.node.name, [])
-    only = re.compile(r"\s*[@+-]*\s*mkdir\s+(?:-p|--parents)\s+(?:\$@|\$\(@\)|%s)/?\s*" % re.escape(task.node.name))
-    return bool(lines) and all(only.fullmatch(line) for line in lines)
-
-
 def seen(builder: "Builder", path: str, at: int, makers: Set[int]) -> None:
     """A task sees whether the folder is there already, and nothing orders it behind a maker."""
     apart(builder, path + "/@seen", "that the folder %s is there" % path, at, makers)
@@ -367,7 +298,7 @@ def add_modes(builder: "Builder") -> None:
     """The mode of a folder, and how many folders are in it."""
     table = each(builder)
     modes = changed_modes(builder, table)
-    closed = {path for path, given in modes.items() if not all(mode and int(mode, 8) & SEARCH for mode in given)}
+    closed = {path for path, given in modes.items() if not all(mode and is_open(mode) for mode in given)}
     links = {p for _, events in table for k, p, _ in events if k == "h"}
     for at, events in table if modes else ():
         for kind, path, _ in events:
@@ -390,6 +321,12 @@ def add_modes(builder: "Builder") -> None:
         for kind, path, _ in events:
             if kind == "h" and path in counted:
                 apart(builder, path + "/@links", "how many names %s has" % path, at, counted[path] - {at})
+
+
+def is_open(mode: str) -> bool:
+    """Whether who has a folder of this mode finds what is in it; an owner may stand behind the mode."""
+    number = mode.partition(" ")[0]
+    return bool(int(number, 8) & SEARCH) if re.fullmatch("-?[0-7]+", number) else False
 
 
 def changed_modes(builder: "Builder", table: Events) -> Dict[str, Set[str]]:

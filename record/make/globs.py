@@ -33,8 +33,10 @@ NAMED_BY_MACRO = re.compile(r"\$[({][^(){}\s,:]*\$(?!\$)")
 RULE = re.compile(r"(?m)^(?!\t)((?:[^\n=#:;]*\\\n)*[^\n=#;]*?:(?![:=])(?:[^\n;#=]*\\\n)*[^\n;#]*)")
 INCLUDE = re.compile(r"(?m)^[ \t]*[-s]?include[ \t]+((?:[^\n#]*\\\n)*[^\n#]*)")
 LINE = re.compile(r"(?m)^(?:[^\n]*\\\n)*[^\n]+")
-# Lines that are no rules whatever their references come to: recipes, words of make, and functions that say something or whose text `eval` reads.
-OTHER = re.compile(r"\t| *(?:(?:ifn?eq|ifn?def|else|endif|define|endef|export|unexport|undefine|vpath|[-s]?include|-?load)(?![\w.-])|#|\$[({](?:eval|info|warning|error)[ \t])")
+SAYS = re.compile(r" *\$([({])(?:info|warning|error)[ \t]")
+COMES_TO_NOTHING = re.compile(SAYS.pattern.replace("info", "eval|info"))
+# Lines that are no rules whatever their references come to: recipes and words of make.
+OTHER = re.compile(r"\t| *(?:(?:ifn?eq|ifn?def|else|endif|define|endef|export|unexport|undefine|vpath|[-s]?include|-?load)(?![\w.-])|#)")
 COLON = re.compile(r":(?!=)")
 INNERMOST = re.compile(r"\$\([^(){}]*\)|\$\{[^(){}]*\}")
 # The name of a macro; behind its beginning it may go on with another macro, and end with a text.
@@ -147,7 +149,7 @@ class Macros:
 
     def may_be_rule(self, text: str) -> bool:
         """Whether a line may come to a rule with a pattern by its references, as far as its own text and those of the macros that it leads to say so."""
-        if "$" not in text or OTHER.match(text) or re.search("[:=]", outside(text)):  # (or it is a rule, or an assignment, by its own text)
+        if "$" not in text or OTHER.match(text) or is_alone(text, COMES_TO_NOTHING) or re.search("[:=]", outside(text)):  # (or it is a rule, or an assignment, by its own text)
             return False
         todo = self.texts_from(text)
         return any(map(COLON.search, todo)) and any(map(MAGIC.search, todo))
@@ -174,6 +176,13 @@ def outside(text: str) -> str:
     while count:
         text, count = INNERMOST.subn("", text)
     return text
+
+
+def is_alone(text: str, begins: "re.Pattern[str]") -> bool:
+    """Whether a line is one call of a function, and no more."""
+    call = begins.match(text)
+    words = next(arguments(text, begins)) if call is not None else None
+    return call is not None and words is not None and text[call.end() + len(words) + 1:].strip()[:1] in ("", "#")
 
 
 def with_values(text: str, values: Dict[str, str]) -> str:
@@ -207,7 +216,7 @@ def listed(texts: List[str], values: Dict[str, str], names: Iterable[str] = ("*"
     found: Set[str] = set()
     if any(macros.may_be_rule(line.group()) for line in LINE.finditer(macros.text)):
         found.add("*")
-    for text in [*RULE.findall(macros.text), *INCLUDE.findall(macros.text)]:
+    for text in [*(text for text in RULE.findall(macros.text) if not is_alone(text, SAYS)), *INCLUDE.findall(macros.text)]:
         if any(text.count(one) > text.count(other) for one, other in BRACKETS.items()):
             found.add("*")  # a function goes on behind what looks like the end of the rule
         if "$$" in text and macros.is_plain_later(text):

@@ -7,7 +7,7 @@ from typing import TYPE_CHECKING, Dict, Iterator, List, Optional, Set
 from record.make.globs import BOUND, MAGIC, WORD_EVAL, arguments, composes, with_values
 from record.make.graph import Node
 from record.make.macros import ANY, Macros, evals
-from record.make.owners import Work
+from record.make.owners import Make, Work
 from record.trace.names import Names
 
 if TYPE_CHECKING:
@@ -27,8 +27,16 @@ def place_listings(builder: "Builder") -> None:
         listed = [(path, place) for (kind, path), place in work.events.items() if kind == "Q"]
         asked = own_folders(builder, nodes[name]) if listed and name in nodes and not open_names else None
         for path, place in listed:
-            for pattern in builder.make.globs if asked is None or path in asked else ():
-                work.add("L", path + "\0" + pattern, place)
+            if asked is None or path in asked:
+                add_list(builder.make, work, path, place)
+
+
+def add_list(make: Make, work: Work, folder: str, place: int) -> None:
+    """A folder is listed for all that a make asks for by `wildcard`; before it sorted what it finds, the order of the names counts too."""
+    for pattern in make.globs:
+        work.add("L", folder + "\0" + pattern, place)
+    if make.globs and not make.words.sorts_names:
+        work.add("l", folder, place)
 
 
 def exported_lists(known: Macros) -> bool:
@@ -64,9 +72,7 @@ def share_listings(builder: "Builder") -> None:
         asked = folders_asked(builder.known, builder.names, node) if node.jobs or node.must and node.has_recipe else set()
         for folder, place in late.items():
             if place < birth(builder, node) and (asked is None or folder in asked):
-                work = make.acts.setdefault((builder.number, node.name), Work())
-                for pattern in make.globs:
-                    work.add("L", folder + "\0" + pattern, place)
+                add_list(make, make.acts.setdefault((builder.number, node.name), Work()), folder, place)
 
 
 def birth(builder: "Builder", node: Node) -> int:

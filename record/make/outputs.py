@@ -6,6 +6,8 @@
 import os
 import stat
 
+from record.make.limits import keep
+
 
 def goes_to(spool, number):
     """Where what is written to a descriptor goes: `file`, `pipe`, or nothing where the build's own output or a device stands there."""
@@ -41,8 +43,7 @@ def noted(spool, found):
 def note_output(spool, number, where, path=""):
     """Keeps where what is written to a descriptor goes, for the makes below."""
     found = os.fstat(number)
-    with open("%s/outputs/%d.%d" % (spool, found.st_dev, found.st_ino), "w", errors="surrogateescape") as file:
-        file.write(where + "\0" + path)
+    keep("%s/outputs/%d.%d" % (spool, found.st_dev, found.st_ino), (where + "\0" + path).encode("utf-8", "surrogateescape"))
 
 
 def is_one_file(first, second):

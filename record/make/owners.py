@@ -153,6 +153,7 @@ class Owners:
         self.jobs: Dict[int, Job] = {}  # by id of a life that make started
         self.births: Dict[int, int] = {}  # by id of a job: when its first process was born
         self.lasts: Dict[int, int] = {}  # by id of a job: when its last process was born
+        self.is_sorted = all(one.sorts_names for one in words)  # all are one program, that of makes without words too
         by_key = {(w.pid, w.life): w for w in words}
         for life in lives:
             if life.is_make and life.number >= 0:
@@ -277,6 +278,8 @@ class Owners:
                 if key[0] == "Q":
                     for pattern in [*make.globs, *make.listed_first] if make is not None else ["*"]:
                         work.add("L", key[1] + "\0" + pattern, place)
+                    if not self.is_sorted:
+                        work.add("l", key[1], place)
                 elif work.events.get(key, place + 1) > place:
                     work.events[key] = place
 

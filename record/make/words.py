@@ -15,6 +15,7 @@ VPATH = re.compile(r"^ *No need to remake target '(.*)'; using VPATH name '(.*)'
 FINISHED = re.compile(r"^ *Finished prerequisites of target file '(.*)'\.$")
 MUST = re.compile(r"^ *Must remake target '(.*)'\.$")
 FAILED = re.compile(r"^ *(?:Failed to remake|Giving up on) target file '(.*)'\.$")
+SORTED = (4, 3)  # from this version on, make sorts what patterns find
 RUNNING = re.compile(r" *Recipe of '")  # make says so where it does not wait for a recipe
 SEVERAL = "a makefile or GNUMAKEFLAGS asks for several jobs, and so they ran; say -j1: make "
 # Lines of which each word counts: one that is none of those above was not read as a whole.
@@ -99,7 +100,13 @@ class Words:
     processes: List[Tuple[int, Job]] = field(default_factory=list)  # of all jobs, in order: the number and the job
     read: List[List[str]] = field(default_factory=list)  # makefiles that each start read before it made anything
     included: List[str] = field(default_factory=list)  # makefiles that recipes include while make expands them
+    loaded: List[str] = field(default_factory=list)  # objects that it has loaded into itself
     holes: List[str] = field(default_factory=list)
+
+    @property
+    def sorts_names(self) -> bool:
+        """Whether what patterns of its makefiles find is sorted; else it comes in the order in which the file system shows a folder."""
+        return numbers_of(self.version) >= SORTED
 
     @property
     def kept_errors(self) -> str:
@@ -209,6 +216,8 @@ class _Reader:
             self.children[text[5:]].is_said = True
         elif text.startswith("Need a job token; ") or RUNNING.match(text):
             words.holes += [SEVERAL + words.args] if SEVERAL + words.args not in words.holes else []
+        elif text.startswith("Loading symbol "):
+            words.loaded.append(text.partition(" from ")[2])
         elif text.startswith("EXIT "):
             words.status = int(text[5:])
         elif READING.match(text) and words.read:
@@ -301,6 +310,11 @@ def read_logs(spool: Path) -> List[Words]:
         with open(path, encoding="utf-8", errors="surrogateescape") as lines:
             logs.append(read_words(int(pid), int(life), lines))
     return logs
+
+
+def numbers_of(version: str) -> Tuple[int, ...]:
+    """The numbers of a version."""
+    return tuple(int(part) for part in version.split(".") if part.isdigit())
 
 
 def makefiles(words: Words) -> Set[str]:

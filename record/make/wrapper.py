@@ -1,11 +1,12 @@
 """Stands in front of GNU make while a build is recorded.
 
-`race-record` compiles options.py, outputs.py and this file for SPOOL/bin/make, first on PATH, a program of its own. It runs the real make (named
+`race-record` compiles limits.py, options.py, outputs.py and this file for SPOOL/bin/make, first on PATH, a program of its own. It runs the real make (named
 in SPOOL/real) with words that let it say what it considers, takes make's own lines out of standard output again, into
 SPOOL/PID.make, and passes everything else on byte for byte. Queries (`make -n`, `-q`, `-t`, `-p`, `-v`, `-h`) and makes
 that were asked for debug words run untouched.
 """
 
+import errno
 import fcntl
 import os
 import re
@@ -14,6 +15,7 @@ import signal
 import sys
 from contextlib import suppress
 
+from record.make.limits import Kept, keep, note_cut
 from record.make.options import WORDS, asked, asks_jobs, jobs_of_call, plain_args, speak_english, without_words
 from record.make.outputs import file_of, goes_to, is_closed, is_one_file, note_output
 
@@ -244,7 +246,7 @@ def open_log(spool, pid):
     number = 0
     while True:
         try:
-            return open("%s/%d.%d.make" % (spool, pid, number), "xb")
+            return Kept("%s/%d.%d.make" % (spool, pid, number))
         except FileExistsError:
             number += 1
 
@@ -253,14 +255,12 @@ def note_start(log, real, name, args):
     """Keeps how this make was started, beside its log, where the recorder asks it again after the build: SPOOL/again says so."""
     if os.path.exists(os.path.dirname(log) + "/again"):
         words = [real, name, os.getcwd(), "%d" % len(args), *args, *("%s=%s" % pair for pair in os.environ.items())]
-        with open(log[:-len("make")] + "start", "wb") as file:
-            file.write(b"\0".join(os.fsencode(word) for word in words))
+        keep(log[:-len("make")] + "start", b"\0".join(os.fsencode(word) for word in words))
 
 
 def note_past(spool, args):
     """A make that prints its own words, and yet runs recipes: nobody can say what they do."""
-    with open("%s/%d.past" % (spool, os.getpid()), "a", encoding="utf-8", errors="surrogateescape") as file:
-        file.write("make " + " ".join(args).replace("\n", " ") + "\n")
+    keep("%s/%d.past" % (spool, os.getpid()), os.fsencode("make " + " ".join(args).replace("\n", " ") + "\n"), "ab")
 
 
 def relay(splitter, reading):
@@ -339,7 +339,9 @@ def run_logged(spool, name, real, args, flags, below, slots):
         log.write(head_of(args, flags, below, slots, where, path, errors, spoken))
         try:
             raw = serve(Splitter(log, 1, where != ""), child, reading, writing)
-        except OSError:  # nobody reads it, or the device is full: make finds that out by itself
+        except OSError as error:  # nobody reads it, or the device is full: make finds that out by itself
+            if error.errno == errno.EFBIG:
+                note_cut(log.name)
             os.close(reading)
             raw = os.waitpid(child, 0)[1]
         log.write(b"EXIT %d\n" % raw)

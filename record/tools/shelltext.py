@@ -1,5 +1,6 @@
 """What the words of a process say: folders made for oneself, patterns of names, ages that are compared."""
 
+import getopt
 import os
 import re
 from functools import lru_cache
@@ -31,35 +32,16 @@ OPTIONS = re.compile(r"\b(shopt|compgen|GLOBIGNORE)\b|\s[-+]O\s")  # of bash, by
 # Macros in the environment that give bash other options, and functions there: then the words of a shell do not say what it does.
 SHELL_MACROS = {"BASHOPTS", "SHELLOPTS"}
 SETS_OPTIONS = re.compile(r"\b(BASHOPTS|SHELLOPTS|BASH_FUNC_)|\bexport\s+-\w*f|\b(declare|typeset)\s+-(?=\w*x)\w*f")
-READ_TIMES = re.compile(r"(?:\btest|\[)\s[^;&|\n]*-N\s|\bfind\b[^;|\n]*\s-(?:anewer|amin|atime|used|newera\w|newer\wa)\s|\bstat\b[^;|&\n]*%[-+ 0#'\d.]*[xX]"
-                        r"|\bls\s([^;|&\n]*?\s)?(?:-\w*u|--time=(?:a|u))")
-READ_TIME = re.compile(r"\b(?:st_|get)?atime\b|(?<!\S)-A\s")  # of an interpreter's text
-QUALIFIED = re.compile(r"[\w*?\])/>]\(")  # a pattern of zsh that may ask for ages, as `*(om)` does
+AT_ONCE = re.compile(r"\s(?:-\w*P\s*|--max-procs[= ])(?!\s|1\s)")  # words of xargs by which it runs several programs at once
 KEPT = 4096  # how many files are remembered
 LARGE = 1 << 22  # how much of a script is read
 PASSING = ("env", "nice", "ionice", "setsid", "timeout", "flock", "time", "stdbuf")  # they leave errors to who runs in their place
 WORD = re.compile(r"[^\s;|&<>()'\"`]+")  # a text without a word may be long: each sign is looked at once
 MAGIC = re.compile(r"[*?\[]")
-TIME_OF_STAT = re.compile(r"%[-+ 0#'\d.]*[WXYZwxyz]|\s(-\w*t|--t)")
 FORMAT_OF_STAT = re.compile(r"\s(-\w*c|--f|--p)")
-# The words by which a program shows or compares ages, by its name.
-SHOWS_AGES = {
-    "ls": re.compile(r"\s(-\w*[tlcugon]|--(fu|fo|so|ti))"),
-    "date": re.compile(r"\s(-\w*r|--ref)"),
-    "tar": re.compile(r"^\s\w*[uN]|\s(-\w*[uN]|--(ne|af|up|keep-n))"),
-    "find": re.compile(r"\s-(f?ls|used)\s"),
-    "cp": re.compile(r"\s(-\w*u|--u)"),
-    "mv": re.compile(r"\s(-\w*u|--u)"),
-    "du": re.compile(r"\s--ti"),
-}
 SIZE_OF_STAT = re.compile(r"%[-+ 0#'\d.]*[sbB]")
 SHOWS_SIZES = {"ls": re.compile(r"\s(-\w*[sS]|--si|--so\w*[= ]s)"), "find": re.compile(r"\s-size\s")}
-# `ar` with `u` is not among them: it compares a file with its archive alone (record/make/ages.py).
-AGES = re.compile(
-    r"(^|\s|\[)[\"'\\]*-[\"'\\]*-?([no][\"'\\]*t|[ac]?newer[\w-]*|mtime|mmin|atime|amin|cmin|ctime|f?printf)[\"'\\]*[\s=]|\b(cp|mv|rsync|tar)\s+([^;|&\n]*?\s)?(-\w*u|--update)"
-    r"|(?:\btest|\[)\s+(?:!\s+)?(?![-!])\S+\s+\"?-?\$\S+\s+[^\s;&|\])]|\btar\s+\w*u|\bls\s+([^;|&\n]*?\s)?-\w*[tlc]|\bstat\b[^;|&\n]*%[WXYZwxyz]|--sort[= ]t|\bdate\s+[^;|&\n]*-r")
 TAKEN = re.compile(r"(?m)(?:(?:^|[;&|{(!]|=`|\w=\S*[ \t])[ \t]*|\b(?:then|do|else|elif|if|while|until|time|command|builtin)[ \t]+)(?:\.|source)[ \t]+([^\s;&|)#]+)")  # scripts that a script takes in
-COMPUTED = re.compile(r"\beval[ \t]+[\"']?(?:\$\(|`)")  # the text that a program prints
 # What is thrown away, and errors that are not: a folder that is there already is reported there.
 NOWHERE = re.compile(r"(?:\b2\s*|&)?>>?\s*/dev/null(?:\s*2>&1)?")
 KEPT_ERRORS = re.compile(r"\b2\s*>|&>|>\s*&|\|&")
@@ -181,6 +163,20 @@ def is_quiet_mkdir(argv: List[str]) -> bool:
     return name in ("install", "ginstall") and not loud and any(w == "--directory" or re.match(r"-[a-zA-Z]*[dD]", w) for w in words)
 
 
+@lru_cache(KEPT)
+def given_by(argv: Tuple[str, ...]) -> Tuple[str, Tuple[str, ...]]:
+    """The mode and the owner that `install -d` gives to the folders that it names, and these; nothing where it gives no owner."""
+    if base_name([*argv]) not in ("install", "ginstall"):
+        return "", ()
+    try:
+        options, names = getopt.gnu_getopt([*argv[1:]], "bcCDpsTvdm:o:g:t:S:Z", ["directory", "mode=", "owner=", "group=", "verbose", "preserve-timestamps"])
+    except getopt.GetoptError:
+        return "", ()
+    found = {name.lstrip("-")[0]: value for name, value in options}
+    is_known = "d" in found and ("o" in found or "g" in found)
+    return ("%s %s:%s" % (found.get("m", "755"), found.get("o", ""), found.get("g", "")), tuple(names)) if is_known else ("", ())
+
+
 def maker_at(argv: List[str]) -> int:
     """Where the words behind the first name a script that builds carry, which makes folders for itself; -1 where none does."""
     name, words = base_name(argv), argv[1:]
@@ -293,47 +289,12 @@ def names_here(argv: List[str]) -> bool:
     return bool(re.search(r"\s(\./?|\$PWD)(\s|$)", " ".join(argv)))
 
 
-def script_compares(path: str, folder: str, depth: int = 0) -> bool:
-    """Whether the text of a script compares ages, or that of a script that it takes in; so may one that cannot be read."""
-    try:
-        text = text_of(path, LARGE)
-    except OSError:
-        return True
-    taken = [name.strip("'\"") for name in TAKEN.findall(text)]
-    return len(text) == LARGE or bool(AGES.search(text) or COMPUTED.search(text)) or depth > 3 or any("$" in n or script_compares(os.path.join(folder, n), folder, depth + 1) for n in taken)
-
-
-def shows_ages(argv: List[str]) -> bool:
-    """Whether a program shows or compares ages, by words that are its own."""
-    name, text = base_name(argv), "".join(" " + word for word in argv[1:]) + " "
-    if name == "zsh":
-        return bool(QUALIFIED.search(text))
-    if name == "stat":
-        return not FORMAT_OF_STAT.search(text) or bool(TIME_OF_STAT.search(text))
-    return name in SHOWS_AGES and bool(SHOWS_AGES[name].search(text))
-
-
 def asks_size(argv: List[str]) -> bool:
     """Whether a program shows how large a folder is: some file systems count its names."""
     name, text = base_name(argv), "".join(" " + word for word in argv[1:]) + " "
     if name == "stat":
         return not FORMAT_OF_STAT.search(text) or bool(SIZE_OF_STAT.search(text))
     return name in SHOWS_SIZES and bool(SHOWS_SIZES[name].search(text))
-
-
-def asks_reads(argv: List[str], folder: str) -> bool:
-    """Whether a program, or a script, may ask when a file was read last."""
-    is_known = base_name(argv) in SHELLS or base_name(argv) in ("test", "[", "find", "stat", "ls")
-    if is_interpreter(argv):
-        script = next((word for word in argv[1:] if not word.startswith("-")), "")
-        return bool(READ_TIME.search(" ".join(argv)) or READ_TIME.search(contents(os.path.join(folder, script))))
-    return is_known and (bool(READ_TIMES.search(" ".join(argv) + " ")) or bool(script_of(argv)) and asks_reads_in(os.path.join(folder, script_of(argv))))
-
-
-@lru_cache(KEPT)
-def asks_reads_in(path: str) -> bool:
-    """Whether the text of a script may do so."""
-    return bool(READ_TIMES.search(contents(path)))
 
 
 @lru_cache(KEPT)
@@ -343,18 +304,6 @@ def contents(path: str) -> str:
         return text_of(path, LARGE)
     except OSError:
         return ""
-
-
-def compares_ages(argv: List[str], folder: str) -> bool:
-    """Whether a process may depend on which of two files is newer."""
-    if shows_ages(argv):
-        return True
-    text, script = shell_words(argv)
-    if base_name(argv) in SHELLS and not text and not script:
-        return True  # its script comes from standard input, and nobody can read it
-    if script and "libtool" not in script:
-        return script_compares(os.path.join(folder, script), folder) or bool(AGES.search(" ".join(argv[1:]) + " "))
-    return bool(AGES.search(" ".join(argv) + " ")) or bool(TAKES_IN.search(text))
 
 
 def looks_at_links(argv: List[str]) -> bool:
@@ -389,6 +338,11 @@ def takes_in(argv: List[str], path: str) -> bool:
     if not text or OF_SYSTEM.match(path):
         return False
     return not re.search(r"<\s*[^\s;|&<>()]*" + re.escape(os.path.basename(path)), text)
+
+
+def runs_at_once(argv: List[str]) -> bool:
+    """Whether a program runs several others at once, and waits for them when it ends."""
+    return base_name(argv) == "parallel" or base_name(argv) == "xargs" and bool(AT_ONCE.search(" ".join(argv) + " "))
 
 
 def hands_on(argv: List[str]) -> bool:

@@ -1,22 +1,19 @@
 """What each system call does to the name space, and which events it is."""
 
-import os
 import re
-from typing import Callable, Dict, List, Tuple
+from typing import Callable, Dict, Tuple
 
-from record.make.copies import is_other_make
 from record.tools import listed, shelltext
-from record.tools.computed import runs_unseen
 from record.trace.arguments import TEXT_END, opening, spelled
 from record.trace.classes import SHARING
 from record.trace.lives import Life
-from record.trace.loader import interpreter_words
 from record.trace.moves import Moves
 from record.trace.names import Found, Inode
 from record.trace.opened import CHANGING, OF_KERNEL, READING, Opened, requests
 from record.trace.processes import Processes
 from record.trace.replay import DEVICES
-from record.trace.strace import BARE, MAKES_PROCESS, Call, first_text, folders, is_cut, texts, unescape
+from record.trace.started import Started
+from record.trace.strace import BARE, MAKES_PROCESS, Call, first_text, folders, texts, unescape
 from record.trace.system import SETTINGS
 
 LOOKS = {"stat", "lstat", "access", "getxattr", "lgetxattr", "listxattr", "llistxattr", "statfs", "newfstatat",
@@ -33,7 +30,6 @@ OF_PROCESS = re.compile(r"/proc/(?:(\d+)(?:/|$)|loadavg$)")
 SOCKET = re.compile(r'sun_path="((?:[^"\\]|\\.)*)"')
 OF_WRAPPER = {"execve", *MAKES_PROCESS}  # what counts of the recorder's own wrapper
 NUMBERED = {"umask", "kill", "tkill", "tgkill", "rt_sigqueueinfo", "rt_tgsigqueueinfo", "pidfd_open"}  # calls whose first number is no descriptor
-SCRIPTS = 5  # how many scripts may be the interpreter of one another; the kernel allows no more
 BY_NUMBER = {"fchmod", "fchown", "fchown32", "ftruncate", "ftruncate64", "fsetxattr", "fremovexattr"}
 GIVEN_TIME = re.compile(r"tv_[nu]sec=\d+\}(?: /\*[^*]*\*/)?\]|modtime=")
 MODE = re.compile(r", (0[0-7]*)$")
@@ -42,7 +38,7 @@ TIMED = re.compile(r"\s(-\w*w|--(wait|timeout))")  # `flock -w SECONDS`
 ANY_PORT = re.compile(r"_port=htons\(0\)")
 
 
-class Calls(Opened):
+class Calls(Started):
     """The calls, one method each."""
 
     def call(self, life: Life, call: Call) -> None:
@@ -114,115 +110,12 @@ class Calls(Opened):
         elif self.is_unknown(life) and "access" not in call.name and "readlink" not in call.name:
             self.put(life, "a", found.path)
 
-    def is_unknown(self, life: Life) -> bool:
-        """Whether nobody knows if a program compares the ages of what it looks at, or of what it has opened."""
-        traits = life.traits()
-        if traits.is_shell and traits.is_open is None:
-            traits.is_open = runs_unseen(life.argv, life.folder)
-        return not life.is_make and (not traits.is_ageless or bool(traits.is_open) or self.is_inside(life.program))
-
     @staticmethod
     def is_own(life: Life, path: str, found: Found) -> bool:
         """Whether a process looks at the folder that it is in, or at one above, as shells do by themselves; interpreters also at those
         in which they look for modules."""
         above = life.traits().is_interpreter or (life.folder.rstrip("/") + "/").startswith(found.path.rstrip("/") + "/")
         return path == "." or path.startswith("/") and above
-
-    def on_execve(self, life: Life, call: Call, ok: bool) -> None:
-        program = first_text(call.args) or "".join(folders(call.args)[:1])
-        if not program:
-            return
-        if not ok:
-            self.fail_to_run(life, program, call.error)
-            return
-        words = [program, *texts(call.args)[1:]]
-        argv = words[1:]
-        was_wrapper, was_make = life.is_wrapper, life.is_make
-        forked = was_wrapper and not life.ran
-        life.taken = ()
-        found = self.names.find(life.folder, words[0], True)
-        life.is_wrapper = found.path.startswith(self.spool + "/bin/")
-        argv = argv if life.is_wrapper else shelltext.with_interpreter(argv, found.path, self.first_words(found.path))
-        life.program = found.path
-        life.is_ninja = argv == words[1:] and bool(shelltext.NINJA.match(os.path.basename(found.path)))
-        if life.is_ninja:
-            life.starts.append((self.place, life.folder))
-        life.argv, life.cut, life.begun = argv, is_cut(call.args), self.place
-        if life.cut:
-            self.holes.append("the words of a program are too many to be seen: " + " ".join(argv)[:100])
-        life.ran.append(argv)
-        self.begin_program(life, words, self.first_words(found.path))
-        if life.is_wrapper:
-            self.put_links(life, found)
-            return
-        self.note_rights(life, found.path)
-        self.is_open_shell = self.is_open_shell or shelltext.sets_options(argv, life.folder)
-        if shelltext.asks_reads(argv, life.folder):
-            self.askers.append(" ".join(argv)[:100])
-        if self.is_real_make(found.path):
-            self.begin_make(life, was_wrapper, was_make, forked)
-        else:
-            life.is_make = life.is_make and life.number >= 0 and was_make
-            if is_other_make(found.path, self.real):
-                self.past.append(" ".join(life.argv)[:200])
-        self.look(life, words[0], True, True, "R")
-        self.look_at_interpreters(life, words[0])
-        self.note_handed(life)
-
-    def fail_to_run(self, life: Life, program: str, error: str) -> None:
-        """A program did not start. Where the kernel does not know what kind of file it is, bash reads it itself, as a script."""
-        if not life.is_wrapper:
-            found = self.look(life, program, False, True)
-            self.look_at_interpreters(life, program)
-            life.taken += (found.path,) if error == "ENOEXEC" and life.traits().is_shell else ()
-
-    def note_handed(self, life: Life) -> None:
-        """A program may ask how old a file is that a shell has opened for it, and no call names that."""
-        traits = life.traits()
-        is_asked = traits.asks_input or not traits.is_interpreter and not traits.is_shell and self.is_unknown(life)
-        for path in life.handed() if is_asked else ():
-            self.put(life, "A" if traits.asks_input or self.ages(life) else "a", path)
-
-    def first_words(self, path: str) -> List[str]:
-        """The words of a script's first line, read once: the build has ended."""
-        if path not in self.firsts:
-            self.firsts[path] = shelltext.first_words(path)
-        return self.firsts[path]
-
-    def is_real_make(self, path: str) -> bool:
-        """Whether a program is the make that the recorder knows."""
-        if path not in self.makes_by_path:
-            self.makes_by_path[path] = path == self.real or os.path.realpath(path) == self.real
-        return self.makes_by_path[path]
-
-    def look_at_interpreters(self, life: Life, program: str) -> None:
-        """The kernel reads the interpreter of a script by itself, and that of an interpreter which is a script; so it does with the loader of a program."""
-        for _ in range(SCRIPTS):
-            path = self.names.find(life.folder, program, True).path
-            words = interpreter_words(path) if self.is_inside(path) else self.first_words(path)
-            if not words:
-                return
-            program = words[0]
-            found = self.names.find(life.folder, program, True)
-            if found.path == self.real:  # the kernel runs make in the script's place
-                self.past.append(" ".join(life.argv)[:200])
-            self.put_links(life, found)
-            self.put_look(life, found, found.inode is not None, "R")
-
-    def begin_make(self, life: Life, was_wrapper: bool, was_make: bool, forked: bool) -> None:
-        life.is_make = True
-        if was_make and life.number >= 0:
-            life.starts.append((self.place, life.folder))
-        elif forked:
-            life.number = self.makes.get(life.pid, 0)
-            self.makes[life.pid] = life.number + 1
-            life.starts.append((self.place, life.folder))
-        elif was_wrapper:
-            life.is_query = True
-        else:
-            self.past.append(" ".join(life.argv)[:200])
-
-    on_execveat = on_execve
 
     def on_chdir(self, life: Life, call: Call, ok: bool) -> None:
         path = first_text(call.args) or ""
@@ -358,7 +251,7 @@ class Calls(Opened):
                 self.put_look(life, found, True, "S")  # a file, or a link, has the name
         if ok or call.error == "EEXIST":
             mode = MODE.search(call.args)
-            given = "%o" % (int(mode.group(1), 8) & ~life.mask if mode else -1)
+            given = self.given_by(life, found.path) or "%o" % (int(mode.group(1), 8) & ~life.mask if mode else -1)
             self.put(life, "o", found.path + "\0" + given)
             self.names.modes.setdefault(found.path, set()).add(given)
         else:
@@ -367,6 +260,12 @@ class Calls(Opened):
                 self.put(life, "N", found.missing)
 
     on_mkdirat = on_mkdir
+
+    def given_by(self, life: Life, path: str) -> str:
+        """The mode and the owner that a folder has when `install -d` has ended, which names it: who makes it, and in how many steps, makes no difference."""
+        given, names = shelltext.given_by(tuple(life.argv))
+        begun = next((up.programs[-1].folder for up in life.up() if up.programs), life.folder)  # it may go into a folder on the way
+        return given if given and any(self.names.find(begun, name, True).path == path for name in names) else ""
 
     def on_mknod(self, life: Life, call: Call, ok: bool) -> None:
         base, path = self.base_and_path(life, call)
@@ -411,7 +310,8 @@ class Calls(Opened):
             self.put(life, "c", found.path + "\0")
         if found.inode is not None and found.inode.kind == "d":
             mode = GIVEN_MODE.search(call.args) if "chmod" in call.name else None
-            self.put(life, *(("t", found.path) if call.name in TIMES else ("m", "%s\0%o" % (found.path, int(mode.group(1), 8) if mode else -1))))
+            given = self.given_by(life, found.path) or "%o" % (int(mode.group(1), 8) if mode else -1)
+            self.put(life, *(("t", found.path) if call.name in TIMES else ("m", "%s\0%s" % (found.path, given))))
         else:
             self.write(life, found, False)
 
@@ -430,5 +330,5 @@ Handler = Callable[[Calls, Life, Call, bool], None]
 HANDLERS: Dict[str, Handler] = {
     **dict.fromkeys(CHANGES, Calls.on_change),
     **dict.fromkeys(LOOKS, Calls.on_look),
-    **{name[len("on_"):]: handler for kind in (Moves, Processes, Opened, Calls) for name, handler in vars(kind).items() if name.startswith("on_")},
+    **{name[len("on_"):]: handler for kind in (Moves, Processes, Opened, Started, Calls) for name, handler in vars(kind).items() if name.startswith("on_")},
 }

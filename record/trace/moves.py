@@ -22,7 +22,7 @@ class Moves(Replay):
 
     def put_bare(self, life: Life, call: Call) -> None:
         """strace knows no name of an open file or folder, as where that is longer than 4096 bytes."""
-        self.holes.append("a file is known by the number of its descriptor alone: %s(%s) of %s" % (call.name, call.args[:40], " ".join(life.argv)[:60]))
+        self.holes.append("a file is known by the number of its descriptor alone: %s of %s" % (call.name, " ".join(life.argv)[:100]))
 
     def on_rename(self, life: Life, call: Call, ok: bool) -> None:
         if len(texts(call.args)) < 2:

@@ -4,14 +4,16 @@ It is filled from the tree before the build, and each call of the trace is repla
 Names outside of the folders that were walked are looked up on the disk when they are first met.
 """
 
+import errno
 import os
 import re
 import stat
 from dataclasses import dataclass, field
 from pathlib import Path
-from typing import Dict, Iterable, List, Optional, Sequence, Set, Tuple
+from typing import Dict, Iterable, Iterator, List, Optional, Sequence, Set, Tuple
 
 LINK_LIMIT = 40
+SHOWN = 200  # so much of a path that is too long is shown
 MOUNT_ESCAPE = re.compile(r"\\([0-7]{3})")
 
 
@@ -100,6 +102,7 @@ class Names:
         self.modes: Dict[str, Set[str]] = {}  # folders that were made: with which modes
         self.numbers: Dict[Tuple[int, int], str] = {}  # folders that were walked, by device and number
         self.twice: List[Tuple[str, str]] = []  # folders with two names, as far as numbers say so
+        self.long: List[str] = []  # folders in which a path is longer than the kernel takes
         self.files: Dict[Tuple[int, int], Inode] = {}  # files with several names, by device and number
 
     def walk(self, top: str) -> None:
@@ -116,24 +119,41 @@ class Names:
         while todo:
             node, path = todo.pop()
             node.walked = True
-            try:
-                entries = list(os.scandir(path))
-            except OSError:
-                continue
-            for entry in entries:
-                found = entry.stat(follow_symlinks=False)
-                child = self.made_of(found, join(path, entry.name))
-                self.put(node, entry.name, child)
+            for name, found in self.entries_of(path):
+                child = self.made_of(found, join(path, name))
+                self.put(node, name, child)
                 child.first = True
-                self.before[join(path, entry.name)] = child.kind
+                self.before[join(path, name)] = child.kind
                 if child.kind == "d":
-                    self.note_number(join(path, entry.name), found)
-                    todo.append((child, join(path, entry.name)))
+                    self.note_number(join(path, name), found)
+                    todo.append((child, join(path, name)))
+
+    def entries_of(self, path: str) -> Iterator[Tuple[str, os.stat_result]]:
+        """The names in a folder of the disk, and what stands there. What is too long to be asked for is noted; what the user may not see is left out."""
+        try:
+            entries = list(os.scandir(path))
+        except OSError as error:
+            self.long += [path] * (error.errno == errno.ENAMETOOLONG)
+            return
+        for entry in entries:
+            try:
+                yield entry.name, entry.stat(follow_symlinks=False)
+            except (FileNotFoundError, PermissionError):
+                continue
+            except OSError as error:
+                if error.errno != errno.ENAMETOOLONG:
+                    raise
+                self.long.append(path)
+                return
 
     def note_number(self, path: str, found: os.stat_result) -> None:
         """A folder has one name, except where it is mounted a second time."""
         known = self.numbers.setdefault((found.st_dev, found.st_ino), path)
         self.twice += [(known, path)] if known != path else []
+
+    def too_long(self) -> List[str]:
+        """What is wrong with paths that nobody can ask for."""
+        return ["a path of the project is longer than 4,095 bytes, and cannot be looked at: below " + (path if len(path) < SHOWN else path[:SHOWN] + "..") for path in self.long]
 
     def mounted(self, mounts: Set[str]) -> List[str]:
         """What is wrong with names of which a mount has made two."""

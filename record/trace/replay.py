@@ -4,7 +4,7 @@ import os
 import re
 from typing import Dict, List, Set, Tuple
 
-from record.tools import shelltext
+from record.tools import shellages, shelltext
 from record.trace.lives import Act, Life, Listed
 from record.trace.names import Found, Inode, Names
 from record.trace.proc import NUMBER, is_hidden, plain_path
@@ -68,12 +68,12 @@ class Replay:
     def ages(self, life: Life) -> bool:
         """Whether the process may compare ages."""
         traits = life.traits()
-        if traits.is_shell and (self.is_open_shell or any(shelltext.script_compares(path, life.folder) for path in life.taken)):
+        if traits.is_shell and (self.is_open_shell or any(shellages.script_compares(path, life.folder) for path in life.taken)):
             return True
         if traits.ages is None:
             key = "\0".join([life.folder, *life.argv])
             if key not in self.aged:
-                self.aged[key] = shelltext.compares_ages(life.argv, life.folder)
+                self.aged[key] = shellages.compares_ages(life.argv, life.folder)
             script = shelltext.script_of(life.argv)
             if not self.aged[key] and script:
                 self.scripts.setdefault(self.names.find(life.folder, script, True).path, self.place)
@@ -150,7 +150,7 @@ class Replay:
     def put(self, life: Life, kind: str, path: str, word: str = "") -> None:
         if path.startswith(KERNEL) and DEVICES.match(path) and not self.is_inside(path):
             if is_hidden(kind, path):
-                self.holes.append("a file is known by the number of its descriptor alone: %s of %s" % (path, " ".join(life.argv)[:60]))
+                self.holes.append("a file is known by the number of its descriptor alone: %s of %s" % (path, " ".join(life.argv)[:100]))
             for name in life.handed() if kind in "Aa" and NUMBER.match(path) else ():
                 self.put(life, kind, name)
             return

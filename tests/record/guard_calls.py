@@ -43,7 +43,7 @@ CALL_GUARDS: List[Guard] = [
     Guard("long lines: of a recipe", "make/wrapper.py", 'and data[-1:] != b"\\n" and BEGINS.match(data):', 'and data[-1:] != b"\\n" and False:', long("Lines.test_the_lines_of_a_recipe_with_a_long_name")),
     Guard("long lines: at the end", "make/wrapper.py", "self.unclear + [self.piece] * bool(self.piece)", "self.unclear", long("Lines.test_a_line_without_an_end")),
     Guard("long lines: not whole: a hole", "make/words.py", "        elif BROKEN.match(text):\n", "        elif False:\n", long("Lines.test_a_line_that_is_not_whole_is_a_hole")),
-    Guard("long commands: too many words: a hole", "trace/calls.py", "        if life.cut:\n", "        if False:\n", long("Traces.test_too_many_words")),
+    Guard("long commands: too many words: a hole", "trace/started.py", "        if life.cut:\n", "        if False:\n", long("Traces.test_too_many_words")),
     Guard("long commands: not where a text says so", "trace/strace.py", """ in re.sub(TEXT, '""', args)\n""", " in args\n", long("Traces.test_too_many_words")),
     Guard("long names: descriptors without one", "trace/calls.py", "                self.put_bare(life, call)\n", "                pass\n", long("Traces.test_descriptors_without_a_name")),
     Guard("long names: one of two descriptors", "trace/moves.py", "if not call.error and len(where) == 1:", "if False:", long("Traces.test_descriptors_without_a_name")),

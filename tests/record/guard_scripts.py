@@ -57,7 +57,7 @@ SCRIPT_GUARDS: List[Guard] = [
     Guard("scripts: files of bash", "tools/scripts.py", ' or started is None or {*started} - {"", UNSET}:', ":", script("behind_a_file_of_bash"), YES),
     Guard("scripts: options", "tools/scripts.py", '[*options, program.option or "-e"]', '[program.option or "-e"]', script("behind_other_options"), YES),
     Guard("scripts: options of the first line", "tools/scripts.py", '[*options, program.option or "-e"]', "options", script("behind_an_option_of_its_first_line"), YES),
-    Guard("scripts: texts that bash reads itself", "trace/calls.py", 'life.taken += (found.path,) if error == "ENOEXEC" and life.traits().is_shell else ()', "life.taken += ()", script("that_runs_a_text_without_a_first_line"), YES),
+    Guard("scripts: texts that bash reads itself", "trace/started.py", 'life.taken += (found.path,) if error == "ENOEXEC" and life.traits().is_shell else ()', "life.taken += ()", script("that_runs_a_text_without_a_first_line"), YES),
     Guard("lists of a command: one alone", "tools/accounted.py", "other.is_end for other in lists) != 1:", "other.is_end for other in lists) < 1:", script("that_prints_names_before_a_command"), YES),
     Guard("lists of a command: its name", "tools/accounted.py", "name = os.path.basename(program.name)", "name = os.path.basename(program.argv[0])", script("that_prints_names_before_a_script"), YES),
     Guard("lists of a command: no shell", "tools/accounted.py", "os.path.basename(program.name) in SHELLS or ", "", script("that_prints_names_before_a_file_without_a_first_line"), YES),

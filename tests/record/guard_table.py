@@ -16,7 +16,7 @@ WITHHELD = "0 != 2"
 
 
 # What turns off that recipes see the listings which make keeps.
-MEMORY = ("make/memory.py", '                    work.add("L", folder + "\\0" + pattern, place)', "                    pass")
+MEMORY = ("make/memory.py", "add_list(make, make.acts.setdefault((builder.number, node.name), Work()), folder, place)", "pass")
 
 
 @dataclass(frozen=True)
@@ -76,7 +76,7 @@ TRACE: List[Guard] = [
           "test_replay.Lives.test_script_above_a_child_that_is_seen_first"),
     Guard("children: begun before the call ends", "trace/strace.py", "([Begun(pid)] if text.startswith(MAKES_PROCESS) else [])", "[]", "test_strace.Lines.test_creation_begins_before_it_ends"),
     Guard("children: wait while the parent is unclear", "trace/replay.py", "return len({(p.folder, p.is_wrapper, p.mask) for p in parents}) > 1", "return False", "test_replay.Lives.test_folder_of_a_child_that_two_may_have_started"),
-    Guard("past: make by an absolute path", "trace/calls.py", '        else:\n            self.past.append(" ".join(life.argv)[:200])', "        else:\n            pass", case("absolute-make"), LOST_HOLE),
+    Guard("past: make by an absolute path", "trace/started.py", '        else:\n            self.past.append(" ".join(life.argv)[:200])', "        else:\n            pass", case("absolute-make"), LOST_HOLE),
     Guard("past: make with words of its own", "importing.py", 'for t in path.read_text(errors="replace").splitlines()]', "for t in ()]", "test_output.Output.test_own_words_of_a_make_that_was_asked_for_them", LOST_HOLE),
     Guard("numbers: more processes than jobs", "make/owners.py", "            if len(lives) != len(jobs):\n", "            if False:\n", "test_owners.Holes.test_number_that_comes_again_once_too_often"),
     Guard("wrapper: the recipe that runs", "make/wrapper.py", "        if not self.job:\n            return self.is_early(packet)\n", "        if True:\n            return self.is_early(packet)\n", "test_wrapper.Splits.test_recipe_that_prints_words_of_make"),
@@ -107,20 +107,20 @@ NAMES: List[Guard] = [
     Guard("patterns of computed text are *", "tools/shelltext.py", 'cut or "$" in text or', "cut or", "test_shellvalues.Makefiles.test_loop_over_names_of_the_environment", YES),
     Guard("patterns of eval are *", "tools/shelltext.py", r' or re.search(r"\beval\b", text)', "", small("pattern_of_eval"), YES,
           ("tools/shelltext.py", 'OPTIONS.search(" ".join(argv)) or TAKES_IN.search(text)', "False")),
-    Guard("lists of make: a search", "make/memory.py", "for pattern in builder.make.globs if asked is None or path in asked else ():", "for pattern in builder.make.globs:", small("search_that_lists_a_folder"), FALSE_RACE),
+    Guard("lists of make: a search", "make/memory.py", "            if asked is None or path in asked:\n", "            if True:\n", small("search_that_lists_a_folder"), FALSE_RACE),
     Guard("lists of make: makefiles that are not there", "make/owners.py", 'return "N" in kinds', 'return False and "N" in kinds', small("search_that_lists_a_folder"), FALSE_RACE),
     Guard("lists of make: exported macros", "make/memory.py", "open_names = exported_lists(builder.known)", "open_names = False", small("wildcard_that_a_target_exports"), YES),
     Guard("macros: exports of a target", "make/macros.py", r"(?:[^\t\n#][^\n]*?:)??[ \t]*(?:(?:override|private)[ \t]+)*export", r"[ \t]*export", small("macro_that_a_target_exports"), YES),
     Guard("patterns keep other names out", "make/build.py", " and fits(pattern, join(folder, name), self.names):", ":", case("glob-other-names"), FALSE_RACE),
-    Guard("scripts are of their interpreter", "trace/calls.py", "argv = argv if life.is_wrapper else shelltext.with_interpreter(argv, found.path, self.first_words(found.path))", "pass", small("script_that_compares_ages"), YES),
+    Guard("scripts are of their interpreter", "trace/started.py", "argv = argv if life.is_wrapper else shelltext.with_interpreter(argv, found.path, self.first_words(found.path))", "pass", small("script_that_compares_ages"), YES),
 ]
 FOLDERS: List[Guard] = [
     Guard("folders: strict makers meet", "make/folders.py", "    for at in folder.strict & makers:\n", "    for at in ():\n", small("folder_made_by_two_who_fail"), YES),
     Guard("folders: quiet makers do not", "trace/calls.py", "quiet = shelltext.is_quiet_mkdir(life.argv) and", "quiet = False and", case("folder-mkdir-p"), FALSE_RACE),
     Guard("folders: mkdir -v is not quiet", "tools/shelltext.py", "return not loud and any(w == \"--parents\"", "return any(w == \"--parents\"", case("folder-mkdir-v"), YES),
     Guard("folders: mkdir || true", "make/folders.py", "        if excused(builder, at, path):\n            folder.strict.discard(at)", "        if False:\n            folder.strict.discard(at)", small("folder_made_or_true"), FALSE_RACE),
-    Guard("folders: lines that may fail", "make/folders.py", " or not kept and is_ignored(builder, at, folder)", "", small("folder_made_by_a_line_that_may_fail"), FALSE_RACE),
-    Guard("folders: lines that may not fail", "make/folders.py", "for line in heeded)", "for line in ())", small("folder_made_by_a_line_that_may_not_fail"), YES),
+    Guard("folders: lines that may fail", "make/quiet.py", " or not kept and is_ignored(builder, at, folder)", "", small("folder_made_by_a_line_that_may_fail"), FALSE_RACE),
+    Guard("folders: lines that may not fail", "make/quiet.py", "for line in heeded)", "for line in ())", small("folder_made_by_a_line_that_may_not_fail"), YES),
     Guard("folders: test -d || mkdir", "make/folders.py", "(at in folder.scripts or excused(builder, at, path))", "at in folder.scripts", small("folder_tested_or_made"), FALSE_RACE),
     Guard("folders: a user needs a maker", "make/folders.py", "            seen(builder, path, at, makers)\n    for at in makers:", "            pass\n    for at in makers:", case("folder-forgotten"), YES),
     Guard("folders: who looked before it made", "make/folders.py", "if look is not None and look < folder.first_made[at]", "if False", small("folder_looked_at_first"), YES),
@@ -131,7 +131,7 @@ FOLDERS: List[Guard] = [
     Guard("folders: modes", "make/folders.py", "    add_modes(builder)\n\n\ndef add_folder(", "\n\ndef add_folder(", case("folder-mode"), YES),
     Guard("folders: how many are in it", "make/folders.py", 'if kind == "h" and path in counted:', "if False:", small("folder_links_counted"), YES),
     Guard("folders: a rule that comes late", "make/folders.py", "if makes_itself(builder, at, path) or", "if", small("folder_whose_rule_comes_late"), FALSE_RACE),
-    Guard("folders: a rule that comes late makes the folder alone", "make/folders.py", "all(only.fullmatch(line) for line in lines)", "True", small("folder_whose_rule_comes_late_and_does_more"), YES),
+    Guard("folders: a rule that comes late makes the folder alone", "make/quiet.py", "all(only.fullmatch(line) for line in lines)", "True", small("folder_whose_rule_comes_late_and_does_more"), YES),
     Guard("folders: ages that nobody asks for", "make/build.py", "if len(names) > 1 or is_asked:", "if True:", small("folder_whose_rule_comes_late"), FALSE_RACE),
     Guard("folders: there before the build", "make/folders.py", "    if was_there(builder, path) and not folder.gone:\n", "    if False:\n", small("folder_there_already"), FALSE_RACE),
 ]
@@ -210,7 +210,7 @@ OWNERS: List[Guard] = [
     Guard("said: interpreters", "granted.py", 'assumed.add("interpreters", " ".join(argv)[:60])', "pass", small("interpreters"), UNSAID),
     Guard("said: MAKEFLAGS of a recipe", "granted.py", "if sees_words(argv, spool):", "if False:", small("path_of_a_recipe"), UNSAID),
     Guard("said: MAKEFLAGS of a makefile", "granted.py", "        if found:\n", "        if False:\n", small("flags_of_a_makefile"), UNSAID),
-    Guard("said: not of the recorder's own words", "trace/calls.py", "argv if life.is_wrapper else ", "", "test_output.Output.test_inner_makes_are_no_assumption"),
+    Guard("said: not of the recorder's own words", "trace/started.py", "argv if life.is_wrapper else ", "", "test_output.Output.test_inner_makes_are_no_assumption"),
     Guard("said: hard links", "importing.py", '("hard-links", replay.hard_links), ', "", small("hard_links"), UNSAID),
     Guard("said: sockets", "importing.py", '("sockets", replay.sockets), ', "", small("sockets"), UNSAID),
     Guard("race itself: refused", "main.py", "or any(j.verdict.status not in (0, 1) for j in judged):", "or False:", "test_judge.Answers.test_refused", LOST_HOLE),
@@ -236,7 +236,7 @@ UNFILED: List[Guard] = [
     Guard("macros: of the caller", "make/macros.py", "or self.is_inherited(name)", "", small("macro_that_the_caller_sets"), YES),
     Guard("macros: more than a macro", "make/macros.py", "set(changed) if ANY in changed else", "", small("search_path_that_a_recipe_sets"), YES),
     Guard("macros: second expansion", "make/unfiled.py", "(builder.known.changed or ", "(False or ", small("prerequisites_that_a_recipe_sets"), LOST_HOLE),
-    Guard("listings that make keeps", "make/memory.py", '                    work.add("L", folder + "\\0" + pattern, place)', "                    pass", small("listing_that_make_keeps"), YES),
+    Guard("listings that make keeps", "make/memory.py", "add_list(make, make.acts.setdefault((builder.number, node.name), Work()), folder, place)", "pass", small("listing_that_make_keeps"), YES),
     Guard("listings that make keeps: for who asks", "make/memory.py", "(asked is None or folder in asked)", "True", small("listing_that_nobody_else_asks_for"), FALSE_RACE),
     Guard("listings that make keeps: of other folders", "make/memory.py", "(asked is None or folder in asked)", "asked != set()", small("listings_of_two_folders"), FALSE_RACE),
     Guard("libraries by their short names", "make/memory.py", "if not stems or", "if True or", small("library_by_its_short_name"), YES),
@@ -251,7 +251,7 @@ UNFILED: List[Guard] = [
     Guard("ages: scripts of one name", "trace/replay.py", "[life.folder, *life.argv]", "life.argv", small("ages_by_a_script_of_that_name_elsewhere"), YES),
     Guard("ages: all words", "trace/replay.py", "[life.folder, *life.argv]", "[life.folder, *life.argv[:8]]", small("ages_by_a_late_word"), YES),
     Guard("ages: two names", "make/ages.py", "if first != second and at not in", "if at not in", small("age_of_a_folder_and_a_source"), FALSE_RACE),
-    Guard("ages: a script from standard input", "tools/shelltext.py", "if base_name(argv) in SHELLS and not text and not script:", "if False:", small("ages_by_a_script_from_standard_input"), YES),
+    Guard("ages: a script from standard input", "tools/shellages.py", "if base_name(argv) in SHELLS and not text and not script:", "if False:", small("ages_by_a_script_from_standard_input"), YES),
     Guard("folders: errors that are kept", "tools/shelltext.py", 'not in m.groupdict() or KEPT_ERRORS.search(NOWHERE.sub(" ", text)))', "not in m.groupdict())", small("folder_made_or_true_and_said"), YES),
     Guard("folders: the one that is made", "tools/shelltext.py", "for m in found if makes_it(m)", "for m in found", small("folder_tested_and_another_made"), YES),
     Guard("folders: one below it is made", "tools/shelltext.py", "startswith(os.path.normpath(form.group(\"d\").strip(\"'\\\"\")) + \"/\")", "endswith(os.path.normpath(form.group(\"d\").strip(\"'\\\"\")) + \"/\")",
@@ -277,9 +277,9 @@ UNFILED: List[Guard] = [
     Guard("said: macros that are inherited", "make/unfiled.py", 'builder.assumed.add("inherited"', '(lambda *_: None)("inherited"', small("macro_that_is_inherited"), UNSAID),
     Guard("said: programs that may compare ages", "make/ages.py", 'builder.assumed.add("ages"', '(lambda *_: None)("ages"', small("ages_by_a_program"), UNSAID),
     Guard("said: the order of listings", "make/unfiled.py", 'builder.assumed.add("listings"', '(lambda *_: None)("listings"', small("order_of_a_listing"), UNSAID),
-    Guard("interpreters are read", "trace/calls.py", 'self.look(life, words[0], True, True, "R")\n        self.look_at_interpreters(life, words[0])', 'self.look(life, words[0], True, True, "R")', small("interpreter_that_a_recipe_makes"), YES),
-    Guard("interpreters: make", "trace/calls.py", "if found.path == self.real:  # the kernel", "if False:  # the kernel", small("script_of_make_in_a_recipe"), LOST_HOLE),
-    Guard("interpreters that are not there", "trace/calls.py", "            self.look_at_interpreters(life, program)\n", "", small("interpreter_that_is_not_there_yet"), YES),
+    Guard("interpreters are read", "trace/started.py", 'self.look(life, words[0], True, True, "R")\n        self.look_at_interpreters(life, words[0])', 'self.look(life, words[0], True, True, "R")', small("interpreter_that_a_recipe_makes"), YES),
+    Guard("interpreters: make", "trace/started.py", "if found.path == self.real:  # the kernel", "if False:  # the kernel", small("script_of_make_in_a_recipe"), LOST_HOLE),
+    Guard("interpreters that are not there", "trace/started.py", "            self.look_at_interpreters(life, program)\n", "", small("interpreter_that_is_not_there_yet"), YES),
     Guard("folders: modes of those in which one is made", "make/folders.py", 'elif os.path.dirname(path.rstrip("/")) in (', "elif os.path.dirname(path) in (", small("folder_of_another_mode_in_which_one_is_made"), YES),
     Guard("folders: modes that makers have not", "make/folders.py", "first[path] != modes}", "False}", small("folder_of_the_mode_that_only_one_gives_it"), YES),
     Guard("folders: modes that makers have", "make/folders.py", "first[path] != modes}", "True}", small("folder_of_the_mode_that_it_is_given"), FALSE_RACE),
@@ -293,7 +293,7 @@ UNFILED: List[Guard] = [
     Guard("ages: of what is moved", "trace/moves.py", '        self.put(life, "c", new.path + "\\0" + old.path)\n        if "RENAME_EXCHANGE"', '        if "RENAME_EXCHANGE"', small("age_of_a_file_that_is_moved"), YES),
     Guard("ages: of a second name", "trace/moves.py", '        self.put(life, "c", new.path + "\\0" + old.path)\n        for other', '        for other', small("age_of_a_second_name"), YES),
     Guard("ages: in archives", "make/ages.py", 'or kind == "W" and packs', "", small("age_out_of_an_archive"), YES),
-    Guard("ages: scripts that a script takes in", "tools/shelltext.py", "script_compares(os.path.join(folder, n), folder, depth + 1)", "False", small("ages_by_a_script_that_is_taken_in"), YES),
+    Guard("ages: scripts that a script takes in", "tools/shellages.py", "script_compares(os.path.join(folder, n), folder, depth + 1)", "False", small("ages_by_a_script_that_is_taken_in"), YES),
 ]
 WARM: List[Guard] = [
     Guard("warm: recipes that do not wait", "warm.py", "return all(label in ordered for", "return any(label in ordered for", warm("recipe_that_does_not_wait"), LOST_HOLE),

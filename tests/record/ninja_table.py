@@ -137,13 +137,13 @@ CASES += [
          files={"sub/build.ninja": RULES + "build ../y: sh ../x\n  c = touch ../y ran\n"}),
     Case("ages-of-two-inputs", SAFE, sh("x", "", "touch x") + sh("y", "", "sleep 0.1; touch y") + sh("z", "x y", "ninja -C sub && touch z"),
          files={"sub/build.ninja": RULES + sh("out", "../x ../y", "cat ../x ../y > out")}),
-    Case("beside-each-other", SAFE, sh("g", "", "timeout 60 sh -c 'until test -e sub/began; do sleep 0.02; done'; echo 1 > g"), ["two makes or ninjas ran at once"], words="sh ./all",
+    Case("beside-each-other", SAFE, sh("g", "", "timeout 60 sh -c 'until test -e sub/began; do sleep 0.02; done'; echo 1 > g"), ["two makes or ninjas that ran at once"], words="sh ./all",
          files={"all": "ninja & ninja -C sub; wait\n", "sub/build.ninja": RULES + sh("h", "", "touch began h")}),
     Case("inner-ninja-that-fails", NONE, sh("x", "", "ninja -C sub || touch x"), ["ninja left no log"], files={"sub/build.ninja": RULES + sh("h", "", "false")}),
 ]
 CASES += [
-    Case("two-processes-of-one-command", SAFE, sh("a", "", "(sleep 0.3; echo 1 >> log) & (sleep 0.3; echo 2 >> log; sleep 0.2) & wait; touch a"), ["two processes of one recipe touch a file"]),
-    Case("process-that-outlives-its-command", SAFE, sh("a", "", "(sleep 0.5; echo > late) > /dev/null 2>&1 & touch a") + sh("b", "a", "sleep 1; touch b"), ["when its recipe had ended"]),
+    Case("two-processes-of-one-command", SAFE, sh("a", "", "(sleep 0.3; echo 1 >> log) & (sleep 0.3; echo 2 >> log; sleep 0.2) & wait; touch a"), ["two processes of one recipe that may touch a file"]),
+    Case("process-that-outlives-its-command", SAFE, sh("a", "", "(sleep 0.5; echo > late) > /dev/null 2>&1 & touch a") + sh("b", "a", "sleep 1; touch b"), ["when its recipe has ended"]),
 ]
 LIAR = "rule liar\n  command = echo '$out: g' > $out.d; touch $out\n  deps = gcc\n  depfile = $out.d\n"
 CASES += [

@@ -3,7 +3,7 @@
 import unittest
 
 import support  # noqa: F401
-from record.tools.shelltext import compares_ages
+from record.tools.shellages import compares_ages
 
 COMPARE = ("test x -nt y", "[ x -ot y ]", "find . -newer y", "find . -mtime 1", "cp -u x y", "cp -a --update x y", "mv -u x y", "rsync -au x y",
            "tar -uf x.tar y", "tar uf x.tar y", "tar --newer=x -cf y.tar z", "ls -t", "ls -l x", "ls x -lt", "stat -c %y x", "stat --format=%Y x",

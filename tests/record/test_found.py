@@ -21,7 +21,14 @@ LISTS = {"b.c": "c\n", "list": "old\n", "old": "old\n", "new": "new\n"}
 TWO_RULES = "%.t: %.a ; cp $< $@\n%.t: %.b ; cp $< $@\n"
 CHAINS = "%.t: %.m ; cp $< $@\n%.m: %.a ; cp $< $@\n%.t: %.n ; cp $< $@\n%.n: %.b ; cp $< $@\n"
 ORDER = ".PHONY: a b\nall: c\na b: ; touch d/s/$@\nr: a b ; %s; touch r\nc: r ; find e/s > c\n"
-MANY = "all: ; for i in 1 2 3 4 5 6 7; do for j in 1 2 3 4 5 6; do (sleep 0.1; echo $$i >> log) & done; done; wait; touch all\n"
+MANY = "all: ; %s:; touch all\n" % ("(sleep 0.2; echo x >> log) | " * 42)
+
+STARTS = """import subprocess, time
+one = subprocess.Popen(["sh", "-c", "sleep 0.2; cat k > x"])
+time.sleep(0.1)
+open("x", "w").write("b")
+one.wait()
+"""
 
 FOUND: Dict[str, Small] = {
     # several jobs that no number bounds: make asks for no token then
@@ -56,12 +63,12 @@ FOUND: Dict[str, Small] = {
     "order_of_a_folder_that_is_copied": Small("safe", ORDER % "cp -r d e", setup="mkdir -p d/s", says="programs that list a folder"),
     "order_of_a_folder_that_is_moved": Small("safe", ORDER % "mv d e", setup="mkdir -p d/s", says="programs that list a folder"),
     # processes of one recipe
-    "look_beside_a_process_that_makes": Small("safe", "y: ; (test -f x && echo yes > y || echo no > y; sleep 0.4) & sleep 0.1; touch x; wait\n", says="two processes of one recipe touch a file"),
-    "folder_that_is_made_beside_a_look": Small("safe", "y: ; (test -d x && echo yes > y || echo no > y; sleep 0.4) & sleep 0.1; mkdir x; wait\n", says="two processes of one recipe touch a file"),
-    "look_before_a_process_that_makes": Small("safe", "y: ; test -f x || touch x; test -f x && cat x > y\n", lacks="two processes of one recipe touch a file"),
-    "many_processes_at_once": Small("safe", MANY, says="two processes of one recipe touch a file"),
-    "process_beside_its_shell": Small("safe", "all: ; (sleep 0.2; cat k > x) & sleep 0.1; echo b > x; wait; touch all\n", {"k": "k"}, says="two processes of one recipe touch a file"),
-    "process_before_its_shell": Small("safe", "all: ; (cat k > x) & wait; echo b > x; touch all\n", {"k": "k"}, lacks="two processes of one recipe touch a file"),
+    "look_beside_a_process_that_makes": Small("safe", "y: ; (test -f x && echo yes > y || echo no > y; sleep 0.4) | (sleep 0.1; touch x)\n", says="two processes of one recipe that may touch a file"),
+    "folder_that_is_made_beside_a_look": Small("safe", "y: ; (test -d x && echo yes > y || echo no > y; sleep 0.4) | (sleep 0.1; mkdir x)\n", says="two processes of one recipe that may touch a file"),
+    "look_before_a_process_that_makes": Small("safe", "y: ; test -f x || touch x; test -f x && cat x > y\n", lacks="two processes of one recipe that may touch a file"),
+    "many_processes_at_once": Small("safe", MANY, says="two processes of one recipe that may touch a file"),
+    "process_beside_its_shell": Small("safe", "all: ; python3 p.py; touch all\n", {"k": "k", "p.py": STARTS}, says="two processes of one recipe that may touch a file"),
+    "process_before_its_shell": Small("safe", "all: ; (cat k > x) & wait; echo b > x; touch all\n", {"k": "k"}, lacks="two processes of one recipe that may touch a file"),
 }
 COMMANDS["jobs_with_no_number_and_one_job"] = ["make", "-j1"]
 COMMANDS["jobs_by_letters_of_the_environment"] = ["env", "MAKEFLAGS=kj", "make"]

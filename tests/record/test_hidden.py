@@ -63,10 +63,10 @@ HIDDEN: Dict[str, Small] = {
     # programs that the kernel reads by itself
     "loader_that_a_recipe_makes": Small("race", "all: use ld.so\nld.so: ; cp /bin/cat ld.so\nuse: ; ./prog > use || true\n", {"p.c": "int main(void) { return 0; }\n"}, "cc -Wl,--dynamic-linker=./ld.so -o prog p.c"),
     # makes of one recipe that run at once
-    "two_makes_of_one_recipe_at_once": Small("safe", "all: ; $(MAKE) -f in.mk p & sleep 0.4; $(MAKE) -f in.mk q; wait\n", {"in.mk": "p:\n\techo 1 > p\n\tsleep 1\nq: ; cat p > q\n"}, says="two processes of one recipe touch a file"),
-    "two_makes_of_one_recipe_in_a_row": Small("safe", "all: ; $(MAKE) -f in.mk p | cat; $(MAKE) -f in.mk q | cat\n", {"in.mk": "p: ; echo 1 > p\nq: ; cat p > q\n"}, lacks="two processes of one recipe touch a file"),
+    "two_makes_of_one_recipe_at_once": Small("safe", "all: ; $(MAKE) -f in.mk p | (sleep 0.4; $(MAKE) -f in.mk q)\n", {"in.mk": "p:\n\techo 1 > p\n\tsleep 1\nq: ; cat p > q\n"}, says="two processes of one recipe that may touch a file"),
+    "two_makes_of_one_recipe_in_a_row": Small("safe", "all: ; $(MAKE) -f in.mk p | cat; $(MAKE) -f in.mk q | cat\n", {"in.mk": "p: ; echo 1 > p\nq: ; cat p > q\n"}, lacks="two processes of one recipe that may touch a file"),
     # sockets
-    "socket_without_a_file_that_nobody_opened": Small("safe", "all: ; python3 t/s.py; touch all\n", {"t/s.py": SOCKET}, says="a process talks to a server"),
+    "socket_without_a_file_that_nobody_opened": Small("safe", "all: ; python3 t/s.py; touch all\n", {"t/s.py": SOCKET}, says="servers that processes talk to"),
 }
 
 COMMANDS["target_that_an_earlier_make_has_made"] = ["sh", "-c", "make t && sleep 0.05 && make -f 2.mk"]

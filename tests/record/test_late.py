@@ -9,7 +9,7 @@ from typing import Dict
 
 import support
 import test_output
-from record.tools.shelltext import asks_reads
+from record.tools.shellages import asks_reads
 from record.tools.texts import is_plain, text_of
 from record.trace.names import Names
 from record.trace.skips import Skip
@@ -27,7 +27,7 @@ LATER = "D = d1\nall: a c b.q\na: ; touch d2/n.x a\nc: ; touch c\n%s\n"
 FOLDERS = "mkdir d1 d2 'd 2'"
 SEES = "who lists the processes that run"
 READ = "who asks when a file was read last"
-LINKED = "files got a second name"
+LINKED = "files that got or lost a second name"
 
 LATE: Dict[str, Small] = {
     # the order in which a folder shows its names, and its size
@@ -53,6 +53,8 @@ LATE: Dict[str, Small] = {
     "rule_that_is_a_macro_without_a_pattern": Small("safe", INSIDE, {"in.mk": "X = a: z.x\n$(X)\n" + TAKES, "z.x": ""}),
     "rule_that_begins_with_a_macro": Small("safe", INSIDE, {"in.mk": "T = a\n$(T): z.x ; echo '$^' > a; rm -f *.q\n", "z.x": ""}),
     "line_that_says_something": Small("safe", INSIDE, {"in.mk": "X = a: *.x\n$(info $(X))\n" + TAKES}),
+    "line_that_says_a_rule": Small("safe", INSIDE, {"in.mk": "$(info a: *.x)\n${warning $(X) a: *.x} # z\n" + TAKES}),
+    "line_that_says_something_before_a_rule": Small("race", INSIDE, {"in.mk": "X = a: *.x\n$(info x)$(X)\n" + TAKES, "z.x": ""}),
     # where a recipe looks for names
     "wildcard_of_a_macro_in_a_loop": Small("race", LATER % "b.q: c ; echo $(foreach D,d2,$(wildcard $(D)/*.x)) > b.q", setup=FOLDERS),
     "wildcard_of_a_macro_of_a_pattern": Small("race", LATER % "%.q: D = d2\n%.q: c ; echo $(wildcard $(D)/*.x) > b.q", setup=FOLDERS),

@@ -5,7 +5,7 @@ import unittest
 from typing import Dict, List, Set, Tuple
 
 import support
-from record.tools import shelltext
+from record.tools import shellages, shelltext
 from test_replay import TOP, events_of, lives_of, played
 from test_small import COMMANDS, Small, test_of
 
@@ -52,7 +52,7 @@ SEEN: Dict[str, Small] = {
     "ages_by_a_script_that_is_changed_then": Small("safe", PAIR + "echo 'test a -nt b' > s; sh s; echo : > s; touch c\n", says="programs that nobody knows look"),
     # what make does itself
     "act_of_a_second_rule": Small("race", "all: s a b\ns: ; touch s\na:: ; touch a\na:: s ; $(file >x,1)echo >> a\nb: ; cat x > b || true\n"),
-    "background_of_a_function": Small("safe", "X := $(shell (sleep 0.3; echo 1 > x) > /dev/null 2>&1 &)\nall: ; sleep 0.6; touch all\n", says="when its recipe had ended"),
+    "background_of_a_function": Small("safe", "X := $(shell (sleep 0.3; echo 1 > x) > /dev/null 2>&1 &)\nall: ; sleep 0.6; touch all\n", says="when its recipe has ended"),
     # folders that are made
     "folder_made_or_true_in_another_shell": Small("race", "all: a b\na b: ; sh -c 'mkdir d || true' 2> $@.log; touch $@\n"),
     "folder_made_or_true_for_a_program": Small("race", "all: a b\na b: ; python3 t/m.py; touch $@\n", {"t/m.py": "import subprocess\nsubprocess.run('mkdir d || true', shell=True)\n"}),
@@ -66,13 +66,13 @@ SEEN: Dict[str, Small] = {
                                                     {"in.mk": "define set\n$(eval X := set)\ntouch a\nendef\n"}),
     # what goes past files
     "name_of_a_socket": Small("race", "all: a b\na: ; python3 t/s.py; touch a\nb: ; if test -S s; then echo yes; fi > b\n", {"t/s.py": SOCKET}),
-    "memory": Small("safe", "all: ; python3 m.py; touch all\n", {"m.py": SHARED}, says="shares memory"),
+    "memory": Small("safe", "all: ; python3 m.py; touch all\n", {"m.py": SHARED}, says="memory is shared"),
     "processes": Small("safe", "all: ; ls /proc > /dev/null; touch all\n", says="who lists the processes"),
     "process_of_make": Small("safe", "all: ; cat /proc/$$PPID/stat > /dev/null; touch all\n", says="who lists the processes"),
     "process_of_its_own": Small("safe", "all: ; cat /proc/self/stat > /dev/null; touch all\n", lacks="who lists the processes"),
-    "process_beside_make": Small("safe", "all: ; touch go; " + WAIT % "x" + "touch all\n", says="a process that no recipe started"),
-    "script_beside_make": Small("safe", "all: ; touch go; " + WAIT % "x" + "touch all\n", says="a process that no recipe started"),
-    "script_before_make": Small("safe", "all: ; touch all\n", lacks="a process that no recipe started"),
+    "process_beside_make": Small("safe", "all: ; touch go; " + WAIT % "x" + "touch all\n", says="files that a process which no recipe started"),
+    "script_beside_make": Small("safe", "all: ; touch go; " + WAIT % "x" + "touch all\n", says="files that a process which no recipe started"),
+    "script_before_make": Small("safe", "all: ; touch all\n", lacks="files that a process which no recipe started"),
     "times_of_reading": Small("safe", "all: ; find f -anewer g > all\n", {"f": "f", "g": "g"}, says="when a file was read last"),
     "times_of_reading_by_a_script": Small("safe", "all: ; sh s > all\n", {"s": "if [ -N s ]; then echo new; fi\n"}, says="when a file was read last"),
 }
@@ -155,12 +155,12 @@ class Words(unittest.TestCase):
         shows = ("stat a", "stat -t a", "stat -c %Y a", "stat --printf=%.9Y a", "ls -g a", "ls --full-time", "date --reference=a", "date -ur a", "tar -cN ./a b",
                  "tar --after-date=./a b", "tar uf a b", "tar --keep-newer-files -xf a", "find a -ls ", "zsh -c echo*(om)", "cp --up a b", "mv -fu a b")
         hides = ("stat -c %s a", "stat -f -c %T a", "ls -1A a", "ls --file-type a", "date -R", "tar --null -cf a b", "tar xf a", "find a -name b", "zsh -c f;(a)", "cp -f a b")
-        self.assertEqual([True] * len(shows), [shelltext.shows_ages(text.split()) for text in shows])
-        self.assertEqual([False] * len(hides), [shelltext.shows_ages(text.split()) for text in hides])
+        self.assertEqual([True] * len(shows), [shellages.shows_ages(text.split()) for text in shows])
+        self.assertEqual([False] * len(hides), [shellages.shows_ages(text.split()) for text in hides])
 
     def test_operators_that_are_spelled_in_another_way(self) -> None:
         texts = ("[ a \\-nt b ]", '[ a -n"t" b ]', "[ a \"-\"ot b ]", "[ ! a $o b ]")
-        self.assertEqual([True] * len(texts), [shelltext.compares_ages(["sh", "-c", text], "/") for text in texts])
+        self.assertEqual([True] * len(texts), [shellages.compares_ages(["sh", "-c", text], "/") for text in texts])
 
     def test_who_sets_options(self) -> None:
         with support.Project({"s": "export -f show\n", "t": "export x\n"}) as project:

@@ -5,7 +5,7 @@ import unittest
 from typing import List
 
 import support
-from record.tools import shelltext
+from record.tools import shellages, shelltext
 
 
 def sh(text: str) -> List[str]:
@@ -103,11 +103,11 @@ class Looks(unittest.TestCase):
 
     def test_scripts_are_searched(self) -> None:
         with support.Project({"old": "test a -nt b\n", "plain": "cat a\n"}) as project:
-            found = [shelltext.compares_ages(["sh", name], str(project.folder)) for name in ("old", "plain", "none")]
+            found = [shellages.compares_ages(["sh", name], str(project.folder)) for name in ("old", "plain", "none")]
         self.assertEqual([True, False, True], found)
 
     def test_texts_that_run_other_texts(self) -> None:
-        self.assertEqual([True, True, False], [shelltext.compares_ages(sh(t), "/") for t in (". ./x", "eval x", "cat x.y")])
+        self.assertEqual([True, True, False], [shellages.compares_ages(sh(t), "/") for t in (". ./x", "eval x", "cat x.y")])
 
     def test_scripts_that_a_script_takes_in(self) -> None:
         for text in (". ./x", "if . ./x; then", "then\tsource ./x", "x=1 . ./x", "(. ./x)", "command . ./x", "true && . ./x", "y=`. ./x`", "{ . ./x\n}", "time\n. ./x"):

@@ -85,7 +85,7 @@ SOUGHT: Dict[str, Small] = {
     "folder_made_or_true_in_a_make_with_errors": Small("race", KEEPS % ("$(MAKE)", "> log 2>&1"), {"in.mk": TWO % "mkdir d || true"}),
     "folder_made_by_a_line_in_a_make_with_errors": Small("race", KEEPS % ("$(MAKE)", "2> log"), {"in.mk": "all: a b\na b:\n\t@-mkdir d\n\t@touch $@\n"}),
     "folder_made_or_true_in_a_make_with_output": Small("safe", KEEPS % ("$(MAKE)", "> log"), {"in.mk": TWO % "mkdir d || true"}),
-    "folder_made_or_true_in_a_make_for_a_program": Small("safe", KEEPS % ("$(MAKE)", "2>&1 | cat > log"), {"in.mk": TWO % "mkdir d || true"}, says="goes to another program"),
+    "folder_made_or_true_in_a_make_for_a_program": Small("safe", KEEPS % ("$(MAKE)", "2>&1 | cat > log"), {"in.mk": TWO % "mkdir d || true"}, says="what a make prints does the same"),
     "folder_made_by_a_program_of_the_project": Small("race", "all: a b\na b: ; ./mkdir -p d > $@\n", {"o.c": MAKES}, "cc -o mkdir o.c"),
     "folder_tested_or_made_in_a_make_with_errors": Small("safe", KEEPS % ("$(MAKE)", "> log 2>&1"), {"in.mk": TWO % "test -d d || mkdir -p d"}),
     # what makes print with several jobs alone

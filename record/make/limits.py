@@ -1,0 +1,76 @@
+"""Files that the recorder keeps where a recipe has set a limit on the size of files (`ulimit -f`), which holds for the wrapper of make too.
+
+`race-record` puts this file in front of wrapper.py where it makes the program that stands in front of make. While the wrapper writes for the
+recorder it raises its own limit, if it may; what it writes for make it writes under the limit. What cannot be kept is a hole: FILE.cut says so.
+"""
+
+import errno
+import os
+
+SIZE = 1 << 16  # bytes that are held back
+
+
+class Kept:
+    """A file for the recorder."""
+
+    def __init__(self, path, mode="xb"):
+        self.name, self.file = path, open(path, mode, buffering=0)
+        self.held, self.size, self.is_cut = [], 0, False
+
+    def __enter__(self):
+        return self
+
+    def __exit__(self, *_):
+        self.flush()
+        self.file.close()
+
+    def write(self, data):
+        """Takes some bytes."""
+        self.held.append(data)
+        self.size += len(data)
+        if self.size > SIZE:
+            self.flush()
+
+    def flush(self):
+        """Writes what is held back."""
+        rest, self.held, self.size = memoryview(b"".join(self.held)), [], 0
+        try:
+            while rest and not self.is_cut:
+                rest = rest[self.file.write(rest):]
+        except OSError as error:
+            if error.errno != errno.EFBIG:
+                raise
+            self.force(rest)
+
+    def force(self, rest):
+        """Writes more than the limit allows; where the wrapper may not raise it, says that the file is cut."""
+        import resource  # seldom needed
+
+        soft, hard = resource.getrlimit(resource.RLIMIT_FSIZE)
+        try:
+            for most in (resource.RLIM_INFINITY, hard):
+                try:
+                    resource.setrlimit(resource.RLIMIT_FSIZE, (most, most))
+                    break
+                except (OSError, ValueError):  # only root may raise a hard limit
+                    pass
+            while rest:
+                rest = rest[self.file.write(rest):]
+        except OSError as error:
+            if error.errno != errno.EFBIG:
+                raise
+            self.is_cut = True
+            note_cut(self.name)
+        finally:
+            resource.setrlimit(resource.RLIMIT_FSIZE, (soft, resource.getrlimit(resource.RLIMIT_FSIZE)[1]))
+
+
+def note_cut(path):
+    """Says that a file is cut: an empty file can be made under any limit."""
+    os.close(os.open(path + ".cut", os.O_CREAT | os.O_WRONLY, 0o666))
+
+
+def keep(path, data, mode="wb"):
+    """Writes a file for the recorder."""
+    with Kept(path, mode) as file:
+        file.write(data)

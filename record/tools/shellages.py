@@ -1,0 +1,77 @@
+"""What the words of a process say of ages: whether it compares which of two files is newer, or asks when one was read last."""
+
+import os
+import re
+from functools import lru_cache
+from typing import List
+
+from record.tools.shelltext import FORMAT_OF_STAT, KEPT, LARGE, SHELLS, TAKEN, TAKES_IN, base_name, contents, is_interpreter, script_of, shell_words
+from record.tools.texts import text_of
+
+READ_TIMES = re.compile(r"(?:\btest|\[)\s[^;&|\n]*-N\s|\bfind\b[^;|\n]*\s-(?:anewer|amin|atime|used|newera\w|newer\wa)\s|\bstat\b[^;|&\n]*%[-+ 0#'\d.]*[xX]"
+                        r"|\bls\s([^;|&\n]*?\s)?(?:-\w*u|--time=(?:a|u))")
+READ_TIME = re.compile(r"\b(?:st_|get)?atime\b|(?<!\S)-A\s")  # of an interpreter's text
+QUALIFIED = re.compile(r"[\w*?\])/>]\(")  # a pattern of zsh that may ask for ages, as `*(om)` does
+TIME_OF_STAT = re.compile(r"%[-+ 0#'\d.]*[WXYZwxyz]|\s(-\w*t|--t)")
+# The words by which a program shows or compares ages, by its name.
+SHOWS_AGES = {
+    "ls": re.compile(r"\s(-\w*[tlcugon]|--(fu|fo|so|ti))"),
+    "date": re.compile(r"\s(-\w*r|--ref)"),
+    "tar": re.compile(r"^\s\w*[uN]|\s(-\w*[uN]|--(ne|af|up|keep-n))"),
+    "find": re.compile(r"\s-(f?ls|used)\s"),
+    "cp": re.compile(r"\s(-\w*u|--u)"),
+    "mv": re.compile(r"\s(-\w*u|--u)"),
+    "du": re.compile(r"\s--ti"),
+}
+# `ar` with `u` is not among them: it compares a file with its archive alone (record/make/ages.py).
+AGES = re.compile(
+    r"(^|\s|\[)[\"'\\]*-[\"'\\]*-?([no][\"'\\]*t|[ac]?newer[\w-]*|mtime|mmin|atime|amin|cmin|ctime|f?printf)[\"'\\]*[\s=]|\b(cp|mv|rsync|tar)\s+([^;|&\n]*?\s)?(-\w*u|--update)"
+    r"|(?:\btest|\[)\s+(?:!\s+)?(?![-!])\S+\s+\"?-?\$\S+\s+[^\s;&|\])]|\btar\s+\w*u|\bls\s+([^;|&\n]*?\s)?-\w*[tlc]|\bstat\b[^;|&\n]*%[WXYZwxyz]|--sort[= ]t|\bdate\s+[^;|&\n]*-r")
+COMPUTED = re.compile(r"\beval[ \t]+[\"']?(?:\$\(|`)")  # the text that a program prints
+
+
+def script_compares(path: str, folder: str, depth: int = 0) -> bool:
+    """Whether the text of a script compares ages, or that of a script that it takes in; so may one that cannot be read."""
+    try:
+        text = text_of(path, LARGE)
+    except OSError:
+        return True
+    taken = [name.strip("'\"") for name in TAKEN.findall(text)]
+    return len(text) == LARGE or bool(AGES.search(text) or COMPUTED.search(text)) or depth > 3 or any("$" in n or script_compares(os.path.join(folder, n), folder, depth + 1) for n in taken)
+
+
+def shows_ages(argv: List[str]) -> bool:
+    """Whether a program shows or compares ages, by words that are its own."""
+    name, text = base_name(argv), "".join(" " + word for word in argv[1:]) + " "
+    if name == "zsh":
+        return bool(QUALIFIED.search(text))
+    if name == "stat":
+        return not FORMAT_OF_STAT.search(text) or bool(TIME_OF_STAT.search(text))
+    return name in SHOWS_AGES and bool(SHOWS_AGES[name].search(text))
+
+
+def asks_reads(argv: List[str], folder: str) -> bool:
+    """Whether a program, or a script, may ask when a file was read last."""
+    is_known = base_name(argv) in SHELLS or base_name(argv) in ("test", "[", "find", "stat", "ls")
+    if is_interpreter(argv):
+        script = next((word for word in argv[1:] if not word.startswith("-")), "")
+        return bool(READ_TIME.search(" ".join(argv)) or READ_TIME.search(contents(os.path.join(folder, script))))
+    return is_known and (bool(READ_TIMES.search(" ".join(argv) + " ")) or bool(script_of(argv)) and asks_reads_in(os.path.join(folder, script_of(argv))))
+
+
+@lru_cache(KEPT)
+def asks_reads_in(path: str) -> bool:
+    """Whether the text of a script may do so."""
+    return bool(READ_TIMES.search(contents(path)))
+
+
+def compares_ages(argv: List[str], folder: str) -> bool:
+    """Whether a process may depend on which of two files is newer."""
+    if shows_ages(argv):
+        return True
+    text, script = shell_words(argv)
+    if base_name(argv) in SHELLS and not text and not script:
+        return True  # its script comes from standard input, and nobody can read it
+    if script and "libtool" not in script:
+        return script_compares(os.path.join(folder, script), folder) or bool(AGES.search(" ".join(argv[1:]) + " "))
+    return bool(AGES.search(" ".join(argv) + " ")) or bool(TAKES_IN.search(text))

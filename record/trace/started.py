@@ -1,0 +1,121 @@
+"""What it means that a process begins to run a program: who reads its text, whether it is a make, and which files count for it."""
+
+import os
+from typing import List
+
+from record.make.copies import is_other_make
+from record.tools import shellages, shelltext
+from record.tools.computed import runs_unseen
+from record.trace.lives import Life
+from record.trace.loader import interpreter_words
+from record.trace.opened import Opened
+from record.trace.strace import Call, first_text, folders, is_cut, texts
+
+SCRIPTS = 5  # how many scripts may be the interpreter of one another; the kernel allows no more
+
+
+class Started(Opened):
+    """The calls that begin a program, and what follows from that."""
+
+    def on_execve(self, life: Life, call: Call, ok: bool) -> None:
+        program = first_text(call.args) or "".join(folders(call.args)[:1])
+        if not program:
+            return
+        if not ok:
+            self.fail_to_run(life, program, call.error)
+            return
+        words = [program, *texts(call.args)[1:]]
+        argv = words[1:]
+        was_wrapper, was_make = life.is_wrapper, life.is_make
+        forked = was_wrapper and not life.ran
+        life.taken = ()
+        found = self.names.find(life.folder, words[0], True)
+        life.is_wrapper = found.path.startswith(self.spool + "/bin/")
+        argv = argv if life.is_wrapper else shelltext.with_interpreter(argv, found.path, self.first_words(found.path))
+        life.program = found.path
+        life.is_ninja = argv == words[1:] and bool(shelltext.NINJA.match(os.path.basename(found.path)))
+        if life.is_ninja:
+            life.starts.append((self.place, life.folder))
+        life.argv, life.cut, life.begun = argv, is_cut(call.args), self.place
+        if life.cut:
+            self.holes.append("the words of a program are too many to be seen: " + " ".join(argv)[:100])
+        life.ran.append(argv)
+        self.begin_program(life, words, self.first_words(found.path))
+        if life.is_wrapper:
+            self.put_links(life, found)
+            return
+        self.note_rights(life, found.path)
+        self.is_open_shell = self.is_open_shell or shelltext.sets_options(argv, life.folder)
+        if shellages.asks_reads(argv, life.folder):
+            self.askers.append(" ".join(argv)[:100])
+        if self.is_real_make(found.path):
+            self.begin_make(life, was_wrapper, was_make, forked)
+        else:
+            life.is_make = life.is_make and life.number >= 0 and was_make
+            if is_other_make(found.path, self.real):
+                self.past.append(" ".join(life.argv)[:200])
+        self.look(life, words[0], True, True, "R")
+        self.look_at_interpreters(life, words[0])
+        self.note_handed(life)
+
+    on_execveat = on_execve
+
+    def fail_to_run(self, life: Life, program: str, error: str) -> None:
+        """A program did not start. Where the kernel does not know what kind of file it is, bash reads it itself, as a script."""
+        if not life.is_wrapper:
+            found = self.look(life, program, False, True)
+            self.look_at_interpreters(life, program)
+            life.taken += (found.path,) if error == "ENOEXEC" and life.traits().is_shell else ()
+
+    def note_handed(self, life: Life) -> None:
+        """A program may ask how old a file is that a shell has opened for it, and no call names that."""
+        traits = life.traits()
+        is_asked = traits.asks_input or not traits.is_interpreter and not traits.is_shell and self.is_unknown(life)
+        for path in life.handed() if is_asked else ():
+            self.put(life, "A" if traits.asks_input or self.ages(life) else "a", path)
+
+    def first_words(self, path: str) -> List[str]:
+        """The words of a script's first line, read once: the build has ended."""
+        if path not in self.firsts:
+            self.firsts[path] = shelltext.first_words(path)
+        return self.firsts[path]
+
+    def is_real_make(self, path: str) -> bool:
+        """Whether a program is the make that the recorder knows."""
+        if path not in self.makes_by_path:
+            self.makes_by_path[path] = path == self.real or os.path.realpath(path) == self.real
+        return self.makes_by_path[path]
+
+    def look_at_interpreters(self, life: Life, program: str) -> None:
+        """The kernel reads the interpreter of a script by itself, and that of an interpreter which is a script; so it does with the loader of a program."""
+        for _ in range(SCRIPTS):
+            path = self.names.find(life.folder, program, True).path
+            words = interpreter_words(path) if self.is_inside(path) else self.first_words(path)
+            if not words:
+                return
+            program = words[0]
+            found = self.names.find(life.folder, program, True)
+            if found.path == self.real:  # the kernel runs make in the script's place
+                self.past.append(" ".join(life.argv)[:200])
+            self.put_links(life, found)
+            self.put_look(life, found, found.inode is not None, "R")
+
+    def begin_make(self, life: Life, was_wrapper: bool, was_make: bool, forked: bool) -> None:
+        life.is_make = True
+        if was_make and life.number >= 0:
+            life.starts.append((self.place, life.folder))
+        elif forked:
+            life.number = self.makes.get(life.pid, 0)
+            self.makes[life.pid] = life.number + 1
+            life.starts.append((self.place, life.folder))
+        elif was_wrapper:
+            life.is_query = True
+        else:
+            self.past.append(" ".join(life.argv)[:200])
+
+    def is_unknown(self, life: Life) -> bool:
+        """Whether nobody knows if a program compares the ages of what it looks at, or of what it has opened."""
+        traits = life.traits()
+        if traits.is_shell and traits.is_open is None:
+            traits.is_open = runs_unseen(life.argv, life.folder)
+        return not life.is_make and (not traits.is_ageless or bool(traits.is_open) or self.is_inside(life.program))
