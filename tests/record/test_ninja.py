@@ -133,6 +133,28 @@ class Fresh(unittest.TestCase):
             record, _ = project.left()
         self.assertEqual([], (record or {"holes": ["none"]})["holes"])
 
+    def test_outputs_outside_come_back(self) -> None:
+        """What `ninja -t clean` takes away outside of the folder, also where the recorded build does not make it again."""
+        manifest = RULES + "build ../g: sh\n  c = echo 1 > ../g\nbuild ../h: sh\n  c = echo 2 > ../h\nbuild a: sh ../g\n  c = cat ../g > a\n"
+        with support.Project({"b/build.ninja": manifest}) as project:
+            project.sh("ninja -C b -j1 > /dev/null; touch -d 2001-01-01 g h")
+            before = self.state(project)
+            outcome = project.record(["ninja", "-C", "b", "a"], ["--fresh"])
+            self.assertEqual((before, 0), (self.state(project), outcome.status), outcome.text() + outcome.stderr.decode())
+            project.sh("touch g.race-saved")
+            self.assertEqual(3, project.record(["ninja", "-C", "b", "a"], ["--fresh"]).status)
+            (project.folder / "g.race-saved").unlink()
+            self.assertEqual(before, self.state(project))
+
+    def test_folder_that_holds_something(self) -> None:
+        """An output that is a folder is not removed, and its statement runs all the same."""
+        manifest = RULES + "build d: sh\n  c = mkdir -p d; echo 1 > d/f\nbuild a: sh\n  c = cat d/f > a\n"
+        with support.Project({"build.ninja": manifest}) as project:
+            project.sh("ninja -j1 > /dev/null")
+            outcome = project.record(["ninja"], ["--fresh"])
+        self.assertEqual(1, outcome.status, outcome.text() + outcome.stderr.decode())
+        self.assertIn("RACE  d/f", outcome.text())
+
     def says(self, project: support.Project, text: str, *words: str) -> None:
         """What is said where nothing can be recorded, in lines."""
         outcome = project.record(words, ["--fresh"])
