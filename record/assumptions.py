@@ -5,7 +5,7 @@ from typing import Dict, List
 
 TEXTS = {
     "serial": "make decides goals in this order, without --shuffle, and recipes do not use MAKEFLAGS, the number of processors, a terminal, standard input, descriptors of a job server, or files that were opened for them before make began",
-    "ninja": "commands of ninja do not look at the number of jobs, the number of processors or a terminal, and nobody looks at the order of what ninja prints",
+    "ninja": "commands of ninja do not use the number of jobs, the number of processors, a terminal, standard input, or files that were opened for them before ninja began, and nobody looks at the order of what ninja prints",
     "ties": "build statements with one command were distinguished by ninja's log",
     "up-to-date": "builds start from this tree: targets that were up to date stay so",
     "configured": "builds start when ./configure has run: what it makes is there and up to date",

@@ -10,6 +10,7 @@ from typing import Callable, Dict, Iterator, List, Optional, Set, Tuple
 from record.make.owners import Owners, Work
 from record.ninja.log import Kept, ends, new_outputs, text_of
 from record.ninja.manifest import Edge, Manifest, Unreadable, canonical, read_dyndep, read_manifest
+from record.tools import shelltext
 from record.trace.lives import Life
 from record.trace.names import Names
 
@@ -96,6 +97,12 @@ def options_of(argv: List[str]) -> "Optional[Tuple[Dict[str, str], List[str]]]":
     return options, goals
 
 
+def is_unknown(life: Life) -> bool:
+    """Whether a program keeps a log of ninja and starts others, as ninja does, and is none by its name."""
+    starts = not life.is_make and shelltext.base_name(life.argv) not in shelltext.SHELLS and any(child.ran for child in life.children)
+    return starts and any(path.endswith("/.ninja_log") and kind in "WC" for kind, path in life.events)
+
+
 def is_tried(ninja: Ninja) -> bool:
     """Whether CMake itself ran a ninja to find out whether something compiles, in a folder of its own that is gone now."""
     above = ninja.life.parent
@@ -114,6 +121,8 @@ class Runs:
         for life in lives:
             if life.is_ninja:
                 self.add(life)
+            elif is_unknown(life):
+                self.holes.append("a ninja of another name ran past the recorder: " + " ".join(life.argv)[:100])
         for log in dict.fromkeys(ninja.log for ninja in self.ninjas):
             self.attribute(log)
         self.note_inner()

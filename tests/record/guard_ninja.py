@@ -103,6 +103,8 @@ LATER: List[Guard] = [
     Guard("ninja's own: ages that a later ninja compares", "ninja/builds.py", "for other in ninjas if other.life.born > ninja.life.died for", "for other in () for", ninja("ages-of-a-later-ninja"), YES),
     Guard("ninja, said: a command that shows PATH", "importing.py", "    named_by_ninja(ninjas, assumed, str(spool))\n", "", ninja("path"), UNSAID),
     Guard("ninja, said: a command below a make once", "granted.py", "() if any(up.is_make for up in life.up()) else life.ran:", "life.ran:", ninja("path-below-a-make"), UNSAID),
+    Guard("ninja, holes: a ninja of another name", "ninja/runs.py", "            elif is_unknown(life):", "            elif False:", ninja("another-name"), LOST_HOLE),
+    Guard("ninja, hints: the last build stays", "main.py", "tools, out, number == TRIES)", "tools, out)", "test_ninja.Hints.test_last_build_stays"),
     Guard("ninja, holes: a manifest that is gone", "ninja/runs.py", "ninja.is_tried = is_tried(ninja)", "ninja.is_tried = bool(jobs)", ninja("tried-by-another"), LOST_HOLE),
     Guard("ninja, tried by CMake: no hole", "ninja/runs.py", "ninja.is_tried = is_tried(ninja)", "ninja.is_tried = False", ninja("tried-by-cmake"), WITHHELD),
     Guard("ninja, said: tried by CMake", "ninja/builds.py", 'assumed.add("tried", ninja.folder)', "pass", ninja("tried-by-cmake"), UNSAID),

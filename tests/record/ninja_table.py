@@ -181,5 +181,6 @@ CASES += [
     Case("path", SAFE, sh("a", "", "echo $$PATH > a"), ["command names MAKEFLAGS or PATH"]),
     Case("path-below-a-make", SAFE, sh("a", "", "echo $$PATH > a"), ["(1, such as /bin/sh -c echo $PATH > a)"], files={"Makefile": "x: ; ninja\n"}, words="make"),
     Case("tried-by-cmake", SAFE, sh("x", "", "./cmake && touch x"), ["CMake's try_compile builds"], setup="chmod +x cmake", files={"cmake": "#!/bin/sh\n" + TRY, "next": RULES + GEN + sh("a", "g", USE)}),
+    Case("another-name", NONE, GEN + sh("a", "", USE), ["a ninja of another name ran past the recorder: ./n2"], setup="cp $(command -v ninja) n2", files={"Makefile": "x: ; ./n2 -j1\n"}, words="make"),
     Case("tried-by-another", NONE, sh("x", "", "sh ./try && touch x"), ["nobody kept"], files={"try": TRY, "next": RULES + GEN + sh("a", "g", USE)}),
 ]

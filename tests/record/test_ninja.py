@@ -72,6 +72,11 @@ class Hints(unittest.TestCase):
         self.assertIn(b"recording again with -j4 (3 of 3)", outcome.stderr)
         self.assertNotIn(b"(4 of", outcome.stderr)
 
+    def test_last_build_stays(self) -> None:
+        """What was made before the last of these builds failed is there, as after a build that nobody recorded."""
+        with support.Project({"build.ninja": RULES + "build g: sh\n  c = echo 1 > g\nbuild a: sh g\n  c = false\n"}) as project:
+            self.assertEqual((2, True), (project.record(["ninja"]).status, (project.folder / "g").is_file()))
+
     def test_none_where_it_waits(self) -> None:
         outcome = self.failed("|| g h")
         self.assertEqual((2, False), (outcome.status, "HINT" in outcome.text()))
