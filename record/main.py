@@ -215,7 +215,7 @@ def attempt(options: argparse.Namespace, words: List[str], tools: Dict[str, str]
         changed = undo(names, found.lives, kept) if words != options.words and not is_last else []
         if changed:
             record.notes.append("the build that failed changed %s, so it is not recorded again" % changed[0])
-        return record, words != options.words and not is_last and not changed
+        return record, words != options.words and not changed
     finally:
         shutil.rmtree(room, ignore_errors=True)
 
