@@ -5,7 +5,7 @@ from typing import Dict, List
 
 TEXTS = {
     "serial": "make decides goals in this order, without --shuffle, and recipes do not use MAKEFLAGS, the number of processors, a terminal, standard input, descriptors of a job server, or files that were opened for them before make began",
-    "ninja": "commands of ninja do not look at the number of jobs, the number of processors or a terminal, and nobody looks at the order of what ninja prints",
+    "ninja": "commands of ninja do not use the number of jobs, the number of processors, a terminal, standard input, or files that were opened for them before ninja began, and nobody looks at the order of what ninja prints",
     "ties": "build statements with one command ran in the order that the log of ninja shows",
     "up-to-date": "builds start from this tree: targets that were up to date stay so",
     "configured": "builds start when ./configure has run: what it makes is there and up to date",
@@ -24,7 +24,7 @@ TEXTS = {
     "jobs-said": "a make inside of a recipe, whose output or errors are kept, may print other lines there with several jobs (of a -j of its own, of jobs that it is not handed, of its folder under -O)",
     "listings": "programs that list a folder do not depend on the order in which its names were made, which some file systems show",
     "outside": "names outside of the project that the build changed were there before it as they are on the disk after it",
-    "flags": "makefiles and recipes that name MAKEFLAGS or PATH do the same without the recorder's words, which both hold",
+    "flags": "makefiles, recipes and commands that name MAKEFLAGS or PATH, or show their environment, do the same without the recorder's words, which both hold",
     "language": "programs do the same where their messages are in English (LC_MESSAGES=C), as make must speak English to be recorded",
     "loaded": "objects that make loads (load), and $(guile ..), change no macros and keep nothing in memory from one recipe to the next: files alone settle what they do",
     "makers": "scripts that make folders for themselves (install-sh, mkinstalldirs, libtool, cmake, ExtUtils of Perl, os.makedirs of Python with exist_ok) ask no more than that it is there; libtool compares no ages, and lists folders for outputs of the same library",
@@ -32,6 +32,7 @@ TEXTS = {
     "bytecode": "what Python keeps in __pycache__ does what its source does, whichever recipe wrote it; its bytes may differ",
     "caches": "what ccache, cargo, go, guile, npm and fontconfig keep for themselves, and git's notes of what it looked at, change how long they take, and nothing else; what was taken from there needed no compiler, so files for which one would have looked were not seen (CCACHE_RECACHE=1 and an empty GOCACHE show them)",
     "progress": "what CMake counts in CMakeFiles/Progress changes the percentages that it prints, and nothing else; nobody else looks there",
+    "tried": "what CMake's try_compile builds, in a folder that is gone when the build ends, comes to the same in any order",
     "outlives": "a process that may live on when its recipe has ended, as nothing waits for it, does no harm to files",
     "tops": "two makes or ninjas that ran at once, and that no make or ninja started, do not meet",
     "grouped": "recipes that name the target that they run for do the same for each target of their rule, whichever make looks at first",

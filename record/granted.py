@@ -96,6 +96,14 @@ def add_granted_by_ninja(ninjas: List[Ninja], owners: Owners, assumed: Assumptio
         outlived_of(job.life, owners, assumed)
 
 
+def named_by_ninja(ninjas: List[Ninja], assumed: Assumptions, spool: str) -> None:
+    """Commands of ninjas that name what holds the recorder's words, or show it; those below a make are its recipes."""
+    for life in (life for ninja in ninjas for stage in ninja.stages for job in stage.jobs for life in job.work.lives):
+        for argv in () if any(up.is_make for up in life.up()) else life.ran:
+            if sees_words(argv, spool):
+                assumed.add("flags", " ".join(argv)[:60])
+
+
 def asked(owners: Owners, assumed: Assumptions) -> None:
     """Makes that only ask (`make -n`), and yet run several lines, which have a `+` or name $(MAKE): these may run at once."""
     for life in owners.lives:

@@ -15,7 +15,7 @@ from record.assumptions import Assumptions
 from record.configured import find_configured
 from record.folder import Record, write_record
 from record.footprints import write_footprints
-from record.granted import add_granted, idle_targets
+from record.granted import add_granted, idle_targets, named_by_ninja
 from record.make.build import Builder
 from record.make.graph import Build
 from record.make.owners import Owners
@@ -123,6 +123,7 @@ def import_record(spool: Path, names: Names, kept: Kept, real: str, folder: str,
     for path in sorted(set(replay.progress)):
         assumed.add("progress", path)
     add_granted(owners, assumed, str(spool))
+    named_by_ninja(ninjas, assumed, str(spool))
     builds, past = [], Past(names.before, replay.changes)
     for place, make, number in sorted(((beginning(m, n), m, n) for m in owners.makes for n in range(len(m.words.rounds))), key=lambda found: found[0]):
         if make.words.rounds[number].jobs or any(n == number for n, _ in make.acts):

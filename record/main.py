@@ -188,8 +188,8 @@ def judge_record(out: Path, race: str) -> Tuple[int, List[Judged]]:
     return (1 if any(j.verdict.races for j in judged) else 0), judged
 
 
-def attempt(options: argparse.Namespace, words: List[str], tools: Dict[str, str], out: Path) -> Tuple[Record, bool]:
-    """One recorded build, and whether it failed in a way that another may not."""
+def attempt(options: argparse.Namespace, words: List[str], tools: Dict[str, str], out: Path, is_last: bool = False) -> Tuple[Record, bool]:
+    """One recorded build, and whether it failed in a way that another may not: then it is undone, except after the last one."""
     real, folder = shutil.which("make") or "make", os.path.realpath(".")
     names = Names()
     for top in tops_of(words, options.top):
@@ -212,7 +212,7 @@ def attempt(options: argparse.Namespace, words: List[str], tools: Dict[str, str]
         if status != 1 or not any(stage.jobs for ninja in found.ninjas for stage in ninja.stages):
             return record, False
         record.hints = hints(found.ninjas, names)
-        changed = undo(names, found.lives, kept) if words != options.words else []
+        changed = undo(names, found.lives, kept) if words != options.words and not is_last else []
         if changed:
             record.notes.append("the build that failed changed %s, so it is not recorded again" % changed[0])
         return record, words != options.words and not changed
@@ -227,7 +227,7 @@ def record_all(options: argparse.Namespace, tools: Dict[str, str], out: Path) ->
     while is_again and number < TRIES:
         number += 1
         print("race-record: the serial build failed; recording again with -j%d (%d of %d)" % (JOBS, number, TRIES), file=sys.stderr, flush=True)
-        record, is_again = attempt(options, with_jobs(options.words, JOBS), tools, out)
+        record, is_again = attempt(options, with_jobs(options.words, JOBS), tools, out, number == TRIES)
         record.notes.append("the serial build failed; this is build %d with -j%d" % (number, JOBS))
     record.hints = found or record.hints
     rewrite(out, record)

@@ -30,10 +30,12 @@ def warm_names(builds: List[Build], ninjas: List[Ninja], names: Names) -> List[s
     for build in builds:
         if build.tool == "make" and build.stage == "makefiles":
             found.difference_update(node.path for node in build.graph.nodes.values())
+    made = {names.find(ninja.folder, path, True).path for ninja in ninjas for stage in ninja.stages for edge in stage.ran() for path in edge.makes()}
     for ninja in ninjas:
-        ran = {id(job.edge) for stage in ninja.stages for job in stage.jobs}
-        found.update(targets_of(ninja, names, set()))
-        beyond.update(path for path in targets_of(ninja, names, ran) if is_beyond(path, names))
+        own = targets_of(ninja, names)
+        found.update(own)
+        left.update(path for path in own - made if path in names.before)  # a folder too: its statement did not run
+        beyond.update(path for path in own - made if is_beyond(path, names))
     return sorted({*left, *(path for path in found if names.before.get(path) in ("f", "l")), *beyond & found})
 
 
@@ -79,10 +81,12 @@ def is_new_link(build: Build, node: Node, names: Names) -> bool:
     return os.path.islink(own) and own not in names.before
 
 
-def targets_of(ninja: Ninja, names: Names, but: Set[int]) -> Set[str]:
-    """Outputs of the statements with commands below a ninja's goals, except some by their ids; of all where a goal is not known."""
-    edges = [edge for edge in ninja.wanted() if not edge.is_phony and not edge.is_generator and id(edge) not in but]
-    return {names.find(ninja.folder, path, True).path for edge in edges for path in edge.makes()}
+def targets_of(ninja: Ninja, names: Names) -> Set[str]:
+    """Outputs of the statements with commands below a ninja's goals, of all where a goal is not known; except those that generate for the
+    manifest, which ninja itself reads: it, and what it needs."""
+    edges = [edge for edge in ninja.wanted() if not edge.is_phony]
+    below = ninja.below_manifest() if any(edge.is_generator for edge in edges) else set()
+    return {names.find(ninja.folder, path, True).path for edge in edges if not (edge.is_generator and edge.number in below) for path in edge.makes()}
 
 
 def stand_alone(warm: List[str], builds: List[Build], ninjas: List[Ninja]) -> bool:

@@ -4,7 +4,7 @@ import os
 from typing import Any, Dict, Iterable, List, Set, Tuple
 
 from record.assumptions import Assumptions
-from record.make.ages import ages_by_words, ages_in_archives, inner_ages, note_sources
+from record.make.ages import ages_by_words, ages_in_archives, compare, inner_ages, note_sources
 from record.make.build import Builder
 from record.make.folders import add_folders, apart, parents
 from record.make.graph import Build, Node, Task, befores, order_tasks
@@ -12,7 +12,7 @@ from record.make.inner import add_inner
 from record.make.owners import Work
 from record.make.unfiled import count_listings
 from record.ninja.fix import owner_of
-from record.ninja.manifest import Edge
+from record.ninja.manifest import Edge, Manifest
 from record.ninja.runs import NEVER, Job, Ninja, Stage
 from record.trace.names import Names, join
 
@@ -63,8 +63,8 @@ class NinjaBuild(Build):
 class NinjaBuilder(Builder):
     """Makes the tasks of a stage; footprints, folders and ages are those of make's builds."""
 
-    def __init__(self, ninja: Ninja, number: int, removed: Set[str], names: Names, assumed: Assumptions) -> None:
-        self.ninja, self.stage = ninja, ninja.stages[number]
+    def __init__(self, ninja: Ninja, number: int, later: List[Tuple[str, Manifest]], removed: Set[str], names: Names, assumed: Assumptions) -> None:
+        self.ninja, self.stage, self.later = ninja, ninja.stages[number], later
         self.make, self.number, self.names, self.assumed = ninja, number, names, assumed  # type: ignore[assignment]
         is_last = number == len(ninja.stages) - 1
         self.build = NinjaBuild(ninja, self.stage, "goals" if is_last else "manifest")
@@ -165,10 +165,28 @@ class NinjaBuilder(Builder):
         if found and edge.value("deps") == "gcc":
             for kind in "RD":
                 work.add(kind, self.full(found), end)
+        for path in edge.makes():
+            self.add_loaded(work, path, end)
         dyndep = edge.path("dyndep")
         if dyndep:
             for path in [dyndep] + edge.waits() + edge.makes():
                 work.add("S", self.full(path), begin)
+
+    def add_loaded(self, work: Work, file: str, place: int) -> None:
+        """As soon as a dyndep file is made, ninja looks for the inputs that it adds and no statement makes, and fails where one is not there."""
+        manifest = self.stage.manifest
+        for path in manifest.added.get(file, ()):
+            if path not in manifest.makers:
+                work.add("S", self.full(path), place)
+
+    def add_files_of_dyndep(self) -> None:
+        """Ninja knows the maker of an input that a dyndep file adds only if the file that adds that output has been read: else it fails."""
+        manifest = self.stage.manifest
+        makers = {path: at for at, edge in enumerate(self.build.edges) for path in edge.makes()}
+        for file, inputs in manifest.added.items():
+            others = {manifest.found_in[path] for path in inputs if path in manifest.found_in} - {file}
+            for other in sorted(other for other in others if file in makers and other in makers):
+                apart(self, self.full(file) + "/@dyndep", "which dyndep files ninja has read before it", makers[file], {makers[other]})
 
     def add_folder(self, work: Work, folder: str, place: int) -> None:
         """Ninja makes a folder, and those above it, if they are not there."""
@@ -199,13 +217,22 @@ class NinjaBuilder(Builder):
         count_listings(self, created)
         add_folders(self)
         self.add_logs()
+        self.add_files_of_dyndep()
         note_sources(self)
         for at, task in enumerate(self.build.tasks):
             for work in task.works:
                 inner_ages(self, at, work)
                 ages_by_words(self, at, work)
                 ages_in_archives(self, at, work)
+        self.add_later_ages()
         self.drop_lonely()
+
+    def add_later_ages(self) -> None:
+        """Later ninjas, and this one where it has read a manifest that was remade, compare the ages of what these tasks have made."""
+        ran = [at for at, task in enumerate(self.build.tasks) if task.works]
+        for folder, manifest in self.later if len(ran) > 1 else ():
+            for target, asked in manifest.compared():
+                compare(self, -1, *(self.names.find(folder, name, True).path for name in (target, asked)))
 
     def add_logs(self) -> None:
         """A command that reads the logs of its ninja sees which commands have ended: ninja writes a line for each."""

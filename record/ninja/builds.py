@@ -9,7 +9,7 @@ from record.make.graph import Build
 from record.make.owners import Owners
 from record.ninja.build import NinjaBuild, NinjaBuilder
 from record.ninja.log import Kept, Missing, ask_missing, version_of
-from record.ninja.manifest import Unreadable
+from record.ninja.manifest import Manifest, Unreadable
 from record.ninja.runs import Ninja, Runs, removed_names
 from record.trace.lives import Life
 from record.trace.names import Names
@@ -22,6 +22,9 @@ def import_ninjas(lives: List[Life], owners: Owners, names: Names, kept: Kept, a
     except Unreadable as fault:
         return [], [], ["the manifest that ninja read cannot be read again: %s" % fault]
     holes, builds = runs.holes, []
+    for ninja in runs.ninjas:
+        if ninja.is_tried:
+            assumed.add("tried", ninja.folder)
     for text in runs.ties:
         assumed.add("ties", text[:60])
     for argv in side_by_side(runs.ninjas, owners):
@@ -33,10 +36,16 @@ def import_ninjas(lives: List[Life], owners: Owners, names: Names, kept: Kept, a
     for ninja in runs.ninjas:
         for number, stage in enumerate(ninja.stages):
             if stage.jobs and stage.is_read:
-                builder = NinjaBuilder(ninja, number, removed, names, assumed)
+                builder = NinjaBuilder(ninja, number, later_manifests(ninja, number, runs.ninjas), removed, names, assumed)
                 builds.append(builder.run())
                 holes += builder.holes
     return runs.ninjas, builds, holes
+
+
+def later_manifests(ninja: Ninja, number: int, ninjas: List[Ninja]) -> List[Tuple[str, Manifest]]:
+    """What is read after a stage of a ninja has ended, by it or by a ninja that begins later, each with the folder of its names."""
+    found = [(ninja.folder, stage.manifest) for stage in ninja.stages[number + 1:]]
+    return found + [(other.folder, stage.manifest) for other in ninjas if other.life.born > ninja.life.died for stage in other.stages]
 
 
 def side_by_side(ninjas: List[Ninja], owners: Owners) -> List[List[str]]:

@@ -4,6 +4,7 @@ A copy elsewhere would not do: manifests of CMake and Meson name their folder by
 """
 
 import os
+import re
 import shlex
 import shutil
 import subprocess
@@ -14,9 +15,10 @@ from typing import Iterator, List, Set
 
 from record.entry import reason
 from record.ninja.again import named_folders
-from record.ninja.manifest import Unreadable, read_manifest
+from record.ninja.manifest import Manifest, Unreadable, read_manifest
 
 SAVED = ".race-saved"
+FULL = re.compile(r"ninja: error: remove\(.*\): Directory not empty")
 
 
 class CannotClean(Exception):
@@ -47,15 +49,35 @@ def filled(folder: str) -> Set[str]:
     return {place for place, names, files in os.walk(folder) if names or files}
 
 
-def clean(folder: str) -> None:
-    """Takes away what ninja has made, its logs, and folders that then hold nothing."""
+def set_aside(folder: str, manifest: Manifest, kept: List[str]) -> None:
+    """Gives what `ninja -t clean` would remove outside of the folder another name meanwhile; `kept` gets the names that are to come back."""
+    edges = [edge for edge in manifest.edges if not edge.is_phony and not edge.is_generator]
+    for name in dict.fromkeys(name for edge in edges for name in (*edge.makes(), edge.path("depfile"), edge.path("rspfile")) if name):
+        above, last = os.path.split(os.path.join(folder, name))
+        path = os.path.join(os.path.realpath(above), last)
+        if path.startswith(folder.rstrip("/") + "/") or not os.path.lexists(path) or os.path.isdir(path):
+            continue
+        if os.path.lexists(path + SAVED):
+            raise CannotClean("%s is there: another --fresh runs now, or was killed; it is %s as it was" % (path + SAVED, path))
+        os.rename(path, path + SAVED)
+        kept.append(path)
+
+
+def put_back(kept: List[str]) -> None:
+    """What was set aside comes back, in the place of what the recorded build made."""
+    for path in kept:
+        os.replace(path + SAVED, path)
+
+
+def clean(folder: str, manifest: Manifest) -> None:
+    """Takes away what ninja has made, its logs, and folders that then hold nothing. An output that is a folder and holds something stays: its
+    statement runs, as the logs are gone."""
     before = filled(folder)
-    manifest = read_manifest(folder, "build.ninja", lambda path: Path(path).read_bytes().decode("utf-8", "surrogateescape"))
     ninja = shutil.which("ninja")
     if ninja is None:
         raise CannotClean("ninja is missing (Debian: apt-get install ninja-build): --fresh cleans by `ninja -t clean`")
     ran = subprocess.run([ninja, "-C", folder, "-t", "clean"], capture_output=True, text=True, errors="replace", stdin=subprocess.DEVNULL, check=False)
-    if ran.returncode:
+    if ran.returncode and not all(FULL.fullmatch(line) for line in ran.stderr.splitlines()):
         raise CannotClean("ninja -C %s -t clean ended with %d: %s" % (folder, ran.returncode, (ran.stdout + ran.stderr)[-300:].strip()))
     logs = os.path.join(folder, manifest.top.value("builddir"))
     for name in (".ninja_log", ".ninja_deps"):
@@ -71,11 +93,14 @@ def cold_copy(folder: str) -> Iterator[None]:
     saved, here = folder + SAVED, os.path.realpath(".")
     print("race-record: %s is kept as %s meanwhile" % (folder, saved), file=sys.stderr, flush=True)
     os.rename(folder, saved)
+    kept: List[str] = []
     try:
         shutil.copytree(saved, folder, symlinks=True)
         os.chdir(here)
         try:
-            clean(folder)
+            manifest = read_manifest(folder, "build.ninja", lambda path: Path(path).read_bytes().decode("utf-8", "surrogateescape"))
+            set_aside(folder, manifest, kept)
+            clean(folder, manifest)
         except (Unreadable, OSError) as fault:
             raise CannotClean("%s cannot be cleaned: %s" % (folder, reason(fault) if isinstance(fault, OSError) else fault)) from None
         yield
@@ -83,3 +108,4 @@ def cold_copy(folder: str) -> Iterator[None]:
         shutil.rmtree(folder, ignore_errors=True)
         os.rename(saved, folder)
         os.chdir(here)
+        put_back(kept)

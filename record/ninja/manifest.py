@@ -180,12 +180,24 @@ class Manifest:
     defaults: List[str] = field(default_factory=list)
     files: List[str] = field(default_factory=list)
     makers: Dict[str, Edge] = field(default_factory=dict)  # output: statement
+    added: Dict[str, List[str]] = field(default_factory=dict)  # dyndep file: the inputs that it adds
+    found_in: Dict[str, str] = field(default_factory=dict)  # output that a dyndep file adds: that file
     top: Scope = field(default_factory=lambda: Scope(rules={"phony": {}}))
     _users: Dict[str, List[Edge]] = field(default_factory=dict)
 
     def add_output(self, edge: Edge, path: str) -> bool:
         """Notes who makes a path; whether nobody did before."""
         return self.makers.setdefault(path, edge) is edge
+
+    def add_found(self, edge: Edge, file: str, found: "Found") -> None:
+        """What a dyndep file says of a statement."""
+        edge.implicit += found.inputs
+        self.added.setdefault(file, []).extend(found.inputs)
+        for path in found.outputs:
+            if self.add_output(edge, path):
+                edge.implicit_outputs.append(path)
+                self.found_in[path] = file
+        edge.restat_by_file = edge.restat_by_file or found.restat
 
     def makers_of(self, edge: Edge) -> List[Edge]:
         """The statements whose outputs a statement waits for."""
@@ -211,6 +223,12 @@ class Manifest:
                 maker = self.makers.get(path)
                 todo += maker.inputs + maker.implicit if maker is not None and maker.is_phony else []
         return list(found)
+
+    def compared(self) -> Iterator[Tuple[str, str]]:
+        """Outputs, each with the inputs whose ages ninja compares with its own."""
+        for edge in self.edges:
+            if not edge.is_phony:
+                yield from ((target, asked) for asked in self.aged(edge) for target in edge.makes())
 
     def goals(self, names: List[str]) -> Optional[List[Edge]]:
         """The statements that words of the command line name; without words the default; None where a word is not known."""

@@ -2,19 +2,23 @@
 
 import getopt
 import os
+import re
 from collections import Counter
 from dataclasses import dataclass, field
 from typing import Callable, Dict, Iterator, List, Optional, Set, Tuple
 
 from record.make.owners import Owners, Work
 from record.ninja.log import Kept, ends, new_outputs, text_of
-from record.ninja.manifest import Edge, Manifest, Unreadable, read_dyndep, read_manifest
+from record.ninja.manifest import Edge, Manifest, Unreadable, canonical, read_dyndep, read_manifest
+from record.tools import shelltext
 from record.trace.lives import Life
 from record.trace.names import Names
 
 SHORT = "d:f:j:k:l:nt:vw:C:h"
 LONG = ["help", "version", "verbose", "quiet"]
 LOG_TOOLS = {"restat", "recompact", "cleandead", "clean"}
+TRIED = re.compile(r"/CMakeFiles/(?:CMakeScratch/TryCompile-\w+|CMakeTmp)(?:/|\Z)")
+CMAKES = ("cmake", "ccmake", "cmake-gui", "ctest")
 NEVER = 1 << 60
 
 
@@ -53,6 +57,7 @@ class Ninja:
     stages: List[Stage] = field(default_factory=list)
     acts: Dict[Tuple[int, str], Work] = field(default_factory=dict)  # none: what ninja does has its place in the jobs
     log: str = ""
+    is_tried: bool = False  # by CMake, in a folder of its own that is gone
 
     @property
     def args(self) -> str:
@@ -68,12 +73,16 @@ class Ninja:
         numbers = manifest.below(goals) if goals is not None else {edge.number for edge in manifest.edges}
         return [edge for edge in manifest.edges if edge.number in numbers]
 
+    def below_manifest(self) -> Set[int]:
+        """The numbers of the statement that makes the manifest, and of all that it needs."""
+        manifest = self.stages[-1].manifest
+        maker = manifest.makers.get(canonical(self.file))
+        return manifest.below([maker]) if maker is not None else set()
+
     def compared(self) -> Iterator[Tuple[str, str]]:
         """Outputs, each with the inputs whose ages ninja compares with its own."""
         for stage in self.stages:
-            for edge in stage.manifest.edges:
-                if not edge.is_phony:
-                    yield from ((target, asked) for asked in stage.manifest.aged(edge) for target in edge.makes())
+            yield from stage.manifest.compared()
 
 
 def options_of(argv: List[str]) -> "Optional[Tuple[Dict[str, str], List[str]]]":
@@ -88,6 +97,18 @@ def options_of(argv: List[str]) -> "Optional[Tuple[Dict[str, str], List[str]]]":
     return options, goals
 
 
+def is_unknown(life: Life) -> bool:
+    """Whether a program keeps a log of ninja and starts others, as ninja does, and is none by its name."""
+    starts = not life.is_make and shelltext.base_name(life.argv) not in shelltext.SHELLS and any(child.ran for child in life.children)
+    return starts and any(path.endswith("/.ninja_log") and kind in "WC" for kind, path in life.events)
+
+
+def is_tried(ninja: Ninja) -> bool:
+    """Whether CMake itself ran a ninja to find out whether something compiles, in a folder of its own that is gone now."""
+    above = ninja.life.parent
+    return bool(TRIED.search(ninja.folder)) and above is not None and os.path.basename(above.program) in CMAKES and not os.path.exists(os.path.join(ninja.folder, ninja.file))
+
+
 class Runs:
     """Finds the ninjas of a trace, reads their manifests, and gives each process to a statement."""
 
@@ -100,6 +121,8 @@ class Runs:
         for life in lives:
             if life.is_ninja:
                 self.add(life)
+            elif is_unknown(life):
+                self.holes.append("a ninja of another name ran past the recorder: " + " ".join(life.argv)[:100])
         for log in dict.fromkeys(ninja.log for ninja in self.ninjas):
             self.attribute(log)
         self.note_inner()
@@ -155,7 +178,8 @@ class Runs:
             self.read_dyndeps(stage.manifest, self.reads(ninja.life, start, end))
         except Unreadable as fault:
             stage.is_read = False
-            if jobs:
+            ninja.is_tried = is_tried(ninja)
+            if jobs and not ninja.is_tried:
                 self.holes.append("the manifest that ninja read cannot be read again: %s" % fault)
 
     def job_of(self, life: Life) -> Optional[Job]:
@@ -204,16 +228,14 @@ class Runs:
             try:
                 for one in read_dyndep(self.texts_at(reads.get(real, NEVER - 1))(path)):
                     if manifest.makers.get(one.output) is edge:
-                        edge.implicit += one.inputs
-                        edge.implicit_outputs += [p for p in one.outputs if manifest.add_output(edge, p)]
-                        edge.restat_by_file = edge.restat_by_file or one.restat
+                        manifest.add_found(edge, name, one)
             except Unreadable as fault:
                 self.holes.append("%s: %s" % (path, fault))
 
     # ---------------------------------------------------------------- who ran for whom
     def attribute(self, log: str) -> None:
         """Gives the jobs of all ninjas with one log to statements."""
-        ninjas = [ninja for ninja in self.ninjas if ninja.log == log and any(stage.jobs for stage in ninja.stages)]
+        ninjas = [ninja for ninja in self.ninjas if ninja.log == log and any(stage.jobs for stage in ninja.stages) and not ninja.is_tried]
         if not ninjas:
             return
         logged = self.logged(ninjas, log)

@@ -2,7 +2,7 @@
 
 from typing import List
 
-from guard_table import FALSE_RACE, LOST_HOLE, LOST_RACE, UNSAID, YES, Guard, case
+from guard_table import FALSE_RACE, LOST_HOLE, LOST_RACE, UNSAID, WITHHELD, YES, Guard, case
 
 AFTER = "manifest.makers_of(edge) if m.number in place}"
 IN_POOL = "manifest.makers_of(edge) + [k for k in kept if k.value('pool') == edge.value('pool') != '' and k.number < edge.number] if m.number in place}"
@@ -27,7 +27,7 @@ def changed(name: str) -> str:
 
 WARM: List[Guard] = [
     Guard("ninja, warm: no yes", "main.py", "if ended == 0 and record.warm and not (options.warm or record.stands_alone):", "if False:", ninja("warm"), LOST_HOLE),
-    Guard("ninja, warm: outputs that were there", "warm.py", "        found.update(targets_of(ninja, names, set()))\n", "        pass\n", ninja("warm"), LOST_HOLE),
+    Guard("ninja, warm: outputs that were there", "warm.py", "        found.update(own)\n", "        pass\n", ninja("warm-made-again-ordered"), LOST_HOLE),
     Guard("ninja, warm: all below the goals", "ninja/runs.py", "numbers = manifest.below(goals) if", "numbers = set() if", ninja("warm"), LOST_HOLE),
     Guard("ninja, warm: said with --warm", "importing.py", 'found.assumed.add("up-to-date", name)', "pass", ninja("warm-accepted"), UNSAID),
     Guard("ninja, said: statements that nothing asked for", "make/unasked.py", "            there.update(((ninja.folder", "            {}.update(((ninja.folder", ninja("part"), UNSAID),
@@ -93,4 +93,23 @@ OWN: List[Guard] = [
     Guard("listings of interpreters count for make", "trace/calls.py", "listed.patterns(life, where[0], self.is_open_shell), call", "[] if shelltext.is_interpreter(life.argv) else listed.patterns(life, where[0], self.is_open_shell), call", case("python-lists"), YES),
     Guard("listings of interpreters count for make, of their own folder", "trace/calls.py", "listed.patterns(life, where[0], self.is_open_shell), call", "[] if shelltext.is_interpreter(life.argv) else listed.patterns(life, where[0], self.is_open_shell), call", case("python-lists-its-folder"), YES),
 ]
-NINJA_GUARDS = WARM + INSIDE + HOLES + ATTRIBUTION + ORDER + OWN
+LATER: List[Guard] = [
+    Guard("ninja, warm: what generates for others", "warm.py", "if not (edge.is_generator and edge.number in below) for", "if not edge.is_generator for", ninja("warm-generator-that-is-up-to-date"), LOST_HOLE),
+    Guard("ninja, warm: a folder that is up to date", "warm.py", "left.update(path for path in own - made if", "left.update(path for path in () if", ninja("warm-folder-that-is-up-to-date"), LOST_HOLE),
+    Guard("ninja, warm: no folder whose statement ran", "warm.py", "left.update(path for path in own - made if", "left.update(path for path in own if", ninja("folder-that-was-there"), WITHHELD),
+    Guard("ninja's own: looks for inputs that a dyndep file adds", "ninja/build.py", "            self.add_loaded(work, path, end)\n", "            pass\n", ninja("dyndep-input-of-nobody"), YES),
+    Guard("ninja's own: outputs that a dyndep file adds", "ninja/build.py", "        self.add_files_of_dyndep()\n", "", ninja("dyndep-output-of-another-file"), YES),
+    Guard("ninja's own: ages after the manifest was remade", "ninja/build.py", "        self.add_later_ages()\n", "", ninja("ages-after-a-remade-manifest"), YES),
+    Guard("ninja's own: ages that a later ninja compares", "ninja/builds.py", "for other in ninjas if other.life.born > ninja.life.died for", "for other in () for", ninja("ages-of-a-later-ninja"), YES),
+    Guard("ninja, said: a command that shows PATH", "importing.py", "    named_by_ninja(ninjas, assumed, str(spool))\n", "", ninja("path"), UNSAID),
+    Guard("ninja, said: a command below a make once", "granted.py", "() if any(up.is_make for up in life.up()) else life.ran:", "life.ran:", ninja("path-below-a-make"), UNSAID),
+    Guard("ninja, holes: a ninja of another name", "ninja/runs.py", "            elif is_unknown(life):", "            elif False:", ninja("another-name"), LOST_HOLE),
+    Guard("ninja, hints: the last build stays", "main.py", "tools, out, number == TRIES)", "tools, out)", "test_ninja.Hints.test_last_build_stays"),
+    Guard("ninja, holes: a manifest that is gone", "ninja/runs.py", "ninja.is_tried = is_tried(ninja)", "ninja.is_tried = bool(jobs)", ninja("tried-by-another"), LOST_HOLE),
+    Guard("ninja, tried by CMake: no hole", "ninja/runs.py", "ninja.is_tried = is_tried(ninja)", "ninja.is_tried = False", ninja("tried-by-cmake"), WITHHELD),
+    Guard("ninja, said: tried by CMake", "ninja/builds.py", 'assumed.add("tried", ninja.folder)', "pass", ninja("tried-by-cmake"), UNSAID),
+    Guard("ninja, fresh: outputs outside are kept", "ninja/fresh.py", "            set_aside(folder, manifest, kept)\n", "", "test_ninja.Fresh.test_outputs_outside_come_back"),
+    Guard("ninja, fresh: outputs outside come back", "ninja/fresh.py", "        put_back(kept)\n", "", "test_ninja.Fresh.test_outputs_outside_come_back"),
+    Guard("ninja, fresh: a folder that holds something", "ninja/fresh.py", " and not all(FULL.fullmatch(line) for line in ran.stderr.splitlines()):", ":", "test_ninja.Fresh.test_folder_that_holds_something"),
+]
+NINJA_GUARDS = WARM + INSIDE + HOLES + ATTRIBUTION + ORDER + OWN + LATER

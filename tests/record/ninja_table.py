@@ -160,3 +160,27 @@ CASES += [
     Case("dyndep-that-changes", NONE, sh("dd", "", DYNDEP % ("", "")) + GEN + sh("a", "|| dd", USE, "dyndep = dd") + sh("c", "|| a", DYNDEP % ("", " | g") + "; touch c"),
          ["nobody kept"], words="ninja -j1"),
 ]
+GENERATOR = "rule gen\n  command = $c\n  generator = 1\nbuild h: gen s\n  c = cp s h\n"
+TRY = "set -e; d=CMakeFiles/CMakeScratch/TryCompile-aB1; mkdir -p $d; cp next $d/build.ninja; ninja -C $d; rm -r CMakeFiles\n"
+LATER = "build a: sh\n  c = sleep 0.1; touch a\nbuild x: sh%s\n  c = echo ran >> log; touch x\n"
+AGAIN = REMADE.replace("next.ninja\n", "next.ninja | a x\n")
+FILES = DYNDEP.replace("build a", "build m") % (" | m.x", "") + "a"
+CASES += [
+    Case("warm-generator-that-is-up-to-date", NONE, GENERATOR + sh("a", "", "cat h > a"), ["WARM  1 file", "  h"], setup="touch -d 2001-01-01 s; cp s h", files={"s": ""}),
+    Case("warm-made-again-ordered", NONE, sh("g", "s", "cp s g") + sh("a", "g", USE), ["WARM  2 files"], setup="touch -d 2001-01-01 s; ninja -j1 > /dev/null; sleep 0.1; touch s", files={"s": "1"}),
+    Case("warm-folder-that-is-up-to-date", NONE, sh("d", "", "mkdir -p d; echo 1 > d/f") + sh("a", "", "cat d/f > a"), ["WARM  1 file", "  d"], setup="ninja -j1 > /dev/null; rm a"),
+    Case("folder-that-was-there", SAFE, sh("d", "", "mkdir -p d; echo 1 > d/f") + sh("a", "d", "cat d/f > a"), setup="mkdir d"),
+    Case("dyndep-input-of-nobody", RACE, sh("x", "", "echo 1 > h; touch x") + sh("dd", "", DYNDEP % ("", " | h")) + sh("a", "|| dd x", "cat h > a", "dyndep = dd"), ["RACE  h"]),
+    Case("dyndep-input-of-nobody-ordered", SAFE, sh("x", "", "echo 1 > h; touch x") + sh("dd", "x", DYNDEP % ("", " | h")) + sh("a", "|| dd", "cat h > a", "dyndep = dd")),
+    Case("dyndep-output-of-another-file", RACE, sh("dda", "", FILES) + sh("dd", "", DYNDEP % ("", " | m.x")) + sh("m", "|| dda", "touch m m.x", "dyndep = dda") + sh("a", "|| dd m", "cat m.x > a", "dyndep = dd"),
+         ["which dyndep files ninja has read before it"]),
+    Case("dyndep-output-of-another-file-ordered", SAFE, sh("dda", "", FILES) + sh("dd", "dda", DYNDEP % ("", " | m.x")) + sh("m", "|| dda", "touch m m.x", "dyndep = dda") + sh("a", "|| dd", "cat m.x > a", "dyndep = dd")),
+    Case("ages-after-a-remade-manifest", RACE, AGAIN + LATER % "", ["is newer"], files={"next.ninja": RULES + AGAIN + LATER % " a"}, setup="touch -d 2001-01-01 build.ninja"),
+    Case("ages-after-a-remade-manifest-ordered", SAFE, AGAIN + LATER % " || a", files={"next.ninja": RULES + AGAIN + LATER % " a"}, setup="touch -d 2001-01-01 build.ninja"),
+    Case("ages-of-a-later-ninja", RACE, LATER % "", ["is newer"], words="sh ./all", files={"all": "ninja -j1; ninja -j1 -f next.ninja\n", "next.ninja": RULES + LATER % " a"}),
+    Case("path", SAFE, sh("a", "", "echo $$PATH > a"), ["command names MAKEFLAGS or PATH"]),
+    Case("path-below-a-make", SAFE, sh("a", "", "echo $$PATH > a"), ["(1, such as /bin/sh -c echo $PATH > a)"], files={"Makefile": "x: ; ninja\n"}, words="make"),
+    Case("tried-by-cmake", SAFE, sh("x", "", "./cmake && touch x"), ["CMake's try_compile builds"], setup="chmod +x cmake", files={"cmake": "#!/bin/sh\n" + TRY, "next": RULES + GEN + sh("a", "g", USE)}),
+    Case("another-name", NONE, GEN + sh("a", "", USE), ["a ninja of another name ran past the recorder: ./n2"], setup="cp $(command -v ninja) n2", files={"Makefile": "x: ; ./n2 -j1\n"}, words="make"),
+    Case("tried-by-another", NONE, sh("x", "", "sh ./try && touch x"), ["nobody kept"], files={"try": TRY, "next": RULES + GEN + sh("a", "g", USE)}),
+]

@@ -72,6 +72,11 @@ class Hints(unittest.TestCase):
         self.assertIn(b"recording again with -j4 (3 of 3)", outcome.stderr)
         self.assertNotIn(b"(4 of", outcome.stderr)
 
+    def test_last_build_stays(self) -> None:
+        """What was made before the last of these builds failed is there, as after a build that nobody recorded."""
+        with support.Project({"build.ninja": RULES + "build g: sh\n  c = echo 1 > g\nbuild a: sh g\n  c = false\n"}) as project:
+            self.assertEqual((2, True), (project.record(["ninja"]).status, (project.folder / "g").is_file()))
+
     def test_none_where_it_waits(self) -> None:
         outcome = self.failed("|| g h")
         self.assertEqual((2, False), (outcome.status, "HINT" in outcome.text()))
@@ -132,6 +137,28 @@ class Fresh(unittest.TestCase):
             project.record(["sh", "-c", "test ! -s .ninja_deps && ninja -j1"], ["--fresh"])
             record, _ = project.left()
         self.assertEqual([], (record or {"holes": ["none"]})["holes"])
+
+    def test_outputs_outside_come_back(self) -> None:
+        """What `ninja -t clean` takes away outside of the folder, also where the recorded build does not make it again."""
+        manifest = RULES + "build ../g: sh\n  c = echo 1 > ../g\nbuild ../h: sh\n  c = echo 2 > ../h\nbuild a: sh ../g\n  c = cat ../g > a\n"
+        with support.Project({"b/build.ninja": manifest}) as project:
+            project.sh("ninja -C b -j1 > /dev/null; touch -d 2001-01-01 g h")
+            before = self.state(project)
+            outcome = project.record(["ninja", "-C", "b", "a"], ["--fresh"])
+            self.assertEqual((before, 0), (self.state(project), outcome.status), outcome.text() + outcome.stderr.decode())
+            project.sh("touch g.race-saved")
+            self.assertEqual(3, project.record(["ninja", "-C", "b", "a"], ["--fresh"]).status)
+            (project.folder / "g.race-saved").unlink()
+            self.assertEqual(before, self.state(project))
+
+    def test_folder_that_holds_something(self) -> None:
+        """An output that is a folder is not removed, and its statement runs all the same."""
+        manifest = RULES + "build d: sh\n  c = mkdir -p d; echo 1 > d/f\nbuild a: sh\n  c = cat d/f > a\n"
+        with support.Project({"build.ninja": manifest}) as project:
+            project.sh("ninja -j1 > /dev/null")
+            outcome = project.record(["ninja"], ["--fresh"])
+        self.assertEqual(1, outcome.status, outcome.text() + outcome.stderr.decode())
+        self.assertIn("RACE  d/f", outcome.text())
 
     def says(self, project: support.Project, text: str, *words: str) -> None:
         """What is said where nothing can be recorded, in lines."""
