@@ -5,6 +5,7 @@ Python itself would end with 1 where it breaks, which says races.
 
 import errno
 import os
+import re
 import signal
 import subprocess
 import sys
@@ -15,6 +16,8 @@ from typing import Iterator
 STOPPING = (signal.SIGINT, signal.SIGTERM, signal.SIGHUP)
 FAILED = 3
 PATIENCE = 10  # so many seconds a build has to end
+# Signs that a terminal obeys, or that a page must not have; and the colours that race-record prints itself.
+CONTROL = re.compile(r"(\x1b\[(?:1;3[12]|0)m)|[\x00-\x08\x0b-\x1f\x7f-\x9f]")
 OF_ITS_OWN = "Nothing of your project or its build is lost. Please report it: the command, and the lines above from Traceback on, which say where it stopped"
 
 
@@ -73,6 +76,11 @@ def speak_utf8() -> None:
     for stream in (sys.stdout, sys.stderr):
         if stream is not None:
             stream.reconfigure(encoding="utf-8", errors="backslashreplace")  # type: ignore[attr-defined]
+
+
+def printable(text: str, has_colours: bool = False) -> str:
+    """A text in which such signs, as names may have them, stand as `\\x` and two digits."""
+    return CONTROL.sub(lambda found: found[0] if found[1] and has_colours else "".join("\\x%02x" % ord(it) if it < " " or it > "~" else it for it in found[0]), text)
 
 
 def close_output() -> None:

@@ -18,7 +18,7 @@ from pathlib import Path
 from typing import Dict, List, Optional, Tuple
 
 from record import VERSION
-from record.entry import Stopped, end_traced
+from record.entry import Stopped, end_traced, printable
 from record.folder import ROOMS, NotWhole, Record, accept_warm, aside, is_record, reading, rewrite, what_stands
 from record.judge import find_race, judge, no_race
 from record.make.outputs import note_output
@@ -289,12 +289,13 @@ def judge_warm(out: Path, race: str) -> int:
 
 def answer(out: Path, race: str, ended: int, judged: List[Judged], is_missing: bool) -> int:
     """Prints what is known of a record; the status."""
-    print("\n".join(report(read_json(out / "record.json"), judged, out)))
+    colour = colours()
+    print(printable("\n".join(report(read_json(out / "record.json"), judged, out)), bool(colour.end)))
     if not is_missing:
         return ended
     from record.missing.report import Question, missing_text
     question = Question.of(out, race)
-    print("\n" + "\n".join(missing_text(question, colours())))
+    print(printable("\n" + "\n".join(missing_text(question, colour)), bool(colour.end)))
     return 2 if 2 in (ended, question.status()) else max(ended, question.status())
 
 

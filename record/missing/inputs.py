@@ -25,9 +25,9 @@ from record.trace.lives import Life
 from record.trace.names import Names
 
 TASKS, LISTING = "missing-tasks", "missing-listing"
-FOUND = re.compile(r"^(missing|late|shared) (\S+) : (\S+) (reads|writes)(?: (\S+) writes)?$")
-PRESENT = re.compile(r"^present (\S+)$")
-ADD = re.compile(r"^add (\S+): (\S+)$")
+FOUND = re.compile(r"^(missing|late|shared) ([^ ]+) : ([^ ]+) (reads|writes)(?: ([^ ]+) writes)?$")
+PRESENT = re.compile(r"^present ([^ ]+)$")
+ADD = re.compile(r"^add ([^ ]+): ([^ ]+)$")
 COUNTS = ("missing", "late", "shared", "present", "races")
 
 
@@ -120,9 +120,9 @@ class Answer:
 
 
 def ask(race: str, tasks: Path, listing: Path, root: str) -> "subprocess.CompletedProcess[str]":
-    """Runs `race missing` over tasks."""
-    words = [race, "missing", "--tasks", str(tasks), "--listing", str(listing), "--root", root]
-    return subprocess.run(words, capture_output=True, text=True, errors="replace", stdin=subprocess.DEVNULL, check=False)
+    """Runs `race missing` over tasks, in their folder as `record.judge` does."""
+    words = [race, "missing", "--tasks", tasks.name, "--listing", listing.name, "--root", shown(root)]
+    return subprocess.run(words, cwd=tasks.parent, capture_output=True, text=True, errors="replace", stdin=subprocess.DEVNULL, check=False)
 
 
 def knows_missing(race: str) -> bool:
@@ -178,7 +178,7 @@ def judge_missing(race: str, folder: Path, root: str) -> Answer:
     if not (folder / TASKS).exists():
         return Answer()
     ran = ask(race, folder / TASKS, folder / LISTING, root)
-    lines = ran.stdout.splitlines()
+    lines = ran.stdout.split("\n")
     head = next((at for at, text in enumerate(lines) if text.startswith("waits ")), -1) + 1
     answer = Answer(list(read_answer(lines[head:], *labels_in(folder / TASKS))), max(0, count_of(lines[:head], "races")))
     counts = [count_of(lines[:head], word) for word in COUNTS]

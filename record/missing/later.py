@@ -110,7 +110,7 @@ def ask(make: Make, spool: Path) -> Base:
     said = ran.stderr.decode("utf-8", "surrogateescape")
     if STOP not in said:
         raise Unknown("it cannot read its makefiles again: " + " ".join(said.split())[-200:])
-    found = read_base(ran.stdout.decode("utf-8", "surrogateescape").splitlines())
+    found = read_base(ran.stdout.decode("utf-8", "surrogateescape").split("\n"))
     if any(name.endswith(OF_CMAKE) for name in makefiles(make.words)):
         add_headers(found, make.folder)
     return found
