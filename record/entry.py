@@ -90,7 +90,8 @@ def close_output() -> None:
 
 def reason(error: OSError) -> str:
     """What the system says of a file, in a line."""
-    what = error.strerror or str(error) or type(error).__name__
+    many = error.args[0] if error.args else None  # of shutil: files that could not be copied, each with what the system says
+    what = error.strerror or str(many[0][-1] if isinstance(many, list) and many else error) or type(error).__name__
     what += " (make room there, and run it again)" if error.errno == errno.ENOSPC else ""
     return "%s: %s" % (os.fsdecode(error.filename), what) if isinstance(error.filename, (str, bytes)) else what
 
