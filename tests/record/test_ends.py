@@ -21,7 +21,7 @@ from record.entry import printable, reason
 from record.folder import Taken, alone as alone_at, aside, come_back, move
 from record.trace.pipe import Pipe
 
-SLOW = {"Makefile": "all: ; @echo $$PPID $$$$ > pids; echo \"$$PATH\" > path; touch begun; sleep 100\n"}
+SLOW = {"Makefile": "all: ; @echo $$PPID $$$$ > pids; echo \"$$PATH\" > path; : > begun; exec sleep 100\n"}  # a shell that waits for a child may go on behind an interrupt
 SAFE = {"Makefile": "all: ; @touch all\n"}
 
 

@@ -5,6 +5,7 @@ import subprocess
 import tempfile
 import unittest
 from pathlib import Path
+from typing import Sequence
 
 import forked
 import support
@@ -33,14 +34,14 @@ class Names(unittest.TestCase):
         self.assertEqual(1, outcome.status, outcome.text())
         self.assertIn("  add: r: a", outcome.text())
 
-    def folder(self, name: bytes) -> None:
+    def folder(self, name: bytes, forms: Sequence[str] = ()) -> None:
         with tempfile.TemporaryDirectory() as room:
             place = os.fsencode(room) + b"/" + name
             os.mkdir(place)
             Path(os.fsdecode(place), "Makefile").write_text(MAKEFILE % ("-", "-"))
             ran = forked.run(forked.script(support.RECORDER, ["--race", support.race_program(), "--missing", "--", "make"]), Path(os.fsdecode(place)), support.SECONDS)
             self.assertEqual((1, ["a-b"]), (ran.returncode, support.races_of(ran.stdout.decode())), ran.stdout.decode() + ran.stderr.decode())
-            for form in ("text", "json", "sarif", "github", "html"):
+            for form in forms:
                 words = [str(support.TOP / "report" / "race-report"), "--race", support.race_program(), "--format", form]
                 shown = subprocess.run(words, cwd=place, capture_output=True, check=False)
                 self.assertEqual((1, b""), (shown.returncode, shown.stderr), form)
@@ -52,6 +53,9 @@ class Names(unittest.TestCase):
 
     def test_folder_that_is_not_utf_8(self) -> None:
         self.folder(b"a\xff\xfe b")
+
+    def test_reports_of_such_a_folder(self) -> None:
+        self.folder(b"a\xff\"<]]>\x1b[31m b", ("text", "json", "sarif", "github", "html"))
 
 
 support.add_tests(Names, {"file": SIGNS, "target": [name for name, sign in SIGNS.items() if sign != "\r"]})
