@@ -15,11 +15,12 @@ from confirm.room import Room, furnish, new_room, settle, tools
 from confirm.text import body, heading, summary
 from confirm.tree import copy, remove, take_back
 from confirm.trial import Finding, Trial
-from record.entry import reason
+from record.entry import printable, reason
 from record.folder import NotWhole, reading
 from record.judge import find_race, no_race
 from record.main import Missing
 from record.pages import after_no_verdict
+from record.tasks import shown
 from report.asking import judge
 from report.model import BadRecord, Report, read_json
 from report.plain import counted
@@ -123,7 +124,7 @@ def keep(room: Room, to: Path) -> None:
 
 
 def show(lines: Iterator[str]) -> None:
-    text = "\n".join(lines)
+    text = printable("\n".join(lines))
     sys.stdout.buffer.write(text.encode("utf-8", "backslashreplace") + b"\n")
     sys.stdout.buffer.flush()
 
@@ -160,6 +161,8 @@ def picked(args: argparse.Namespace, report: Report) -> tuple[list[Chosen], str]
     folder = read_json(args.record / "record.json")["folder"]
     if not os.path.isdir(folder):
         raise CannotConfirm(f"the project's folder {folder} is not there: record again where it is now")
+    if shown(folder) != folder:
+        raise CannotConfirm(f"the name of the project's folder is not UTF-8 text, and a record has it as {shown(folder)}: give it another name, and record again")
     if outside := next(written_outside(args.record, folder), None):
         raise CannotConfirm(f"the build writes {outside}, which is not below the project's folder {folder}, so a build of a copy "
                             "would write it, too")

@@ -5,6 +5,7 @@ Python itself would end with 1 where it breaks, which says races.
 
 import errno
 import os
+import re
 import signal
 import subprocess
 import sys
@@ -16,6 +17,8 @@ STOPPING = (signal.SIGINT, signal.SIGTERM, signal.SIGHUP)
 FAILED = 3
 HELPS = {errno.ENOSPC: " (make room there, and run it again)", errno.EFBIG: " (raise the limit on the size of files, ulimit -f, and run it again)"}
 PATIENCE = 10  # so many seconds a build has to end
+# Signs that a terminal obeys, or that a page must not have; and the colours that race-record prints itself.
+CONTROL = re.compile(r"(\x1b\[(?:1;3[12]|0)m)|[\x00-\x08\x0b-\x1f\x7f-\x9f]")
 OF_ITS_OWN = "Nothing of your project or its build is lost. Please report it: the command, and the lines above from Traceback on, which say where it stopped"
 
 
@@ -76,6 +79,11 @@ def speak_utf8() -> None:
             stream.reconfigure(encoding="utf-8", errors="backslashreplace")  # type: ignore[attr-defined]
 
 
+def printable(text: str, has_colours: bool = False) -> str:
+    """A text in which such signs, as names may have them, stand as `\\x` and two digits."""
+    return CONTROL.sub(lambda found: found[0] if found[1] and has_colours else "".join("\\x%02x" % ord(it) if it < " " or it > "~" else it for it in found[0]), text)
+
+
 def close_output() -> None:
     """What is left in the buffer may not be writable, and Python would try to write it at its end."""
     os.dup2(os.open(os.devnull, os.O_WRONLY), 1)
@@ -83,7 +91,8 @@ def close_output() -> None:
 
 def reason(error: OSError) -> str:
     """What the system says of a file, in a line."""
-    what = error.strerror or str(error) or type(error).__name__
+    many = error.args[0] if error.args else None  # of shutil: files that could not be copied, each with what the system says
+    what = error.strerror or str(many[0][-1] if isinstance(many, list) and many else error) or type(error).__name__
     what += HELPS.get(error.errno or 0, "")
     return "%s: %s" % (os.fsdecode(error.filename), what) if isinstance(error.filename, (str, bytes)) else what
 

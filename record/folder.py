@@ -1,8 +1,10 @@
 """The folder of a record: what it holds, and how it is written."""
 
+import hashlib
 import json
 import os
 import shutil
+import socket
 import tempfile
 from contextlib import contextmanager
 from dataclasses import asdict, dataclass, field
@@ -10,6 +12,7 @@ from pathlib import Path
 from typing import TYPE_CHECKING, Any, Dict, Iterator, List, Optional
 
 from record import VERSION
+from record.entry import reason
 from record.tasks import labels_of, lines_of, relative, shown
 
 if TYPE_CHECKING:
@@ -19,6 +22,10 @@ if TYPE_CHECKING:
 ROOMS = "/tmp" if os.path.isdir("/tmp") else None  # where temporary folders are made
 NAMES = 12  # so many of the targets that were there before are named
 FOUND = 3  # so many names of a folder that is no record
+
+
+class Taken(Exception):
+    """The place of the record is in use."""
 
 
 class NotWhole(Exception):
@@ -133,32 +140,53 @@ def move(here: Path, there: Path) -> None:
     try:
         here.rename(there)
     except OSError:  # it goes to another device
+        gone = here.with_name(here.name + ".gone")
         try:
             shutil.copytree(here, there, symlinks=True)
+            here.rename(gone)  # in one step: a folder in which nothing can be written keeps it whole
         except BaseException:
             shutil.rmtree(there, ignore_errors=True)
             raise
-        shutil.rmtree(here)
+        shutil.rmtree(gone, ignore_errors=True)
+
+
+def come_back(older: Path, folder: Path) -> None:
+    """Puts an older record where it was, in the place of what there is of a new one."""
+    shutil.rmtree(folder, ignore_errors=True)
+    if not older.exists():
+        return
+    try:
+        move(older, folder)
+    except OSError as fault:
+        raise OSError("the older record cannot come back to %s (%s); it is in %s" % (folder, reason(fault), older)) from fault
+
+
+@contextmanager
+def alone(folder: Path) -> Iterator[None]:
+    """Holds the place of a record as long as one is made. A name of a socket in no folder is free again when its process ends, however it ends."""
+    place = os.fsencode(os.path.join(os.path.realpath(folder.parent), folder.name))
+    with socket.socket(socket.AF_UNIX) as held:
+        try:
+            held.bind(b"\0race-record " + hashlib.sha256(place).digest())
+        except OSError as fault:
+            raise Taken("another race-record makes the record %s now: wait until it has ended, or let one of the two build in a copy of the project" % folder) from fault
+        yield
 
 
 @contextmanager
 def aside(folder: Path) -> Iterator[None]:
     """Takes an older record out of the tree, in which the build may look around. It comes back where no new one is written."""
     room = Path(tempfile.mkdtemp(prefix="race-record-older-", dir=ROOMS))
-    older = room / "record"
+    older, is_away = room / "record", False
     try:
         move(folder, older) if folder.exists() else folder.mkdir()  # where nothing can be written, nothing need be built
-    except BaseException:
-        room.rmdir()
-        raise
-    shutil.rmtree(folder, ignore_errors=True)
-    try:
+        is_away = True
+        shutil.rmtree(folder, ignore_errors=True)
         yield
     except BaseException:
-        shutil.rmtree(folder, ignore_errors=True)
-        if older.exists():
-            move(older, folder)
-        room.rmdir()
+        if is_away or older.exists():
+            come_back(older, folder)
+        shutil.rmtree(room, ignore_errors=True)
         raise
     shutil.rmtree(room, ignore_errors=True)
 

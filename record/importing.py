@@ -6,6 +6,7 @@ These modules are loaded while the build runs (main.py): that takes as long as P
 import argparse
 import gc
 import os
+import sys
 from dataclasses import dataclass
 from itertools import chain
 from pathlib import Path
@@ -39,7 +40,7 @@ from record.trace.names import Names, mount_points
 from record.trace.past import Past, beginning
 from record.trace.skips import SYSTEM, unseen_changes
 from record.trace.strace import read_trace
-from record.warm import did_nothing, stand_alone, warm_names
+from record.warm import did_nothing, made_unseen, stand_alone, warm_names
 
 
 IDLE = "nothing was to be done, so nothing was seen: record a clean tree (make clean, or --fresh for ninja)"
@@ -130,6 +131,8 @@ def import_record(spool: Path, names: Names, kept: Kept, real: str, folder: str,
             builder = Builder(make, number, names, assumed, past.until(place))
             builds.append(builder.run())
             record.holes += builder.holes
+    for path in made_unseen(owners.makes, ninjas, names, past.until(sys.maxsize)):
+        record.holes.append("%s was absent, and something else made it while the build ran, so its recipe did not run: let nothing else build here, and record again" % path)
     builds = sorted(builds + of_ninja, key=lambda build: build.make.life.born)
     if (owners.makes or ninjas) and record.status == 0 and did_nothing(builds):
         record.holes.append(IDLE)

@@ -9,10 +9,11 @@ from pathlib import Path
 from typing import List, Optional, Tuple
 
 from record.pages import TOP, page
+from record.tasks import shown
 
 PLACES = (TOP / "record" / "race", TOP / "race", TOP / "crates" / "race" / "out" / "race", TOP / "out" / "race")  # beside the script, in the checkout
 FAULT = re.compile(r"refused (F\d+)\b")
-RACE_LINE = re.compile(r"^race (\S+) : (\S+) (reads|writes) (\S+) (reads|writes)$")
+RACE_LINE = re.compile(r"^race ([^ ]+) : ([^ ]+) (reads|writes) ([^ ]+) (reads|writes)$")  # a name may have other blanks than the one of ASCII
 SHOWN = re.compile(r"\\x([0-9a-fA-F]{2})|\\\\")
 
 
@@ -60,7 +61,8 @@ def find_race(option: Optional[str]) -> Optional[str]:
     if name:
         found = shutil.which(name) or (name if can_run(Path(name)) else None)
         return os.path.abspath(found) if found else None
-    return next((str(path) for path in PLACES if can_run(path)), None) or shutil.which("race")
+    there = next((str(path) for path in PLACES if can_run(path)), None) or shutil.which("race")
+    return os.path.abspath(there) if there else None
 
 
 def no_race(option: Optional[str]) -> str:
@@ -89,22 +91,23 @@ def ended(status: int) -> str:
 
 
 def ask(race: str, command: str, tasks: Path, root: str) -> "subprocess.CompletedProcess[str]":
-    """Runs one command of `race` over a text of tasks."""
-    return subprocess.run([race, command, "--tasks", str(tasks), "--root", root], capture_output=True, text=True, errors="replace", stdin=subprocess.DEVNULL)
+    """Runs one command of `race` over a text of tasks, in its folder: `race` takes no word that is not UTF-8, and that folder may have any name."""
+    words = [race, command, "--tasks", tasks.name, "--root", shown(root)]
+    return subprocess.run(words, cwd=tasks.parent, capture_output=True, text=True, errors="replace", stdin=subprocess.DEVNULL)
 
 
 def judge(race: str, tasks: Path, root: str) -> Verdict:
     """All races of a build, and the lines that fix it."""
     listed = ask(race, "list", tasks, root)
     verdict = Verdict(listed.returncode)
-    for text in listed.stdout.splitlines():
+    for text in listed.stdout.split("\n"):
         match = RACE_LINE.match(text)
         if match:
             path, first, does, second, also = match.groups()
             verdict.races.append(Race(unshown(path), unshown(first), does, unshown(second), also))
         elif text.startswith("pairs "):
             verdict.pairs = int(text[6:])
-    is_whole = "races %d" % len(verdict.races) in listed.stdout.splitlines()
+    is_whole = "races %d" % len(verdict.races) in listed.stdout.split("\n")
     if not is_whole or listed.returncode not in (0, 1) or (listed.returncode == 1) != bool(verdict.races):
         verdict.status = 2
         said = " ".join((listed.stdout + listed.stderr).split()) or "race list " + ended(listed.returncode)
@@ -112,5 +115,5 @@ def judge(race: str, tasks: Path, root: str) -> Verdict:
     elif listed.returncode == 1:
         fixed = ask(race, "fix", tasks, root)
         verdict.is_fixed = fixed.returncode == 0
-        verdict.fix = [t.partition(" #")[0].rstrip() for t in fixed.stdout.splitlines() if ": " in t and not t.startswith("#")]
+        verdict.fix = [t.partition(" #")[0].rstrip() for t in fixed.stdout.split("\n") if ": " in t and not t.startswith("#")]
     return verdict

@@ -18,8 +18,8 @@ from pathlib import Path
 from typing import Dict, List, Optional, Tuple
 
 from record import VERSION
-from record.entry import Stopped, end_traced
-from record.folder import ROOMS, NotWhole, Record, accept_warm, aside, is_record, reading, rewrite, what_stands
+from record.entry import Stopped, end_traced, printable
+from record.folder import ROOMS, NotWhole, Record, Taken, accept_warm, alone, aside, is_record, reading, rewrite, what_stands
 from record.judge import find_race, judge, no_race
 from record.make.outputs import note_output
 from record.ninja.again import JOBS, TRIES, by_name, hints, tops_of, undo, with_jobs
@@ -263,10 +263,16 @@ def run(options: argparse.Namespace) -> int:
     if shutil.which(options.words[0]) is None:
         return stop(no_command(options.words[0]))
     try:
-        with aside(out):
-            record = record_fresh(options, tools, out) if options.fresh else record_all(options, tools, out)
-    except CannotClean as fault:
+        with alone(out):
+            return record_and_judge(options, tools, out, race)
+    except (CannotClean, Taken) as fault:
         return stop(str(fault))
+
+
+def record_and_judge(options: argparse.Namespace, tools: Dict[str, str], out: Path, race: str) -> int:
+    """Records in the place of an older record, and judges."""
+    with aside(out):
+        record = record_fresh(options, tools, out) if options.fresh else record_all(options, tools, out)
     ended, judged = judge_record(out, race)
     if ended == 0 and record.warm and not (options.warm or record.stands_alone):
         ended = 2
@@ -289,12 +295,13 @@ def judge_warm(out: Path, race: str) -> int:
 
 def answer(out: Path, race: str, ended: int, judged: List[Judged], is_missing: bool) -> int:
     """Prints what is known of a record; the status."""
-    print("\n".join(report(read_json(out / "record.json"), judged, out)))
+    colour = colours()
+    print(printable("\n".join(report(read_json(out / "record.json"), judged, out)), bool(colour.end)))
     if not is_missing:
         return ended
     from record.missing.report import Question, missing_text
     question = Question.of(out, race)
-    print("\n" + "\n".join(missing_text(question, colours())))
+    print(printable("\n" + "\n".join(missing_text(question, colour)), bool(colour.end)))
     return 2 if 2 in (ended, question.status()) else max(ended, question.status())
 
 

@@ -12,6 +12,7 @@ from typing import Any, Dict, List, Tuple
 from record.judge import Race, Verdict, explained
 from record.ninja.fix import fix_text, pool_text
 from record.pages import after_no_verdict
+from record.tasks import shown
 
 SHOWN_RACES, SHOWN_HOLES = 30, 20
 SHOWN_SIGNS = 80  # of an example
@@ -180,7 +181,7 @@ def warm_text(record: Dict[str, Any], colour: Colours) -> List[str]:
     if not warm["count"]:
         return []
     was = "was" if warm["count"] == 1 else "were"
-    names = [os.path.relpath(name, record["folder"]) for name in warm.get("names", [warm["example"]])]
+    names = [os.path.relpath(shown(name), shown(record["folder"])) for name in warm.get("names", [warm["example"]])]
     more = ["%d more" % (warm["count"] - len(names))] if warm["count"] > len(names) else []
     first = "%sWARM%s  %s that this build makes %s there before: this is about builds from such a tree" % (colour.bad, colour.end, plural(warm["count"], "file"), was)
     return [first] + textwrap.wrap(", ".join(names + more), 78, initial_indent="  ", subsequent_indent="  ", break_long_words=False, break_on_hyphens=False)

@@ -5,6 +5,7 @@ import re
 from typing import Dict, Iterator, List, Set
 
 from record.make.graph import Build, Graph, Node, Task
+from record.make.owners import Make
 from record.missing.looked import is_below
 from record.ninja.runs import Ninja
 from record.trace.names import Names
@@ -45,6 +46,20 @@ def did_nothing(builds: List[Build]) -> bool:
     works = [work for build in builds for task in build.tasks if task.kind == "recipe" for work in task.works]
     acts = [work for build in builds if build.tool == "make" for work in build.make.acts.values()]
     return all(work.makes or work.ninjas for work in works) and not any(kind in CHANGES for work in works + acts for kind, _ in work.events)
+
+
+def made_unseen(makes: List[Make], ninjas: List[Ninja], names: Names, now: Dict[str, str]) -> List[str]:
+    """Targets that are there, and that nobody made in this build, though they were absent before: something else builds in the same
+    folder, and their recipes did not run. `now` are the names that are there as the trace has it."""
+    found: Set[str] = set()
+    for make in makes:
+        for one in make.words.rounds:
+            ran = {job.target for job in one.jobs}
+            recipes = one.base.recipes if one.base is not None else {}
+            found.update(names.find(make.folder, one.vpath.get(n, n), True).path for n in one.nodes if recipes.get(n) and n not in one.must and n not in ran)
+    for ninja in ninjas:
+        found.update(targets_of(ninja, names, {id(job.edge) for stage in ninja.stages for job in stage.jobs}))
+    return sorted(path for path in found if path not in now and os.path.isfile(path) and any(is_below(path, top) for top in names.tops))
 
 
 def is_beyond(path: str, names: Names) -> bool:

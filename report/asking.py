@@ -8,6 +8,7 @@ from record import VERSION
 from record.judge import explained
 from record.judge import judge as ask
 from record.missing.report import Question
+from record.tasks import shown
 from report.model import Assumption, BadRecord, Report, read_build, read_json
 
 
@@ -16,8 +17,8 @@ def judge(folder: Path, program: Path) -> Report:
     record = read_json(folder / "record.json")
     if record.get("version") != VERSION:
         raise BadRecord(f"{folder} is of another version of race-record: record again")
-    project = record.get("folder", "")
-    report = Report(project, record.get("words", []), "safe", is_fixed=True, holes=[*record.get("holes", [])])
+    project = shown(record.get("folder", ""))
+    report = Report(record.get("folder", ""), [*map(shown, record.get("words", []))], "safe", is_fixed=True, holes=[*record.get("holes", [])])
     report.assumptions = [Assumption(it["text"], it["count"], it["example"]) for it in record.get("assumptions", [])]
     report.is_of_ninja = bool(record.get("builds"))
     for number in record.get("builds", []):

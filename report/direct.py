@@ -14,7 +14,7 @@ from record.judge import RACE_LINE, explained, unshown
 from record.pages import page
 from report.model import Assumption, BadRecord, Build, Report
 
-ORDER = re.compile(r"^\d+ (plain|recipe|inferred) (\S+)(?: :((?: \S+)*))?$")
+ORDER = re.compile(r"^\d+ (plain|recipe|inferred) ([^ ]+)(?: :((?: [^ ]+)*))?$")
 # What is taken for granted where footprints are written by hand: README, "Premises".
 PREMISES = (
     "the makefile, the goals, the macros and the base are those that the build uses",
@@ -82,7 +82,7 @@ def refusal(done: subprocess.CompletedProcess[str], command: str) -> str:
 def rules(makefile: Path) -> Iterator[tuple[str, int, str]]:
     """The rules of a makefile whose targets stand there as they are: each target, its line, and the first line of its recipe."""
     open_at, targets = 0, []
-    for number, line in enumerate(makefile.read_text(encoding="utf-8", errors="surrogateescape").splitlines(), 1):
+    for number, line in enumerate(makefile.read_text(encoding="utf-8", errors="surrogateescape").split("\n"), 1):
         if line.startswith("\t") and open_at:
             yield from ((it, open_at, line.strip()) for it in targets)
             open_at = 0
@@ -95,10 +95,10 @@ def graph_of(order: str, given: Inputs) -> Build:
     """The graph that `race order` prints, with places in the makefile."""
     labels: dict[str, dict] = {}
     after: dict[str, list[str]] = {}
-    for found in filter(None, map(ORDER.match, order.splitlines())):
+    for found in filter(None, map(ORDER.match, order.split("\n"))):
         name = unshown(found[2])
         labels[name] = {"target": name, "kind": found[1]}
-        after[name] = [unshown(it) for it in (found[3] or "").split()]
+        after[name] = [unshown(it) for it in (found[3] or "").split(" ") if it]
     for target, line, recipe in rules(given.makefile):
         about = labels.get(os.path.normpath(target))
         if about and (recipe or "line" not in about):
@@ -113,14 +113,14 @@ def judge_makefile(given: Inputs, program: Path) -> Report:
     report.holes = [*filter(None, [refusal(order, "order") or refusal(listed, "list")])]
     report.assumptions = [Assumption(it, 1, "") for it in PREMISES]
     build = graph_of(order.stdout, given)
-    for line in listed.stdout.splitlines():
+    for line in listed.stdout.split("\n"):
         word, _, rest = line.partition(" ")
         if found := RACE_LINE.match(line):
             path, first, does, second, also = map(unshown, found.groups())
             report.races.append(build.race(path, (first, does), (second, also)))
         elif word in ("pairs", "recipes"):
             setattr(report, word, int(rest))
-    is_whole = f"races {len(report.races)}" in listed.stdout.splitlines() and (listed.returncode == 1) == bool(report.races)
+    is_whole = f"races {len(report.races)}" in listed.stdout.split("\n") and (listed.returncode == 1) == bool(report.races)
     if not report.holes and not is_whole:
         report.holes = [f"{program} does not answer as race does: install race again, or name another by --race"]
     fix(report, given, program)
@@ -135,5 +135,5 @@ def fix(report: Report, given: Inputs, program: Path) -> None:
         return
     fixed = run(program, given.words("fix"))
     report.is_fixed = fixed.returncode == 0
-    lines = [it.partition(" #")[0].rstrip() for it in fixed.stdout.splitlines() if ": " in it and it[:1] != "#"]
+    lines = [it.partition(" #")[0].rstrip() for it in fixed.stdout.split("\n") if ": " in it and it[:1] != "#"]
     report.fixes = [*dict.fromkeys(lines if report.is_fixed else (it.fix for it in report.races))]

@@ -3,6 +3,7 @@
 from __future__ import annotations
 
 import json
+import os
 from pathlib import Path
 from urllib.parse import quote
 
@@ -10,6 +11,7 @@ from report import VERSION
 from record.entry import reason
 from record.missing.inputs import Found
 from record.missing.report import Judged, Question
+from record.tasks import shown
 from report.kinds import KINDS
 from report.model import BadRecord, Race, Recipe, Report, Side
 from report.plain import summary
@@ -54,7 +56,7 @@ def as_json(report: Report) -> str:
     """The whole report as one object."""
     text = {
         "schema": "race-report", "version": VERSION, "verdict": report.verdict, "summary": summary(report),
-        "folder": report.folder, "words": report.words,
+        "folder": shown(report.folder), "words": report.words,
         "counts": {"builds": report.builds, "recipes": report.recipes, "pairs": report.pairs, "races": len(report.races)},
         "races": [race_object(it, report) for it in report.races],
         "fixes": {"lines": report.fixes if report.races else [], "checked": report.is_checked},
@@ -87,7 +89,7 @@ def location(recipe: Recipe, message: str, number: int | None = None) -> dict:
     if number is not None:
         found["id"] = number
     if recipe.file:
-        artifact: dict = {"uri": quote(recipe.file, safe="/")}
+        artifact: dict = {"uri": quote(os.fsencode(recipe.file), safe="/")}
         if not recipe.file.startswith("/"):
             artifact["uriBaseId"] = "PROJECT"
         else:
@@ -121,7 +123,7 @@ def as_sarif(report: Report) -> str:
     notes = [{"level": "error", "message": {"text": it}} for it in report.holes]
     run = {
         "tool": {"driver": {"name": "race", "rules": rules}},
-        "originalUriBaseIds": {"PROJECT": {"uri": "file://" + quote(report.folder.rstrip("/") + "/", safe="/")}},
+        "originalUriBaseIds": {"PROJECT": {"uri": "file://" + quote(os.fsencode(report.folder.rstrip("/") + "/"), safe="/")}},
         "invocations": [{"executionSuccessful": report.verdict != "none", "toolExecutionNotifications": notes}],
         "results": [result(it, report) for it in report.races],
     }

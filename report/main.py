@@ -8,7 +8,7 @@ import shutil
 import sys
 from pathlib import Path
 
-from record.entry import reason
+from record.entry import printable, reason
 from record.folder import NotWhole, reading
 from record.judge import find_race, no_race
 from report.asking import judge
@@ -93,7 +93,7 @@ def main(words: list[str] | None = None) -> int:
             report = read(args, Path(program))
             if args.baseline:
                 hold_against(report, args.baseline)
-            shown, status = FORMS[args.format](report).encode("utf-8", "backslashreplace"), report.status()
+            shown, status = printable(FORMS[args.format](report)).encode("utf-8", "backslashreplace"), report.status()
         write(shown, args.output)
     except (BadRecord, NotWhole) as error:
         return stop(error)

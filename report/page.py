@@ -8,6 +8,7 @@ from pathlib import PurePath
 
 from record.missing.report import missing_text
 from record.report import Colours
+from record.tasks import shown
 from report.kinds import FORGOTTEN
 from report.model import Race, Report
 from report.pictures import graph, schedule
@@ -160,7 +161,7 @@ def as_html(report: Report) -> str:
     """The whole page."""
     body = [
         f'<header class="verdict {report.verdict}"><h1>{HEADLINES[report.verdict]}</h1><p>{escape(summary(report))}</p>'
-        f'<div class="where"><code>{escape(" ".join(report.words))}</code> in <code>{escape(report.folder)}</code></div></header>',
+        f'<div class="where"><code>{escape(" ".join(report.words))}</code> in <code>{escape(shown(report.folder))}</code></div></header>',
         listed("Why there is no verdict", [escape(it) for it in report.holes]), fixes(report), *races(report),
         listed("Fixed since the baseline", [escape(it) for it in report.gone]), assumptions(report), missing(report),
     ]

@@ -8,12 +8,12 @@ from typing import Dict, List, Set, Tuple
 TARGET = re.compile(r"^(.*?)(::?)(?: (.*))?$")
 PLACE = re.compile(r"^#  recipe to execute \(from '(.*)', line (\d+)\):")
 ORIGIN = re.compile(r"# (makefile|environment|command line|default|automatic|'override' directive)")
-VALUE = re.compile(r"^([^\s:#=]+) (?:=|:=|::=|:::=) ?(.*)$")
+VALUE = re.compile(r"^([^\s:#=]+) (?:=|:=|::=|:::=) ?(.*)$", re.A)
 LINES_TEXT = "$(lines)*"  # what stands for a macro of several lines
-LINES = re.compile(r"^define ([^\s:#=]+)")
+LINES = re.compile(r"^define ([^\s:#=]+)", re.A)
 PATTERN = re.compile(r"^([^#\t:=]*%[^:=]*)(::?)(?!=) *(.*)$")
 NO_TARGET = "# Not a target:"
-SEARCH = re.compile(r"^vpath (\S+) (.*)$")
+SEARCH = re.compile(r"^vpath (\S+) (.*)$", re.A)
 
 
 @dataclass
@@ -50,6 +50,11 @@ class Base:
     def tails(self) -> List[Tuple[int, str, str]]:
         """The targets of patterns, each with its place and with what stands behind its `%`. Asked when all is read."""
         return [(at, target, target.partition("%")[2]) for at, (targets, _) in enumerate(self.patterns) for target in targets]
+
+
+def cut(text: str) -> List[str]:
+    """Words as make cuts them: a name may have any blank that is not of ASCII."""
+    return [word for word in text.replace("\t", " ").split(" ") if word]
 
 
 class _Files:
@@ -95,7 +100,7 @@ class _Files:
         elif text.startswith("#  Phony target"):
             base.phony.add(self.name)
         elif text.startswith("#  Also makes:"):
-            base.also[self.name] = text.split(":", 1)[1].split()
+            base.also[self.name] = cut(text.split(":", 1)[1])
 
     def target(self, text: str) -> None:
         match = TARGET.match(text)
@@ -109,10 +114,10 @@ class _Files:
         first, _, second = ((match.group(3) or "") + " ").partition("| ")
         if self.name == ".NOTPARALLEL" and not self.is_other:  # (as a prerequisite alone it says nothing)
             base.serial = True
-        base.prerequisites.setdefault(self.name, []).extend(first.split())
-        base.order_only.setdefault(self.name, set()).update(second.split())
+        base.prerequisites.setdefault(self.name, []).extend(cut(first))
+        base.order_only.setdefault(self.name, set()).update(cut(second))
         if match.group(2) == "::":
-            base.double.setdefault(self.name, []).append(Colons(first.split(), second.split()))
+            base.double.setdefault(self.name, []).append(Colons(cut(first), cut(second)))
 
 
 def own_value(base: Base, text: str, line: str) -> None:
@@ -128,7 +133,7 @@ def before_files(base: Base, text: str, previous: str) -> None:
     value, lines = (VALUE.match(text), LINES.match(text)) if is_macro else (None, None)
     if pattern:
         base.terminal.update([len(base.patterns)] if pattern.group(2) == "::" else [])
-        base.patterns.append((pattern.group(1).split(), pattern.group(3).replace("|", " ").split()))
+        base.patterns.append((cut(pattern.group(1)), cut(pattern.group(3).replace("|", " "))))
     if value:
         base.values[value.group(1)] = value.group(2)
     if lines:

@@ -307,7 +307,7 @@ def read_logs(spool: Path) -> List[Words]:
     logs = []
     for path in sorted(spool.glob("*.make")):
         pid, life, _ = path.name.split(".")
-        with open(path, encoding="utf-8", errors="surrogateescape") as lines:
+        with open(path, encoding="utf-8", errors="surrogateescape", newline="\n") as lines:
             logs.append(read_words(int(pid), int(life), lines))
     return logs
 

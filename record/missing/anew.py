@@ -161,10 +161,10 @@ class Anew:
     def other_files(self, node: Node) -> Iterator[str]:
         """Where make finds another file for a name, or another rule for a target, since the build has made it."""
         name = node.name
-        if name in self.vpath:
+        if name in self.vpath or not (name in self.phony or name.startswith("/") or self.is_there(name)):  # else its own file comes first
             found = [name, *(os.path.join(folder, name) for folder in self.searched_folders())]
             for one in found:
-                if one != self.vpath[name] and self.is_new(self.path_of(one)):
+                if one != self.vpath.get(name) and self.is_new(self.path_of(one)):
                     yield "make finds %s for %s" % (one, name)
                     return
         if name in self.first.implicit and name not in self.phony:

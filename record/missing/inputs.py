@@ -4,9 +4,11 @@ What make knows in a later build, and what the recipes read, become the tasks of
 """
 
 import json
+import os
 import re
 import subprocess
 import tempfile
+import time
 from dataclasses import dataclass, field, replace
 from pathlib import Path
 from typing import Any, Dict, Iterator, List, Set, Tuple
@@ -25,9 +27,10 @@ from record.trace.lives import Life
 from record.trace.names import Names
 
 TASKS, LISTING = "missing-tasks", "missing-listing"
-FOUND = re.compile(r"^(missing|late|shared) (\S+) : (\S+) (reads|writes)(?: (\S+) writes)?$")
-PRESENT = re.compile(r"^present (\S+)$")
-ADD = re.compile(r"^add (\S+): (\S+)$")
+FOUND = re.compile(r"^(missing|late|shared) ([^ ]+) : ([^ ]+) (reads|writes)(?: ([^ ]+) writes)?$")
+PRESENT = re.compile(r"^present ([^ ]+)$")
+ADD = re.compile(r"^add ([^ ]+): ([^ ]+)$")
+SLACK = 60.0  # seconds by which the clock of a disk may be ahead
 COUNTS = ("missing", "late", "shared", "present", "races")
 
 
@@ -57,9 +60,16 @@ def write_missing(out: Path, record: Record, builds: List[Build], names: Names, 
             premises.add(kind, relative(record.folder, path))
     holes += ["a later build finds %s otherwise, where nothing is edited: %s looks for it, and it changes behind that" % (relative(record.folder, path), who)
               for path, who in turned.holes.items()]
+    holes += ["the time of %s lies in the future, so no edit is newer, and make does not make it again" % relative(record.folder, path) for path in ahead(builds)]
     holes += ["what make knows in a later build is not known: " + why for why in laters.faults.values()]
     found = [{"kind": a.kind, "count": a.count, "example": shown(a.example), "text": a.text()} for a in premises.all()]
     return {"judged": judged, "holes": [shown(hole) for hole in holes], "premises": found}
+
+
+def ahead(builds: List[Build]) -> List[str]:
+    """Targets that have been given a time which has not come."""
+    paths = {task.node.path for build in builds for task in build.tasks if task.kind == "recipe"}
+    return sorted(path for path in paths if os.path.isfile(path) and os.path.getmtime(path) > time.time() + SLACK)
 
 
 def made_elsewhere(builds: List[Build], turned: Turned) -> Set[str]:
@@ -120,9 +130,9 @@ class Answer:
 
 
 def ask(race: str, tasks: Path, listing: Path, root: str) -> "subprocess.CompletedProcess[str]":
-    """Runs `race missing` over tasks."""
-    words = [race, "missing", "--tasks", str(tasks), "--listing", str(listing), "--root", root]
-    return subprocess.run(words, capture_output=True, text=True, errors="replace", stdin=subprocess.DEVNULL, check=False)
+    """Runs `race missing` over tasks, in their folder as `record.judge` does."""
+    words = [race, "missing", "--tasks", tasks.name, "--listing", listing.name, "--root", shown(root)]
+    return subprocess.run(words, cwd=tasks.parent, capture_output=True, text=True, errors="replace", stdin=subprocess.DEVNULL, check=False)
 
 
 def knows_missing(race: str) -> bool:
@@ -178,7 +188,7 @@ def judge_missing(race: str, folder: Path, root: str) -> Answer:
     if not (folder / TASKS).exists():
         return Answer()
     ran = ask(race, folder / TASKS, folder / LISTING, root)
-    lines = ran.stdout.splitlines()
+    lines = ran.stdout.split("\n")
     head = next((at for at, text in enumerate(lines) if text.startswith("waits ")), -1) + 1
     answer = Answer(list(read_answer(lines[head:], *labels_in(folder / TASKS))), max(0, count_of(lines[:head], "races")))
     counts = [count_of(lines[:head], word) for word in COUNTS]

@@ -10,7 +10,7 @@ import re
 import subprocess
 from dataclasses import dataclass
 from pathlib import Path
-from typing import Dict, List, Optional, Set
+from typing import Dict, List, Optional, Set, Tuple
 
 from record.make.database import Base, read_base
 from record.make.options import CLUSTER, LONG_WITH_WORD
@@ -46,8 +46,8 @@ def read_start(path: Path) -> Start:
     return Start(words[0], words[1], words[2], words[4:count], {name: value for name, _, value in pairs})
 
 
-def makefiles_in(args: List[str]) -> List[str]:
-    """The makefiles that the words of a command line name."""
+def named_by(args: List[str], option: str, long: Tuple[str, ...]) -> List[str]:
+    """The files that the words of a command line name by an option, such as makefiles by `-f`."""
     found: List[str] = []
     skip = False
     for word, following in zip(args, args[1:] + [""]):
@@ -58,16 +58,26 @@ def makefiles_in(args: List[str]) -> List[str]:
             break
         begun, equals, value = word.partition("=")
         if word.startswith("--"):
-            is_file = len(begun) > 3 and any(name.startswith(begun) for name in ("--file", "--makefile"))
+            is_file = len(begun) > 3 and any(name.startswith(begun) for name in long)
             skip = not equals and len(begun) > 3 and any(name.startswith(begun) for name in LONG_WITH_WORD)
         else:
             cluster = CLUSTER.match(word)
             letter, value = cluster.group(2, 3) if cluster else ("", "")
-            is_file = letter == "f"
+            is_file = letter == option
             skip = letter != "" and letter in "CfIoWE" and value == ""
         if is_file:
             found.append(following if skip else value)
     return found
+
+
+def makefiles_in(args: List[str]) -> List[str]:
+    """The makefiles that the words of a command line name."""
+    return named_by(args, "f", ("--file", "--makefile"))
+
+
+def taken_as_old(start: Start) -> List[str]:
+    """The files whose ages a make does not ask for."""
+    return [name for words in (start.args, start.environment.get("MAKEFLAGS", "").split(" ")) for name in named_by(words, "o", ("--old-file", "--assume-old"))]
 
 
 def words_again(args: List[str], folder: str, stop: str) -> List[str]:
@@ -99,6 +109,8 @@ def ask(make: Make, spool: Path) -> Base:
     if not path.exists():
         raise Unknown("nobody kept how it was started")
     start = read_start(path)
+    for name in taken_as_old(start):
+        raise Unknown("it is asked to take %s as old (-o), so what needs that is not made again" % name)
     stop = spool / "stop.mk"
     stop.write_text("$(error %s)\n" % STOP)
     words = [start.name, *words_again(start.args, make.folder, str(stop))]
@@ -110,7 +122,7 @@ def ask(make: Make, spool: Path) -> Base:
     said = ran.stderr.decode("utf-8", "surrogateescape")
     if STOP not in said:
         raise Unknown("it cannot read its makefiles again: " + " ".join(said.split())[-200:])
-    found = read_base(ran.stdout.decode("utf-8", "surrogateescape").splitlines())
+    found = read_base(ran.stdout.decode("utf-8", "surrogateescape").split("\n"))
     if any(name.endswith(OF_CMAKE) for name in makefiles(make.words)):
         add_headers(found, make.folder)
     return found

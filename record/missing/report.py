@@ -11,6 +11,7 @@ from record.judge import explained
 from record.missing.inputs import Answer, Found, judge_missing
 from record.pages import after_no_verdict
 from record.report import Colours, listed, place, plural, read_json, target
+from record.tasks import shown
 
 SHOWN_FILES, SHOWN_TARGETS = 40, 5
 HEADERS = (".h", ".hh", ".hpp", ".hxx", ".inc", ".def")
@@ -78,7 +79,7 @@ class Question:
         judged = []
         for number in record["builds"]:
             about = read_json(out / "builds" / number / "build.json")
-            judged.append(Judged(number, about, judge_missing(race, out / "builds" / number, about["folder"]), record["folder"]))
+            judged.append(Judged(number, about, judge_missing(race, out / "builds" / number, about["folder"]), shown(record["folder"])))
         return Question(record, judged, out)
 
     def holes(self) -> List[str]:

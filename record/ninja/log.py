@@ -68,7 +68,7 @@ class Missing:
 
 def read_missing(text: str) -> Set[Missing]:
     """What `-t missingdeps` prints."""
-    found = (MISSING.match(line) for line in text.splitlines())
+    found = (MISSING.match(line) for line in text.split("\n"))
     return {Missing(match.group(1), match.group(2)) for match in found if match}
 
 

@@ -46,10 +46,10 @@ class Inode:
 def mount_points() -> Set[str]:
     """Where file systems, or folders of them, are mounted."""
     try:
-        lines = Path("/proc/self/mountinfo").read_text(errors="surrogateescape").splitlines()
+        lines = Path("/proc/self/mountinfo").read_text(errors="surrogateescape").split("\n")
     except OSError:
         return set()
-    return {MOUNT_ESCAPE.sub(lambda found: chr(int(found.group(1), 8)), line.split(" ")[4]) for line in lines}
+    return {MOUNT_ESCAPE.sub(lambda found: chr(int(found.group(1), 8)), line.split(" ")[4]) for line in lines if line}
 
 
 def number_of(path: str) -> Tuple[str, Optional[os.stat_result]]:

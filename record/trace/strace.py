@@ -9,7 +9,7 @@ KEPT, SHORT = 1 << 14, 1000  # how many texts are remembered, and how long they 
 Answer = TypeVar("Answer")
 CALL = re.compile(r"(\w+)\((.*)\)\s+= (-?\d+|0x[0-9a-f]+|\?)(?:<((?:[^<>\\]|\\.)*)>(?:\(deleted\))?)?(?: (E\w+))?(?: \(.*\))?$", re.S)
 ESCAPE = re.compile(r"\\([0-7]{1,3}|x[0-9a-f]{2}|.)", re.S)
-TEXT = re.compile(r'"((?:[^"\\]|\\.)*)"(\.\.\.)?')
+TEXT = re.compile(r'(?<!\\)"((?:[^"\\]|\\.)*)"(\.\.\.)?')  # behind a backslash it is a sign in the name of a descriptor
 FOLDER = re.compile(r"(?:AT_FDCWD|\d+)<((?:[^<>\\]|\\.)*)>")
 QUOTED = re.compile(r'(?:AT_FDCWD|\d)<[^<>"]*"')  # a quote in what stands behind a descriptor, as strace shows it
 QUOTE = re.compile(r'\\.|"', re.S)

@@ -76,7 +76,7 @@ MISSING_GUARDS: List[Guard] = [
     Guard("missing: patterns that it removes later", "missing/looked.py", "                or any(os.path.dirname(path) == folder", "                or any(False and os.path.dirname(path) == folder", one_later("removed", "a pattern")),
     Guard("missing: temporaries of others", "missing/looked.py", "                self.gone.add(path)\n", "                return False\n", later("temporary_of_a_caller")),
     Guard("missing: another rule", "missing/anew.py", "elif target not in ended:", "elif False:", one_later("hole", "rule")),
-    Guard("missing: another file", "missing/anew.py", "if one != self.vpath[name] and self.is_new(self.path_of(one)):", "if False:", one_later("hole", "vpath")),
+    Guard("missing: another file", "missing/anew.py", "if one != self.vpath.get(name) and self.is_new(self.path_of(one)):", "if False:", one_later("hole", "vpath")),
     Guard("missing: folders of a pattern", "missing/anew.py", "for found in SEARCH.finditer(self.known.text))]", "for found in ())]", one_later("hole", "vpath of a pattern")),
     Guard("missing: all prerequisites", "missing/anew.py", "if plain and hands_on(texts, set(plain)):", "if False:", one_later("hole", "handed")),
     Guard("missing: prerequisites that a pattern fits", "missing/anew.py", "                return True\n    return any(ALL", "                return False\n    return any(ALL", one_later("hole", "filtered")),

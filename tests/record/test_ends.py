@@ -1,5 +1,6 @@
 """How race-record ends where it cannot go on: in a sentence, with status 3, and nothing of the user's is lost."""
 
+import errno
 import os
 import shutil
 import signal
@@ -11,13 +12,16 @@ import unittest
 from concurrent.futures import ThreadPoolExecutor
 from pathlib import Path
 from typing import Optional, Sequence
+from unittest import mock
 
 import forked
 import support
-from record.folder import aside, move
+from record import folder as places
+from record.entry import printable, reason
+from record.folder import Taken, alone as alone_at, aside, come_back, move
 from record.trace.pipe import Pipe
 
-SLOW = {"Makefile": "all: ; @echo $$PPID $$$$ > pids; echo \"$$PATH\" > path; touch begun; sleep 100\n"}
+SLOW = {"Makefile": "all: ; @echo $$PPID $$$$ > pids; echo \"$$PATH\" > path; : > begun; exec sleep 100\n"}  # a shell that waits for a child may go on behind an interrupt
 SAFE = {"Makefile": "all: ; @touch all\n"}
 
 
@@ -162,6 +166,53 @@ class Pipes(unittest.TestCase):
 class Moves(unittest.TestCase):
     """An older record."""
 
+    def older(self, room: str) -> Path:
+        """A record."""
+        here = Path(room, "here")
+        here.mkdir()
+        (here / "f").write_text("f")
+        return here
+
+    def test_to_another_device(self) -> None:
+        with tempfile.TemporaryDirectory() as room:
+            here, there = self.older(room), Path(room, "there")
+            real, calls = Path.rename, []
+
+            def rename(path: Path, to: Path) -> Path:
+                calls.append(path)
+                if len(calls) in (1, 3, 4):
+                    raise OSError(errno.EXDEV if len(calls) % 2 else errno.EROFS, "cannot be done", str(path))
+                return real(path, to)
+
+            with mock.patch.object(Path, "rename", rename):
+                move(here, there)
+                self.assertEqual((["there"], "f"), ([it.name for it in Path(room).iterdir()], (there / "f").read_text()))
+                with self.assertRaisesRegex(OSError, "Errno %d" % errno.EROFS):  # what is there cannot be removed
+                    move(there, here)
+            self.assertEqual((["there"], "f"), ([it.name for it in Path(room).iterdir()], (there / "f").read_text()))
+
+    def test_a_place_where_nothing_can_be_written(self) -> None:
+        with tempfile.TemporaryDirectory() as room, mock.patch.object(places, "move", side_effect=OSError(errno.EROFS, "cannot be done", "here")):
+            here = self.older(room)
+            with self.assertRaisesRegex(OSError, "Errno %d" % errno.EROFS), aside(here):
+                self.fail("nothing is to be built")
+            self.assertEqual("f", (here / "f").read_text())
+
+    def test_a_record_that_cannot_come_back(self) -> None:
+        with tempfile.TemporaryDirectory() as room, mock.patch.object(places, "move", side_effect=OSError(errno.ENOSPC, "no room", "there")):
+            here = self.older(room)
+            with self.assertRaisesRegex(OSError, "the older record cannot come back to .*/there .*; it is in .*/here"):
+                come_back(here, Path(room, "there"))
+            self.assertEqual("f", (here / "f").read_text())
+
+    def test_one_at_a_time(self) -> None:
+        with tempfile.TemporaryDirectory() as room:
+            with alone_at(Path(room, "one")), alone_at(Path(room, "two")):
+                with self.assertRaises(Taken), alone_at(Path(room, "one")):
+                    self.fail("the place is in use")
+            with alone_at(Path(room, "one")):
+                pass
+
     def test_a_move_that_fails(self) -> None:
         with tempfile.TemporaryDirectory() as room:
             here = Path(room, "here")
@@ -184,6 +235,40 @@ class Moves(unittest.TestCase):
                 (folder / "record.json").write_text("three")
                 raise ValueError
             self.assertEqual("two", (folder / "record.json").read_text())
+
+
+class Together(unittest.TestCase):
+    """Something else that builds in the same folder."""
+
+    def test_a_recording(self) -> None:
+        with support.Project(SLOW) as project:
+            process = started(project)
+            ran = forked.run(forked.script(support.RECORDER, ["--race", support.race_program(), "--", "make"]), project.folder, support.SECONDS)
+            process.send_signal(signal.SIGTERM)
+            process.communicate(timeout=60)
+        self.assertEqual((3, True), (ran.returncode, b"another race-record makes the record" in ran.stderr), ran.stderr)
+
+    def test_a_target_that_something_else_makes(self) -> None:
+        makefile = "all: x c d\nx: ; touch begun; while ! test -e go; do sleep 0.05; done; touch x\nc: ; echo 1 > c\nd: ; cat c > d\n"
+        with support.Project({"Makefile": makefile}) as project:
+            process = started(project)
+            (project.folder / "c").write_text("1\n")
+            (project.folder / "go").touch()
+            said = process.communicate(timeout=60)[0].decode()
+        self.assertEqual(2, process.returncode, said)
+        self.assertIn("/c was absent, and something else made it while the build ran", said)
+
+
+class Words(unittest.TestCase):
+    """What is printed."""
+
+    def test_signs_that_a_terminal_obeys(self) -> None:
+        self.assertEqual("a\\x1b[31mb\\x0d\\x9b\t\n\u00e4", printable("a\x1b[31mb\r\x9b\t\n\u00e4", True))
+        self.assertEqual("\x1b[1;31mRACE\x1b[0m", printable("\x1b[1;31mRACE\x1b[0m", True))
+        self.assertEqual("\\x1b[1;31mRACE\\x1b[0m", printable("\x1b[1;31mRACE\x1b[0m"))
+
+    def test_files_that_cannot_be_copied(self) -> None:
+        self.assertEqual("no room", reason(shutil.Error([("a", "b", "no room"), ("c", "d", "no room")])))
 
 
 if __name__ == "__main__":
