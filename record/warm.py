@@ -31,7 +31,7 @@ def warm_names(builds: List[Build], ninjas: List[Ninja], names: Names) -> List[s
     for build in builds:
         if build.tool == "make" and build.stage == "makefiles":
             found.difference_update(node.path for node in build.graph.nodes.values())
-    made = {names.find(ninja.folder, path, True).path for ninja in ninjas for stage in ninja.stages for edge in stage.ran() for path in edge.makes()}
+    made = {path for ninja in ninjas for path in made_by(ninja, names)}
     for ninja in ninjas:
         own = targets_of(ninja, names)
         found.update(own)
@@ -58,7 +58,7 @@ def made_unseen(makes: List[Make], ninjas: List[Ninja], names: Names, now: Dict[
             recipes = one.base.recipes if one.base is not None else {}
             found.update(names.find(make.folder, one.vpath.get(n, n), True).path for n in one.nodes if recipes.get(n) and n not in one.must and n not in ran)
     for ninja in ninjas:
-        found.update(targets_of(ninja, names, {id(job.edge) for stage in ninja.stages for job in stage.jobs}))
+        found.update(targets_of(ninja, names) - made_by(ninja, names))
     return sorted(path for path in found if path not in now and os.path.isfile(path) and any(is_below(path, top) for top in names.tops))
 
 
@@ -102,6 +102,11 @@ def targets_of(ninja: Ninja, names: Names) -> Set[str]:
     edges = [edge for edge in ninja.wanted() if not edge.is_phony]
     below = ninja.below_manifest() if any(edge.is_generator for edge in edges) else set()
     return {names.find(ninja.folder, path, True).path for edge in edges if not (edge.is_generator and edge.number in below) for path in edge.makes()}
+
+
+def made_by(ninja: Ninja, names: Names) -> Set[str]:
+    """Outputs of the statements whose commands ran."""
+    return {names.find(ninja.folder, path, True).path for stage in ninja.stages for edge in stage.ran() for path in edge.makes()}
 
 
 def stand_alone(warm: List[str], builds: List[Build], ninjas: List[Ninja]) -> bool:

@@ -3,14 +3,14 @@
 import bisect
 import os
 import re
-from typing import AbstractSet, Dict, Iterable, List, Optional, Set, Tuple
+from typing import Dict, Iterable, List, Optional, Set, Tuple
 
 from record.assumptions import Assumptions
 from record.make.ages import add_ages
 from record.make.considered import Considered, is_row
 from record.make.fixed import asked_ages, fixed_looks, remade_anyway, unasked_ages, was_absent
 from record.make.folders import Events, add_folders
-from record.make.graph import Build, Graph, Node, Task, befores, order_tasks
+from record.make.graph import Build, Graph, Node, Task, befores, drop_lonely, order_tasks
 from record.make.inner import add_inner
 from record.make.macros import Macros, Use, uses
 from record.make.memory import libraries, place_listings, share_listings
@@ -338,7 +338,7 @@ class Builder:
         add_folders(self)
         add_ages(self)
         # the next build reads the makefiles that this one looked for
-        self.drop_lonely({self.names.find(self.make.folder, name, True).path for name in makefiles(self.make.words)})
+        drop_lonely(self.build.tasks, {self.names.find(self.make.folder, name, True).path for name in makefiles(self.make.words)})
 
     def created(self) -> Dict[str, Dict[str, Set[int]]]:
         """By folder: the names that recipes create or remove directly in it."""
@@ -390,15 +390,3 @@ class Builder:
             since = self.make.begin(self.graph.round.start)
             self.began = min((l.born for w in self.make.work.values() for l in w.lives if l.born >= since), default=1 << 60)
         return self.began
-
-    def drop_lonely(self, kept: AbstractSet[str] = frozenset()) -> None:
-        """Paths that one task alone touches say nothing, except those to keep; nor do reads of what nobody writes."""
-        count: Dict[str, int] = {}
-        written: Set[str] = set()
-        for task in self.build.tasks:
-            written |= task.writes
-            for path in task.reads | task.writes:
-                count[path] = count.get(path, 0) + 1
-        for task in self.build.tasks:
-            task.reads = {p for p in task.reads if p in written and count[p] > 1 and p not in task.writes}
-            task.writes = {p for p in task.writes if count[p] > 1 or p in kept}

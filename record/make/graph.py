@@ -254,3 +254,16 @@ def befores(after: List[Set[int]], order: List[int]) -> List[int]:
             value |= bits[one] | (1 << one)
         bits[at] = value
     return bits
+
+
+def drop_lonely(tasks: List[Task], kept: Set[str]) -> None:
+    """Paths that one task alone touches say nothing, except those to keep; nor do reads of what nobody writes."""
+    count: Dict[str, int] = {}
+    written: Set[str] = set()
+    for task in tasks:
+        written |= task.writes
+        for path in task.reads | task.writes:
+            count[path] = count.get(path, 0) + 1
+    for task in tasks:
+        task.reads = {p for p in task.reads if p in written and count[p] > 1 and p not in task.writes}
+        task.writes = {p for p in task.writes if count[p] > 1 or p in kept}

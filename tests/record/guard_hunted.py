@@ -53,6 +53,6 @@ HUNTED_GUARDS: List[Guard] = [
     Guard("threads: with a folder of their own", "trace/processes.py", "            life.leave_threads()\n", "            pass\n", hunted("thread_in_a_folder_of_its_own"), YES),
     Guard("system: projects below it", "tools/shelltext.py", "    if not text or OF_SYSTEM.match(path):", '    if not text or path.startswith("/usr/"):', "test_hunted.System.test_file_that_a_shell_takes_in"),
     Guard("warm: targets outside of the project", "warm.py", "            beyond.update(node.path for node in nodes if", "            beyond.update(node.path for node in () if", "test_hunted.Beyond.test_target_that_is_there"),
-    Guard("warm: outputs outside of the project", "warm.py", "        beyond.update(path for path in targets_of(ninja, names, ran) if", "        beyond.update(path for path in () if", "test_hunted.Beyond.test_statement_of_ninja"),
+    Guard("warm: outputs outside of the project", "warm.py", "        beyond.update(path for path in own - made if", "        beyond.update(path for path in () if", "test_hunted.Beyond.test_statement_of_ninja"),
     Guard("warm: makes outside of the project", "granted.py", ' in ("f", "l") or is_beyond(path, names)]', ' in ("f", "l")]', "test_hunted.Beyond.test_make_that_has_nothing_to_do"),
 ]

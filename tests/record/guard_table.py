@@ -208,7 +208,7 @@ OWNERS: List[Guard] = [
     Guard("scripts that make folders are quiet", "trace/replay.py", 'if kind == "S" and not life.is_make and', "if False and", small("makers"), FALSE_RACE),
     Guard("scripts that make folders: no other folder", "tools/shelltext.py", "    return any(is_on_the_way(folder, name)", "    return True or any(is_on_the_way(folder, name)", small("makers_of_another_folder"), YES),
     Guard("said: interpreters", "granted.py", 'assumed.add("interpreters", " ".join(argv)[:60])', "pass", small("interpreters"), UNSAID),
-    Guard("said: MAKEFLAGS of a recipe", "granted.py", "if sees_words(argv, spool):", "if False:", small("path_of_a_recipe"), UNSAID),
+    Guard("said: MAKEFLAGS of a recipe", "granted.py", "for a in life.ran):\n        if sees_words(argv, spool):", "for a in life.ran):\n        if False:", small("path_of_a_recipe"), UNSAID),
     Guard("said: MAKEFLAGS of a makefile", "granted.py", "        if found:\n", "        if False:\n", small("flags_of_a_makefile"), UNSAID),
     Guard("said: not of the recorder's own words", "trace/started.py", "argv if life.is_wrapper else ", "", "test_output.Output.test_inner_makes_are_no_assumption"),
     Guard("said: hard links", "importing.py", '("hard-links", replay.hard_links), ', "", small("hard_links"), UNSAID),

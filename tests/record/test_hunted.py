@@ -111,9 +111,9 @@ class Beyond(unittest.TestCase):
         self.assertEqual([2, 0], [self.status(makefile, setup) for setup in ("touch ../x", "true")])
 
     def test_make_that_has_nothing_to_do(self) -> None:
-        words = ("sh", "-c", "cd ../other && make")
+        words = ("sh", "-c", "make && cd ../other && make")
         setup = "mkdir ../other; printf 'x: ; touch x\\n' > ../other/Makefile"
-        self.assertEqual([2, 0], [self.status("", setup + more, *words) for more in ("; touch ../other/x", "")])
+        self.assertEqual([2, 0], [self.status("y: ; touch y\n", setup + more, *words) for more in ("; touch ../other/x", "")])
 
     def test_statement_of_ninja(self) -> None:
         manifest = "rule t\n  command = touch $out\nbuild ../x: t\nbuild fin: t\n"
