@@ -7,7 +7,7 @@ from record.assumptions import Assumptions
 from record.make.ages import ages_by_words, ages_in_archives, compare, inner_ages, note_sources
 from record.make.build import Builder
 from record.make.folders import add_folders, apart, parents
-from record.make.graph import Build, Node, Task, befores, order_tasks
+from record.make.graph import Build, Node, Task, befores, drop_lonely, order_tasks
 from record.make.inner import add_inner
 from record.make.owners import Work
 from record.make.unfiled import count_listings
@@ -225,7 +225,7 @@ class NinjaBuilder(Builder):
                 ages_by_words(self, at, work)
                 ages_in_archives(self, at, work)
         self.add_later_ages()
-        self.drop_lonely()
+        drop_lonely(self.build.tasks, set())
 
     def add_later_ages(self) -> None:
         """Later ninjas, and this one where it has read a manifest that was remade, compare the ages of what these tasks have made."""
