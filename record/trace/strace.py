@@ -11,9 +11,6 @@ CALL = re.compile(r"(\w+)\((.*)\)\s+= (-?\d+|0x[0-9a-f]+|\?)(?:<((?:[^<>\\]|\\.)
 ESCAPE = re.compile(r"\\([0-7]{1,3}|x[0-9a-f]{2}|.)", re.S)
 TEXT = re.compile(r'(?<!\\)"((?:[^"\\]|\\.)*)"(\.\.\.)?')  # behind a backslash it is a sign in the name of a descriptor
 FOLDER = re.compile(r"(?:AT_FDCWD|\d+)<((?:[^<>\\]|\\.)*)>")
-QUOTED = re.compile(r'(?:AT_FDCWD|\d)<[^<>"]*"')  # a quote in what stands behind a descriptor, as strace shows it
-QUOTE = re.compile(r'\\.|"', re.S)
-TOKEN = re.compile(r'"(?:[^"\\]|\\.)*"|(?:AT_FDCWD|\d)<(?:[^<>\\]|\\.)*>')
 BARE = re.compile(r"(?:^|, )\d+(?:,|$)")  # a descriptor of which strace knows no name
 PLAIN = {"n": "\n", "t": "\t", "r": "\r", "v": "\v", "f": "\f"}
 
@@ -92,14 +89,7 @@ def said(text: str) -> Optional[Said]:
     if call is None:
         return None
     name, args, result, opened, error = call.groups()
-    args = args if QUOTED.search(args) is None else TOKEN.sub(without_quotes, args)
     return Said(name, args, None if result == "?" else int(result, 16 if result.startswith("0x") else 10), error or "", unescape(opened or ""))
-
-
-def without_quotes(token: "re.Match[str]") -> str:
-    """What stands behind a descriptor, with a sign for each quote: what is quoted is a text of the call."""
-    found = token.group()
-    return found if found.startswith('"') else QUOTE.sub(lambda one: r"\042" if one.group().endswith('"') else one.group(), found)
 
 
 def first_text(args: str) -> Optional[str]:

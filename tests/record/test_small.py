@@ -231,7 +231,7 @@ SMALL: Dict[str, Small] = {
     "inner_make": Small("race", "all: ; $(MAKE) -f in.mk\n", {"in.mk": "all: a b\na: ; echo a > a\nb: ; cp a b\n"}),
     "decision_below_another_folder": Small("race", "all: ; $(MAKE) -C sub\n", {"sub/Makefile": "all: one two\none: ; touch one; echo two > two\n"}),
     "vpath_prerequisite": Small("race", "vpath %.v v\nall: gen t\ngen: ; echo x > v/a.v; touch gen\nt: a.v ; touch t\n", {"v/a.v": "a", "t": "t"}),
-    "race_among_makefiles": Small("race", "include a.d b.d\nall: ;\nb.d: ; touch b.d c.d\na.d: ; cat c.d > a.d\n"),
+    "race_among_makefiles": Small("race", "include a.d b.d\nall: z\nz: ; touch z\nb.d: ; touch b.d c.d\na.d: ; cat c.d > a.d\n"),
     # ages
     "ages_in_an_inner_make": Small("race", "all: in\na: ; touch x\nb: ; touch y\nin: a b ; $(MAKE) -f in.mk\n", {"in.mk": "y: x ; echo made >> log\n"}),
     "age_of_a_folder": Small("race", "all: c\na: ; touch d/n\nb: ; touch y\nc: a b ; test d -nt y && echo newer > c || echo older > c\n", setup="mkdir d"),
