@@ -15,20 +15,20 @@ from record.trace.lives import Life, Program
 @dataclass(frozen=True)
 class Keeper:
     """A program that keeps files for itself: the names of its program, names that lead to a folder or file of its own (the group that there
-    is), and how the words begin with which it does."""
+    is), and how the words begin with which it says nothing of them: `ccache -s` does, and `go build -v`."""
 
     programs: Pattern[str]
     kept: Pattern[str]
     words: Pattern[str] = re.compile("")
 
 
-GIT_ASKS = r"(?:-[Cc] \S+ |--[\w-]+(?:=\S+)? |-p )*(?:describe|diff|diff-files|diff-index|log|ls-files|name-rev|rev-list|rev-parse|show|status)(?: |$)"
+GIT_ASKS = r"\S+ (?:-[Cc] \S+ |--[\w-]+(?:=\S+)? |-p )*(?:describe|diff|diff-files|diff-index|log|ls-files|name-rev|rev-list|rev-parse|show|status)(?: |$)"
 
 
 KEEPERS = (
-    Keeper(re.compile(r"ccache"), re.compile(r"(/.+?)/(?:tmp/\.cleaned|(?:[0-9a-f]/){1,2}(?:stats|CACHEDIR\.TAG))")),
+    Keeper(re.compile(r"ccache"), re.compile(r"(/.+?)/(?:tmp/\.cleaned|(?:[0-9a-f]/){1,2}(?:stats|CACHEDIR\.TAG))"), re.compile("(?!ccache -)")),
     Keeper(re.compile(r"cargo"), re.compile(r"(/.+/\.(?:global-cache(?:-journal)?|package-cache(?:-mutate)?))")),
-    Keeper(re.compile(r"go"), re.compile(r"(/.+?)/[0-9a-f]{2}/[0-9a-f]{64}-[ad]|(/.+/go/telemetry)/local/.+")),
+    Keeper(re.compile(r"go"), re.compile(r"(/.+?)/[0-9a-f]{2}/[0-9a-f]{64}-[ad]|(/.+/go/telemetry)/local/.+"), re.compile(r"(?!.* -(?:v|x|n|json)(?: |$))")),
     Keeper(re.compile(r"git"), re.compile(r"(/.+/\.git/(?:.+/)?index(?:\.lock)?)"), re.compile(GIT_ASKS)),
     Keeper(re.compile(r"np[mx]-cli\.js"), re.compile(r"(/.+/_logs)/[^/]+\.log|(/.+/_cacache)/.+|(/.+/_update-notifier-last-checked)")),
     Keeper(re.compile(r"guile(?:-[\d.]+)?"), re.compile(r"(/.+/guile/ccache)/.+\.go(?:\..+)?")),
@@ -57,7 +57,8 @@ def starts_of(life: Life, keeper: Keeper, tops: Sequence[str]) -> List[int]:
 def runs(program: Program, keeper: Keeper, tops: Sequence[str]) -> bool:
     """Whether a program is the one of that name, or was called by it. One of the project is not known to be it."""
     is_named = any(keeper.programs.fullmatch(os.path.basename(name)) for name in (program.file, program.name))
-    return is_named and keeper.words.match(" ".join(program.argv[1:])) is not None and not any(is_in(program.file, top) for top in tops)
+    words = " ".join([os.path.basename(program.name), *program.argv[1:]])
+    return is_named and keeper.words.match(words) is not None and not any(is_in(program.file, top) for top in tops)
 
 
 def below(life: Life, place: int) -> Dict[Life, int]:

@@ -57,6 +57,13 @@ class Kept(unittest.TestCase):
             self.assertEqual(set(), left(CALL.replace("/usr/bin/ccache", "/race-test-bin/" + program), opened), program)
             self.assertIn(("C", name), left(CALL, opened), program)
 
+    def test_words_that_say_what_was_kept(self) -> None:
+        objects = '1 openat(AT_FDCWD</w>, "%s/ab/%s-d", O_WRONLY|O_CREAT, 0666) = 3<%s/ab/%s-d>' % (PLACE, "0a" * 32, PLACE, "0a" * 32)
+        for words, is_left in (('"build", "-o", "a"', False), ('"build", "-v"', True), ('"build", "-o", "a", "-x", "."', True), ('"test", "-vet=off"', False)):
+            self.assertEqual(is_left, left('1 execve("/race-test-bin/go", ["go", %s], 0x1) = 0' % words, objects) != set(), words)
+        self.assertEqual(LEFT, left('1 execve("/usr/bin/ccache", ["cc", "-c", "a.c"], 0x1) = 0', *KEEPS))
+        self.assertIn(("M", ""), left('1 execve("/usr/bin/ccache", ["ccache", "-s"], 0x1) = 0', *KEEPS))
+
     def test_index_of_git(self) -> None:
         index = '1 openat(AT_FDCWD</w>, "%s/.git/index", O_RDWR|O_CREAT, 0666) = 3<%s/.git/index>' % (PLACE, PLACE)
         for words, is_left in (('"-C", "x", "status"', False), ('"describe"', False), ('"add", "x"', True), ('"status-x"', True), ('"-c", "a=b", "checkout"', True)):
