@@ -10,6 +10,7 @@ from record.make.words import Words
 
 Place = Tuple[str, int]  # a makefile and the line at which a recipe begins
 CONDITION = re.compile(r"[ \t]*(ifn?eq|ifn?def|else|endif)(?=[ \t#]|$)")
+TAKES = re.compile(r"undefine|\$[({]eval\b[^\n]*\$")  # what may take a macro away: `eval` may put the word together
 DEFINE = re.compile(r"[ \t]*(?:(?:override|export|private)[ \t]+)*define(?=[ \t#]|$)")
 ENDEF = re.compile(r"[ \t]*endef(?=[ \t#]|$)")
 EMPTY = re.compile(r"[ \t]*(?:#.*)?$")

@@ -10,7 +10,7 @@ from typing import TYPE_CHECKING, Dict, Iterable, List, Optional, Set, Tuple
 
 from record.make.database import Base
 from record.make.globs import listed, patterns
-from record.make.idle import idle_of, without_idle
+from record.make.idle import TAKES, idle_of, without_idle
 from record.make.options import asks_jobs
 from record.make.programs import Programs
 from record.make.searches import asked_names
@@ -207,7 +207,7 @@ class Owners:
                     return ["*"], []
         names = [name for one in make.words.rounds for name in one.nodes]
         idle, own = idle_of(make.words), [make.words.args, make.words.flags]
-        if idle is not None and any("undefine" in text for text in (*own, *texts.values())):
+        if idle is not None and any(map(TAKES.search, (*own, *texts.values()))):
             idle.macros.clear()
         used = own + [without_idle(text, name, make.words, idle) for name, text in texts.items()]
         return sorted(patterns(used, make.words.values(), names)), sorted(listed(used, make.words.values(), names, lambda: asked_names(make.words)))

@@ -35,6 +35,7 @@ UNREAD_GUARDS: List[Guard] = [
     Guard("unread: branches by a macro", "make/idle.py", "if macros else None", "if False else None", unread("branch_that_is_not_read_by_a_macro"), FALSE_RACE),
     Guard("unread: branches that are read, with a macro", "make/idle.py", " or assigned and assigned.group(1) not in macros):", " or assigned):", unread("branch_that_is_read_with_a_macro"), YES),
     Guard("unread: macros that are taken away", "make/owners.py", "            idle.macros.clear()\n", "            pass\n", unread("branch_with_a_macro_that_is_taken_away"), YES),
+    Guard("unread: macros that eval takes away", "make/idle.py", '"undefine|\\$[({]eval\\b[^\\n]*\\$"', '"undefine"', unread("branch_with_a_macro_that_eval_takes_away"), YES),
     Guard("unread: words of makefiles", "make/idle.py", "(?!MAKE|(?:[-s]?include|vpath|load|override|private|export|unexport|define)[ \\t])", "", text("branches_with_assignments")),
     Guard("unread: branches around another", "make/idle.py", "open_branches[-1][1] = 1", "open_branches[0][1] = 1", unread("branch_around_one_that_is_not_read"), YES),
     Guard("unread: rules in macros", "make/idle.py", "None if before and depth else text", "text", unread("branch_with_a_rule_in_a_macro"), YES),

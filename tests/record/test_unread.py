@@ -43,6 +43,7 @@ UNREAD: Dict[str, Small] = {
     "branch_that_is_not_read_by_a_macro": Small("safe", MAKES, {"in.mk": LISTS + "ifdef N\nM = 1\n$(eval L := *.x)\nendif\nD = d\nD += e\ni := $(wildcard $(D)/*.y)\n"}),
     "branch_that_is_read_with_a_macro": Small("race", MAKES, {"in.mk": "N = 1\n" + LISTS + "ifdef N\nM = 1\nL := $(wildcard *.x)\nendif\n"}),
     "branch_with_a_macro_that_is_taken_away": Small("race", MAKES, {"in.mk": "N = 1\n" + LISTS + "ifdef N\nM = 1\nL := $(wildcard *.x)\nendif\nundefine M\n"}),
+    "branch_with_a_macro_that_eval_takes_away": Small("race", MAKES, {"in.mk": "N = 1\n" + LISTS + "ifdef N\nM = 1\nL := $(wildcard *.x)\nendif\n$(eval un$(E)define M)\n"}),
     "branch_with_a_rule_in_a_macro": Small("race", MAKES, {"in.mk": "N = 1\n" + LISTS + "ifdef N\ndefine D\ni: j ; touch i\nendef\nL := $(wildcard *.x)\nendif\n"}),
     "branch_with_a_rule_for_a_file_in_a_search_path": Small("race", MAKES, {"in.mk": "N = 1\nVPATH = d\nz: j ; touch z\nd/j:\nifdef N\nL := $(wildcard *.x)\nj:\nendif\n", "d/j": ""}),
     # rules of no goal
