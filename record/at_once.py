@@ -10,7 +10,7 @@ from record.assumptions import Assumptions
 from record.make.owners import Work
 from record.tools import shelltext
 from record.tools.background import ALL, AT_ONCE, Background, background
-from record.trace.lives import Life, Program
+from record.trace.lives import Life, Program, program_at
 
 CHANGES, TOUCHES = "WCDMTX", "WCDMTXRSNEx"  # kinds of events of a file or a folder
 NEVER = 1 << 60
@@ -76,16 +76,6 @@ def touches_beside(older: Life, life: Life, path: str) -> bool:
         return True
     places = [older.events.get((kind, path), -1) for kind in TOUCHES] + [older.changed.get(path, -1)]
     return any(life.born < place < life.died for place in places)
-
-
-def program_at(life: Optional[Life], place: int) -> Optional[Program]:
-    """The program that a process ran at a place of the trace; where it had begun none, that of who started it."""
-    while life is not None:
-        found = [one for one in life.programs if one.place < place]
-        if found:
-            return found[-1]
-        place, life = life.born, life.parent
-    return None
 
 
 def name_of(life: Life) -> str:

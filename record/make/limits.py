@@ -62,7 +62,7 @@ class Kept:
             self.is_cut = True
             note_cut(self.name)
         finally:
-            resource.setrlimit(resource.RLIMIT_FSIZE, (soft, resource.getrlimit(resource.RLIMIT_FSIZE)[1]))
+            resource.setrlimit(resource.RLIMIT_FSIZE, (soft, hard))
 
 
 def note_cut(path):

@@ -137,11 +137,14 @@ class Listed(NamedTuple):
 
     def program(self) -> Optional[Program]:
         """The program that listed it."""
-        life: Optional[Life] = self.life
-        place = self.place
-        while life is not None:
-            found = [one for one in life.programs if one.place < place]
-            if found:
-                return found[-1]
-            place, life = life.born, life.parent
-        return None
+        return program_at(self.life, self.place)
+
+
+def program_at(life: Optional[Life], place: int) -> Optional[Program]:
+    """The program that a process ran at a place of the trace; where it had begun none, that of who started it."""
+    while life is not None:
+        found = [one for one in life.programs if one.place < place]
+        if found:
+            return found[-1]
+        place, life = life.born, life.parent
+    return None
