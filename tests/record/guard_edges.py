@@ -18,7 +18,7 @@ EDGE_GUARDS: List[Guard] = [
     Guard("names: paths that are too long", "importing.py", " + names.too_long()", "", edge("path_that_is_too_long"), LOST_HOLE),
     Guard("limits: a wrapper that raises its own", "make/limits.py", "for most in (resource.RLIM_INFINITY, hard):", "for most in ():", edge("limit_that_the_wrapper_may_raise"), "1 != 2"),
     Guard("limits: of what make says", "make/limits.py", "            note_cut(self.name)\n", "            pass\n", "test_edges.Limits.test_limit_that_cannot_be_raised"),
-    Guard("limits: of a make that goes on", "make/limits.py", "            if error.errno != errno.EFBIG:\n                raise\n            self.force(rest)", "            raise", "test_edges.Limits.test_limit_that_cuts_what_make_says"),
+    Guard("limits: of a make that goes on", "make/limits.py", "            if error.errno != errno.EFBIG:\n                raise\n            self.force(rest)", "            raise", "test_edges.Limits.test_limit_that_cannot_be_raised"),
     Guard("limits: of what make writes", "make/limits.py", "            resource.setrlimit(resource.RLIMIT_FSIZE, (soft, ", "            str((soft, ", "test_edges.Limits.test_limit_that_is_raised_for_the_recorder_alone"),
     Guard("background: what ended before another began", "at_once.py", "if path in left or ", "if ", edge("background_that_ends_early"), UNSAID),
     Guard("background: waits", "tools/background.py", "            self.after = set()\n            self.is_quiet", "            self.is_quiet", edge("background_that_is_waited_for"), "True is not false"),

@@ -279,8 +279,8 @@ class Limits(unittest.TestCase):
         for refused, is_cut in (("True", True), ("False", False)):
             text = LIMITING % (str(support.TOP), refused)
             with tempfile.TemporaryDirectory(prefix="race-test-") as room:
-                done = subprocess.run([sys.executable, "-c", text], cwd=room, capture_output=True, check=True)
-                self.assertEqual((is_cut, 10 if is_cut else 100), (os.path.exists(room + "/f.cut"), os.path.getsize(room + "/f")), done.stderr)
+                done = subprocess.run([sys.executable, "-c", text], cwd=room, capture_output=True, check=False)
+                self.assertEqual((0, is_cut, 10 if is_cut else 100), (done.returncode, os.path.exists(room + "/f.cut"), os.path.getsize(room + "/f")), done.stderr)
 
     def test_limit_says_so(self) -> None:
         if can_raise():
