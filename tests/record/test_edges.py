@@ -280,7 +280,7 @@ class Limits(unittest.TestCase):
             text = LIMITING % (str(support.TOP), refused)
             with tempfile.TemporaryDirectory(prefix="race-test-") as room:
                 done = subprocess.run([sys.executable, "-c", text], cwd=room, capture_output=True, check=False)
-                self.assertEqual((0, is_cut, 10 if is_cut else 100), (done.returncode, os.path.exists(room + "/f.cut"), os.path.getsize(room + "/f")), done.stderr)
+                self.assertEqual((0, is_cut, 10 if is_cut else 100), (done.returncode, os.path.exists(room + "/f.cut"), os.path.getsize(room + "/f")))
 
     def test_limit_says_so(self) -> None:
         if can_raise():
