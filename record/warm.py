@@ -92,8 +92,18 @@ def early_users(build: Build, builds: List[Build], node: Node) -> Iterator[Task]
 
 def is_new_link(build: Build, node: Node, names: Names) -> bool:
     """Whether a target is a link that the build has made: what it leads to may have been there before, and is no target."""
-    own = names.find(build.folder, build.graph.round.vpath.get(node.name, node.name), False).path
-    return os.path.islink(own) and own not in names.before
+    return is_made_link(names.find(build.folder, build.graph.round.vpath.get(node.name, node.name), False).path, names)
+
+
+def is_made_link(path: str, names: Names) -> bool:
+    """Whether there is a link at this path that was not there before."""
+    return os.path.islink(path) and path not in names.before
+
+
+def output_path(ninja: Ninja, path: str, names: Names) -> str:
+    """The path of an output of a statement: of what a link leads to, except where the build has made the link."""
+    own = names.find(ninja.folder, path, False).path
+    return own if is_made_link(own, names) else names.find(ninja.folder, path, True).path
 
 
 def targets_of(ninja: Ninja, names: Names) -> Set[str]:
@@ -101,12 +111,12 @@ def targets_of(ninja: Ninja, names: Names) -> Set[str]:
     manifest, which ninja itself reads: it, and what it needs."""
     edges = [edge for edge in ninja.wanted() if not edge.is_phony]
     below = ninja.below_manifest() if any(edge.is_generator for edge in edges) else set()
-    return {names.find(ninja.folder, path, True).path for edge in edges if not (edge.is_generator and edge.number in below) for path in edge.makes()}
+    return {output_path(ninja, path, names) for edge in edges if not (edge.is_generator and edge.number in below) for path in edge.makes()}
 
 
 def made_by(ninja: Ninja, names: Names) -> Set[str]:
     """Outputs of the statements whose commands ran."""
-    return {names.find(ninja.folder, path, True).path for stage in ninja.stages for edge in stage.ran() for path in edge.makes()}
+    return {output_path(ninja, path, names) for stage in ninja.stages for edge in stage.ran() for path in edge.makes()}
 
 
 def stand_alone(warm: List[str], builds: List[Build], ninjas: List[Ninja]) -> bool:

@@ -28,6 +28,7 @@ def changed(name: str) -> str:
 WARM: List[Guard] = [
     Guard("ninja, warm: no yes", "main.py", "if ended == 0 and record.warm and not (options.warm or record.stands_alone):", "if False:", ninja("warm"), LOST_HOLE),
     Guard("ninja, warm: outputs that were there", "warm.py", "        found.update(own)\n", "        pass\n", ninja("warm-made-again-ordered"), LOST_HOLE),
+    Guard("ninja, warm: a link that the build makes", "warm.py", "return own if is_made_link(own, names) else", "return", ninja("cold-link-to-a-source"), WITHHELD),
     Guard("ninja, warm: all below the goals", "ninja/runs.py", "numbers = manifest.below(goals) if", "numbers = set() if", ninja("warm"), LOST_HOLE),
     Guard("ninja, warm: said with --warm", "importing.py", 'found.assumed.add("up-to-date", name)', "pass", ninja("warm-accepted"), UNSAID),
     Guard("ninja, said: statements that nothing asked for", "make/unasked.py", "            there.update(((ninja.folder", "            {}.update(((ninja.folder", ninja("part"), UNSAID),

@@ -113,6 +113,8 @@ CASES = [
     Case("manifest-that-nobody-kept", NONE, "", ["nobody kept"], words="sh ./all", files={"next": RULES + sh("a", "", "cp next build.ninja; echo '#' >> build.ninja; touch a"), "all": "cp next build.ninja; exec ninja\n"}),
     Case("warm", NONE, GEN + sh("a", "", USE), ["WARM  1 file"], setup="ninja -j1 > /dev/null; rm a"),
     Case("warm-accepted", SAFE, GEN + sh("a", "", USE), ["WARM  1 file", "builds start from this tree"], setup="ninja -j1 > /dev/null; rm a", options=["--warm"]),
+    Case("cold-link-to-a-source", SAFE, sh("l", "", "ln -sf s $out") + sh("a", "l", "cat l > a"), files={"s": "1"}),
+    Case("warm-link-to-a-source", NONE, sh("l", "", "ln -sf s $out") + sh("a", "l", "cat l > a"), ["WARM  1 file"], setup="ninja -j1 > /dev/null; rm a", files={"s": "1"}),
     Case("warm-made-again", RACE, sh("g", "s", "cp s g") + sh("a", "s", USE), ["WARM", "RACE  g"], setup="touch -d 2001-01-01 s; ninja -j1 > /dev/null; sleep 0.1; touch s", files={"s": "1"}),
     Case("warm-by-log-of-headers", RACE, CC + sh("b/g.h", "s", "cp s $out") + "build a.o: cc a.c\n", ["WARM", "RACE  b/g.h"],
          setup="touch -d 2001-01-01 s a.c; ninja -j1 b/g.h a.o > /dev/null; sleep 0.1; touch s", files={"a.c": "#include \"g.h\"\nint a;\n", "s": ""}),
