@@ -57,6 +57,15 @@ class Built:
         return self.status is not None
 
 
+@dataclass
+class Waiting:
+    """A process that waits: its side, and whether it stands where the schedule holds it, or only at the beginning of its recipe."""
+
+    channel: socket.socket
+    side: str
+    is_here: bool
+
+
 class Tokens:
     """The token for a second job. Make gets it while a recipe is held, and has one job else, so that no other recipes meet. It comes
     back by another pipe, so that make cannot take it again by itself."""
@@ -100,7 +109,7 @@ class Holding:
     gate: Gate
     points: Points = field(default_factory=Points)
     lives: dict[str, Life] = field(default_factory=lambda: {it: Life() for it in SIDES})
-    held: list[tuple[socket.socket, str]] = field(default_factory=list)
+    held: list[Waiting] = field(default_factory=list)
     has_come: bool = False
     is_reached: bool = False
     is_open: bool = False
@@ -124,29 +133,39 @@ class Holding:
         point = self.points.add(side, when, does, program)
         is_here = bool(self.schedule and point == self.schedule.at) and not self.has_come
         self.has_come |= is_here
-        waits = self.schedule and not self.is_open and (is_here or is_first and not self.schedule.is_start and side != self.schedule.held)
-        self.held.append((channel, side))
-        if not waits:
+        self.held.append(Waiting(channel, side, is_here))
+        if self.is_open or not (is_here or is_first and self.meets):
             self.let_go(len(self.held) - 1)
 
+    @property
+    def meets(self) -> bool:
+        """Whether each of the two waits at its beginning for the other one, so that nothing else runs while one of them is held in its middle."""
+        return bool(self.race and self.schedule and self.race.other(self.schedule.held).is_recipe)
+
     def let_go(self, at: int) -> None:
-        channel, _ = self.held.pop(at)
-        go_on(channel)
+        """Lets a process go on."""
+        go_on(self.held.pop(at).channel)
 
     def has_ended(self, side: str) -> bool:
+        """Whether a recipe has ended."""
         return self.lives[side].has_ended(self.lines.get(side, 0))
+
+    def may_go(self, waiting: Waiting) -> bool:
+        """Whether what a process waits for has come: the end of the other recipe, or its beginning, or the point at which that is held."""
+        assert self.schedule
+        other = SIDES[1 - SIDES.index(waiting.side)]
+        if waiting.is_here or self.has_ended(other):
+            return self.has_ended(other)
+        return self.has_come if waiting.side != self.schedule.held else bool(self.points.of(other))
 
     def release(self) -> None:
         """Lets go whatever has waited for long enough."""
         for at in reversed(range(len(self.held))):
-            side = self.held[at][1]
-            other = SIDES[1 - SIDES.index(side)]
-            is_held = bool(self.schedule and side == self.schedule.held)
-            if self.has_ended(other) or not is_held and self.has_come:
-                self.is_reached |= is_held
+            if self.may_go(self.held[at]):
+                self.is_reached |= self.held[at].is_here
                 self.let_go(at)
         self.tokens.turn(bool(self.held))
-        self.gate.turn({self.race.of(side).sum for _, side in self.held} if self.race else set())
+        self.gate.turn({self.race.of(it.side).sum for it in self.held} if self.race else set())
 
     def give_up(self) -> None:
         """Nothing else of the build runs: what is held goes on, and nothing is held any more. That is what was meant where the

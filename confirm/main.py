@@ -11,10 +11,12 @@ from collections.abc import Iterator, Sequence
 from pathlib import Path
 
 from confirm.races import CannotConfirm, Chosen, chosen, tools_of, written_outside
+from confirm.reach import Tasks
 from confirm.room import Room, furnish, new_room, settle, tools
+from confirm.search import Finding, search
 from confirm.text import body, heading, summary
 from confirm.tree import copy, remove, take_back
-from confirm.trial import Finding, Trial
+from confirm.trial import Trial
 from record.entry import printable, reason
 from record.folder import NotWhole, reading
 from record.judge import find_race, no_race
@@ -131,11 +133,13 @@ def show(lines: Iterator[str]) -> None:
 
 def try_all(args: argparse.Namespace, report: Report, races: Sequence[Chosen], room: Room) -> list[Finding]:
     """Tries each race, and shows what is found of it."""
-    trial, findings = Trial(room, report.words, say), []
+    with reading(args.record):
+        tasks = Tasks.of(args.record, room.folder)
+    trial, findings = Trial(room, report.words, tasks, report.races, say), []
     trial.begin()
     for race in races:
         trial.unstable.clear()
-        findings.append(trial.confirm(race, args.runs, args.schedule))
+        findings.append(search(trial, race, args.runs, args.schedule))
         say("")
         show(heading(findings[-1], len(report.races)))
         show(body(findings[-1], args.record, trial.unstable))

@@ -55,8 +55,9 @@ class Points:
 
 @dataclass(frozen=True)
 class Schedule:
-    """A recipe is held at a point until the other has ended. Where that is not its first point, the other one waits at its
-    own beginning until the point is reached."""
+    """A recipe is held at a point until the other has ended. Both wait at their beginnings until both have come there, and the other one
+    until the point is reached: so all schedules of two recipes differ in the order of these two alone. Where make is on the other side
+    there is nothing to wait for."""
 
     at: Point
     is_start: bool
@@ -95,7 +96,7 @@ def middles(points: Points, race: Chosen, side: str) -> list[Point]:
 
 
 def serial_order(points: Points, race: Chosen) -> Schedule | None:
-    """The schedule that keeps the order of the serial build: it has to leave what that leaves."""
+    """The schedule that keeps the order of the serial build. What it leaves otherwise is no matter of these two."""
     late = "second" if not points.all or points.all[0].side == "first" else "first"
     return start_of(points, race, late)
 

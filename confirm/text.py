@@ -6,7 +6,9 @@ import shlex
 from collections.abc import Iterator, Sequence
 from pathlib import Path
 
-from confirm.trial import Finding, some
+from confirm.schedules import Schedule
+from confirm.search import Finding
+from confirm.trial import how_ended, some
 from report.plain import counted, side_rows
 
 SHOWN_FILES = 8
@@ -24,39 +26,59 @@ def heading(finding: Finding, of: int) -> Iterator[str]:
 def how(finding: Finding) -> Iterator[str]:
     """What differs."""
     if finding.status:
-        yield f"  the build fails with status {finding.status}; the serial build ends with 0"
-        yield from (f"    {it[:160]}" for it in finding.errors)
+        yield from (f"  {it}" for it in how_ended(finding.status, finding.errors))
     shown = [] if finding.status else finding.differences[:SHOWN_FILES]
-    yield from (f"  {it.name}: {it.how}" for it in shown)
+    yield from (f"  {it}" for it in shown)
     if len(finding.differences) > len(shown) > 0:
         yield f"  and {counted(len(finding.differences) - len(shown), 'more file')}"
+
+
+def besides(finding: Finding) -> Iterator[str]:
+    """What differs that is no matter of the race."""
+    if finding.others:
+        known = finding.other_races
+        yield f"  Another race shows, race {known[0]}:" if known else "  Something else shows, and no race of the record explains it:"
+        yield from (f"    {it}" for it in finding.others[:SHOWN_FILES])
 
 
 def body(finding: Finding, record: Path, unstable: set[str]) -> Iterator[str]:
     """What was found of one race."""
     if finding.why:
         yield f"CANNOT BE CONFIRMED  {finding.why}"
+        yield from besides(finding)
     elif finding.schedule:
-        yield f"CONFIRMED  {finding.schedule.text(finding.race)}:"
-        yield from how(finding)
-        order = ", and not where the two ran in the order of the serial build" if finding.has_order else ""
-        yield f"  Seen in 2 of 2 such builds{order}."
-        again = shlex.join([str(record), str(finding.race.number), "--schedule", str(finding.number), "--keep", "/tmp/kept"])
-        yield f"  see it again: race-confirm {again}"
-        yield f"  fix: {finding.race.race.change}"
+        yield from confirmed(finding, finding.schedule, record)
     elif not finding.builds:
         yield "NOT CONFIRMED in 0 tries: there is no such schedule. Without --schedule all are tried."
     else:
-        yield f"NOT CONFIRMED in {counted(finding.builds, 'try', 'tries')}: each left what the serial build leaves."
-        if finding.reached < finding.builds:
-            yield f"  In {finding.builds - finding.reached} of them the schedule did not come about."
-        if finding.stuck:
-            yield f"  {finding.stuck} of them did not end in time, and were stopped."
-        if finding.is_cut:
-            yield "  There are more schedules: --runs N tries more of them."
-        yield "  This does not say that the race is harmless: other inputs, or a schedule that was not tried, may show it."
+        yield from not_confirmed(finding)
     if unstable and not finding.why:
         yield f"  The build is not reproducible: {some(unstable)} differ between serial builds already, and were not compared."
+
+
+def confirmed(finding: Finding, schedule: Schedule, record: Path) -> Iterator[str]:
+    """What the race does under a schedule."""
+    yield f"CONFIRMED  {schedule.text(finding.race)}:"
+    yield from how(finding)
+    order = ", and not where the two ran in the order of the serial build" if finding.has_order else ""
+    yield f"  Seen in 2 of 2 such builds{order}."
+    again = shlex.join([str(record), str(finding.race.number), "--schedule", str(finding.number), "--keep", "/tmp/kept"])
+    yield f"  see it again: race-confirm {again}"
+    yield f"  fix: {finding.race.race.change}"
+
+
+def not_confirmed(finding: Finding) -> Iterator[str]:
+    """What was tried."""
+    as_ever = "each left what the serial build leaves" if not finding.others else "what the two recipes make, and what needs it, is as after a serial build"
+    yield f"NOT CONFIRMED in {counted(finding.builds, 'try', 'tries')}: {as_ever}."
+    yield from besides(finding)
+    if finding.reached < finding.builds:
+        yield f"  In {finding.builds - finding.reached} of them the schedule did not come about."
+    if finding.stuck:
+        yield f"  {finding.stuck} of them did not end in time, and were stopped."
+    if finding.is_cut:
+        yield "  There are more schedules: --runs N tries more of them."
+    yield "  This does not say that the race is harmless: other inputs, or a schedule that was not tried, may show it."
 
 
 def summary(findings: Sequence[Finding]) -> str:

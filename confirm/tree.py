@@ -125,6 +125,9 @@ class Difference:
     name: str
     how: str
 
+    def __str__(self) -> str:
+        return f"{self.name}: {self.how}"
+
 
 def first_lines(serial: bytes, parallel: bytes) -> str:
     """The first line that differs, where both are text of few lines."""

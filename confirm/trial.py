@@ -1,17 +1,20 @@
-"""Whether a race happens: two serial builds, then builds in which its two recipes are held, and what differs."""
+"""The builds of a trial: two serial ones, then those in which two recipes are held, and what differs in them."""
 
 from __future__ import annotations
 
 import re
 import time
-from collections.abc import Callable, Iterator, Sequence
+from collections.abc import Callable, Sequence
 from dataclasses import dataclass, field
 
+from confirm.failed import STATUS
 from confirm.holding import Built, build
 from confirm.races import CannotConfirm, Chosen
+from confirm.reach import Tasks
 from confirm.room import Room
-from confirm.schedules import Schedule, serial_order, tries
+from confirm.schedules import Schedule
 from confirm.tree import Difference, copy, difference, differing, held_by, remove
+from report.model import Race
 
 # Serial builds begin so far apart that a time of day in a file shows.
 APART = 1.1
@@ -22,10 +25,11 @@ SHOWN_LINES = re.compile(r"(?i)\b(error|fatal|cannot|no such|not found|failed|no
 
 @dataclass
 class Left:
-    """What a build left: its status and its files."""
+    """What a build left: its status, its files, and of those that differ from what the serial build left, how."""
 
     built: Built
     files: dict[str, str]
+    how: dict[str, Difference] = field(default_factory=dict)
 
     @property
     def status(self) -> int | None:
@@ -33,33 +37,13 @@ class Left:
 
 
 @dataclass
-class Finding:
-    """What is found of a race. Without a schedule nothing differed; `why` says why no build can show it."""
-
-    race: Chosen
-    why: str = ""
-    schedule: Schedule | None = None
-    number: int = 0
-    status: int | None = 0
-    errors: list[str] = field(default_factory=list)
-    differences: list[Difference] = field(default_factory=list)
-    builds: int = 0
-    reached: int = 0
-    stuck: int = 0
-    has_order: bool = False
-    is_cut: bool = False
-
-    @property
-    def is_confirmed(self) -> bool:
-        return self.schedule is not None
-
-
-@dataclass
 class Trial:
-    """Builds of one project. `say` gets a line before each build."""
+    """Builds of one project, of whose record these are the tasks and the races. `say` gets a line before each build."""
 
     room: Room
     words: Sequence[str]
+    tasks: Tasks
+    races: Sequence[Race]
     say: Callable[[str], None]
     limit: float = 0.0
     serial: Left | None = None
@@ -98,72 +82,25 @@ class Trial:
         return again.built
 
     def differs(self, left: Left) -> set[str]:
-        """The files that a build left in another way than the serial one; `.` stands for its status. A build that was stopped
+        """The files that a build left in another way than the serial one, and `STATUS` where it ended otherwise. A build that was stopped
         says nothing."""
         assert self.serial
         if left.status is None:
             return set()
-        return differing(self.serial.files, left.files) - self.unstable | ({"."} if left.status != self.serial.status else set())
+        return differing(self.serial.files, left.files) - self.unstable | ({STATUS} if left.status != self.serial.status else set())
 
     def held(self, race: Chosen, schedule: Schedule, serial: Built) -> tuple[Left, set[str]]:
+        """A build with a schedule, and what differs in it."""
         self.say(schedule.text(race))
         left = self.left(race, schedule, serial)
-        return left, self.differs(left)
-
-    def confirm(self, race: Chosen, runs: int, only: int = 0) -> Finding:
-        """Tries schedules until one of them leaves something else, twice, and the serial order does not."""
-        finding = Finding(race)
-        try:
-            if race.sides[0].target == race.sides[1].target and race.sides[0].folder == race.sides[1].folder:
-                raise CannotConfirm("both recipes have the same target, so neither can be held alone: fix the race without it")
-            if race.tool == "ninja" and (same := [it.target for it in race.sides if not it.sum]):
-                raise CannotConfirm(f"another build statement has the command of {same[0]}, so it cannot be held alone: give it a command of its own")
-            serial = self.marked(race)
-            self.search(finding, serial, runs, only)
-        except CannotConfirm as error:
-            finding.why = str(error)
-        return finding
-
-    def search(self, finding: Finding, serial: Built, runs: int, only: int) -> None:
-        """The tries themselves."""
-        race, order = finding.race, serial_order(serial.points, finding.race)
-        finding.has_order = order is not None
-        usual: set[str] | None = None
-        for number, schedule in numbered(tries(serial.points, race), only):
-            if finding.builds >= runs:
-                finding.is_cut = True
-                return
-            left, found = self.held(race, schedule, serial)
-            finding.builds += 1
-            finding.reached += left.built.is_reached
-            finding.stuck += left.status is None
-            if not found:
-                continue
-            if usual is None:
-                usual = self.held(race, order, serial)[1] if order else set()
-            if found - usual and (again := self.again(race, schedule, serial, found - usual)):
-                self.confirmed(finding, number, schedule, *again)
-                return
-        if usual:
-            raise CannotConfirm("parallel builds differ also where the two run in the order of the serial build "
-                                f"({some(usual)}): another race may do that. Fix that one first")
-
-    def again(self, race: Chosen, schedule: Schedule, serial: Built, found: set[str]) -> tuple[Left, set[str]] | None:
-        """The same schedule once more: what differs both times."""
-        left, once_more = self.held(race, schedule, serial)
-        return (left, found & once_more) if found & once_more else None
-
-    def confirmed(self, finding: Finding, number: int, schedule: Schedule, left: Left, found: set[str]) -> None:
-        finding.schedule, finding.number = schedule, number
-        if "." in found:
-            finding.status, finding.errors = left.status, errors_of(left.built)
-        names = sorted(found - {"."})
-        finding.differences = [difference(it, self.room.top / "serial", self.room.tree) for it in names]
+        found = self.differs(left)
+        left.how = {it: difference(it, self.room.top / "serial", self.room.tree) for it in sorted(found - {STATUS})}
+        return left, found
 
 
-def numbered(schedules: Iterator[Schedule], only: int) -> Iterator[tuple[int, Schedule]]:
-    """The schedules with their numbers; one alone where it is asked for."""
-    return ((at, it) for at, it in enumerate(schedules, 1) if only in (0, at))
+def how_ended(status: int | None, errors: Sequence[str]) -> list[str]:
+    """How a build failed, in lines."""
+    return [f"the build fails with status {status}; the serial build ends with 0", *(f"  {it[:160]}" for it in errors)]
 
 
 def errors_of(built: Built) -> list[str]:
@@ -182,5 +119,5 @@ def failed(what: str, built: Built) -> CannotConfirm:
 
 def some(names: set[str]) -> str:
     """A few names, in order."""
-    shown = sorted("its status" if it == "." else it for it in names)
+    shown = sorted("its status" if it == STATUS else it for it in names)
     return ", ".join(shown[:3]) + (f" and {len(shown) - 3} more" if len(shown) > 3 else "")

@@ -72,8 +72,18 @@ class Record:
         return json.dumps(found, indent=1, ensure_ascii=True) + "\n"
 
 
-def write_build(folder: Path, build: "Build") -> None:
-    """One round: its tasks, and what its labels and names stand for."""
+def callers(builds: "List[Build]") -> Dict[int, Dict[str, str]]:
+    """By id of the process of a make or ninja: the build and the task that it ran inside, the innermost; none where no recipe ran it."""
+    wanted, found = {id(build.make.life) for build in builds}, {}
+    for number, build in enumerate(builds, 1):  # outer ones come first
+        for label, task in zip(labels_of(build.tasks), build.tasks):
+            for life in (life for work in task.works for life in work.lives if id(life) in wanted):
+                found[id(life)] = {"build": "%03d" % number, "task": label}
+    return found
+
+
+def write_build(folder: Path, build: "Build", within: Optional[Dict[str, str]]) -> None:
+    """One round: its tasks, what its labels and names stand for, and the task `within` which it ran."""
     folder.mkdir(parents=True)
     labels = labels_of(build.tasks)
     root = build.folder
@@ -92,7 +102,8 @@ def write_build(folder: Path, build: "Build") -> None:
         "considered": build.considered, "tasks": len(about), "edges": edges,
         "recipes": sum(1 for t in build.tasks if t.kind == "recipe"), "paths": sum(len(t.reads) + len(t.writes) for t in build.tasks),
     }
-    text = {"tool": build.tool, "folder": shown(root), "words": shown(build.words), "round": build.stage, "counts": counts, "labels": about, "meanings": meanings}
+    text = {"tool": build.tool, "folder": shown(root), "words": shown(build.words), "round": build.stage, "within": within,
+            "span": [build.make.life.born, build.make.life.died], "counts": counts, "labels": about, "meanings": meanings}
     (folder / "build.json").write_text(json.dumps(text, indent=1, ensure_ascii=False) + "\n", encoding="utf-8")
 
 
@@ -101,9 +112,10 @@ def write_record(folder: Path, record: Record, builds: "List[Build]", assumed: "
     if folder.exists():
         shutil.rmtree(folder)
     (folder / "builds").mkdir(parents=True)
+    within = callers(builds)
     for number, build in enumerate(builds, 1):
         record.builds.append("%03d" % number)
-        write_build(folder / "builds" / ("%03d" % number), build)
+        write_build(folder / "builds" / ("%03d" % number), build, within.get(id(build.make.life)))
     record.assumptions = [{"kind": a.kind, "count": a.count, "example": shown(a.example), "text": a.text()} for a in assumed.all()]
     rewrite(folder, record)
 
