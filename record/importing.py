@@ -14,6 +14,7 @@ from typing import List, Set
 
 from record.assumptions import Assumptions
 from record.configured import find_configured
+from record.failed import explained, failures
 from record.folder import Record, write_record
 from record.footprints import write_footprints
 from record.granted import add_granted, idle_targets, named_by_ninja
@@ -113,6 +114,10 @@ def import_record(spool: Path, names: Names, kept: Kept, real: str, folder: str,
             assumed.add(kind, example)
     ninjas, of_ninja, holes = import_ninjas(replay.all, owners, names, kept, assumed, record.status == 0)
     record.holes += holes
+    if record.status != 0:
+        record.holes = explained(record.holes, owners.makes, ninjas, folder)
+    else:
+        record.holes += ["a make failed: %s" % one for one in failures(owners.makes, [], folder)]
     if not owners.makes and not ninjas:
         record.holes.append("no make and no ninja ran")
     for name in unasked(owners.makes, ninjas):

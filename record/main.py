@@ -22,7 +22,7 @@ from record.entry import Stopped, end_traced, printable
 from record.folder import ROOMS, NotWhole, Record, Taken, accept_warm, alone, aside, is_record, reading, rewrite, what_stands
 from record.judge import find_race, judge, no_race
 from record.make.outputs import note_output
-from record.ninja.again import JOBS, TRIES, by_name, hints, tops_of, undo, with_jobs
+from record.ninja.again import JOBS, TRIES, by_hand, by_name, hints, tops_of, undo, with_jobs
 from record.ninja.fresh import CannotClean, cold_copy, fresh_folder
 from record.ninja.log import Kept
 from record.report import Judged, colours, read_json, report
@@ -229,7 +229,7 @@ def record_all(options: argparse.Namespace, tools: Dict[str, str], out: Path) ->
         print("race-record: the serial build failed; recording again with -j%d (%d of %d)" % (JOBS, number, TRIES), file=sys.stderr, flush=True)
         record, is_again = attempt(options, with_jobs(options.words, JOBS), tools, out, number == TRIES)
         record.notes.append("the serial build failed; this is build %d with -j%d" % (number, JOBS))
-    record.hints = found or record.hints
+    record.hints = found or record.hints or ([by_hand(options.words)] if record.status != 0 else [])
     rewrite(out, record)
     return record
 

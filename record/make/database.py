@@ -38,6 +38,7 @@ class Base:
     recipes: Dict[str, List[str]] = field(default_factory=dict)
     places: Dict[str, List[Tuple[str, int]]] = field(default_factory=dict)
     implicit: Set[str] = field(default_factory=set)
+    failed: Set[str] = field(default_factory=set)  # what could not be made
     patterns: List[Tuple[List[str], List[str]]] = field(default_factory=list)
     terminal: Set[int] = field(default_factory=set)  # places of patterns with two colons
     search: List[Tuple[str, List[str]]] = field(default_factory=list)  # patterns of names, and the folders in which make looks for them
@@ -97,6 +98,8 @@ class _Files:
             base.implicit.add(self.name)
         elif text.startswith("#  File is an intermediate prerequisite"):
             base.intermediate.add(self.name)
+        elif text.startswith("#  Failed to be updated"):
+            base.failed.add(self.name)
         elif text.startswith("#  Phony target"):
             base.phony.add(self.name)
         elif text.startswith("#  Also makes:"):

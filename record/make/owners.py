@@ -179,8 +179,6 @@ class Owners:
         self.of_life[id(life)] = make
         if words.status is None:
             self.holes.append("a make did not end: make " + words.args)
-        elif words.status != 0:
-            self.holes.append("a make failed: make %s" % words.args)
 
     @staticmethod
     def folder_of(life: Life, words: Words) -> str:

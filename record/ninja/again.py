@@ -1,4 +1,4 @@
-"""What is done where ninja fails with one command at a time: hints, and the same build again with several at once.
+"""What is done where a build fails, and ninja may fail with one command at a time: hints, and the same build again with several at once.
 
 The graph of ninja is read from its manifest, so a record of commands side by side serves as well as a serial one.
 """
@@ -6,6 +6,7 @@ The graph of ninja is read from its manifest, so a record of commands side by si
 import json
 import os
 import re
+import shlex
 import shutil
 from pathlib import Path
 from typing import TYPE_CHECKING, Dict, List, Optional, Set
@@ -134,6 +135,12 @@ def hints(ninjas: "List[Ninja]", names: Names) -> List[str]:
                         text = "%s looks for %s, which %s makes, and does not wait for it" % (job.edge.label, os.path.relpath(path, ninja.folder), maker.label)
                         found[text] = min(found.get(text, 2), 0 if kind == "N" else 1)
     return sorted(found, key=lambda text: (found[text], text))[:HINTS]
+
+
+def by_hand(words: List[str]) -> str:
+    """The hint where nothing better is known."""
+    is_make = re.fullmatch(r"g?make", os.path.basename(words[0]))
+    return "if `%s` fails without race-record too, repair that first; if not, report it" % shlex.join([*words, "-j1"] if is_make else with_jobs(words, 1))
 
 
 def is_loose(manifest: "Manifest", first: "Edge", second: "Edge", below: Dict[int, Set[int]]) -> bool:

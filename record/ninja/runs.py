@@ -57,6 +57,7 @@ class Ninja:
     stages: List[Stage] = field(default_factory=list)
     acts: Dict[Tuple[int, str], Work] = field(default_factory=dict)  # none: what ninja does has its place in the jobs
     log: str = ""
+    logged: Optional[List[str]] = None  # the outputs that were added to its log, if that is known
     is_tried: bool = False  # by CMake, in a folder of its own that is gone
 
     @property
@@ -240,6 +241,7 @@ class Runs:
             return
         logged = self.logged(ninjas, log)
         for ninja in ninjas:
+            ninja.logged = logged
             for stage in ninja.stages:
                 if stage.is_read:
                     self.attribute_stage(stage, logged)

@@ -79,7 +79,7 @@ class Hints(unittest.TestCase):
 
     def test_none_where_it_waits(self) -> None:
         outcome = self.failed("|| g h")
-        self.assertEqual((2, False), (outcome.status, "HINT" in outcome.text()))
+        self.assertEqual((2, False), (outcome.status, "looks for" in outcome.text()))
 
 
 @unittest.skipUnless(shutil.which("ninja"), "ninja is missing (Debian: apt-get install ninja-build)")

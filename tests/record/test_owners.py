@@ -4,6 +4,7 @@ import unittest
 from typing import List, Optional, Tuple
 
 import support  # noqa: F401
+from record.failed import failures
 from record.make.owners import Owners
 from record.make.words import Words, read_words
 from record.trace.lives import Life
@@ -45,7 +46,8 @@ class Holes(unittest.TestCase):
         self.assertIn("a make did not end", self.holes(make_of(), [words_of(status=None)]))
 
     def test_make_that_failed(self) -> None:
-        self.assertIn("a make failed", self.holes(make_of(), [words_of(status="EXIT 512")]))
+        makes = Owners(make_of(), [words_of(status="EXIT 512")]).makes
+        self.assertEqual(["make all failed first"], [str(one) for one in failures(makes, [], "/w")])
 
     def test_recipe_without_a_process(self) -> None:
         self.assertIn("a recipe that ran has no process: b", self.holes(make_of((8, 5)), [words_of(self.JOB, self.AGAIN)]))

@@ -1,0 +1,99 @@
+"""Which recipe failed first where a build fails, in one way for make and ninja: the innermost one, for those around it only say so again."""
+
+import os
+from dataclasses import dataclass
+from typing import Iterator, List, Optional, Sequence, Set, Tuple
+
+from record.make.database import Base
+from record.make.owners import Make, Work
+from record.make.words import Job, Round
+from record.ninja.manifest import Edge
+from record.ninja.runs import Job as NinjaJob
+from record.ninja.runs import Ninja
+
+
+@dataclass
+class Failure:
+    """A make or ninja that failed: its words, what failed in it, and where that stands; nothing where nobody knows."""
+
+    words: str
+    what: str
+    place: str
+    ended: int  # the place in the trace
+
+    def __str__(self) -> str:
+        return "%s (%s)" % (self.what, ", ".join(filter(None, (self.place, self.words)))) if self.what else "%s failed first" % self.words
+
+
+def failed_job(make: Make) -> Optional[Tuple[Round, Job]]:
+    """The first job of a make whose target could not be made."""
+    return next(((one, job) for one in make.words.rounds for job in one.jobs if one.base and job.target in one.base.failed), None)
+
+
+def of_makes(makes: Sequence[Make], failed: Set[int], folder: str) -> Iterator[Failure]:
+    """Of each make that failed by itself: the first recipe that did."""
+    for make in (one for one in makes if id(one) in failed):
+        words, found = ("make " + make.words.args).strip(), failed_job(make)
+        if found is None:
+            yield Failure(words, no_rule(make), "", make.life.died)
+        elif not failed.intersection(inner(make.work.get(id(found[1]), Work()))):
+            file, line = (found[0].base or Base()).places.get(found[1].target, [("", 0)])[0]
+            yield Failure(words, "the recipe of %s failed first" % found[1].target, place(make.folder, file, line, folder), make.life.died)
+
+
+def no_rule(make: Make) -> str:
+    """What a make could not go on without, where no recipe of it failed: a target that it had to make last, and that has no recipe."""
+    for one in make.words.rounds[-1:]:
+        for target in list(one.must)[-1:]:
+            if target not in (one.base or Base()).recipes:
+                return "no rule makes " + target
+    return ""
+
+
+def of_ninjas(ninjas: Sequence[Ninja], folder: str) -> Iterator[Failure]:
+    """Of each ninja the first command that failed. What failed inside that ended before it."""
+    for ninja in ninjas:
+        for job, edge in lost_jobs(ninja)[:1]:
+            words = " ".join([os.path.basename(ninja.life.argv[0]), *ninja.life.argv[1:]])
+            yield Failure(words, "the command of %s failed first" % edge.label, place(ninja.folder, edge.file, edge.line, folder), job.life.died)
+
+
+def lost_jobs(ninja: Ninja) -> List[Tuple[NinjaJob, Edge]]:
+    """The commands of a ninja that its log does not name, as they ended: ninja writes down what succeeds."""
+    if ninja.logged is None:
+        return []
+    jobs = [(job, job.edge) for stage in ninja.stages for job in stage.jobs if job.edge is not None]
+    return sorted((one for one in jobs if not set(one[1].makes()) & set(ninja.logged)), key=lambda one: one[0].life.died)
+
+
+def inner(work: Work) -> Set[int]:
+    """The makes and ninjas inside a recipe, by their ids."""
+    return {id(one) for one in (*work.makes, *work.ninjas)}
+
+
+def ignored(makes: Sequence[Make]) -> Set[int]:
+    """What ran inside of other recipes than the one by which a make failed: whether it failed did not matter."""
+    found: Set[int] = set()
+    for make in makes:
+        failing = failed_job(make) if make.words.status else None
+        if failing is not None:
+            found.update(*(inner(work) for job, work in make.work.items() if job != id(failing[1])))
+    return found
+
+
+def place(own: str, file: str, line: int, folder: str) -> str:
+    """`sub/Makefile:3`, from the folder of the record on where it is below."""
+    path = os.path.normpath(os.path.join(own, file))
+    return "%s:%d" % (os.path.relpath(path, folder) if path.startswith(folder.rstrip("/") + "/") else path, line) if file and line else ""
+
+
+def failures(makes: Sequence[Make], ninjas: Sequence[Ninja], folder: str) -> List[Failure]:
+    """All that failed by itself, the first one first."""
+    failed = ({id(make) for make in makes if make.words.status} | {id(ninja) for ninja in ninjas if lost_jobs(ninja)}) - ignored(makes)
+    return sorted([*of_makes(makes, failed, folder), *of_ninjas(ninjas, folder)], key=lambda one: one.ended)
+
+
+def explained(holes: List[str], makes: Sequence[Make], ninjas: Sequence[Ninja], folder: str) -> List[str]:
+    """The holes of a build that failed, of which the first says so, with what failed first."""
+    found = failures(makes, ninjas, folder)
+    return ["%s; %s" % (holes[0], found[0]), *holes[1:]] if found else holes

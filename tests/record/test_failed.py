@@ -1,0 +1,68 @@
+"""What is said of a build that failed: the innermost recipe that failed first, and what to try, in one way for make and ninja."""
+
+import shutil
+import unittest
+from typing import Dict, List, Optional, Tuple
+
+import support
+
+END = "the build ended with status 2"
+RULES = "rule sh\n  command = $c\n"
+OF_NINJA = RULES + "build a: sh\n  c = touch a\nbuild b: sh a\n  c = false\n"
+
+
+class Failed(unittest.TestCase):
+    """Records of builds that fail."""
+
+    def failed(self, makefile: str, others: Optional[Dict[str, str]] = None, words: Tuple[str, ...] = ("make",)) -> Tuple[List[str], List[str]]:
+        """The holes and the hints."""
+        with support.Project({"Makefile": makefile, **(others or {})}) as project:
+            outcome = project.record(words)
+        self.assertEqual(2, outcome.status, outcome.text())
+        assert outcome.record is not None
+        return outcome.record["holes"], outcome.record["hints"]
+
+    def test_recipe(self) -> None:
+        holes, hints = self.failed("all: a b\na: ; touch a\nb:\n\tfalse\n")
+        self.assertEqual([END + "; the recipe of b failed first (Makefile:4, make)"], holes)
+        self.assertEqual(["if `make -j1` fails without race-record too, repair that first; if not, report it"], hints)
+
+    def test_makes_inside_makes(self) -> None:
+        sub = {"sub/Makefile": "all: ; $(MAKE) -C deep\n", "sub/deep/Makefile": "all: a b\na: ; touch a\nb: ; @false\n"}
+        self.assertEqual([END + "; the recipe of b failed first (sub/deep/Makefile:3, make -C deep)"], self.failed("all: ; $(MAKE) -C sub\n", sub)[0])
+
+    def test_what_failed_before_and_was_ignored(self) -> None:
+        files = {"one.mk": "x: ; $(MAKE) -f two.mk\n", "two.mk": "y: ; false\n"}
+        holes, _ = self.failed("all: a b\na: ; -$(MAKE) -f one.mk\nb: ; -false\n\tfalse\n", files)
+        self.assertEqual([END + "; the recipe of b failed first (Makefile:3, make)"], holes)
+
+    def test_failures_that_a_recipe_ignores(self) -> None:
+        holes, hints = self.failed("all: ; -$(MAKE) -f one.mk\n", {"one.mk": "x: ; $(MAKE) -f two.mk\n", "two.mk": "y: ; false\n"})
+        self.assertEqual((["a make failed: the recipe of y failed first (two.mk:1, make -f two.mk)"], []), (holes, hints))
+
+    def test_several_that_failed(self) -> None:
+        self.assertEqual([END + "; the recipe of a failed first (Makefile:2, make -k)"], self.failed("all: a b\na: ; false\nb: ; false\n", words=("make", "-k"))[0])
+
+    def test_no_recipe(self) -> None:
+        self.assertEqual([END + "; no rule makes nothing (make -f my.mk)"], self.failed("", {"my.mk": "all: a nothing\na: ; touch a\n"}, ("make", "-f", "my.mk"))[0])
+        self.assertEqual([END + "; make failed first"], self.failed("$(error no)\n")[0])
+
+    def test_no_make(self) -> None:
+        self.assertEqual(["the build ended with status 3", "no make and no ninja ran"], self.failed("", words=("sh", "-c", "exit 3"))[0])
+
+    @unittest.skipUnless(shutil.which("ninja"), "ninja is missing (Debian: apt-get install ninja-build)")
+    def test_command_of_ninja(self) -> None:
+        holes, hints = self.failed("all: ; cd build && ninja\n", {"build/build.ninja": OF_NINJA})
+        self.assertEqual([END + "; the command of b failed first (build/build.ninja:5, ninja)"], holes)
+        holes, hints = self.failed("", {"build.ninja": OF_NINJA}, ("ninja",))
+        self.assertEqual(["the build ended with status 1; the command of b failed first (build.ninja:5, ninja -j4)"], holes)
+        self.assertEqual(["if `ninja -j1` fails without race-record too, repair that first; if not, report it"], hints)
+
+    @unittest.skipUnless(shutil.which("ninja"), "ninja is missing (Debian: apt-get install ninja-build)")
+    def test_make_inside_a_command_of_ninja(self) -> None:
+        holes, _ = self.failed("b: ; false\n", {"build.ninja": RULES + "build b: sh\n  c = make b\n"}, ("ninja",))
+        self.assertEqual(["the build ended with status 1; the recipe of b failed first (Makefile:1, make b)"], holes)
+
+
+if __name__ == "__main__":
+    unittest.main()
