@@ -60,7 +60,7 @@ class Failed(unittest.TestCase):
 
     @unittest.skipUnless(shutil.which("ninja"), "ninja is missing (Debian: apt-get install ninja-build)")
     def test_make_inside_a_command_of_ninja(self) -> None:
-        holes, _ = self.failed("b: ; false\n", {"build.ninja": RULES + "build b: sh\n  c = make b\n"}, ("ninja",))
+        holes, _ = self.failed("b: ; false\n", {"build.ninja": RULES + "build b: sh\n  c = make b && touch b\n"}, ("ninja",))
         self.assertEqual(["the build ended with status 1; the recipe of b failed first (Makefile:1, make b)"], holes)
 
 
