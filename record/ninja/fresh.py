@@ -7,6 +7,7 @@ import os
 import re
 import shlex
 import shutil
+import stat
 import subprocess
 import sys
 from contextlib import contextmanager
@@ -42,6 +43,20 @@ def left_over(folder: str) -> str:
     saved, own = shlex.quote(folder + SAVED), shlex.quote(folder)
     return ("%s is there: another --fresh runs now, or was killed before it put it back\n  it is your folder as it was: rm -rf %s && mv %s %s\n"
             "  %s is a copy of it. If you have worked in the copy since, keep that, and remove %s" % (saved, own, saved, own, own, saved))
+
+
+def check_kinds(folder: str) -> None:
+    """Refuses a folder in which something stands that cannot be copied."""
+    for place, _, files in os.walk(folder):
+        for path in (os.path.join(place, name) for name in sorted(files)):
+            mode = os.lstat(path).st_mode
+            if not stat.S_ISREG(mode) and not stat.S_ISLNK(mode):
+                raise CannotClean("--fresh copies the folder, and %s is a %s: remove it, or clean the folder and record without --fresh" % (path, kind_of(mode)))
+
+
+def kind_of(mode: int) -> str:
+    """What is no file, no link and no folder."""
+    return "named pipe" if stat.S_ISFIFO(mode) else "socket" if stat.S_ISSOCK(mode) else "device"
 
 
 def filled(folder: str) -> Set[str]:
@@ -91,6 +106,7 @@ def clean(folder: str, manifest: Manifest) -> None:
 def cold_copy(folder: str) -> Iterator[None]:
     """Works on a clean copy in the place of a folder; the folder itself comes back, whatever happens."""
     saved, here = folder + SAVED, os.path.realpath(".")
+    check_kinds(folder)
     print("race-record: %s is kept as %s meanwhile" % (folder, saved), file=sys.stderr, flush=True)
     os.rename(folder, saved)
     kept: List[str] = []

@@ -249,7 +249,7 @@ class Runs:
             self.compare_log(ninjas, logged)
 
     def logged(self, ninjas: List[Ninja], log: str) -> Optional[List[str]]:
-        """The outputs that these ninjas logged; None where other tools have changed the log, or there is none."""
+        """The outputs that these ninjas logged; None where other tools have changed the log, or it is gone. Where nothing succeeds there is none."""
         for life in self.lives:
             if life.is_ninja and "-t" in life.argv and LOG_TOOLS & set(life.argv):
                 return None
@@ -258,7 +258,8 @@ class Runs:
         except OSError:
             if self.has_ended:
                 self.holes.append("ninja left no log: " + log)
-            return None
+                return None
+            return []
 
     def attribute_stage(self, stage: Stage, logged: Optional[List[str]]) -> None:
         by_text: Dict[str, List[Edge]] = {}

@@ -111,6 +111,7 @@ LATER: List[Guard] = [
     Guard("ninja, said: tried by CMake", "ninja/builds.py", 'assumed.add("tried", ninja.folder)', "pass", ninja("tried-by-cmake"), UNSAID),
     Guard("ninja, fresh: outputs outside are kept", "ninja/fresh.py", "            set_aside(folder, manifest, kept)\n", "", "test_ninja.Fresh.test_outputs_outside_come_back"),
     Guard("ninja, fresh: outputs outside come back", "ninja/fresh.py", "        put_back(kept)\n", "", "test_ninja.Fresh.test_outputs_outside_come_back"),
+    Guard("ninja, fresh: nothing that cannot be copied", "ninja/fresh.py", "    check_kinds(folder)\n", "", "test_ninja.Fresh.test_what_cannot_be_copied"),
     Guard("ninja, fresh: a folder that holds something", "ninja/fresh.py", " and not all(FULL.fullmatch(line) for line in ran.stderr.splitlines()):", ":", "test_ninja.Fresh.test_folder_that_holds_something"),
 ]
 NINJA_GUARDS = WARM + INSIDE + HOLES + ATTRIBUTION + ORDER + OWN + LATER

@@ -138,6 +138,14 @@ class Fresh(unittest.TestCase):
             record, _ = project.left()
         self.assertEqual([], (record or {"holes": ["none"]})["holes"])
 
+    def test_what_cannot_be_copied(self) -> None:
+        for name, text in (("named pipe", "import os; os.mkfifo('b/deep/x')"), ("socket", "import socket; socket.socket(socket.AF_UNIX).bind('b/deep/x')")):
+            with support.Project({"b/build.ninja": RULES, "b/deep/.keep": ""}) as project:
+                project.plain(["python3", "-c", text])
+                path = os.path.realpath(project.folder) + "/b/deep/x"
+                self.says(project, "race-record: --fresh copies the folder, and %s is a %s: remove it, or clean the folder and record without --fresh\n" % (path, name), "ninja", "-C", "b")
+                self.assertTrue(os.path.lexists(path))
+
     def test_outputs_outside_come_back(self) -> None:
         """What `ninja -t clean` takes away outside of the folder, also where the recorded build does not make it again."""
         manifest = RULES + "build ../g: sh\n  c = echo 1 > ../g\nbuild ../h: sh\n  c = echo 2 > ../h\nbuild a: sh ../g\n  c = cat ../g > a\n"
