@@ -69,7 +69,7 @@ def confirmed(finding: Finding, schedule: Schedule, record: Path) -> Iterator[st
 
 def not_confirmed(finding: Finding) -> Iterator[str]:
     """What was tried."""
-    as_ever = "each left what the serial build leaves" if not finding.others else "what differs is the work of other recipes"
+    as_ever = "each left what the serial build leaves" if not finding.others else "what differs comes from other recipes"
     yield f"NOT CONFIRMED in {counted(finding.builds, 'try', 'tries')}: {as_ever}."
     yield from besides(finding)
     if finding.reached < finding.builds:

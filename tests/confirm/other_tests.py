@@ -46,7 +46,7 @@ class OtherTests:
         self.assertNotIn("\nCONFIRMED", text)
 
     def test_reader_between_the_two(self) -> None:
-        self.beside(READER, 0, "NOT CONFIRMED in 3 tries: what differs is the work of other recipes.\n",
+        self.beside(READER, 0, "NOT CONFIRMED in 3 tries: what differs comes from other recipes.\n",
                     "  Another race shows, race 1:\n    y: line 1 is `none`, and `1` after a serial build\n")
         self.check(1, "CONFIRMED  all of y before a:\n", words=("1",))
 
@@ -67,6 +67,12 @@ class OtherTests:
         self.files(THREE)
         self.record()
         self.check(1, "CONFIRMED  all of c while a is held before `mv` renames it:\n", words=("a", "c"))
+
+    def test_beside_make_alone(self) -> None:
+        self.files(LOOKED)
+        self.record()
+        text = self.check(0, "NOT CONFIRMED in ", "  Another race shows, race 1:\n    a: line 1 is `1`", words=("x",))
+        self.assertNotIn("\nCONFIRMED", text)
 
     def test_make_inside_make_that_another_reads(self) -> None:
         self.files(BELOW)
