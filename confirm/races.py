@@ -9,7 +9,8 @@ from collections.abc import Iterator, Sequence
 from dataclasses import dataclass
 from pathlib import Path
 
-from report.model import OWN_NAME, Race, Report, read_json
+from record.tasks import file_of
+from report.model import Race, Report, read_json
 
 SIDES = ("first", "second")
 # Signs that a target's name may have, and that a makefile takes with a backslash before them.
@@ -67,13 +68,22 @@ def chosen(report: Report, record: Path, words: Sequence[str]) -> Iterator[Chose
             yield choice(number, race, record)
 
 
+def tasks_of(record: Path, number: str) -> Iterator[dict]:
+    """The tasks of a build."""
+    with open(record / "builds" / number / "tasks", encoding="utf-8", errors="surrogateescape") as lines:
+        yield from map(json.loads, filter(str.strip, lines))
+
+
+def file_in(about: dict, path: str) -> str:
+    """The file that a path of a build is about."""
+    return file_of(path) if path in about["meanings"] else path
+
+
 def written(record: Path) -> Iterator[tuple[str, str]]:
     """What the recorded build wrote, as far as tasks have it: the folder of each make, and the path from there."""
     for number in read_json(record / "record.json").get("builds", []):
-        folder = read_json(record / "builds" / number / "build.json")["folder"]
-        with open(record / "builds" / number / "tasks", encoding="utf-8", errors="surrogateescape") as lines:
-            for task in map(json.loads, filter(str.strip, lines)):
-                yield from ((folder, OWN_NAME.sub("", it)) for it in task["writes"])
+        about = read_json(record / "builds" / number / "build.json")
+        yield from ((about["folder"], file_in(about, it)) for task in tasks_of(record, number) for it in task["writes"])
 
 
 def written_outside(record: Path, folder: str) -> Iterator[str]:
@@ -93,7 +103,7 @@ def choice(number: int, race: Race, record: Path) -> Chosen:
         label = about["labels"].get(recipe.label, {})
         sum_ = label.get("sum", "")
         sides.append(Held(side, recipe.target, folder, label.get("kind", "") == "recipe", sum_ if sums[sum_] == 1 else ""))
-    path = OWN_NAME.sub("", race.path) or "."
+    path = file_in(about, race.path)
     whole = os.path.normpath(os.path.join(folder, path))
     return Chosen(number, race, whole + "/" * path.endswith("/"), (sides[0], sides[1]), about.get("tool", "make"))
 

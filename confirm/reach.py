@@ -2,14 +2,14 @@
 
 from __future__ import annotations
 
-import json
 import os
 from collections.abc import Callable, Container, Iterable, Iterator, Sequence
 from dataclasses import dataclass, field
 from pathlib import Path
 
 from confirm.failed import STATUS, failed
-from report.model import OWN_NAME, Race, read_json
+from confirm.races import file_in, tasks_of
+from report.model import Race, read_json
 
 # A task of a record: the number of its build, and its label there.
 Task = tuple[str, str]
@@ -33,29 +33,28 @@ class Tasks:
         """The tasks of a record of a project."""
         tasks = cls(folder)
         for number in read_json(record / "record.json").get("builds", []):
-            tasks.add_build(number, record / "builds" / number)
+            tasks.add_build(number, record)
         tasks.add_targets(lambda kind: kind == "recipe")
         tasks.add_targets(lambda kind: kind != "recipe")
         return tasks
 
     def name(self, build: str, path: str) -> str:
         """A path of a build from the project's folder on."""
-        return os.path.relpath(os.path.join(self.abouts[build]["folder"], OWN_NAME.sub("", path) or "."), self.folder)
+        return os.path.relpath(os.path.join(self.abouts[build]["folder"], file_in(self.abouts[build], path)), self.folder)
 
-    def add_build(self, number: str, folder: Path) -> None:
+    def add_build(self, number: str, record: Path) -> None:
         """The tasks of one build."""
-        self.abouts[number] = read_json(folder / "build.json")
+        self.abouts[number] = read_json(record / "builds" / number / "build.json")
         self.of_build[number] = []
         self.builds_in.setdefault(self.within(number), []).append(number)
-        with open(folder / "tasks", encoding="utf-8", errors="surrogateescape") as lines:
-            for task in map(json.loads, filter(str.strip, lines)):
-                own = (number, task["task"])
-                self.of_build[number].append(own)
-                self.reads[own] = {self.name(number, it) for it in task["reads"]}
-                for it in task["writes"]:
-                    self.writers.setdefault(self.name(number, it), set()).add(own)
-                for it in task["after"]:
-                    self.users.setdefault((number, it), []).append(own)
+        for task in tasks_of(record, number):
+            own = (number, task["task"])
+            self.of_build[number].append(own)
+            self.reads[own] = {self.name(number, it) for it in task["reads"]}
+            for it in task["writes"]:
+                self.writers.setdefault(self.name(number, it), set()).add(own)
+            for it in task["after"]:
+                self.users.setdefault((number, it), []).append(own)
 
     def add_targets(self, is_meant: Callable[[str], bool]) -> None:
         """A target is of the tasks that have its name. It stands among what they write only where other recipes touch it too; where some do

@@ -2,7 +2,6 @@
 
 import json
 import os
-import re
 import sys
 import textwrap
 from dataclasses import dataclass, field
@@ -12,11 +11,10 @@ from typing import Any, Dict, List, Tuple
 from record.judge import Race, Verdict, explained
 from record.ninja.fix import fix_text, pool_text
 from record.pages import after_no_verdict
-from record.tasks import shown
+from record.tasks import OWN_NAME, file_of, shown
 
 SHOWN_RACES, SHOWN_HOLES = 30, 20
 SHOWN_SIGNS = 80  # of an example
-OWN_NAME = re.compile(r"(^|/)@(make|seen|gone|time|mode|links|age|macro|output)(/.*)?$")
 
 
 @dataclass
@@ -65,10 +63,19 @@ def target(about: Dict[str, Any], label: str) -> str:
     return about["labels"].get(label, {}).get("target") or label
 
 
+def first_look(about: Dict[str, Any], path: str, first: str, second: str) -> str:
+    """What to do where no line orders two tasks, since make itself looks for a name when it first considers a target; nothing where one does."""
+    lookers = [target(about, one) for one in (first, second) if about["labels"].get(one, {}).get("kind") == "first"]
+    if lookers and path not in lookers:
+        name = file_of(path) if about["meanings"].get(path) else path
+        return "name %s in a rule, and a library not as -lNAME: make looks for it when it first considers the target" % name
+    return "let one recipe alone write it; make asks whether it is there before that recipe has run" if lookers else ""
+
+
 def race_text(about: Dict[str, Any], race: Race, fixes: List[str], is_fixed: bool) -> List[str]:
     """The lines of one race."""
     meaning = about["meanings"].get(race.path)
-    name = (OWN_NAME.sub("", race.path) or ".") if meaning else race.path
+    name = file_of(race.path) if meaning else race.path
     lines = ["RACE  " + name + ("  (%s)" % meaning if meaning else "")]
     rows = [(target(about, race.first), place(about, race.first), verb(about, race.first, race.first_does, race.path)),
             (target(about, race.second), place(about, race.second), verb(about, race.second, race.second_does, race.path) + ", and nothing orders the two")]
@@ -77,11 +84,9 @@ def race_text(about: Dict[str, Any], race: Race, fixes: List[str], is_fixed: boo
     own = race.path in (target(about, race.first), target(about, race.second))
     if race.first_does == race.second_does == "writes" and not meaning and not own:
         lines.append("  advice: give each recipe a name of its own for this file, such as %s.$@" % os.path.basename(name))
-    lookers = [target(about, one) for one in (race.first, race.second) if about["labels"].get(one, {}).get("kind") == "first"]
-    if lookers:
-        if race.path not in lookers:
-            return lines + ["  advice: name %s in a rule, and a library not as -lNAME: make looks for it when it first considers the target" % name]
-        return lines + ["  advice: let one recipe alone write it; make asks whether it is there before that recipe has run"]
+    instead = first_look(about, race.path, race.first, race.second)
+    if instead:
+        return lines + ["  advice: " + instead]
     fix = "%s: %s" % (target(about, race.second), target(about, race.first))
     if about.get("tool") == "ninja":
         fix = fix_text(about["labels"], race.first, race.second, name)
@@ -107,8 +112,9 @@ def races_text(judged: Judged, colour: Colours) -> Tuple[List[str], int, int]:
     for race in judged.verdict.races:
         groups.setdefault((race.path, race.first if race.first_does == "writes" else race.second), []).append(race)
     lines: List[str] = []
+    is_fixed = judged.verdict.is_fixed and not any(first_look(judged.about, one.path, one.first, one.second) for one in judged.verdict.races)
     for (_, _), races in list(groups.items())[:SHOWN_RACES]:
-        text = race_text(judged.about, races[0], judged.verdict.fix, judged.verdict.is_fixed)
+        text = race_text(judged.about, races[0], judged.verdict.fix, is_fixed)
         lines += [colour.bad + text[0] + colour.end] + text[1:]
         if len(races) > 1:
             lines.append("  and %d more on this file by the same writer" % (len(races) - 1))

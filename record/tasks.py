@@ -1,17 +1,25 @@
 """The text of tasks that `race` reads: one JSON object a task."""
 
 import json
+import re
 from typing import TYPE_CHECKING, Any, Dict, Iterator, List, Mapping, Sequence, Set, Tuple
 
 if TYPE_CHECKING:
     from record.make.graph import Task
 
 LABEL_LIMIT = 4096
+# What stands for something else than a file: for its age, for who makes a folder.
+OWN_NAME = re.compile(r"(^|/)@(make|seen|gone|time|mode|links|age|macro|output|dyndep)(/.*)?$")
 
 
 def shown(text: str) -> str:
     """A name as valid text: bytes that are none are shown as \\xNN."""
     return text.encode("utf-8", "surrogateescape").decode("utf-8", "backslashreplace")
+
+
+def file_of(path: str) -> str:
+    """The file that a path is about which stands for something else."""
+    return OWN_NAME.sub("", path) or "."
 
 
 def relative(root: str, path: str) -> str:

@@ -25,16 +25,16 @@ def judge(folder: Path, program: Path) -> Report:
         build = read_build(folder / "builds" / number, number, project)
         verdict = ask(str(program), folder / "builds" / number / "tasks", build.folder)
         races = [build.race(it.path, (it.first, it.first_does), (it.second, it.second_does)) for it in verdict.races]
-        changes = {it.fix: it.change for it in races}
+        changes = {it.edge: "" if it.instead else it.change for it in races}
         report.races += races
-        report.fixes += [changes.get(it, it) for it in verdict.fix]
-        report.is_fixed &= verdict.is_fixed
+        report.fixes += filter(None, (changes.get(it, it) for it in verdict.fix))
+        report.is_fixed &= verdict.is_fixed and not any(it.instead for it in races)
         report.holes += [f"build {number}: {explained(verdict.refused)}"] * bool(verdict.refused)
         report.builds += 1
         report.is_of_ninja &= build.about.get("tool") == "ninja"
         report.pairs += verdict.pairs
         report.recipes += build.about.get("counts", {}).get("recipes", 0)
-    report.fixes = [*dict.fromkeys(report.fixes or [it.change for it in report.races])]
+    report.fixes = [*dict.fromkeys(report.fixes or [it.change for it in report.races if not it.instead])]
     report.missing = Question.of(folder, str(program)) if "missing" in record else None
     report.verdict = "none" if report.holes or not report.builds else "race" if report.races else "safe"
     return report

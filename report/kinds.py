@@ -38,10 +38,10 @@ WIDE = Kind("wide-footprint", "a footprint that is too wide: a tree where a few 
 # WIDE is advice for footprints that are written by hand: nothing in a race shows it, so no race is given this kind.
 KINDS = (FORGOTTEN, TEMPORARY, LOG, OUTPUT, ARCHIVE, FOLDER, TIME, MACRO, PRINTED, WIDE)
 # Names that stand for something else than a file: an age, or that a folder was made.
-OF_AGE = re.compile(r"/@(?:time|age)(?:/|$)")
-OF_MACRO = re.compile(r"/@macro/")
-OF_OUTPUT = re.compile(r"/@output(?:/|$)")
-OF_FOLDER = re.compile(r"/@(?:made-by|make|seen|gone|mode)(?:/|$)")
+OF_AGE = re.compile(r"(?:^|/)@(?:time|age)(?:/|$)")
+OF_MACRO = re.compile(r"(?:^|/)@macro/")
+OF_OUTPUT = re.compile(r"(?:^|/)@output(?:/|$)")
+OF_FOLDER = re.compile(r"(?:^|/)@(?:make|seen|gone|mode|links)(?:/|$)")
 
 
 def kind_of(path: str, targets: tuple[str, str], does: tuple[str, str]) -> Kind:

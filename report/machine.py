@@ -29,7 +29,7 @@ def race_object(race: Race, report: Report) -> dict:
     return {
         "fingerprint": race.fingerprint, "known": race.fingerprint in report.known, "kind": race.kind.name,
         "build": race.build, "path": race.path, "meaning": race.meaning,
-        "first": side(race.first), "second": side(race.second), "fix": race.fix, "in_project": race.in_project, "advice": race.kind.fix,
+        "first": side(race.first), "second": side(race.second), "fix": race.fix, "in_project": race.in_project, "advice": race.advice,
     }
 
 

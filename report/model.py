@@ -13,10 +13,12 @@ from pathlib import Path
 from record.entry import reason
 from record.missing.report import Question
 from record.ninja.fix import fix_text
+from record.report import first_look
+from record.tasks import file_of
 from report.kinds import Kind, kind_of
 
-# What the recorder adds to a path that stands for something else than the file: its age, its folder, that it is gone.
-OWN_NAME = re.compile(r"/@[a-z-]+(/.*)?$")
+# What a path ends with that stands for something else than a file, and for two tasks by their numbers.
+NUMBERS = re.compile(r"(/\d+)+$")
 
 
 class BadRecord(Exception):
@@ -66,11 +68,12 @@ class Race:
     second: Side
     kind: Kind
     in_project: str = ""  # the fix in the words of what wrote the build: CMake, Meson, or build.ninja itself
+    instead: str = ""  # what to do where no line orders the two
 
     @property
     def shown(self) -> str:
         """The path as people know it: of a path that stands for something else, the file that it is about."""
-        return OWN_NAME.sub("", self.path) if self.meaning else self.path
+        return file_of(self.path) if self.meaning else self.path
 
     @property
     def before(self) -> tuple[str, ...]:
@@ -84,18 +87,29 @@ class Race:
 
     @property
     def fix(self) -> str:
-        """The line that orders the two as the serial build did: with all such lines `race fix` found the build safe."""
-        return f"{self.second.recipe.target}: {self.first.recipe.target}"
+        """The line that orders the two as the serial build did: with all such lines `race fix` found the build safe. Nothing where none does."""
+        return "" if self.instead else f"{self.second.recipe.target}: {self.first.recipe.target}"
+
+    @property
+    def edge(self) -> str:
+        """The fix as `race fix` names it, by the labels of the tasks."""
+        return f"{self.second.recipe.label}: {self.first.recipe.label}"
+
+    @property
+    def advice(self) -> str:
+        """What it usually is, and what to do."""
+        return self.instead or self.kind.fix
 
     @property
     def change(self) -> str:
-        """What to write: the words of what wrote the build, where ninja ran it, else a line of a makefile."""
-        return self.in_project or self.fix
+        """What to do: the words of what wrote the build, where ninja ran it, else a line of a makefile, or what is done instead."""
+        return self.instead or self.in_project or self.fix
 
     @property
     def fingerprint(self) -> str:
-        """What stays the same where lines move: the kind, the path and the two targets."""
-        parts = (self.kind.name, self.path, *sorted((self.first.recipe.target, self.second.recipe.target)))
+        """What stays the same where lines move: the kind, the path without numbers of tasks, and the two targets."""
+        path = NUMBERS.sub("", self.path) if self.meaning else self.path
+        parts = (self.kind.name, path, *sorted((self.first.recipe.target, self.second.recipe.target)))
         return hashlib.sha256("\0".join(parts).encode(errors="surrogateescape")).hexdigest()[:32]
 
 
@@ -194,7 +208,7 @@ class Build:
             path = os.path.normpath(os.path.join(self.folder, file))
             below = os.path.relpath(path, self.project)
             file = path if below.startswith("..") else below
-        is_look = found.get("kind") in ("decision", "look")
+        is_look = found.get("kind") in ("decision", "look", "first")
         return Recipe(label, found.get("target") or label, file, found.get("line", 0), found.get("recipe", "").strip(), is_look)
 
     def targets(self, labels: list[str]) -> tuple[str, ...]:
@@ -208,7 +222,8 @@ class Build:
         sides = [Side(self.recipe(it), does, other(self.after.get(it, [])), other(self.users.get(it, []))) for it, does in (first, second)]
         kind = kind_of(path, targets, (first[1], second[1]))
         in_project = fix_text(self.about["labels"], first[0], second[0], path) if self.about.get("tool") == "ninja" else ""
-        return Race(self.number, path, self.about.get("meanings", {}).get(path, ""), *sides, kind, in_project)
+        instead = first_look({"meanings": {}, **self.about}, path, first[0], second[0])
+        return Race(self.number, path, self.about.get("meanings", {}).get(path, ""), *sides, kind, in_project, instead)
 
 
 def read_build(folder: Path, number: str, project: str) -> Build:

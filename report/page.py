@@ -73,13 +73,19 @@ def sides(race: Race) -> str:
     return f'<table role="table" aria-label="The two recipes">{rows}</table>'
 
 
+def to_do(race: Race, known: str) -> str:
+    """What it is, and the line that fixes it, or what to do where no line does."""
+    if race.instead:
+        return f'<p class="kind">{code(race.instead)}{known}</p>'
+    order = "Add this line:" if race.kind is FORGOTTEN else "Or put the two in order:"
+    return f'<p class="kind">{code(race.kind.advice)}{known}</p><p class="kind">{order}</p><pre>{escape(race.change)}</pre>'
+
+
 def card(race: Race, number: int, report: Report, is_drawn: bool) -> str:
     """One race: who does what and where, what it is, the line that fixes it, and its pictures."""
-    order = "Add this line:" if race.kind is FORGOTTEN else "Or put the two in order:"
     known = ' <span class="tag">known</span>' if race.fingerprint in report.known else ""
     return (f'<div class="card" id="race-{number}"><h4>Race {number}</h4>{sides(race)}'
-            f'<p class="kind">{code(race.kind.advice)}{known}</p>'
-            f'<p class="kind">{order}</p><pre>{escape(race.change)}</pre>{figures(race) if is_drawn else ""}</div>')
+            f'{to_do(race, known)}{figures(race) if is_drawn else ""}</div>')
 
 
 def confirming(report: Report) -> str:
@@ -138,7 +144,7 @@ def assumptions(report: Report) -> str:
 
 def fixes(report: Report) -> str:
     """All lines that fix the build, to copy at once."""
-    if not report.races:
+    if not report.fixes:
         return ""
     safe = "With these lines the build is safe: <code>race fix</code> checked it."
     checked = safe if report.is_checked else "These lines were not checked."

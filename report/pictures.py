@@ -59,7 +59,7 @@ def edge(x1: float, y1: float, x2: float, y2: float, style: str = "edge") -> str
 
 def graph(race: Race) -> str:
     """What the two need, the two, and what needs them; the edge that is missing is dashed."""
-    late, early = race.fix.split(": ", 1)
+    late, early = race.second.recipe.target, race.first.recipe.target
     above, below = race.before[:3], race.behind[:3]
     row = 54 if above else 18
     parts = [edge(136, row + 13, 220, row + 13, "missing"), f'<path d="M213 {row + 8}l8 5-8 5" class="missing-end"/>',

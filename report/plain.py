@@ -48,7 +48,7 @@ def race_lines(race: Race, number: int, report: Report) -> Iterator[str]:
     known = "" if race.fingerprint not in report.known else "  (known)"
     yield f"RACE {number}  {race.shown}{f'  ({race.meaning})' if race.meaning else ''}{known}"
     yield from side_rows(race)
-    yield f"  {race.kind.advice}"
+    yield from [] if race.instead else [f"  {race.kind.advice}"]
     yield f"  fix: {race.change}"
     yield ""
 
@@ -57,7 +57,7 @@ def text(report: Report) -> str:
     """The whole report, the verdict first."""
     lines = [f"{HEADLINES[report.verdict]}  {summary(report)}", ""]
     lines += [line for at, race in enumerate(report.races, 1) for line in race_lines(race, at, report)]
-    if report.races:
+    if report.fixes:
         checked = "with these lines the build is safe (checked)" if report.is_checked else "not checked"
         lines += [f"All fixes, {checked}:", *(f"    {it}" for it in report.fixes), ""]
     what_to_do = [] if report.is_direct else [after_no_verdict()]

@@ -100,7 +100,7 @@ class ReachTests(unittest.TestCase):
         self.numbers.append(number)
         place = self.record / "builds" / number
         place.mkdir(parents=True)
-        about = {"folder": folder, "within": {"build": "001", "task": within} if within else None, "span": span,
+        about = {"folder": folder, "meanings": {}, "within": {"build": "001", "task": within} if within else None, "span": span,
                  "labels": {row["task"]: label for row, label in rows}}
         (place / "build.json").write_text(json.dumps(about))
         (place / "tasks").write_text("".join(json.dumps(row) + "\n" for row, _ in rows))
