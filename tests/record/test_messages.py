@@ -13,7 +13,7 @@ from typing import Dict, List, Optional, Tuple
 
 import support
 from record.assumptions import TEXTS
-from record.judge import Verdict, ended, explained
+from record.judge import Race, Verdict, ended, explained
 from record.missing.report import Question, missing_text
 from record.report import Colours, Judged, report
 from support import TOP
@@ -65,6 +65,15 @@ class NoVerdict(unittest.TestCase):
         self.assertIn("RECORD.md", lines[3])
         both = report(written(HOLES[:1]), [refused("refused F22 WritesTarget")], Path("/r"))
         self.assertEqual(("NO VERDICT  the record has holes:", True, "  - hole 0"), (both[0], "F22" in both[1], both[2]))
+
+    def test_no_fix_is_checked_beside_a_look_that_no_line_orders(self) -> None:
+        labels = {"a": {"target": "a"}, "b": {"target": "b"}, "b@first": {"target": "b", "kind": "first"}}
+        about = {**ABOUT, "labels": labels, "meanings": {}}
+        races = [Race("f", "a", "writes", "b", "reads"), Race("g", "a", "writes", "b@first", "reads")]
+        for count, checked in ((1, 1), (2, 0)):
+            lines = report(written([]), [Judged("001", about, Verdict(1, races[:count], count))], Path("/r"))
+            self.assertEqual(checked, sum("(checked: " in line for line in lines))
+        self.assertIn("  advice: name g in a rule, and a library not as -lNAME: make looks for it when it first considers the target", lines)
 
     def test_ends_without_an_answer(self) -> None:
         self.assertEqual(("ended with status 3", "was stopped by signal 9: race-report asks it again"), (ended(3), ended(-9)))

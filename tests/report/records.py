@@ -29,6 +29,14 @@ def write(folder: Path, tasks: list, places: dict, holes: tuple = (), meanings: 
     return folder
 
 
+def labelled(record: Path, label: str, **about: str) -> None:
+    """Says something else of a label of a record."""
+    path = record / "builds" / "001" / "build.json"
+    found = json.loads(path.read_text(encoding="utf-8"))
+    found["labels"][label].update(about)
+    path.write_text(json.dumps(found), encoding="utf-8")
+
+
 def header(folder: Path, is_fixed: bool = False, **more: object) -> Path:
     """A generated header that one of two objects forgets to name; with its fix it is safe."""
     tasks = [
