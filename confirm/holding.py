@@ -35,6 +35,7 @@ class Life:
     since: float = 0.0
 
     def has_ended(self, lines: int) -> bool:
+        """Whether all lines of the recipe have ended, of which there are so many; 0 where that is not known."""
         long_ago = time.monotonic() - self.since > BETWEEN_LINES
         return self.alive == 0 and self.done > 0 and (long_ago or 0 < lines <= self.done)
 
@@ -51,10 +52,6 @@ class Built:
     is_reached: bool
     output: str = ""
     order: list[str] = field(default_factory=list)  # the sums of ninja's commands as they began
-
-    @property
-    def is_complete(self) -> bool:
-        return self.status is not None
 
 
 @dataclass
@@ -94,6 +91,7 @@ class Tokens:
             self.take(self.out)
 
     def close(self) -> None:
+        """Closes both pipes."""
         os.close(self.out)
         os.close(self.back)
 
@@ -177,6 +175,7 @@ class Holding:
             self.let_go(at)
 
     def end_of_line(self, side: str) -> None:
+        """A line of a recipe has ended."""
         life = self.lives[side]
         life.alive, life.done, life.since = life.alive - 1, life.done + 1, time.monotonic()
 
@@ -202,6 +201,7 @@ def is_idle(session: int, held: int) -> bool:
 
 
 def listen(room: Room) -> socket.socket:
+    """The socket to which processes of recipes write."""
     room.socket.unlink(missing_ok=True)
     listener = socket.socket(socket.AF_UNIX)
     listener.bind(str(room.socket))

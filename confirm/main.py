@@ -126,6 +126,7 @@ def keep(room: Room, to: Path) -> None:
 
 
 def show(lines: Iterator[str]) -> None:
+    """Prints lines of the answer."""
     text = printable("\n".join(lines))
     sys.stdout.buffer.write(text.encode("utf-8", "backslashreplace") + b"\n")
     sys.stdout.buffer.flush()
@@ -151,6 +152,7 @@ def try_all(args: argparse.Namespace, report: Report, races: Sequence[Chosen], r
 
 
 def status_of(findings: Sequence[Finding]) -> int:
+    """1 where a race is confirmed, else 2 where one cannot be, else 0."""
     if any(it.is_confirmed for it in findings):
         return 1
     return 2 if any(it.why for it in findings) else 0
@@ -188,6 +190,7 @@ def others(number: int) -> str:
 
 
 def run(args: argparse.Namespace) -> int:
+    """Reads the record, tries the races that are asked for; the status."""
     with reading(args.record):
         used = tools_of(args.record)
     compiler = tools("make" in used)

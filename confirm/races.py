@@ -50,9 +50,11 @@ class Chosen:
     tool: str = "make"
 
     def other(self, side: str) -> Held:
+        """The other one of the two."""
         return self.sides[1 - SIDES.index(side)]
 
     def of(self, side: str) -> Held:
+        """The one on a side."""
         return self.sides[SIDES.index(side)]
 
 

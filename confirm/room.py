@@ -70,6 +70,7 @@ JOBS = 100
 
 
 def must(answer: int, what: str) -> None:
+    """An answer of the system but 0 is an error."""
     if answer != 0:
         raise OSError(ctypes.get_errno(), what)
 
@@ -117,10 +118,12 @@ class Room:
 
     @property
     def socket(self) -> Path:
+        """Where processes of the recipes say where they are."""
         return self.top / "socket"
 
     @property
     def tokens(self) -> Path:
+        """The pipes with job tokens."""
         return self.top / "tokens"
 
     def place(self, path: str) -> str:
@@ -192,6 +195,7 @@ def tools(has_make: bool) -> str:
 
 
 def run_tool(words: Sequence[str], what: str) -> None:
+    """Runs a tool; where it fails, `what` and what it said."""
     done = subprocess.run(words, capture_output=True, text=True, errors="replace", stdin=subprocess.DEVNULL, check=False)
     if done.returncode:
         raise Missing(f"{what}: {done.stderr.strip() or f'status {done.returncode}'}")

@@ -27,6 +27,7 @@ class Point:
 
     @property
     def is_use(self) -> bool:
+        """Whether it is at a use of the file, and not where a process starts."""
         return self.when != "start"
 
     def __str__(self) -> str:
@@ -44,12 +45,14 @@ class Points:
         self.seen: Counter[tuple[str, ...]] = Counter()
 
     def add(self, side: str, when: str, does: str, program: str) -> Point:
+        """The point that comes next."""
         key = (side, when, does, program)
         self.seen[key] += 1
         self.all.append(Point(*key, self.seen[key]))
         return self.all[-1]
 
     def of(self, side: str) -> list[Point]:
+        """The points of a side."""
         return [it for it in self.all if it.side == side]
 
 
@@ -64,6 +67,7 @@ class Schedule:
 
     @property
     def held(self) -> str:
+        """The side that is held."""
         return self.at.side
 
     def text(self, race: Chosen) -> str:

@@ -36,6 +36,7 @@ class Finding:
 
     @property
     def is_confirmed(self) -> bool:
+        """Whether a schedule shows the race."""
         return self.schedule is not None
 
 

@@ -33,6 +33,7 @@ class Left:
 
     @property
     def status(self) -> int | None:
+        """The status of the build; None where it did not end in time."""
         return self.built.status
 
 

@@ -40,6 +40,7 @@ class Inputs:
     operands: tuple[str, ...]
 
     def words(self, command: str) -> list[str]:
+        """The command line of one command."""
         of_recipes = [] if command == "order" else ["--footprints", str(self.footprints)]
         return [command, *self.graph, *of_recipes, *self.operands]
 
@@ -61,6 +62,7 @@ def inputs(args: argparse.Namespace) -> Inputs:
 
 
 def run(program: Path, words: Sequence[str]) -> subprocess.CompletedProcess[str]:
+    """Runs `race` with these words."""
     how = {"capture_output": True, "text": True, "errors": "replace", "stdin": subprocess.DEVNULL}
     return subprocess.run([str(program), *words], check=False, **how)
 

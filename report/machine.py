@@ -20,6 +20,7 @@ SCHEMA = "https://json.schemastore.org/sarif-2.1.0.json"
 
 
 def side(it: Side) -> dict:
+    """One of the two recipes of a race as the schema has it."""
     recipe = it.recipe
     return {"target": recipe.target, "does": it.does, "file": recipe.file, "line": recipe.line, "recipe": recipe.text}
 

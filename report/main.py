@@ -36,6 +36,7 @@ status: 0 safe, or nothing that the baseline has not; 1 races, or missing inputs
 
 
 def parse(words: list[str] | None) -> argparse.Namespace:
+    """The command line."""
     parser = argparse.ArgumentParser(prog="race-report", usage=USAGE, description=DESCRIPTION, epilog=EXAMPLE,
                                      formatter_class=argparse.RawDescriptionHelpFormatter)
     parser.add_argument("words", nargs="*", metavar="DIR", help="the folder of the record (.race); "
@@ -75,6 +76,7 @@ def hold_against(report: Report, baseline: Path) -> None:
 
 
 def stop(why: object) -> int:
+    """Says why there is no report; the status."""
     print(f"race-report: {why}", file=sys.stderr)
     return 3
 

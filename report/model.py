@@ -39,6 +39,7 @@ class Recipe:
 
     @property
     def place(self) -> str:
+        """`Makefile:26`, or nothing."""
         return f"{self.file}:{self.line}" if self.file else ""
 
 

@@ -61,6 +61,7 @@ def code(text: str) -> str:
 
 
 def figures(race: Race) -> str:
+    """Both pictures of a race."""
     return (f'<div class="pictures"><figure><figcaption>A schedule in which the two meet</figcaption>{schedule(race)}</figure>'
             f"<figure><figcaption>The edge that is missing</figcaption>{graph(race)}</figure></div>")
 
@@ -129,6 +130,7 @@ def races(report: Report) -> Iterator[str]:
 
 
 def listed(title: str, items: list[str]) -> str:
+    """A heading with a list below it; nothing where there is none."""
     return f"<h2>{title}</h2><ul>" + "".join(f"<li>{it}</li>" for it in items) + "</ul>" if items else ""
 
 

@@ -21,6 +21,7 @@ def short(text: str, most: int) -> str:
 
 
 def label(x: float, y: float, text: str, style: str = "", anchor: str = "middle") -> str:
+    """A text at a place."""
     return f'<text x="{x:g}" y="{y:g}" text-anchor="{anchor}" class="{style}">{escape(text)}</text>'
 
 
@@ -32,6 +33,7 @@ def box(x: float, y: float, wide: float, text: str, style: str) -> str:
 
 
 def picture(height: int, title: str, parts: list[str]) -> str:
+    """The parts as one picture, with a sentence for who cannot see it."""
     return (f'<svg viewBox="0 0 {WIDTH} {height}" role="img" aria-label="{escape(title, quote=True)}">'
             + "".join(parts) + "</svg>")
 
@@ -54,6 +56,7 @@ def schedule(race: Race) -> str:
 
 
 def edge(x1: float, y1: float, x2: float, y2: float, style: str = "edge") -> str:
+    """A line between two places."""
     return f'<line x1="{x1:g}" y1="{y1:g}" x2="{x2:g}" y2="{y2:g}" class="{style}"/>'
 
 
