@@ -17,7 +17,7 @@ from confirm.trial import Left, Trial, errors_of, how_ended, some
 @dataclass
 class Finding:
     """What is found of a race. Without a schedule nothing differed that is a matter of it: `others` is what differed besides, and
-    `other_races` have the numbers of the races that may do that. `why` says why no build can show the race."""
+    `other_race` the number of a race that may do that. `why` says why no build can show the race."""
 
     race: Chosen
     why: str = ""
@@ -32,7 +32,7 @@ class Finding:
     has_order: bool = False
     is_cut: bool = False
     others: list[str] = field(default_factory=list)
-    other_races: list[int] = field(default_factory=list)
+    other_race: int = 0
 
     @property
     def is_confirmed(self) -> bool:
@@ -107,13 +107,13 @@ class Search:
         self.finding.differences = [left.how[it] for it in sorted(found - {STATUS})]
 
     def note(self, left: Left, found: set[str]) -> None:
-        """Notes what differs besides, the first time that something does, and which races may do that."""
+        """Notes what differs besides, the first time that something does, and which race may do that."""
         if self.finding.others or not found:
             return
         self.finding.others = how_ended(left.status, errors_of(left.built)) if STATUS in found else [str(left.how[it]) for it in sorted(found)]
-        for number, race in enumerate(self.trial.races, 1):
-            if number != self.race.number and Reach(self.trial.tasks, race).blame(found, left.files, left.built.output).own:
-                self.finding.other_races.append(number)
+        others = ((number, race) for number, race in enumerate(self.trial.races, 1) if number != self.race.number)
+        can = (number for number, race in others if Reach(self.trial.tasks, race).blame(found, left.files, left.built.output).own)
+        self.finding.other_race = next(can, 0)
 
 
 def search(trial: Trial, race: Chosen, runs: int, only: int = 0) -> Finding:

@@ -36,8 +36,8 @@ def how(finding: Finding) -> Iterator[str]:
 def besides(finding: Finding) -> Iterator[str]:
     """What differs that is no matter of the race."""
     if finding.others:
-        known = finding.other_races
-        yield f"  Another race shows, race {known[0]}:" if known else "  Something else shows, and no race of the record explains it:"
+        known = finding.other_race
+        yield f"  Another race shows, race {known}:" if known else "  Something else shows, and no race of the record explains it:"
         yield from (f"    {it}" for it in finding.others[:SHOWN_FILES])
 
 
