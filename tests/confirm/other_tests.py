@@ -20,7 +20,7 @@ FAILS = {"Makefile": "all: a y b\n" + HARMLESS % "echo 1 > a" + "y: ; cat a > y\
 WRITER = {"Makefile": "all: a y b\n" + HARMLESS % "cat conf > a || echo none > a" + "y: ; echo 1 > conf; touch y\n"}
 # Both races change what is made of all: it says nothing about the harmless one.
 JOINED = {"Makefile": "all: late\nlate: a y b ; cat a y b > late\n" + HARMLESS % "echo 1 > a" + "y: ; cat a > y || echo none > y\n"}
-BELOW = {"Makefile": "all: one two\none: ; $(MAKE) -C sub\ntwo: ; echo 2 > two; cat sub/late > copy || echo none > copy\n",
+BELOW = {"Makefile": "all: one copy\none: ; $(MAKE) -C sub\ncopy: one ; cat sub/late > copy\n",
          "sub/Makefile": "all: late\nlate: a b ; cat a b > late\na: ; cat g > a || echo none > a\nb: ; echo 1 > g; touch b\n"}
 OF_NINJA = "rule sh\n  command = $c\n" + "".join(f"build {name}: sh\n  c = {text}\n" for name, text in (
     ("a", "echo same > shared; echo 1 > a"), ("y", "cat a > y || echo none > y"), ("b", "echo same > shared; touch b")))
@@ -74,7 +74,7 @@ class OtherTests:
         text = self.check(0, "NOT CONFIRMED in ", "  Another race shows, race 1:\n    a: line 1 is `1`", words=("x",))
         self.assertNotIn("\nCONFIRMED", text)
 
-    def test_make_inside_make_that_another_reads(self) -> None:
+    def test_make_inside_a_recipe_that_another_needs(self) -> None:
         self.files(BELOW)
         self.record()
         self.check(1, "CONFIRMED  all of b before a:\n", "  sub/a: line 1 is `1`, and `none`", "  copy: line 1 is `1`", words=("g",))
