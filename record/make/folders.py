@@ -12,7 +12,6 @@ from functools import lru_cache
 from typing import TYPE_CHECKING, Dict, FrozenSet, List, NamedTuple, Set, Tuple
 
 from record.make.ahead import makes_ahead
-from record.make.owners import Work
 from record.make.quiet import excused, makes_itself
 from record.tools import shelltext
 from record.trace.lives import Life
@@ -77,7 +76,7 @@ def parents_of_all(paths: Dict[str, int]) -> Dict[str, int]:
 def gather(builder: "Builder") -> Dict[str, Folder]:
     """All folders that recipes make or remove, with who uses them."""
     table = {p: Folder() for p in builder.made | builder.tried}
-    renamed, never, more = {p for p in builder.build.writers if p in builder.made}, 1 << 60, ""
+    never, more = 1 << 60, ""
     for at, events in each(builder) if table else ():
         touched: Dict[str, int] = {}
         for kind, path, place in events:
@@ -94,8 +93,6 @@ def gather(builder: "Builder") -> Dict[str, Folder]:
             if above in table:
                 table[above].users.add(at)
                 table[above].first_used[at] = min(place, table[above].first_used.get(at, never))
-    for path in renamed:
-        table[path].created |= set()
     return table
 
 

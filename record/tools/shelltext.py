@@ -315,7 +315,7 @@ def looks_at_links(argv: List[str]) -> bool:
         return bool(re.search(r"\s(-\w*[lnogs]|--(fo|fu))", text))
     if name in ("find", "tar", "rsync", "cpio", *COMPRESSORS):
         return name != "find" or bool(re.search(r"-links|-printf|-ls|-samefile", text))
-    return bool(INTERPRETERS.match(name)) and "-c" not in argv[:1] and ("stat" in text)
+    return is_interpreter(argv) and "stat" in text  # also in the text of `-c`
 
 
 def sets_options(argv: List[str], folder: str) -> bool:

@@ -96,6 +96,7 @@ NAMES: List[Guard] = [
     Guard("folders that are absent on the way", "trace/replay.py", 'self.put(life, "P", found.missing)', "pass", small("absent_folder_on_the_way"), YES),
     Guard("hard links: a write is of all names", "trace/replay.py", "if found.inode is not None and len(found.inode.names) > 1:", "if False:", case("hard-link"), YES),
     Guard("hard links from before the build", "trace/names.py", "if found.st_nlink > 1:", "if False:", case("hard-link-before"), YES),
+    Guard("hard links: texts of interpreters count them", "tools/shelltext.py", 'is_interpreter(argv) and "stat" in text', 'is_interpreter(argv) and "-c" not in argv and "stat" in text', small("links_counted_by_a_text_of_python"), YES),
     Guard("hard links are counted", "trace/moves.py", '        for other in self.names.aliases(inode):\n            self.put(life, "H", other)\n        if new.folder', "        if new.folder", small("links_of_a_file_counted"), YES),
     Guard("rename: all below goes with it", "trace/moves.py", 'if inode.kind == "d":\n            self.move_folder(life, old.path, new.path)\n', 'if False:\n            self.move_folder(life, old.path, new.path)\n', "test_replay.Footprints.test_rename_of_a_folder_moves_all_below"),
     Guard("rename: two names in one step", "trace/moves.py", 'self.holes.append("two names were exchanged', 'str("two names were exchanged', "test_replay.Footprints.test_names_that_are_exchanged_are_a_hole"),

@@ -100,6 +100,8 @@ class Looks(unittest.TestCase):
         for words, wanted in (("stat -c %h x", True), ("stat x", True), ("stat -c %s x", False), ("ls -l", True), ("ls", False), ("tar cf x d", True),
                               ("find . -links 2", True), ("find . -name x", False), ("cat x", False)):
             self.assertEqual(wanted, shelltext.looks_at_links(words.split()), words)
+        for argv, wanted in ((["python3", "-c", "os.stat('x')"], True), (["perl", "-e", "lstat 'x'"], True), (["python3", "-c", "print()"], False)):
+            self.assertEqual(wanted, shelltext.looks_at_links(argv), argv)
 
     def test_scripts_are_searched(self) -> None:
         with support.Project({"old": "test a -nt b\n", "plain": "cat a\n"}) as project:
