@@ -1,4 +1,4 @@
-"""What calls that give a file another name do to the name space."""
+"""What calls that give a file another name do to the name space. calls.py says which calls each method takes."""
 
 from typing import Tuple
 
@@ -9,9 +9,10 @@ from record.trace.strace import BARE, TEXT, Call, folders, texts
 
 
 class Moves(Replay):
-    """The calls, one method each."""
+    """Calls about two names: an old one and a new one."""
 
     def two(self, life: Life, call: Call) -> Tuple[Found, Found]:
+        """Where the two paths of a call lead: the old one, and the new one, which is never followed where it ends in a link."""
         words = texts(call.args)
         where = folders(call.args)
         bases = where if len(where) == 2 else [life.folder, life.folder]
@@ -25,6 +26,7 @@ class Moves(Replay):
         self.holes.append("a file is known by the number of its descriptor alone: %s of %s" % (call.name, " ".join(life.argv)[:100]))
 
     def on_rename(self, life: Life, call: Call, ok: bool) -> None:
+        """The old name goes, and the new one has its file, with its age; what had the new name has a name less. Names below a folder go along."""
         if len(texts(call.args)) < 2:
             return
         old, new = self.two(life, call)
@@ -60,8 +62,6 @@ class Moves(Replay):
                     self.move_folder(life, old.path + name, new.path + name)
         self.names.put(new.folder, new.name, inode)
 
-    on_renameat = on_renameat2 = on_rename
-
     def move_folder(self, life: Life, old: str, new: str) -> None:
         """A folder that is moved goes in one place and comes in another, and the processes that are in it go with it."""
         self.put(life, "X", old)
@@ -70,6 +70,7 @@ class Moves(Replay):
             one.folder = new if one.folder == old else one.folder
 
     def on_link(self, life: Life, call: Call, ok: bool) -> None:
+        """A file gets a second name: that is written, with the age of the first, and all names see one more."""
         if len(texts(call.args)) < 2:
             return
         old, new = self.two(life, call)
@@ -88,9 +89,8 @@ class Moves(Replay):
             self.names.put(new.folder, new.name, inode)
         self.hard_links.append(new.path)
 
-    on_linkat = on_link
-
     def on_symlink(self, life: Life, call: Call, ok: bool) -> None:
+        """A symbolic link is made: it counts as a file that is written."""
         words, where = texts(call.args), folders(call.args)
         if len(words) < 2:
             return
@@ -105,5 +105,3 @@ class Moves(Replay):
         self.put(life, "W", found.path)
         if found.folder is not None:
             self.names.put(found.folder, found.name, Inode("l", words[0]))
-
-    on_symlinkat = on_symlink

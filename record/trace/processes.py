@@ -1,4 +1,5 @@
-"""What calls say of processes themselves: who starts whom, what they make names without, and what the trace does not see of them."""
+"""What calls say of processes themselves: who starts whom, what they make names without, and what the trace does not see of them. calls.py
+says which calls each method takes."""
 
 import os
 import re
@@ -10,7 +11,6 @@ from record.tools import shelltext
 from record.trace.lives import Life, Listed, Program
 from record.trace.moves import Moves
 from record.trace.strace import Call
-
 
 NUMBER = re.compile(r"-?(\d+)\b")  # of a process, or of the first one of a group
 
@@ -36,7 +36,7 @@ def lends_rights(program: str, user: int) -> bool:
 
 
 class Processes(Moves):
-    """The calls, one method each."""
+    """Calls about processes, and what is kept of the program that one begins to run."""
 
     def on_fork(self, life: Life, call: Call, ok: bool) -> None:
         """A process, or a thread, has started."""
@@ -46,8 +46,6 @@ class Processes(Moves):
             self.holes.append("a process runs unseen (CLONE_UNTRACED, as that of LeakSanitizer does): " + " ".join(life.argv)[:100])
         elif ok and call.result > 0:
             self.child(life, call.result, "CLONE_FS" in call.args)
-
-    on_vfork = on_clone = on_clone3 = on_fork
 
     def on_core(self, life: Life, call: Call, ok: bool) -> None:
         """The kernel keeps the memory of a process that a signal ends, in a file of whose name the trace says nothing."""
@@ -70,9 +68,8 @@ class Processes(Moves):
         if not life.is_make and (other is None or first_of(other) is not first_of(life)):
             self.watchers.append(" ".join(life.argv)[:100])
 
-    on_tkill = on_tgkill = on_rt_sigqueueinfo = on_rt_tgsigqueueinfo = on_pidfd_open = on_kill
-
     def on_umask(self, life: Life, call: Call, ok: bool) -> None:
+        """The bits that a process makes names without, as in `umask(022) = 0`."""
         life.set_mask(int(call.args, 8))
 
     def on_unshare(self, life: Life, call: Call, ok: bool) -> None:

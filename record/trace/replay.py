@@ -51,6 +51,7 @@ class Replay:
 
     # ---------------------------------------------------------------- processes
     def life(self, pid: int) -> Life:
+        """The life that has a process number now; a new one where it has none, of a parent that has begun to start a process, if that is clear."""
         life = self.lives.get(pid)
         if life is None or life.died <= self.place:
             life = Life(pid, born=self.place, folder=self.first_folder)
@@ -92,6 +93,7 @@ class Replay:
 
     @staticmethod
     def inherit(child: Life, parent: Life) -> None:
+        """What a process has from who started it: its folder, its mask, and until it runs a program of its own the words."""
         child.folder, child.cut, child.mask, child.taken = parent.folder, parent.cut, parent.mask, parent.taken
         child.argv = child.argv or parent.argv
         child.is_wrapper = parent.is_wrapper if not child.ran else child.is_wrapper
@@ -148,6 +150,7 @@ class Replay:
 
     # ---------------------------------------------------------------- events
     def put(self, life: Life, kind: str, path: str, word: str = "") -> None:
+        """An event of a life, and an act of make where a make does it. `word`: the path as make spelled it. Devices and the recorder's own files have none."""
         if path.startswith(KERNEL) and DEVICES.match(path) and not self.is_inside(path):
             if is_hidden(kind, path):
                 self.holes.append("a file is known by the number of its descriptor alone: %s of %s" % (path, " ".join(life.argv)[:100]))
@@ -175,6 +178,7 @@ class Replay:
         return path.startswith(self.below_tops) or path in self.tops
 
     def found(self, life: Life, path: str, follow: bool, base: str = "", word: str = "") -> Found:
+        """Where a path leads a process, from its folder or from `base`; the links on the way are read. `follow`: also a link at the end."""
         if path.startswith(KERNEL):
             plain = plain_path(life, path, self.lives)
             found = Found(plain, None, None, "") if NUMBER.match(plain) else self.names.find(base or life.folder, plain, follow)
@@ -190,12 +194,13 @@ class Replay:
             self.put(life, "R", link, word)
 
     def look(self, life: Life, path: str, ok: bool, follow: bool, kind: str = "S", base: str = "", word: str = "") -> Found:
+        """A look at a path, which is an event of this kind where something is there (`ok`); what was found."""
         found = self.found(life, path, follow, base, word)
         self.put_look(life, found, ok, kind, word)
         return found
 
     def put_look(self, life: Life, found: Found, ok: bool, kind: str, word: str = "") -> None:
-        """A look at what was found."""
+        """A look at what was found: an event of this kind where something is there (`ok`), else that it is absent, and the folder on the way too."""
         if ok and found.inode is None and found.folder is not None and self.names.is_walked(found.folder):
             self.names.put(found.folder, found.name, Inode("f"))
         if kind == "S" and not life.is_make and life.traits().makes_folders and shelltext.makes(life.argv, found.path):
@@ -212,11 +217,11 @@ class Replay:
         if found.missing and found.missing != found.path:
             self.put(life, "N", found.missing)
 
-    def write(self, life: Life, found: Found, created: bool) -> None:
+    def write(self, life: Life, found: Found) -> None:
+        """A file is written, by all its names; it is created where nothing was there."""
         if found.inode is None and found.folder is not None:
             found.inode = Inode("f")
             self.names.put(found.folder, found.name, found.inode)
-            created = True
             self.put(life, "C", found.path)
         self.put(life, "W", found.path)
         if found.inode is not None and found.inode.unknown > 0:

@@ -100,7 +100,7 @@ NAMES: List[Guard] = [
     Guard("hard links are counted", "trace/moves.py", '        for other in self.names.aliases(inode):\n            self.put(life, "H", other)\n        if new.folder', "        if new.folder", small("links_of_a_file_counted"), YES),
     Guard("rename: all below goes with it", "trace/moves.py", 'if inode.kind == "d":\n            self.move_folder(life, old.path, new.path)\n', 'if False:\n            self.move_folder(life, old.path, new.path)\n', "test_replay.Footprints.test_rename_of_a_folder_moves_all_below"),
     Guard("rename: two names in one step", "trace/moves.py", 'self.holes.append("two names were exchanged', 'str("two names were exchanged', "test_replay.Footprints.test_names_that_are_exchanged_are_a_hole"),
-    Guard("rename: the new name holds the file", "trace/moves.py", "        self.names.put(new.folder, new.name, inode)\n\n    on_renameat", "\n    on_renameat", "test_replay.Footprints.test_folder_that_gets_a_third_name"),
+    Guard("rename: the new name holds the file", "trace/moves.py", "        self.names.put(new.folder, new.name, inode)\n\n    def move_folder", "\n    def move_folder", "test_replay.Footprints.test_folder_that_gets_a_third_name"),
     Guard("links are followed when they are met", "trace/names.py", "hops < LINK_LIMIT:", "False:", case("link-replaced"), LOST_RACE),
     Guard("failed looks are reads", "make/build.py", 'elif kind in "RSNPK" and path in writers:', 'elif kind in "RSPK" and path in writers:', small("absent_file"), YES),
     Guard("removals are writes", "make/build.py", 'CHANGES = "WCD"', 'CHANGES = "WC"', small("removed_file"), YES),
