@@ -69,7 +69,7 @@ SEEN_GUARDS: List[Guard] = [
     Guard("ages: of what make calls", "make/ages.py", ", *([(builder.acts_at.get(task.label, at), acts)] if acts is not None else [])", "", seen("ages_by_a_function"), YES),
     Guard("ages: of makes that make calls", "make/owners.py", "    work.makes += ran.makes\n", "", seen("ages_in_a_make_of_a_function"), YES),
     Guard("ages: that make copies", "make/owners.py", "    work.lives += ran.lives\n", "", seen("age_that_a_function_copies"), YES),
-    Guard("ages: scripts behind if", "tools/shelltext.py", "|elif|if|while|until|time|command|builtin)[ \\t]+)(?:", ")[ \\t]+)(?:", seen("ages_by_a_script_behind_if"), YES),
+    Guard("ages: scripts behind if", "tools/shelltext.py", "|elif|if|while|until|time|command|builtin)[ \\t]+ )", ")[ \\t]+ )", seen("ages_by_a_script_behind_if"), YES),
     Guard("ages: texts that are printed", "tools/shellages.py", " or COMPUTED.search(text)", "", seen("ages_by_a_text_that_is_printed"), YES),
     Guard("ages: scripts that are changed", "importing.py", '("ages", replay.rewritten())', '("ages", [])', seen("ages_by_a_script_that_is_changed_then"), UNSAID),
     Guard("acts: of later rules", "make/build.py", "        return self.make.acts.get((self.number, node.name))\n", "        return self.make.acts.get((self.number, node.name)) if node.rule == 0 else None\n", seen("act_of_a_second_rule"), YES),

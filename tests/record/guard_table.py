@@ -294,7 +294,7 @@ UNFILED: List[Guard] = [
     Guard("ages: of what is moved", "trace/moves.py", '        self.put(life, "c", new.path + "\\0" + old.path)\n        if "RENAME_EXCHANGE"', '        if "RENAME_EXCHANGE"', small("age_of_a_file_that_is_moved"), YES),
     Guard("ages: of a second name", "trace/moves.py", '        self.put(life, "c", new.path + "\\0" + old.path)\n        for other', '        for other', small("age_of_a_second_name"), YES),
     Guard("ages: in archives", "make/ages.py", 'or kind == "W" and packs', "", small("age_out_of_an_archive"), YES),
-    Guard("ages: scripts that a script takes in", "tools/shellages.py", "script_compares(os.path.join(folder, n), folder, depth + 1)", "False", small("ages_by_a_script_that_is_taken_in"), YES),
+    Guard("ages: scripts that a script takes in", "tools/shellages.py", "script_compares(os.path.join(folder, name), folder, depth + 1)", "False", small("ages_by_a_script_that_is_taken_in"), YES),
 ]
 WARM: List[Guard] = [
     Guard("warm: recipes that do not wait", "warm.py", "return all(label in ordered for", "return any(label in ordered for", warm("recipe_that_does_not_wait"), LOST_HOLE),

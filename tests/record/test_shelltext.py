@@ -113,9 +113,9 @@ class Looks(unittest.TestCase):
 
     def test_scripts_that_a_script_takes_in(self) -> None:
         for text in (". ./x", "if . ./x; then", "then\tsource ./x", "x=1 . ./x", "(. ./x)", "command . ./x", "true && . ./x", "y=`. ./x`", "{ . ./x\n}", "time\n. ./x"):
-            self.assertEqual(["./x"], shelltext.TAKEN.findall(text.replace("./x`", "./x `")), text)
+            self.assertEqual(["./x"], shelltext.sourced(text.replace("./x`", "./x `")), text)
         for text in ('echo "the what command. */"', "# it runs `date`. It prints", "# see foo(1). It prints", "echo . ./x", "cd . x", "./x . y", "a.b c", "ls ../. x"):
-            self.assertEqual([], shelltext.TAKEN.findall(text), text)
+            self.assertEqual([], shelltext.sourced(text), text)
 
 
 if __name__ == "__main__":
