@@ -19,10 +19,9 @@ from record.make.programs import are_inside
 from record.make.unfiled import add_macros, add_outputs, count_listings
 from record.make.words import makefiles
 from record.tools.listed import fits
+from record.trace.events import AGE_SEEN, ASKS, CHANGES, CREATED, ENTERED, FOLDER_KEPT, FOLDER_REMOVED, LISTED, MAKES, REMOVED, WRITTEN
 from record.trace.names import Names, join
 
-CHANGES = "WCD"
-LOOKS = "RSN"
 
 
 class Builder:
@@ -81,7 +80,7 @@ class Builder:
         for label, at in self.of_node.items():
             node = self.graph.nodes[label]
             own = {node.path, self.names.find(self.make.folder, node.name, False).path, *self.seen(node)}
-            if node.jobs and not node.phony and not any(kind in "WCMT" and path in own for kind, path in self.events(self.build.tasks[at])):
+            if node.jobs and not node.phony and not any(kind in WRITTEN + CREATED + MAKES and path in own for kind, path in self.events(self.build.tasks[at])):
                 self.assumed.add("unwritten", node.name)
 
     # ---------------------------------------------------------------- tasks
@@ -118,7 +117,7 @@ class Builder:
             return ()
         if not self.build.writers:
             return work.events
-        return [(k, p) for k, p in work.events if k not in "RSNPAUK" or self.is_written(p)]
+        return [(k, p) for k, p in work.events if k not in ASKS + AGE_SEEN + ENTERED or self.is_written(p)]
 
     def note_writers(self) -> None:
         """Which recipe writes, creates or removes which name, and who makes which folder."""
@@ -130,9 +129,9 @@ class Builder:
                 for kind, path in events:
                     if kind in CHANGES and not path.endswith("/"):
                         found.setdefault(path, set()).add(who)
-                    elif kind in "MTX":
+                    elif kind in MAKES + FOLDER_REMOVED:
                         self.made.add(path)
-                    elif kind == "x":
+                    elif kind == FOLDER_KEPT:
                         self.tried.add(path)
         self.build.writers = found
 
@@ -349,7 +348,7 @@ class Builder:
             looker = self.acts_at.get(task.label, at)
             for who, events in ((at, self.events(task)), (looker, self.acts_of(task.node))):
                 for kind, path in events:
-                    if kind in "CDX":
+                    if kind in (CREATED, REMOVED, FOLDER_REMOVED):
                         path = path.rstrip("/")
                         table.setdefault(os.path.dirname(path), {}).setdefault(os.path.basename(path), set()).add(who)
         return table
@@ -359,14 +358,14 @@ class Builder:
         for kind, path in events:
             if kind in CHANGES and not path.endswith("/"):
                 task.writes.add(path)
-            elif kind in "RSNPK" and path in writers:
+            elif kind in ASKS and path in writers:
                 task.reads.add(path)
-            elif kind == "L":
+            elif kind == LISTED:
                 folder, pattern = path.split("\0")
                 for name, who in created.get(folder, {}).items():
                     if (who != {at}) and join(folder, name) not in self.made and fits(pattern, join(folder, name), self.names):
                         task.reads.add(join(folder, name))
-            elif kind == "A":
+            elif kind == AGE_SEEN:
                 self.timed.setdefault(path, set()).add(at)
 
     def add_decision(self, looker: int, at: int, node: Node, is_asked: bool) -> None:

@@ -10,6 +10,10 @@ from typing import Callable, Dict, Iterable, Tuple
 from record.tools import listed, shelltext
 from record.trace.arguments import TEXT_END, Opening, opening, spelled
 from record.trace.classes import SHARING
+from record.trace.events import (
+    ABSENT, AGE_SEEN, AGE_TAKEN, AGE_UNKNOWN, CREATED, ENTERED, FOLDER_KEPT, FOLDER_REMOVED, LINKS_CHANGED, LINKS_SEEN, LISTED, MADE,
+    MADE_BEFORE, MADE_QUIETLY, MAKE_LISTED, MODE_CHANGED, MODE_GIVEN, ORDER_SEEN, READ, REMOVED, SEEN, TIME_CHANGED,
+)
 from record.trace.lives import Life
 from record.trace.moves import Moves
 from record.trace.names import Found, Inode
@@ -73,9 +77,9 @@ class Calls(Started):
         if found is not None and call.name == "bind" and ok:
             self.write(life, found)
         elif found is not None and call.name == "bind":
-            self.put_absent(life, found, "N" if call.error in ("ENOENT", "ENOTDIR") else "R")
+            self.put_absent(life, found, ABSENT if call.error in ("ENOENT", "ENOTDIR") else READ)
         elif found is not None:
-            self.put_look(life, found, call.error not in ("ENOENT", "ENOTDIR"), "R")
+            self.put_look(life, found, call.error not in ("ENOENT", "ENOTDIR"), READ)
 
     def on_flock(self, life: Life, call: Call, ok: bool) -> None:
         """Who waits for a lock does the same whoever has it; who does not wait sees whether another has it."""
@@ -102,20 +106,20 @@ class Calls(Started):
         follow = not at_link and call.name not in NOFOLLOW
         plain = path if call.name == "stat" or (call.name == "newfstatat" and follow and not path.startswith("/")) else ""
         link = call.name.startswith("readlink") and ok
-        found = self.look(life, path, ok or call.error == "EINVAL", follow, "R" if link else "S", base, plain)
+        found = self.look(life, path, ok or call.error == "EINVAL", follow, READ if link else SEEN, base, plain)
         traits = life.traits()
         if traits.looks_at_links:
-            self.put(life, "h", found.path)
+            self.put(life, LINKS_SEEN, found.path)
         if traits.is_tool and not life.is_query:
             return
         if life.is_query or traits.is_interpreter and not (traits.makes_folders and shelltext.makes(life.argv, found.path)) or self.ages(life):
             is_folder = found.inode is not None and found.inode.kind == "d"
             if not is_folder or not self.is_own(life, path, found) or shelltext.names_here(life.argv):
-                self.put(life, "A", found.path)
+                self.put(life, AGE_SEEN, found.path)
         elif traits.asks_size and found.inode is not None and found.inode.kind == "d":
-            self.put(life, "A", found.path)
+            self.put(life, AGE_SEEN, found.path)
         elif self.is_unknown(life) and "access" not in call.name and "readlink" not in call.name:
-            self.put(life, "a", found.path)
+            self.put(life, AGE_UNKNOWN, found.path)
 
     @staticmethod
     def is_own(life: Life, path: str, found: Found) -> bool:
@@ -132,7 +136,7 @@ class Calls(Started):
         found = self.look(life, path, ok, True)
         if ok:
             life.enter(found.path)
-            self.put(life, "U", found.path)
+            self.put(life, ENTERED, found.path)
 
     def on_fchdir(self, life: Life, call: Call, ok: bool) -> None:
         """A process enters a folder that it has open: no event, as it has opened that."""
@@ -180,16 +184,16 @@ class Calls(Started):
             return
         found = self.look(life, asked.path, call.error in THERE, asked.follow, base=asked.base)
         if (asked.changes or call.name == "creat") and call.error == "ENOENT" and found.missing != found.path:
-            self.put(life, "N", found.missing)
+            self.put(life, ABSENT, found.missing)
 
     def open_to_write(self, life: Life, found: Found, flags: str, is_creat: bool) -> None:
         """A file was opened to change it: what it held may be read too, unless it is emptied, or written alone."""
         if "O_EXCL" in flags:
             self.fresh.add(found.path)
         if "O_CREAT" in flags and not self.is_inside(found.path):
-            self.put(life, "C", found.path)  # the disk has it after the build: nobody knows whether it was there before
+            self.put(life, CREATED, found.path)  # the disk has it after the build: nobody knows whether it was there before
         if "O_WRONLY" not in flags and "O_TRUNC" not in flags and not is_creat:
-            self.put(life, "R", found.path)
+            self.put(life, READ, found.path)
         self.write(life, found)
 
     def look_for_folder(self, life: Life, path: str, base: str) -> None:
@@ -197,7 +201,7 @@ class Calls(Started):
         or a link of this name counts, and no file."""
         found = self.found(life, path, True, base)
         folder, _, name = (found.path if found.inode is not None else found.missing or found.path).rpartition("/")
-        self.put(life, "L", "%s\0%s/" % (folder or "/", re.sub(r"[*?\[]", "?", name)))
+        self.put(life, LISTED, "%s\0%s/" % (folder or "/", re.sub(r"[*?\[]", "?", name)))
 
     def note_watcher(self, life: Life, path: str) -> None:
         """What the kernel shows of another process, or of all of them."""
@@ -214,10 +218,10 @@ class Calls(Started):
         """A file or a folder is opened, and not to change it."""
         is_folder = found.inode is not None and found.inode.kind == "d"
         self.put_links(life, found)
-        self.put_look(life, found, True, "S" if is_folder else "R")
+        self.put_look(life, found, True, SEEN if is_folder else READ)
         traits = life.traits()
         if traits.looks_at_links:
-            self.put(life, "h", found.path)
+            self.put(life, LINKS_SEEN, found.path)
         if is_folder or life.is_query:
             return
         if life.is_make:
@@ -225,7 +229,7 @@ class Calls(Started):
         elif traits.is_shell:
             life.taken += (found.path,) if shelltext.takes_in(life.argv, found.path) else ()
         elif not traits.is_interpreter and (self.ages(life) or self.is_unknown(life)):
-            self.put(life, "A" if self.ages(life) else "a", found.path)
+            self.put(life, AGE_SEEN if self.ages(life) else AGE_UNKNOWN, found.path)
 
     def on_list(self, life: Life, call: Call, ok: bool) -> None:
         """A folder is listed: the event says for which names (record/tools/listed.py), and whether their order counts. Make remembers what it lists."""
@@ -233,13 +237,13 @@ class Calls(Started):
         if not ok or not where:
             return
         if life.is_make:
-            self.put(life, "Q", where[0])
+            self.put(life, MAKE_LISTED, where[0])
         elif where[0] == "/proc":
             self.watchers.append(" ".join(life.argv)[:100])
         else:
             self.put_lists(life, where[0], listed.patterns(life, where[0], self.is_open_shell), call.result == 0)
             if not shelltext.sorts_names(life.argv):
-                self.put(life, "l", where[0])
+                self.put(life, ORDER_SEEN, where[0])
 
     def on_mkdir(self, life: Life, call: Call, ok: bool) -> None:
         """A folder is made, or is there already: with a word where the program shows who was first, else quietly; and its mode."""
@@ -256,21 +260,21 @@ class Calls(Started):
                 child = Inode("d")
                 child.walked = True
                 self.names.put(found.folder, found.name, child)
-            self.put(life, "T" if quiet else "M", found.path)
-            self.put(life, "C", found.path + "/")
+            self.put(life, MADE_QUIETLY if quiet else MADE, found.path)
+            self.put(life, CREATED, found.path + "/")
         elif call.error == "EEXIST":
-            self.put(life, "T" if quiet else "E", found.path)
+            self.put(life, MADE_QUIETLY if quiet else MADE_BEFORE, found.path)
             if found.inode is None or found.inode.kind != "d":
-                self.put_look(life, found, True, "S")  # a file, or a link, has the name
+                self.put_look(life, found, True, SEEN)  # a file, or a link, has the name
         if ok or call.error == "EEXIST":
             mode = MODE.search(call.args)
             given = self.given_by(life, found.path) or "%o" % (int(mode.group(1), 8) & ~life.mask if mode else -1)
-            self.put(life, "o", found.path + "\0" + given)
+            self.put(life, MODE_GIVEN, found.path + "\0" + given)
             self.names.modes.setdefault(found.path, set()).add(given)
         else:
             self.look(life, path, False, False, base=base)
             if found.missing:
-                self.put(life, "N", found.missing)
+                self.put(life, ABSENT, found.missing)
 
     def given_by(self, life: Life, path: str) -> str:
         """The mode and the owner that a folder has when `install -d` has ended, which names it: who makes it, and in how many steps, makes no difference."""
@@ -285,7 +289,7 @@ class Calls(Started):
         if ok:
             self.write(life, found)
         else:
-            self.put_absent(life, found, "S" if call.error == "EEXIST" else "N")
+            self.put_absent(life, found, SEEN if call.error == "EEXIST" else ABSENT)
 
     def on_unlink(self, life: Life, call: Call, ok: bool) -> None:
         """A name or a folder is removed, and a file has a name less; or it is looked at, and stays."""
@@ -296,15 +300,15 @@ class Calls(Started):
             there = call.error != "ENOENT"
             self.look(life, path, there, False, base=base)
             if folder and there:
-                self.put(life, "x", found.path)
+                self.put(life, FOLDER_KEPT, found.path)
             return
         others = [a for a in self.names.aliases(found.inode) if a != found.path]
         if found.folder is not None:
             self.names.take(found.folder, found.name)
-        self.put(life, "X" if folder else "D", found.path)
+        self.put(life, FOLDER_REMOVED if folder else REMOVED, found.path)
         self.hard_links += others[:1]
         for other in others:
-            self.put(life, "H", other)
+            self.put(life, LINKS_CHANGED, other)
 
     def on_change(self, life: Life, call: Call, ok: bool) -> None:
         """A file's length, mode, owner, time or attributes change: it is written. Of a folder the mode or the time changes."""
@@ -317,11 +321,11 @@ class Calls(Started):
             return
         found = self.found(life, path, call.name not in NOFOLLOW and "NOFOLLOW" not in call.args, base)
         if call.name in TIMES and GIVEN_TIME.search(TEXT_END.sub("", call.args)):
-            self.put(life, "c", found.path + "\0")
+            self.put(life, AGE_TAKEN, found.path + "\0")
         if found.inode is not None and found.inode.kind == "d":
             mode = GIVEN_MODE.search(call.args) if "chmod" in call.name else None
             given = self.given_by(life, found.path) or "%o" % (int(mode.group(1), 8) if mode else -1)
-            self.put(life, *(("t", found.path) if call.name in TIMES else ("m", "%s\0%s" % (found.path, given))))
+            self.put(life, *((TIME_CHANGED, found.path) if call.name in TIMES else (MODE_CHANGED, "%s\0%s" % (found.path, given))))
         else:
             self.write(life, found)
 

@@ -2,6 +2,7 @@
 
 from typing import Tuple
 
+from record.trace.events import ABSENT, AGE_TAKEN, CREATED, FOLDER_KEPT, FOLDER_REMOVED, LINKS_CHANGED, MADE, READ, REMOVED, SEEN, WRITTEN
 from record.trace.lives import Life
 from record.trace.names import Found, Inode
 from record.trace.replay import Replay
@@ -31,13 +32,13 @@ class Moves(Replay):
             return
         old, new = self.two(life, call)
         if not ok:
-            self.put(life, "N" if old.inode is None else "S", old.path)
-            self.put_absent(life, new, "N" if new.inode is None else "S")
+            self.put(life, ABSENT if old.inode is None else SEEN, old.path)
+            self.put_absent(life, new, ABSENT if new.inode is None else SEEN)
             if call.error in ("ENOTEMPTY", "EEXIST"):
-                self.put(life, "x", new.path)  # that it holds something counts
+                self.put(life, FOLDER_KEPT, new.path)  # that it holds something counts
             return
-        self.put(life, "R", old.path)
-        self.put(life, "c", new.path + "\0" + old.path)
+        self.put(life, READ, old.path)
+        self.put(life, AGE_TAKEN, new.path + "\0" + old.path)
         if "RENAME_EXCHANGE" in call.args:
             self.holes.append("two names were exchanged in one step: " + old.path)
         if old.folder is None or new.folder is None:
@@ -46,17 +47,17 @@ class Moves(Replay):
             return  # two names of one file: nothing happens
         inode = self.names.take(old.folder, old.name) or Inode("f")
         gone = self.names.take(new.folder, new.name)
-        self.put(life, "D", old.path)
-        self.put(life, "C", new.path)
-        self.put(life, "W", new.path)
+        self.put(life, REMOVED, old.path)
+        self.put(life, CREATED, new.path)
+        self.put(life, WRITTEN, new.path)
         for other in self.names.aliases(gone):
-            self.put(life, "H", other)
+            self.put(life, LINKS_CHANGED, other)
         if inode.kind == "d":
             self.move_folder(life, old.path, new.path)
             for name, child in self.names.below(inode, ""):
-                self.put(life, "D", old.path + name)
-                self.put(life, "C", new.path + name)
-                self.put(life, "W", new.path + name)
+                self.put(life, REMOVED, old.path + name)
+                self.put(life, CREATED, new.path + name)
+                self.put(life, WRITTEN, new.path + name)
                 self.names.links.update([new.path + name] if child.kind == "l" else ())
                 if child.kind == "d":
                     self.move_folder(life, old.path + name, new.path + name)
@@ -64,8 +65,8 @@ class Moves(Replay):
 
     def move_folder(self, life: Life, old: str, new: str) -> None:
         """A folder that is moved goes in one place and comes in another, and the processes that are in it go with it."""
-        self.put(life, "X", old)
-        self.put(life, "M", new)
+        self.put(life, FOLDER_REMOVED, old)
+        self.put(life, MADE, new)
         for one in self.lives.values():
             one.folder = new if one.folder == old else one.folder
 
@@ -74,17 +75,17 @@ class Moves(Replay):
         if len(texts(call.args)) < 2:
             return
         old, new = self.two(life, call)
-        self.put(life, "R" if ok else "S" if old.inode else "N", old.path)
+        self.put(life, READ if ok else SEEN if old.inode else ABSENT, old.path)
         if not ok:
-            self.put_absent(life, new, "S" if call.error == "EEXIST" else "N")
+            self.put_absent(life, new, SEEN if call.error == "EEXIST" else ABSENT)
             return
         inode = old.inode or Inode("f")
         self.fresh.add(new.path)
-        self.put(life, "C", new.path)
-        self.put(life, "W", new.path)
-        self.put(life, "c", new.path + "\0" + old.path)
+        self.put(life, CREATED, new.path)
+        self.put(life, WRITTEN, new.path)
+        self.put(life, AGE_TAKEN, new.path + "\0" + old.path)
         for other in self.names.aliases(inode):
-            self.put(life, "H", other)
+            self.put(life, LINKS_CHANGED, other)
         if new.folder is not None:
             self.names.put(new.folder, new.name, inode)
         self.hard_links.append(new.path)
@@ -96,12 +97,12 @@ class Moves(Replay):
             return
         found = self.found(life, words[1].rstrip("/"), False, where[-1] if where else life.folder)
         if not ok:
-            self.put_absent(life, found, "S" if call.error == "EEXIST" else "N")
+            self.put_absent(life, found, SEEN if call.error == "EEXIST" else ABSENT)
             return
         if not where and BARE.search(TEXT.sub('""', call.args)):
             self.put_bare(life, call)
         self.fresh.add(found.path)
-        self.put(life, "C", found.path)
-        self.put(life, "W", found.path)
+        self.put(life, CREATED, found.path)
+        self.put(life, WRITTEN, found.path)
         if found.folder is not None:
             self.names.put(found.folder, found.name, Inode("l", words[0]))

@@ -8,6 +8,7 @@ from functools import lru_cache
 from typing import List
 
 from record.tools import shelltext
+from record.trace.events import LISTED
 from record.trace.lives import Life, Listed, Program
 from record.trace.moves import Moves
 from record.trace.strace import Call
@@ -89,6 +90,6 @@ class Processes(Moves):
     def put_lists(self, life: Life, folder: str, patterns: List[str], is_end: bool) -> None:
         """A folder was listed for names of these patterns. The text of a script may say more of a list for any name (record/tools/scripts.py)."""
         for pattern in patterns:
-            self.put(life, "L", folder + "\0" + pattern)
+            self.put(life, LISTED, folder + "\0" + pattern)
         if patterns == ["*"]:
             self.lists.append(Listed(life, self.place, folder, not (self.is_open_shell or life.taken or life.cut), is_end))

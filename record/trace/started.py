@@ -6,6 +6,7 @@ from typing import List
 from record.make.copies import is_other_make
 from record.tools import shellages, shelltext
 from record.tools.computed import runs_unseen
+from record.trace.events import AGE_SEEN, AGE_UNKNOWN, READ
 from record.trace.lives import Life
 from record.trace.loader import interpreter_words
 from record.trace.names import Found
@@ -45,7 +46,7 @@ class Started(Opened):
             life.is_make = life.is_make and life.number >= 0 and was_make
             if is_other_make(found.path, self.real):
                 self.past.append(" ".join(life.argv)[:200])
-        self.look(life, words[0], True, True, "R")
+        self.look(life, words[0], True, True, READ)
         self.look_at_interpreters(life, words[0])
         self.note_handed(life)
 
@@ -76,7 +77,7 @@ class Started(Opened):
         traits = life.traits()
         is_asked = traits.asks_input or not traits.is_interpreter and not traits.is_shell and self.is_unknown(life)
         for path in life.handed() if is_asked else ():
-            self.put(life, "A" if traits.asks_input or self.ages(life) else "a", path)
+            self.put(life, AGE_SEEN if traits.asks_input or self.ages(life) else AGE_UNKNOWN, path)
 
     def first_words(self, path: str) -> List[str]:
         """The words of a script's first line, read once: the build has ended."""
@@ -102,7 +103,7 @@ class Started(Opened):
             if found.path == self.real:  # the kernel runs make in the script's place
                 self.past.append(" ".join(life.argv)[:200])
             self.put_links(life, found)
-            self.put_look(life, found, found.inode is not None, "R")
+            self.put_look(life, found, found.inode is not None, READ)
 
     def begin_make(self, life: Life, was_wrapper: bool, was_make: bool, forked: bool) -> None:
         """A process runs make: again, as the child of the wrapper that reads its words, as a question of the wrapper, or past the wrapper."""

@@ -66,7 +66,7 @@ UNREAD_GUARDS: List[Guard] = [
     Guard("folders in a pattern: links for a while", "trace/names.py", "            self.links.add(join(folder.path(), name))\n", "            pass\n", unread("link_for_a_while"), YES),
     Guard("folders in a pattern: links that move", "trace/moves.py", 'self.names.links.update([new.path + name] if child.kind == "l" else ())', "pass", text("links_that_move")),
     Guard("folders in a pattern: files", "trace/calls.py", 'if call.error == "ENOTDIR" and "O_DIRECTORY" in asked.flags and life.traits().is_shell:', "if False:", unread("file_that_is_there_beside_folders"), FALSE_RACE),
-    Guard("folders in a pattern: files that become folders", "trace/calls.py", '        self.put(life, "L", "%s\\0%s/"', '        (lambda *_: None)(life, "L", "%s\\0%s/"', unread("folder_that_was_a_file_and_is_named"), YES),
+    Guard("folders in a pattern: files that become folders", "trace/calls.py", '        self.put(life, LISTED, "%s\\0%s/"', '        (lambda *_: None)(life, LISTED, "%s\\0%s/"', unread("folder_that_was_a_file_and_is_named"), YES),
     Guard("folders in a pattern: of a script", "tools/shellvalues.py", "pattern if at == len(parts) - 1 else shelltext.folders_of(pattern))", "pattern)", unread("file_beside_folders"), FALSE_RACE),
     Guard("folders in a pattern: a slash that is not known", "tools/shellvalues.py", '                yield Asked("", shelltext.folders_of("*"))\n', "                pass\n", unread("file_with_a_slash_in_a_macro"), YES),
     Guard("folders in a pattern: behind a quote", "tools/shelltext.py", 'return (pattern if pattern.strip("*") else "?*") + "/"', 'return (pattern if pattern != "*" else "?*") + "/"', unread("link_beside_folders_behind_a_quote"), YES),
