@@ -127,7 +127,8 @@ class Considered:
     @cached_property
     def pieces(self) -> Dict[str, List[Tuple[str, str]]]:
         """By target: what make did by itself while it considered it, or soon after."""
-        make, looks, found = self.builder.make, self.looks, {}
+        make, looks = self.builder.make, self.looks
+        found: Dict[str, List[Tuple[str, str]]] = {}
         for place, events in make.pieces if self.expanding else ():
             if place > self.builder.first_birth():
                 known = [(looks.get(node.name, 0), node) for node in self.expanding if self.end(node) > place]

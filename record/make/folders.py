@@ -31,7 +31,6 @@ OWN_LOOKS = SEEN + NAME_ASKED + ABSENT  # at the folder's own name
 USES = SEEN + NAME_ASKED + READ + WRITTEN + ENTERED + LISTED  # what needs the folder
 TOUCHES = READ + SEEN + TREE_CHANGES + MADE_BEFORE + ENTERED + LISTED  # what needs the folders above a name
 SEARCH = 0o100  # without this bit of a folder nobody but root finds what is in it
-dirname = lru_cache(1 << 14)(os.path.dirname)  # recipes have most of their paths in common
 
 
 @dataclass
@@ -58,6 +57,12 @@ class Makers(NamedTuple):
 
     made: Set[int]
     gone: Set[int]
+
+
+@lru_cache(1 << 14)
+def dirname(path: str) -> str:
+    """The folder that a path is in: recipes have most of their paths in common."""
+    return os.path.dirname(path)
 
 
 def parents(path: str) -> List[str]:

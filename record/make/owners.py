@@ -220,8 +220,8 @@ class Owners:
         places = only_places([pid for pid, _ in make.words.processes], [life.pid for life in kids])
         if places is None:
             self.match_by_number(make, kids)
-        for place, (_, job) in zip(places or (), make.words.processes):
-            self.jobs[id(kids[place])] = job
+        for place, (_, started) in zip(places or (), make.words.processes):
+            self.jobs[id(kids[place])] = started
         for life in make.life.children:
             job = self.jobs.get(id(life))
             if job is not None:

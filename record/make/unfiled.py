@@ -110,7 +110,7 @@ def count_listings(builder: "Builder", created: Created) -> None:
                 makers = sorted({who for one in places_of(path, moves) for names in created.get(one, {}).values() for who in names})
                 table[path] = makers, list(islice(unordered(builder, makers), 3))
             makers, loose = table[path]
-            if any(at not in pair for pair in loose) or loose and next(unordered(builder, [who for who in makers if who != at]), None):
+            if any(at not in pair for pair in loose) or loose and any(unordered(builder, [who for who in makers if who != at])):
                 builder.assumed.add("listings", "%s lists %s" % (builder.build.tasks[at].node.name, path))
 
 

@@ -280,7 +280,8 @@ def read_words(pid: int, life: int, lines: Iterable[str]) -> Words:
     """What a make process said, of the lines that the wrapper kept: each of its starts ends in a data base."""
     words = Words(pid, life)
     reader = _Reader(words)
-    bases, base = 0, []  # how many data bases it printed, and the lines of the one that has not ended
+    bases = 0  # how many data bases it printed
+    base: List[str] = []  # the lines of the one that has not ended
     for raw in lines:
         text = raw.rstrip("\n")
         if base:

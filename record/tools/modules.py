@@ -227,7 +227,7 @@ def asks_ocaml(life: Life, name: str, texts: List[str]) -> bool:
     module = stem[:1].upper() + stem[1:]
     spelled = {stem, module, stem[:1].lower() + stem[1:], *([stem[3:]] if stem.startswith(("lib", "dll")) else [])}
     words = life.argv[1:]
-    if name in map(os.path.basename, words) or BUILT_IN.fullmatch(stem):
+    if name in {os.path.basename(word) for word in words} or BUILT_IN.fullmatch(stem):
         return True
     program = program_of(life).replace(".opt", "")
     if suffix in LINKED and suffix not in MODULES:

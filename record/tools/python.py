@@ -82,7 +82,7 @@ def settle_code(life: Life, others: Set[str]) -> None:
 def sources_of(life: Life) -> Dict[str, int]:
     """The modules that it reads; none where its script is not among them."""
     found = modules_of(life)
-    return found if script_of(life) in map(os.path.basename, found) else {}
+    return found if script_of(life) in {os.path.basename(path) for path in found} else {}
 
 
 def given_text(life: Life) -> str:

@@ -5,7 +5,7 @@ is printed under a yes (sockets, locks, watchers). moves.py, processes.py, opene
 """
 
 import re
-from typing import Callable, Dict, Iterable, Tuple
+from typing import Callable, Dict, Iterable, List, Tuple
 
 from record.tools import listed, shelltext
 from record.trace.arguments import TEXT_END, Opening, opening, spelled
@@ -250,7 +250,7 @@ class Calls(Started):
         base, path = self.base_and_path(life, call)
         found = self.found(life, path.rstrip("/") or "/", False, base)
         quiet = shelltext.is_quiet_mkdir(life.argv) and not self.is_inside(life.program)
-        script = next((up.argv for up in life.up() if not up.is_make and shelltext.makes(up.argv, found.path)), [])
+        script: List[str] = next((up.argv for up in life.up() if not up.is_make and shelltext.makes(up.argv, found.path)), [])
         if script and not quiet:
             self.makers.append(" ".join(script)[:60])
             quiet = True
