@@ -85,10 +85,12 @@ class Builder:
 
     # ---------------------------------------------------------------- tasks
     def add(self, node: Node, kind: str, label: str) -> int:
+        """One more task; its place among all."""
         self.build.tasks.append(Task(label, node, kind))
         return len(self.build.tasks) - 1
 
     def make_recipes(self) -> None:
+        """A task for each target whose recipe ran, or for which make did something itself."""
         for node in self.graph.nodes.values():
             acts = self.acts_work(node)
             if node.jobs or acts is not None or (node.must and node.has_recipe):
@@ -98,6 +100,7 @@ class Builder:
                 task.works = [self.make.work[id(j)] for j in node.jobs if id(j) in self.make.work]
 
     def events(self, task: Task) -> Iterable[Tuple[str, str]]:
+        """The kinds and paths of all that the processes of a task did."""
         for work in task.works:
             yield from work.events
 
@@ -112,6 +115,7 @@ class Builder:
         return self.make.acts.get((self.number, node.name))
 
     def acts_of(self, node: Node) -> Iterable[Tuple[str, str]]:
+        """The same of what make did itself for a target; once the writers are known, its looks at names that nobody writes are left out."""
         work = self.acts_work(node)
         if work is None:
             return ()
@@ -136,6 +140,7 @@ class Builder:
         self.build.writers = found
 
     def is_written(self, path: str, but: int = -1) -> bool:
+        """Whether a recipe writes a name, other than the task `but`, or makes a folder of that name."""
         return bool(self.build.writers.get(path, set()) - {but}) or path in self.made
 
     def make_decisions(self) -> None:
@@ -264,6 +269,7 @@ class Builder:
         self.renumber(order, after)
 
     def labels_of_jobs(self) -> List[str]:
+        """The targets whose recipes ran, in the order in which they began."""
         of_job = {id(j): n.label for n in self.graph.nodes.values() for j in n.jobs}
         return list(dict.fromkeys(of_job[id(j)] for j in self.graph.round.jobs))
 
@@ -303,6 +309,7 @@ class Builder:
                     after[at].add(looks[earlier - 1][1])
 
     def renumber(self, order: List[int], after: List[Set[int]]) -> None:
+        """Puts the tasks in an order, each with those that it waits for. `after`: by the old number, the old numbers of these."""
         if self.is_serial():
             for first, second in zip(order, order[1:]):
                 after[second].add(first)
@@ -354,6 +361,7 @@ class Builder:
         return table
 
     def add_events(self, at: int, events: Iterable[Tuple[str, str]], created: Dict[str, Dict[str, Set[int]]]) -> None:
+        """What a task reads and writes, by its events. `created`: by folder and name, the tasks that create or remove the name."""
         task, writers = self.build.tasks[at], self.build.writers
         for kind, path in events:
             if kind in CHANGES and not path.endswith("/"):

@@ -171,6 +171,7 @@ def add_folders(builder: "Builder") -> None:
 
 
 def add_folder(builder: "Builder", path: str, folder: Folder) -> None:
+    """Names for who makes one folder first, for who sees whether it is there, for its mode, and for who removes it."""
     tasks = builder.build.tasks
     if folder.created:
         for at in folder.users | folder.absent | folder.scripts:

@@ -173,6 +173,7 @@ class Owners:
             self.collect(make)
 
     def add_make(self, life: Life, words: Words) -> None:
+        """One more make, with what it said; that it did not end, or failed, is a hole."""
         make = Make(words, life, self.folder_of(life, words))
         make.stale = {name for name in makefiles(words) if make.is_stale(name, self.written)}
         make.globs, make.listed_first = self.patterns_of(make)

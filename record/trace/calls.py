@@ -15,10 +15,8 @@ from record.trace.events import (
     MADE_BEFORE, MADE_QUIETLY, MAKE_LISTED, MODE_CHANGED, MODE_GIVEN, ORDER_SEEN, READ, REMOVED, SEEN, TIME_CHANGED,
 )
 from record.trace.lives import Life
-from record.trace.moves import Moves
 from record.trace.names import Found, Inode
-from record.trace.opened import CHANGING, OF_KERNEL, READING, Opened, requests
-from record.trace.processes import Processes
+from record.trace.opened import CHANGING, OF_KERNEL, READING, requests
 from record.trace.replay import DEVICES
 from record.trace.started import Started
 from record.trace.strace import BARE, MAKES_PROCESS, Call, first_text, folders, texts, unescape
