@@ -84,8 +84,9 @@ class Processes(Moves):
         name = shelltext.script_of(life.argv)
         script = self.names.find(life.folder, name, True).path if name else ""
         shell = self.names.find(life.folder, first[0], True).path if name and first else life.program if name else ""
-        called, given = words[1] if words[1:] else words[0], words[0] if first else ""
-        life.programs.append(Program(life, life.argv, self.place, called, life.folder, script, shell, "".join(first[1:]), given, life.is_ninja, life.program))
+        life.programs.append(Program(
+            life, life.argv, self.place, name=words[1] if words[1:] else words[0], folder=life.folder, script=script, shell=shell,
+            option="".join(first[1:]), given=words[0] if first else "", is_ninja=life.is_ninja, file=life.program))
 
     def put_lists(self, life: Life, folder: str, patterns: List[str], is_end: bool) -> None:
         """A folder was listed for names of these patterns. The text of a script may say more of a list for any name (record/tools/scripts.py)."""
