@@ -5,9 +5,9 @@ import os
 from pathlib import Path
 from typing import Dict, Iterator, List, Set
 
-from record.make.build import CHANGES, Build
-from record.make.graph import Task
+from record.make.graph import Build, Task
 from record.tasks import relative, shown
+from record.trace.events import CHANGES
 from record.trace.names import Names
 
 

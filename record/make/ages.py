@@ -7,6 +7,7 @@ from typing import TYPE_CHECKING, Dict, Iterator, List, Set, Tuple
 
 from record.make.owners import Make, Work
 from record.tools import shellages, shelltext
+from record.trace.events import AGE_SEEN, AGE_TAKEN, AGE_UNKNOWN, READ, SEEN, WRITTEN
 
 PACKERS = ("tar", "bsdtar", "cpio", "pax", "zip")
 UPDATES = re.compile(r"-?[a-zA-Z]*u")  # the first word of `ar`, where it takes in newer files alone
@@ -45,14 +46,14 @@ def note_sources(builder: "Builder") -> None:
     for at in range(len(builder.build.tasks)):
         works = works_of(builder, at)
         showing = (life for _, work in works for life in work.lives if any(map(shellages.shows_ages, life.ran)))
-        shown = {path for life in showing for kind, path in life.events if kind == "A"}  # a time may come from such a program, as a word
+        shown = {path for life in showing for kind, path in life.events if kind == AGE_SEEN}  # a time may come from such a program, as a word
         for life in (life for _, work in works for life in work.lives):
-            names = {path for kind, path in life.events if kind in "RS"} | (life.handed() | shown if any(kind == "c" for kind, _ in life.events) else set())
+            names = {path for kind, path in life.events if kind in (READ, SEEN)} | (life.handed() | shown if any(kind == AGE_TAKEN for kind, _ in life.events) else set())
             looked = {path for path in names if path in builder.build.writers or path in builder.timers}
             packs = any(shelltext.base_name(argv) in PACKERS for argv in life.ran)
             for kind, path in life.events:
                 name, _, source = path.partition("\0")
-                if kind == "c" or kind == "W" and packs:
+                if kind == AGE_TAKEN or kind == WRITTEN and packs:
                     builder.sources.setdefault(name, []).append({source} if source else looked)
 
 
@@ -128,17 +129,17 @@ def ages_in_archives(builder: "Builder", at: int, work: Work) -> None:
     """`ar` with `u` compares a file with the member of its name that another recipe has put into the archive."""
     tasks = builder.build.tasks
     for life in (life for life in work.lives if any(shelltext.base_name(argv) == "ar" and UPDATES.match("".join(argv[1:2])) for argv in life.ran)):
-        for archive in sorted({path for kind, path in life.events if kind in "RW"}):
+        for archive in sorted({path for kind, path in life.events if kind in (READ, WRITTEN)}):
             others = builder.build.writers.get(archive, set()) - {at}
-            members = {os.path.basename(path) for one in others for kind, path in builder.events(tasks[one]) if kind == "R"}
-            for path in sorted({path for kind, path in life.events if kind in "RS" and path != archive and os.path.basename(path) in members}):
+            members = {os.path.basename(path) for one in others for kind, path in builder.events(tasks[one]) if kind == READ}
+            for path in sorted({path for kind, path in life.events if kind in (READ, SEEN) and path != archive and os.path.basename(path) in members}):
                 compare(builder, at, archive, path)
 
 
 def ages_by_words(builder: "Builder", at: int, work: Work) -> None:
     """Programs that compare ages: those of all names that they looked at, by who writes them. Of other programs nobody knows."""
-    for low, high, first, second in settled_by(builder, at, work, "A"):
+    for low, high, first, second in settled_by(builder, at, work, AGE_SEEN):
         settle(builder, first, second, low, high)
-    unknown = next(settled_by(builder, at, work, "a"), None)
+    unknown = next(settled_by(builder, at, work, AGE_UNKNOWN), None)
     if unknown is not None:
         builder.assumed.add("ages", "%s looks at %s and %s" % (builder.build.tasks[at].node.name, unknown[2], unknown[3]))

@@ -19,10 +19,9 @@ from record.make.programs import are_inside
 from record.make.unfiled import add_macros, add_outputs, count_listings
 from record.make.words import makefiles
 from record.tools.listed import fits
+from record.trace.events import AGE_SEEN, ASKS, CHANGES, CREATED, ENTERED, FOLDER_KEPT, FOLDER_REMOVED, LISTED, MAKES, REMOVED, WRITTEN
 from record.trace.names import Names, join
 
-CHANGES = "WCD"
-LOOKS = "RSN"
 
 
 class Builder:
@@ -81,15 +80,17 @@ class Builder:
         for label, at in self.of_node.items():
             node = self.graph.nodes[label]
             own = {node.path, self.names.find(self.make.folder, node.name, False).path, *self.seen(node)}
-            if node.jobs and not node.phony and not any(kind in "WCMT" and path in own for kind, path in self.events(self.build.tasks[at])):
+            if node.jobs and not node.phony and not any(kind in WRITTEN + CREATED + MAKES and path in own for kind, path in self.events(self.build.tasks[at])):
                 self.assumed.add("unwritten", node.name)
 
     # ---------------------------------------------------------------- tasks
     def add(self, node: Node, kind: str, label: str) -> int:
+        """One more task; its place among all."""
         self.build.tasks.append(Task(label, node, kind))
         return len(self.build.tasks) - 1
 
     def make_recipes(self) -> None:
+        """A task for each target whose recipe ran, or for which make did something itself."""
         for node in self.graph.nodes.values():
             acts = self.acts_work(node)
             if node.jobs or acts is not None or (node.must and node.has_recipe):
@@ -99,6 +100,7 @@ class Builder:
                 task.works = [self.make.work[id(j)] for j in node.jobs if id(j) in self.make.work]
 
     def events(self, task: Task) -> Iterable[Tuple[str, str]]:
+        """The kinds and paths of all that the processes of a task did."""
         for work in task.works:
             yield from work.events
 
@@ -113,12 +115,13 @@ class Builder:
         return self.make.acts.get((self.number, node.name))
 
     def acts_of(self, node: Node) -> Iterable[Tuple[str, str]]:
+        """The same of what make did itself for a target; once the writers are known, its looks at names that nobody writes are left out."""
         work = self.acts_work(node)
         if work is None:
             return ()
         if not self.build.writers:
             return work.events
-        return [(k, p) for k, p in work.events if k not in "RSNPAUK" or self.is_written(p)]
+        return [(k, p) for k, p in work.events if k not in ASKS + AGE_SEEN + ENTERED or self.is_written(p)]
 
     def note_writers(self) -> None:
         """Which recipe writes, creates or removes which name, and who makes which folder."""
@@ -130,13 +133,14 @@ class Builder:
                 for kind, path in events:
                     if kind in CHANGES and not path.endswith("/"):
                         found.setdefault(path, set()).add(who)
-                    elif kind in "MTX":
+                    elif kind in MAKES + FOLDER_REMOVED:
                         self.made.add(path)
-                    elif kind == "x":
+                    elif kind == FOLDER_KEPT:
                         self.tried.add(path)
         self.build.writers = found
 
     def is_written(self, path: str, but: int = -1) -> bool:
+        """Whether a recipe writes a name, other than the task `but`, or makes a folder of that name."""
         return bool(self.build.writers.get(path, set()) - {but}) or path in self.made
 
     def make_decisions(self) -> None:
@@ -265,6 +269,7 @@ class Builder:
         self.renumber(order, after)
 
     def labels_of_jobs(self) -> List[str]:
+        """The targets whose recipes ran, in the order in which they began."""
         of_job = {id(j): n.label for n in self.graph.nodes.values() for j in n.jobs}
         return list(dict.fromkeys(of_job[id(j)] for j in self.graph.round.jobs))
 
@@ -304,6 +309,7 @@ class Builder:
                     after[at].add(looks[earlier - 1][1])
 
     def renumber(self, order: List[int], after: List[Set[int]]) -> None:
+        """Puts the tasks in an order, each with those that it waits for. `after`: by the old number, the old numbers of these."""
         if self.is_serial():
             for first, second in zip(order, order[1:]):
                 after[second].add(first)
@@ -349,24 +355,25 @@ class Builder:
             looker = self.acts_at.get(task.label, at)
             for who, events in ((at, self.events(task)), (looker, self.acts_of(task.node))):
                 for kind, path in events:
-                    if kind in "CDX":
+                    if kind in (CREATED, REMOVED, FOLDER_REMOVED):
                         path = path.rstrip("/")
                         table.setdefault(os.path.dirname(path), {}).setdefault(os.path.basename(path), set()).add(who)
         return table
 
     def add_events(self, at: int, events: Iterable[Tuple[str, str]], created: Dict[str, Dict[str, Set[int]]]) -> None:
+        """What a task reads and writes, by its events. `created`: by folder and name, the tasks that create or remove the name."""
         task, writers = self.build.tasks[at], self.build.writers
         for kind, path in events:
             if kind in CHANGES and not path.endswith("/"):
                 task.writes.add(path)
-            elif kind in "RSNPK" and path in writers:
+            elif kind in ASKS and path in writers:
                 task.reads.add(path)
-            elif kind == "L":
+            elif kind == LISTED:
                 folder, pattern = path.split("\0")
                 for name, who in created.get(folder, {}).items():
                     if (who != {at}) and join(folder, name) not in self.made and fits(pattern, join(folder, name), self.names):
                         task.reads.add(join(folder, name))
-            elif kind == "A":
+            elif kind == AGE_SEEN:
                 self.timed.setdefault(path, set()).add(at)
 
     def add_decision(self, looker: int, at: int, node: Node, is_asked: bool) -> None:

@@ -9,6 +9,7 @@ from record.make.graph import Build
 from record.make.owners import Make
 from record.make.words import makefiles
 from record.missing.anew import hands_all
+from record.trace.events import READ
 from record.trace.lives import Life
 
 if TYPE_CHECKING:
@@ -38,8 +39,8 @@ def called(builds: Sequence[Build], turned: "Turned") -> Set[str]:
         first = min((life.born for work in make.work.values() for life in work.lives), default=1 << 60)
         for life in called_by(make):
             if life.born < first:
-                found.update(path for kind, path in life.events if kind == "R" and turned.is_file(path))
-        found.update(act.path for act in make.life.acts if act.kind == "R" and act.place < first and act.path not in names and turned.is_file(act.path))
+                found.update(path for kind, path in life.events if kind == READ and turned.is_file(path))
+        found.update(act.path for act in make.life.acts if act.kind == READ and act.place < first and act.path not in names and turned.is_file(act.path))
         found.update(path for path in names if turned.is_made(path) and settles(path, build))
     return {path for path in found if path in turned.names.before or os.path.lexists(path)}
 

@@ -15,6 +15,7 @@ from record.make.graph import Node
 from record.make.searches import DEPTH, Searches, stems
 from record.make.words import Words, numbers_of
 from record.tools.shelltext import loose
+from record.trace.events import ASKS, LISTED, MAKE_LISTED
 from record.trace.names import join
 
 if TYPE_CHECKING:
@@ -126,7 +127,8 @@ class Considered:
     @cached_property
     def pieces(self) -> Dict[str, List[Tuple[str, str]]]:
         """By target: what make did by itself while it considered it, or soon after."""
-        make, looks, found = self.builder.make, self.looks, {}
+        make, looks = self.builder.make, self.looks
+        found: Dict[str, List[Tuple[str, str]]] = {}
         for place, events in make.pieces if self.expanding else ():
             if place > self.builder.first_birth():
                 known = [(looks.get(node.name, 0), node) for node in self.expanding if self.end(node) > place]
@@ -145,9 +147,9 @@ class Considered:
         """The paths that a second expansion of its prerequisites reads or lists."""
         found: Set[str] = set()
         for kind, path in self.pieces.get(node.name, ()):
-            if kind in "RSNPK":
+            if kind in ASKS:
                 found.add(path)
-            elif kind in "LQ":
+            elif kind in (LISTED, MAKE_LISTED):
                 folder, _, pattern = path.partition("\0")
                 found |= {one for one in self.changed if os.path.dirname(one) == folder and fnmatchcase(os.path.basename(one), pattern or "*")}
         return {path for path in found if path in self.writers}

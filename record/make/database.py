@@ -67,6 +67,7 @@ class _Files:
         self.is_recipe = self.goes_on = False  # inside of a recipe; inside of one of its lines
 
     def line(self, text: str) -> None:
+        """One line: an empty one ends a target, and what stands before the recipe are remarks."""
         if self.is_recipe and (text or self.goes_on):
             self.recipe(text)
         elif text == "":
@@ -85,6 +86,7 @@ class _Files:
         self.goes_on = (len(text) - len(text.rstrip("\\"))) % 2 == 1
 
     def remark(self, text: str) -> None:
+        """A line such as `#  Phony target (prerequisite of .PHONY).`, about the target above it; or one that says where a macro is from."""
         base = self.base
         self.is_macro = not self.name and bool(ORIGIN.match(text))
         self.is_other = text == NO_TARGET
@@ -106,6 +108,7 @@ class _Files:
             base.also[self.name] = cut(text.split(":", 1)[1])
 
     def target(self, text: str) -> None:
+        """A line `TARGET: PREREQUISITES | ORDER-ONLY`; or `TARGET: NAME = VALUE`, for a macro of one target."""
         match = TARGET.match(text)
         if self.is_macro or not match:
             if match:

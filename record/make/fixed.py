@@ -3,6 +3,7 @@
 from typing import TYPE_CHECKING, Dict, List, Set
 
 from record.make.graph import Node
+from record.trace.events import AGE_TAKEN, CREATED, REMOVED
 
 if TYPE_CHECKING:
     from record.make.build import Builder
@@ -23,7 +24,7 @@ def remade_anyway(builder: "Builder", node: Node, others: List[Node]) -> bool:
     if not node.jobs or builder.first_seen(node) != [node.path] or builder.before.get(node.path) is not None or not builder.is_known(node.path):
         return False
     events = (event for other in others for event in (*builder.events(builder.build.tasks[builder.of_node[other.label]]), *builder.acts_of(other)))
-    is_kept = not any(kind in "Dc" and path.partition("\0")[0] == node.path for kind, path in events)
+    is_kept = not any(kind in (REMOVED, AGE_TAKEN) and path.partition("\0")[0] == node.path for kind, path in events)
     return is_kept and {other.label for other in others} <= builder.graph.reached_from([node.label])
 
 
@@ -65,6 +66,6 @@ def fixed_looks(builder: "Builder") -> Set[str]:
     if builder.build.stage != "goals":
         return set()
     tasks, nodes, asked = builder.build.tasks, builder.graph.nodes.values(), asked_ages(builder)
-    replaced = {path for task in tasks for kind, path in [*builder.events(task), *builder.acts_of(task.node)] if kind in "CD"}
+    replaced = {path for task in tasks for kind, path in [*builder.events(task), *builder.acts_of(task.node)] if kind in (CREATED, REMOVED)}
     loose = (node for node in nodes if not (node.jobs or node.has_recipe or node.prerequisites or node.label in asked))
     return {node.label for node in loose if builder.before.get(node.path) == "f" and node.path not in replaced and set(builder.seen(node)) <= {node.path}}

@@ -12,9 +12,12 @@ from functools import lru_cache
 from typing import TYPE_CHECKING, Dict, FrozenSet, List, NamedTuple, Set, Tuple
 
 from record.make.ahead import makes_ahead
-from record.make.owners import Work
 from record.make.quiet import excused, makes_itself
 from record.tools import shelltext
+from record.trace.events import (
+    ABSENT, CHANGES, CREATED, ENTERED, FOLDER_KEPT, FOLDER_REMOVED, LINKS_CHANGED, LINKS_SEEN, LISTED, LOOKS, MADE_BEFORE,
+    MADE_QUIETLY, MAKER_SEEN, MAKES, MODE_CHANGED, MODE_GIVEN, READ, REMOVED, SEEN, STRICT, TIME_CHANGED, TREE_CHANGES, WRITTEN,
+)
 from record.trace.lives import Life
 
 if TYPE_CHECKING:
@@ -23,8 +26,11 @@ if TYPE_CHECKING:
 
 Events = List[Tuple[int, List[Tuple[str, str, int]]]]
 NO_BITS: FrozenSet[int] = frozenset()  # of a task without processes
+NAME_ASKED = "s"  # a kind of event of this module alone: a decision of make asks for a name
+OWN_LOOKS = SEEN + NAME_ASKED + ABSENT  # at the folder's own name
+USES = SEEN + NAME_ASKED + READ + WRITTEN + ENTERED + LISTED  # what needs the folder
+TOUCHES = READ + SEEN + TREE_CHANGES + MADE_BEFORE + ENTERED + LISTED  # what needs the folders above a name
 SEARCH = 0o100  # without this bit of a folder nobody but root finds what is in it
-dirname = lru_cache(1 << 14)(os.path.dirname)  # recipes have most of their paths in common
 
 
 @dataclass
@@ -53,6 +59,12 @@ class Makers(NamedTuple):
     gone: Set[int]
 
 
+@lru_cache(1 << 14)
+def dirname(path: str) -> str:
+    """The folder that a path is in: recipes have most of their paths in common."""
+    return os.path.dirname(path)
+
+
 def parents(path: str) -> List[str]:
     """The folders above a path."""
     found = []
@@ -77,25 +89,23 @@ def parents_of_all(paths: Dict[str, int]) -> Dict[str, int]:
 def gather(builder: "Builder") -> Dict[str, Folder]:
     """All folders that recipes make or remove, with who uses them."""
     table = {p: Folder() for p in builder.made | builder.tried}
-    renamed, never, more = {p for p in builder.build.writers if p in builder.made}, 1 << 60, ""
+    never, more = 1 << 60, ""
     for at, events in each(builder) if table else ():
         touched: Dict[str, int] = {}
         for kind, path, place in events:
             if "\0" in path:
                 path, _, more = path.partition("\0")
             folder = table.get(path)
-            if folder is not None and kind == "o":
+            if folder is not None and kind == MODE_GIVEN:
                 folder.modes.setdefault(more, set()).add(at)
             elif folder is not None and not path.endswith("/"):
                 note(folder, at, kind, place)
-            if kind in "RSWCDMTEXUL" and not path.endswith("/"):
-                touched[path] = min(never if kind in "RS" else place, touched.get(path, never))
+            if kind in TOUCHES and not path.endswith("/"):
+                touched[path] = min(never if kind in (READ, SEEN) else place, touched.get(path, never))
         for above, place in parents_of_all(touched).items():
             if above in table:
                 table[above].users.add(at)
                 table[above].first_used[at] = min(place, table[above].first_used.get(at, never))
-    for path in renamed:
-        table[path].created |= set()
     return table
 
 
@@ -119,33 +129,33 @@ def put_together(builder: "Builder") -> Events:
                 found.append((looker, [(k, p, s) for (k, p), s in acts.events.items()]))
         elif task.kind in ("decision", "look"):
             own = builder.of_node.get(task.node.label, at)
-            found.append((at, [("s", p, 1 << 60) for p in builder.looked_at(task.node, own)]))
+            found.append((at, [(NAME_ASKED, p, 1 << 60) for p in builder.looked_at(task.node, own)]))
     return found
 
 
 def note(folder: Folder, at: int, kind: str, place: int) -> None:
     """One event on the folder's own name."""
-    if kind in "ME":
+    if kind in STRICT:
         folder.strict.add(at)
-    elif kind == "T":
+    elif kind == MADE_QUIETLY:
         folder.quiet.add(at)
-    elif kind in "XD":
+    elif kind in (FOLDER_REMOVED, REMOVED):
         folder.gone.add(at)
-    elif kind == "x":
+    elif kind == FOLDER_KEPT:
         folder.tried.add(at)
-    elif kind in "SsRULW":
+    elif kind in USES:
         folder.users.add(at)
-    elif kind == "N":
+    elif kind == ABSENT:
         folder.absent.add(at)
-    elif kind == "K":
+    elif kind == MAKER_SEEN:
         folder.scripts.add(at)
-    if kind in "MT":
+    if kind in MAKES:
         folder.created.add(at)
-    if kind in "MTE":
+    if kind in MADE_QUIETLY + STRICT:
         folder.first_made[at] = min(place, folder.first_made.get(at, place))
-    if kind in "SsN":
+    if kind in OWN_LOOKS:
         folder.looks[at] = min(place, folder.looks.get(at, place))
-    if kind in "MTEKSsN":
+    if kind in MADE_QUIETLY + STRICT + MAKER_SEEN + OWN_LOOKS:
         folder.first_asked[at] = min(place, folder.first_asked.get(at, place))
 
 
@@ -161,6 +171,7 @@ def add_folders(builder: "Builder") -> None:
 
 
 def add_folder(builder: "Builder", path: str, folder: Folder) -> None:
+    """Names for who makes one folder first, for who sees whether it is there, for its mode, and for who removes it."""
     tasks = builder.build.tasks
     if folder.created:
         for at in folder.users | folder.absent | folder.scripts:
@@ -194,7 +205,7 @@ def add_folder(builder: "Builder", path: str, folder: Folder) -> None:
         for who, events in each(builder):
             if who != at:
                 for kind, name, _ in events:
-                    if kind in "CD" and os.path.dirname(name.rstrip("/")) == path:
+                    if kind in (CREATED, REMOVED) and os.path.dirname(name.rstrip("/")) == path:
                         mark(builder, name.rstrip("/"), "", {at}, {who})
 
 
@@ -219,7 +230,7 @@ def part_modes(builder: "Builder", path: str, folder: Folder, makers: Set[int]) 
 def masks(builder: "Builder", at: int, path: str) -> FrozenSet[int]:
     """The bits without which the processes of a task make names: those that make a folder, else those that ask for it, else all."""
     lives = [life for work in builder.build.tasks[at].works for life in work.lives]
-    makers, lookers = ([life for life in lives if any((kind, path) in life.events for kind in kinds)] for kinds in ("KMTE", "SN"))
+    makers, lookers = ([life for life in lives if any((kind, path) in life.events for kind in kinds)] for kinds in (MAKER_SEEN + MADE_QUIETLY + STRICT, SEEN + ABSENT))
     return frozenset(bits(life) for life in makers or lookers or lives)
 
 
@@ -265,7 +276,7 @@ def add_listed(builder: "Builder", table: Dict[str, Makers]) -> None:
     inside: Dict[str, List[str]] = {}
     for name in table:
         inside.setdefault(os.path.dirname(name), []).append(name)
-    for at, path in ((at, path) for at, events in each(builder) for kind, path, _ in events if kind == "L"):
+    for at, path in ((at, path) for at, events in each(builder) for kind, path, _ in events if kind == LISTED):
         where, pattern = path.split("\0")
         for name in (name for name in inside.get(where, ()) if matches(os.path.basename(name), pattern)):
             made, gone = table[name]
@@ -284,9 +295,9 @@ def add_times(builder: "Builder") -> None:
     wanted = builder.timed
     for at, events in each(builder):
         for kind, path, _ in events:
-            if kind not in "CDXt":
+            if kind not in (CREATED, REMOVED, FOLDER_REMOVED, TIME_CHANGED):
                 continue
-            where = path if kind == "t" else dirname(path.rstrip("/"))
+            where = path if kind == TIME_CHANGED else dirname(path.rstrip("/"))
             if where in wanted:
                 builder.timers.setdefault(where, set()).add(at)
     for where, changers in builder.timers.items():
@@ -299,27 +310,27 @@ def add_modes(builder: "Builder") -> None:
     table = each(builder)
     modes = changed_modes(builder, table)
     closed = {path for path, given in modes.items() if not all(mode and is_open(mode) for mode in given)}
-    links = {p for _, events in table for k, p, _ in events if k == "h"}
+    links = {p for _, events in table for k, p, _ in events if k == LINKS_SEEN}
     for at, events in table if modes else ():
         for kind, path, _ in events:
             path = path.partition("\0")[0]
-            if kind == "m" and path in modes:
+            if kind == MODE_CHANGED and path in modes:
                 mark(builder, path + "/@mode", "the mode of the folder " + path, set(), {at})
-            elif path in modes and kind in "SUL":
+            elif path in modes and kind in (SEEN, ENTERED, LISTED):
                 mark(builder, path + "/@mode", "", {at}, set())
-            elif os.path.dirname(path.rstrip("/")) in (modes if kind in "WCD" else closed if kind in "RSN" else ()):
+            elif os.path.dirname(path.rstrip("/")) in (modes if kind in CHANGES else closed if kind in LOOKS else ()):
                 mark(builder, os.path.dirname(path.rstrip("/")) + "/@mode", "", {at}, set())
     counted: Dict[str, Set[int]] = {}
     for at, events in table if links else ():
         for kind, path, _ in events:
-            if kind not in "HX" and not (kind == "C" and path.endswith("/")):
+            if kind not in (LINKS_CHANGED, FOLDER_REMOVED) and not (kind == CREATED and path.endswith("/")):
                 continue
-            where = path if kind == "H" else os.path.dirname(path.rstrip("/"))
+            where = path if kind == LINKS_CHANGED else os.path.dirname(path.rstrip("/"))
             if where in links:
                 counted.setdefault(where, set()).add(at)
     for at, events in table if counted else ():
         for kind, path, _ in events:
-            if kind == "h" and path in counted:
+            if kind == LINKS_SEEN and path in counted:
                 apart(builder, path + "/@links", "how many names %s has" % path, at, counted[path] - {at})
 
 
@@ -332,7 +343,7 @@ def is_open(mode: str) -> bool:
 def changed_modes(builder: "Builder", table: Events) -> Dict[str, Set[str]]:
     """The folders whose mode a recipe changes, with the modes that it gives: to give one the mode that it was made with is no change."""
     given: Dict[str, Set[str]] = {}
-    for kind, text in ((k, p) for _, events in table for k, p, _ in events if k == "m"):
+    for kind, text in ((k, p) for _, events in table for k, p, _ in events if k == MODE_CHANGED):
         path, _, mode = text.partition("\0")
         given.setdefault(path, set()).add(mode)
     made, known = gather(builder) if given else {}, builder.names.modes

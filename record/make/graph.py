@@ -55,6 +55,7 @@ class Graph:
 
     # ---------------------------------------------------------------- nodes
     def read_nodes(self) -> None:
+        """The targets that make considered or made, with what the data base says of them."""
         base = self.base
         for name, seen in self.round.nodes.items():
             node = Node(name, name, seen.index, max(seen.index, seen.done), dict.fromkeys(seen.prerequisites))
@@ -119,6 +120,7 @@ class Graph:
         return self.reached_from(list(self.round.goals) + [n.label for n in self.nodes.values() if n.rule and n is not but], but)
 
     def reached_from(self, starts: List[str], but: Optional[Node] = None) -> Set[str]:
+        """All that some targets need, by way of others too; what `but` needs does not count."""
         seen: Set[str] = set()
         todo = [s for s in starts if s in self.nodes]
         while todo:

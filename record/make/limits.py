@@ -13,25 +13,26 @@ SIZE = 1 << 16  # bytes that are held back
 class Kept:
     """A file for the recorder."""
 
-    def __init__(self, path, mode="xb"):
+    def __init__(self, path: str, mode: str = "xb") -> None:
         self.name, self.file = path, open(path, mode, buffering=0)
-        self.held, self.size, self.is_cut = [], 0, False
+        self.held: "list[bytes]" = []
+        self.size, self.is_cut = 0, False
 
-    def __enter__(self):
+    def __enter__(self) -> "Kept":
         return self
 
-    def __exit__(self, *_):
+    def __exit__(self, *_: object) -> None:
         self.flush()
         self.file.close()
 
-    def write(self, data):
+    def write(self, data: bytes) -> None:
         """Takes some bytes."""
         self.held.append(data)
         self.size += len(data)
         if self.size > SIZE:
             self.flush()
 
-    def flush(self):
+    def flush(self) -> None:
         """Writes what is held back."""
         rest, self.held, self.size = memoryview(b"".join(self.held)), [], 0
         try:
@@ -42,7 +43,7 @@ class Kept:
                 raise
             self.force(rest)
 
-    def force(self, rest):
+    def force(self, rest: memoryview) -> None:
         """Writes more than the limit allows; where the wrapper may not raise it, says that the file is cut."""
         import resource  # seldom needed
 
@@ -65,12 +66,12 @@ class Kept:
             resource.setrlimit(resource.RLIMIT_FSIZE, (soft, hard))
 
 
-def note_cut(path):
+def note_cut(path: str) -> None:
     """Says that a file is cut: an empty file can be made under any limit."""
     os.close(os.open(path + ".cut", os.O_CREAT | os.O_WRONLY, 0o666))
 
 
-def keep(path, data, mode="wb"):
+def keep(path: str, data: bytes, mode: str = "wb") -> None:
     """Writes a file for the recorder."""
     with Kept(path, mode) as file:
         file.write(data)

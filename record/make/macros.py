@@ -64,7 +64,7 @@ def evals(text: str) -> Iterator[Eval]:
 
 def with_functions(text: str) -> str:
     """A text in which a function of make that is called by `$(call eval,..)` stands as it does without `call`."""
-    count = "call" in text
+    count: int = "call" in text
     while count:
         text, count = BUILT_IN.subn(r"$\1\2 ", text)
     return text

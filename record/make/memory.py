@@ -8,6 +8,7 @@ from record.make.globs import BOUND, MAGIC, WORD_EVAL, arguments, composes, with
 from record.make.graph import Node
 from record.make.macros import ANY, Macros, evals
 from record.make.owners import Make, Work
+from record.trace.events import LISTED, MAKE_LISTED, ORDER_SEEN
 from record.trace.names import Names
 
 if TYPE_CHECKING:
@@ -24,7 +25,7 @@ def place_listings(builder: "Builder") -> None:
     nodes = {node.name: node for node in builder.graph.nodes.values()}
     open_names = exported_lists(builder.known)
     for name, work in acts.items():
-        listed = [(path, place) for (kind, path), place in work.events.items() if kind == "Q"]
+        listed = [(path, place) for (kind, path), place in work.events.items() if kind == MAKE_LISTED]
         asked = own_folders(builder, nodes[name]) if listed and name in nodes and not open_names else None
         for path, place in listed:
             if asked is None or path in asked:
@@ -34,9 +35,9 @@ def place_listings(builder: "Builder") -> None:
 def add_list(make: Make, work: Work, folder: str, place: int) -> None:
     """A folder is listed for all that a make asks for by `wildcard`; before it sorted what it finds, the order of the names counts too."""
     for pattern in make.globs:
-        work.add("L", folder + "\0" + pattern, place)
+        work.add(LISTED, folder + "\0" + pattern, place)
     if make.globs and not make.words.sorts_names:
-        work.add("l", folder, place)
+        work.add(ORDER_SEEN, folder, place)
 
 
 def exported_lists(known: Macros) -> bool:

@@ -4,6 +4,7 @@
 """
 
 import re
+from collections.abc import MutableMapping
 
 WORDS = ["--debug=v,j,m", "-p"]
 LONG_QUERIES = {"--version": "v", "--help": "h", "--just-print": "n", "--dry-run": "n", "--recon": "n", "--question": "q",
@@ -15,7 +16,7 @@ LONG_WITH_WORD = ("--directory", "--file", "--makefile", "--include-dir", "--old
 CATEGORIES = ["LC_" + name for name in "CTYPE NUMERIC TIME COLLATE MONETARY PAPER NAME ADDRESS TELEPHONE MEASUREMENT IDENTIFICATION".split()]
 
 
-def speak_english(environment):
+def speak_english(environment: "MutableMapping[str, str]") -> bool:
     """Lets make print English words where it may print others; whether that changed the environment."""
     spoken = next((environment[name] for name in ("LC_ALL", "LC_MESSAGES", "LANG") if environment.get(name)), "C")
     if spoken in ("C", "POSIX") or re.match(r"(C|POSIX|en)\b|en_", spoken) and not environment.get("LANGUAGE"):
@@ -26,20 +27,21 @@ def speak_english(environment):
     return True
 
 
-def letters(word):
+def letters(word: str) -> str:
     """The one-letter words that stand in one word of make's command line, up to one that takes an argument."""
     match = re.match(r"-([^-CfIoWjlOE][^CfIoWjlOE]*|)", word)
     return match.group(1) if match and not word.startswith("--") else ""
 
 
-def asked(args, flags):
+def asked(args: "list[str]", flags: str) -> "set[str]":
     """Which of -v, -h, -n, -q, -t, -p and -d (and --debug) make was asked for, in words or in MAKEFLAGS; long words may be cut."""
     first = flags.split(" ")[0]
     own = list(args)
     if first and not first.startswith("-") and "=" not in first:
         own.append("-" + first)
     own += [word for word in flags.split(" -- ")[0].split(" ") if word.startswith("--")]
-    found, skip = set(), False
+    found: "set[str]" = set()
+    skip = False
     for word in own:
         if skip:
             skip = False
@@ -54,7 +56,7 @@ def asked(args, flags):
     return found
 
 
-def without_words(flags):
+def without_words(flags: str) -> str:
     """MAKEFLAGS without what a wrapper above handed down."""
     if "--debug=v,j,m" not in flags:
         return flags
@@ -66,7 +68,7 @@ def without_words(flags):
     return " ".join(parts)
 
 
-def without_letter(words):
+def without_letter(words: "list[str]") -> "list[str]":
     """Words without the last letter p that the recorder has put there."""
     for at in reversed(range(len(words))):
         if re.fullmatch(r"-?[a-zA-Z]*p[a-zA-Z]*", words[at]):
@@ -75,9 +77,9 @@ def without_letter(words):
     return words
 
 
-def plain_args(args):
+def plain_args(args: "list[str]") -> "list[str]":
     """The words of the command line without the recorder's: a recipe may hand MAKEFLAGS or MFLAGS on as words."""
-    found = []
+    found: "list[str]" = []
     for word in args:
         name, _, flags = word.partition("=")
         if word == WORDS[0]:
@@ -91,7 +93,7 @@ def plain_args(args):
     return found
 
 
-def own_jobs(args):
+def own_jobs(args: "list[str]") -> str:
     """How many jobs the words of the command line ask for last: digits, or `all` where there is no bound; nothing where they do not ask."""
     found, skip = "", False
     for word, following in zip(args, args[1:] + [""]):
@@ -115,14 +117,14 @@ def own_jobs(args):
     return found
 
 
-def jobs_of_call(args):
+def jobs_of_call(args: "list[str]") -> str:
     """The same of what a recipe says by itself: where it hands MFLAGS on, these hold in a parallel build the number of jobs of the make
     above, which wins over what stands before."""
     at = max((at for at, word in enumerate(args) if word == WORDS[0]), default=-1)
     return own_jobs(args[at + 1:])
 
 
-def asks_jobs(args, flags):
+def asks_jobs(args: "list[str]", flags: str) -> bool:
     """Whether a number of jobs is among make's words. The first word of MAKEFLAGS may be letters without a dash."""
     first = flags.split(" ")[0]
     letters = "" if first.startswith("-") or "=" in first else "-" + first

@@ -16,7 +16,8 @@ from record.make.programs import Programs
 from record.make.searches import asked_names
 from record.make.words import SEVERAL, Job, Round, Words, makefiles
 from record.tools.texts import text_of
-from record.trace.lives import Act, Key, Life
+from record.trace.events import ABSENT, CHANGES, ENTERED, LISTED, LOOKS, MAKE_LISTED, ORDER_SEEN, READ, REMOVED
+from record.trace.lives import Key, Life
 
 if TYPE_CHECKING:
     from record.ninja.runs import Ninja
@@ -71,7 +72,7 @@ class Make:
         """By path: when it read that by itself."""
         found: Dict[str, List[int]] = {}
         for act in self.life.acts:
-            if act.kind == "R":
+            if act.kind == READ:
                 found.setdefault(act.path, []).append(act.place)
         return found
 
@@ -85,7 +86,7 @@ class Make:
         """Whether it looked for a makefile, as for `-include`, and found none: that one says nothing."""
         path = os.path.normpath(os.path.join(self.folder, name))
         kinds = self.kinds.get(path, set())
-        return "N" in kinds and "R" not in kinds and not os.path.lexists(path)
+        return ABSENT in kinds and READ not in kinds and not os.path.lexists(path)
 
     def begin(self, start: int) -> int:
         """When it began, or began again: then it knows nothing of what it has listed."""
@@ -135,7 +136,7 @@ def written_by(lives: List[Life]) -> Dict[str, Tuple[int, int]]:
     found: Dict[str, Tuple[int, int]] = {}
     for life in lives:
         for path, last in life.changed.items():
-            first = min(life.events.get((kind, path), last) for kind in "WCD")
+            first = min(life.events.get((kind, path), last) for kind in CHANGES)
             known = found.get(path, (first, last))
             found[path] = (min(first, known[0]), max(last, known[1]))
     return found
@@ -172,6 +173,7 @@ class Owners:
             self.collect(make)
 
     def add_make(self, life: Life, words: Words) -> None:
+        """One more make, with what it said; that it did not end, or failed, is a hole."""
         make = Make(words, life, self.folder_of(life, words))
         make.stale = {name for name in makefiles(words) if make.is_stale(name, self.written)}
         make.globs, make.listed_first = self.patterns_of(make)
@@ -185,9 +187,9 @@ class Owners:
         """The folder that make works in: `-C` moves it before it reads."""
         folder = life.starts[0][1] if life.starts else life.folder
         for act in life.acts:
-            if act.kind == "U":
+            if act.kind == ENTERED:
                 folder = act.path
-            if act.kind == "R" and any(act.path.endswith("/" + os.path.basename(n)) for n in makefiles(words)):
+            if act.kind == READ and any(act.path.endswith("/" + os.path.basename(n)) for n in makefiles(words)):
                 break
         return folder
 
@@ -217,8 +219,8 @@ class Owners:
         places = only_places([pid for pid, _ in make.words.processes], [life.pid for life in kids])
         if places is None:
             self.match_by_number(make, kids)
-        for place, (_, job) in zip(places or (), make.words.processes):
-            self.jobs[id(kids[place])] = job
+        for place, (_, started) in zip(places or (), make.words.processes):
+            self.jobs[id(kids[place])] = started
         for life in make.life.children:
             job = self.jobs.get(id(life))
             if job is not None:
@@ -273,11 +275,11 @@ class Owners:
             if make is not None and make not in work.makes:
                 work.makes.append(make)
             for key, place in one.events.items():
-                if key[0] == "Q":
+                if key[0] == MAKE_LISTED:
                     for pattern in [*make.globs, *make.listed_first] if make is not None else ["*"]:
-                        work.add("L", key[1] + "\0" + pattern, place)
+                        work.add(LISTED, key[1] + "\0" + pattern, place)
                     if not self.is_sorted:
-                        work.add("l", key[1], place)
+                        work.add(ORDER_SEEN, key[1], place)
                 elif work.events.get(key, place + 1) > place:
                     work.events[key] = place
 
@@ -288,7 +290,7 @@ class Owners:
             if job is not None:
                 self.take(make.work.setdefault(id(job), Work()), life)
         for act in make.life.acts:
-            if act.kind == "Q":
+            if act.kind == MAKE_LISTED:
                 make.listed.setdefault(act.path, act.place)
                 make.lists.append((act.place, act.path))
             if act.word:
@@ -305,7 +307,7 @@ class Owners:
         last = begin
         for act in make.life.acts:
             if begin <= act.place < end:
-                if left and act.kind in "RN" and os.path.basename(act.path) in left:
+                if left and act.kind in (READ, ABSENT) and os.path.basename(act.path) in left:
                     left.remove(os.path.basename(act.path))
                     last = act.place
                 elif not left and act.word in names:
@@ -347,13 +349,13 @@ class Owners:
         """Where make removes intermediate files, once no recipe runs any more: that is beside nothing. The acts, by their ids."""
         ended = max((life.died for life in make.life.children if id(life) in self.jobs), default=0)
         names = {os.path.normpath(os.path.join(make.folder, name)) for r in make.words.rounds if r.base is not None for name in r.base.intermediate}
-        return {id(act) for act in make.life.acts if act.kind == "D" and act.place > ended and act.path in names}
+        return {id(act) for act in make.life.acts if act.kind == REMOVED and act.place > ended and act.path in names}
 
     @staticmethod
     def read_archives(make: Make, names: Set[str]) -> Set[int]:
         """Make's looks into archives, by which it finds the ages of members: they are looks at these targets. The acts, by their ids."""
         archives = {os.path.normpath(os.path.join(make.folder, name.partition("(")[0])) for name in names if name.endswith(")")}
-        return {id(act) for act in make.life.acts if act.kind in "RSN" and act.path in archives}
+        return {id(act) for act in make.life.acts if act.kind in LOOKS and act.path in archives}
 
     @staticmethod
     def first_looks(make: Make, names: Set[str], begin: int, end: int) -> Dict[str, int]:

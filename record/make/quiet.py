@@ -5,6 +5,7 @@ from typing import TYPE_CHECKING, List
 
 from record.tools import shelltext
 from record.tools.traced import shows_commands
+from record.trace.events import MADE, MADE_BEFORE
 from record.trace.lives import Life
 
 if TYPE_CHECKING:
@@ -36,7 +37,7 @@ def is_quiet(argv: List[str], folder: str, is_kept: bool) -> bool:
 
 def is_of_form(life: Life, folder: str, is_kept: bool) -> bool:
     """Whether a process does not make a folder, or a shell starts it whose text makes that in a quiet form."""
-    if not life.events.keys() & {("M", folder), ("E", folder)}:
+    if not life.events.keys() & {(MADE, folder), (MADE_BEFORE, folder)}:
         return True
     starter = next((up for up in life.up() if up is not life and up.ran), life)
     return any(is_quiet(argv, folder, is_kept) for argv in starter.ran)
@@ -47,7 +48,7 @@ def is_ignored(builder: "Builder", at: int, folder: str) -> bool:
     task = builder.build.tasks[at]
     if builder.build.tool != "make" or task.kind != "recipe":
         return False
-    makers = [life for work in task.works for life in work.lives if life.events.keys() & {("M", folder), ("E", folder)}]
+    makers = [life for work in task.works for life in work.lives if life.events.keys() & {(MADE, folder), (MADE_BEFORE, folder)}]
     heeded = [line for line in builder.graph.base.recipes.get(task.node.name, []) if not re.match(r"\s*[@+]*-", line)]
     return bool(makers) and all(is_plain_mkdir(life) for life in makers) and not any(re.match(r"\s*[@+]*\s*(\S*mkdir|\$)", line) for line in heeded)
 

@@ -8,6 +8,7 @@ from typing import TYPE_CHECKING, Dict, Iterator, List, Set, Tuple
 
 from record.make.folders import each, mark
 from record.make.macros import ANY, keepers, own_path
+from record.trace.events import AGE_TAKEN, ORDER_SEEN
 
 if TYPE_CHECKING:
     from record.make.build import Builder
@@ -102,14 +103,14 @@ def unordered(builder: "Builder", tasks: List[int]) -> Iterator[Tuple[int, int]]
 def count_listings(builder: "Builder", created: Created) -> None:
     """Programs that may show the names of a folder in the order in which they were made, where the schedule settles that order."""
     table: Dict[str, Tuple[List[int], List[Tuple[int, int]]]] = {}
-    moves = [path.split("\0") for _, events in each(builder) for kind, path, _ in events if kind == "c" and path.partition("\0")[0] in builder.made]
+    moves = [path.split("\0") for _, events in each(builder) for kind, path, _ in events if kind == AGE_TAKEN and path.partition("\0")[0] in builder.made]
     for at, events in each(builder):
-        for path in (path for kind, path, _ in events if kind == "l"):
+        for path in (path for kind, path, _ in events if kind == ORDER_SEEN):
             if path not in table:
                 makers = sorted({who for one in places_of(path, moves) for names in created.get(one, {}).values() for who in names})
                 table[path] = makers, list(islice(unordered(builder, makers), 3))
             makers, loose = table[path]
-            if any(at not in pair for pair in loose) or loose and next(unordered(builder, [who for who in makers if who != at]), None):
+            if any(at not in pair for pair in loose) or loose and any(unordered(builder, [who for who in makers if who != at])):
                 builder.assumed.add("listings", "%s lists %s" % (builder.build.tasks[at].node.name, path))
 
 

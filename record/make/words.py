@@ -133,6 +133,8 @@ def considered_in(text: str) -> Optional[Tuple[int, str]]:
 
 
 class _Reader:
+    """Reads the lines of one make's log, one after the other, into its Words."""
+
     def __init__(self, words: Words) -> None:
         self.words = words
         self.round: Optional[Round] = None
@@ -141,11 +143,13 @@ class _Reader:
         self.clock = 0
 
     def begin(self, stage: str) -> None:
+        """A round begins: make remakes its makefiles, or its goals."""
         self.round = Round(stage, len(self.words.read) - 1)
         self.words.rounds.append(self.round)
         self.stack, self.children = [], {}
 
     def child(self, what: str, pointer: str, name: str, pid: int) -> None:
+        """A line about a job: it starts, goes on with its next line, or has ended. Make names it by a pointer, which a later job may have too."""
         if self.round is None:
             return
         owner = self.children.get(pointer)
@@ -162,6 +166,7 @@ class _Reader:
             owner.is_ended = what == "Removing child"
 
     def considered(self, depth: int, name: str) -> None:
+        """Make considers a target: it is a prerequisite of the last one that is less deep, or a goal."""
         assert self.round is not None
         while self.stack and self.stack[-1][0] >= depth:
             self.stack.pop()
@@ -177,6 +182,7 @@ class _Reader:
         self.stack.append((depth, name))
 
     def line(self, text: str) -> None:
+        """One line of make's words, or of the wrapper's."""
         words = self.words
         considered = considered_in(text) if self.round is not None else None
         child = CHILD.match(text) if considered is None else None
@@ -195,38 +201,48 @@ class _Reader:
             self.begin("goals")
         elif text.startswith("# GNU Make ") and not words.version:
             words.version = text[len("# GNU Make "):]
-        elif text.startswith("ARGS "):
-            words.args = text[5:]
-        elif text.startswith("FLAGS "):
-            words.flags = text[6:]
-        elif text.startswith("BELOW "):
-            words.below = text == "BELOW 1"
-        elif text.startswith("JOBS "):
-            words.slots = text[5:]
-        elif text.startswith("OUTPUT "):
-            words.output = text[7:]
-        elif text.startswith("LOG "):
-            words.log = text[4:]
-        elif text.startswith("ERRORS "):
-            words.is_joined = text[7:] == "joined"
-            words.errors = "" if words.is_joined else text[7:]
-        elif text.startswith("SPOKEN "):
-            words.spoken = text == "SPOKEN 1"
-        elif text.startswith("SAID ") and text[5:] in self.children:
-            self.children[text[5:]].is_said = True
+        elif self.is_of_wrapper(text):
+            pass
         elif text.startswith("Need a job token; ") or RUNNING.match(text):
             words.holes += [SEVERAL + words.args] if SEVERAL + words.args not in words.holes else []
         elif text.startswith("Loading symbol "):
             words.loaded.append(text.partition(" from ")[2])
-        elif text.startswith("EXIT "):
-            words.status = int(text[5:])
         elif READING.match(text) and words.read:
             is_making = self.round is not None and self.round.start == len(words.read) - 1
             (words.included if is_making else words.read[-1]).append(READING.match(text).group(1))  # type: ignore[union-attr]
         elif self.round is not None:
             self.target(text)
 
+    def is_of_wrapper(self, text: str) -> bool:
+        """Whether a line is one that the wrapper adds (`head_of` and others of wrapper.py), such as `ARGS -k all`; what it says is kept."""
+        (key, blank, value), words = text.partition(" "), self.words
+        if key == "ARGS" and blank:
+            words.args = value
+        elif key == "FLAGS" and blank:
+            words.flags = value
+        elif key == "BELOW" and blank:
+            words.below = value == "1"
+        elif key == "JOBS" and blank:
+            words.slots = value
+        elif key == "OUTPUT" and blank:
+            words.output = value
+        elif key == "LOG" and blank:
+            words.log = value
+        elif key == "ERRORS" and blank:
+            words.is_joined = value == "joined"
+            words.errors = "" if words.is_joined else value
+        elif key == "SPOKEN" and blank:
+            words.spoken = value == "1"
+        elif key == "SAID" and value in self.children:
+            self.children[value].is_said = True
+        elif key == "EXIT" and blank:
+            words.status = int(value)
+        else:
+            return False
+        return True
+
     def target(self, text: str) -> None:
+        """A line about a target other than that make considers it: it has to be made, is done, has failed, or is found in another folder."""
         assert self.round is not None
         self.clock += 1
         finished, vpath, must = FINISHED.match(text), VPATH.match(text), MUST.match(text)
@@ -280,7 +296,8 @@ def read_words(pid: int, life: int, lines: Iterable[str]) -> Words:
     """What a make process said, of the lines that the wrapper kept: each of its starts ends in a data base."""
     words = Words(pid, life)
     reader = _Reader(words)
-    bases, base = 0, []  # how many data bases it printed, and the lines of the one that has not ended
+    bases = 0  # how many data bases it printed
+    base: List[str] = []  # the lines of the one that has not ended
     for raw in lines:
         text = raw.rstrip("\n")
         if base:

@@ -60,30 +60,30 @@ class Splitter:
     the recipe's, though it looks like make's words.
     """
 
-    def __init__(self, log, out, says=False):
+    def __init__(self, log: Kept, out: int, says: bool = False) -> None:
         self.log, self.out = log, out
         self.start = True  # nothing but make's version was written yet
         self.base = False  # inside of the data base
         self.blank = False  # an empty line that may belong to the data base is held back
         self.tail = False  # the empty line behind the data base is due
-        self.next = None  # the target that make is about to remake
+        self.next: "bytes | None" = None  # the target that make is about to remake
         self.job = b""  # the recipe that runs, by make's number for it
-        self.target = b""  # its target
+        self.target: "bytes | None" = b""  # its target
         self.is_between = False  # one of its lines has ended, and make has not started the next
-        self.unclear = []  # what looks like the data base, and may be the first words of a recipe
+        self.unclear: "list[bytes]" = []  # what looks like the data base, and may be the first words of a recipe
         self.several = False  # make runs several recipes at once, against the recorder's words: there is no verdict
         self.says = says  # the log says which recipes print something
         self.has_said = False  # it says so of the recipe that runs
         self.is_said = False  # make has printed something for the recipe that is about to run
         self.piece = b""  # the beginning of a line of make that is longer than a packet
 
-    def pass_on(self, data):
+    def pass_on(self, data: bytes) -> None:
         """Writes all of it to standard output."""
         view = memoryview(data)
         while view:
             view = view[os.write(self.out, view):]
 
-    def note_said(self):
+    def note_said(self) -> None:
         """Says in the log, once, that a recipe, or make for it, has printed something: where somebody keeps that, it matters."""
         if not self.job:
             self.is_said = self.is_said or self.next is not None
@@ -91,11 +91,11 @@ class Splitter:
             self.has_said = True
             self.log.write(b"SAID " + self.job + b"\n")
 
-    def begin(self, job):
+    def begin(self, job: bytes) -> None:
         """Make has started a recipe."""
         self.job, self.target, self.next, self.has_said, self.is_between = job, self.next, None, False, False
 
-    def is_of_recipe(self, packet):
+    def is_of_recipe(self, packet: bytes) -> bool:
         """Whether a write comes while a recipe runs, and is not one of make's lines about it."""
         running = RUNNING.match(packet) if self.job else None
         if TOKEN.match(packet) or running and running.group(1) == self.target:
@@ -112,7 +112,7 @@ class Splitter:
             self.job = b""
         return False
 
-    def is_last(self, packet):
+    def is_last(self, packet: bytes) -> bool:
         """Whether make goes on without a line about the end of the recipe: its last line names a program that is not there, and may fail."""
         remade = REMADE.match(packet) if self.is_between else None
         if remade is None or remade.group(1) != self.target:
@@ -120,7 +120,7 @@ class Splitter:
         self.job = b""
         return True
 
-    def is_early(self, packet):
+    def is_early(self, packet: bytes) -> bool:
         """The same where no recipe runs for all that make has said: its first words may come before make's line about it.
 
         An included makefile is make's own word there: a recipe may include one while make expands it.
@@ -136,7 +136,7 @@ class Splitter:
             return bool(WORD_LINE.match(packet)) and not INCLUDED.match(packet)
         return False
 
-    def take(self, data):
+    def take(self, data: bytes) -> None:
         """What was read: one write of make or of a recipe. Where a recipe has opened /dev/stdout anew, what make writes behind its words may
         come with them."""
         if self.piece or len(data) >= LONG and data[-1:] != b"\n" and BEGINS.match(data):
@@ -154,7 +154,7 @@ class Splitter:
             first, data = self.cut(data, True)
             self.take_one(first)
 
-    def cut(self, data, goes_on):
+    def cut(self, data: bytes, goes_on: bool) -> "tuple[bytes, bytes]":
         """The first part of what was read, and the rest: the words of a recipe end where make names its own number of it, and what make
         writes in one piece has one line a write."""
         at = self.own_line(data)
@@ -165,7 +165,7 @@ class Splitter:
         end = end if at == 0 or is_own else 0
         return (data[:end], data[end:]) if end else (data, b"")
 
-    def own_line(self, data):
+    def own_line(self, data: bytes) -> int:
         """Where the first of make's lines about the recipe that runs stands, or its line about the one that it starts; -1 where there is none."""
         if self.job:
             at = data.find(b" child " + self.job + b" ")
@@ -175,7 +175,7 @@ class Splitter:
             return next((found.start() for found in STARTED.finditer(data) if found.group(2) == self.next), -1)
         return -1
 
-    def take_one(self, packet):
+    def take_one(self, packet: bytes) -> None:
         """One write of make or of a recipe."""
         if self.unclear:
             self.take_unclear(packet)
@@ -191,7 +191,7 @@ class Splitter:
                 self.is_said = False
                 self.note_said()
 
-    def take_unclear(self, packet):
+    def take_unclear(self, packet: bytes) -> None:
         """The data base is the last that make says: what looked like it was a recipe's where make starts that recipe now."""
         begun = STARTED.match(packet)
         if begun and begun.group(2) == self.next:
@@ -203,7 +203,7 @@ class Splitter:
         else:
             self.unclear.append(packet)
 
-    def take_own(self, packet):
+    def take_own(self, packet: bytes) -> None:
         """One write of make, or of nobody that is known."""
         if self.blank:
             self.blank = False
@@ -227,13 +227,13 @@ class Splitter:
             self.note_said()
             self.pass_on(packet[2:] if DIRECTORY.match(packet) else packet)
 
-    def release(self):
+    def release(self) -> None:
         """Passes on what is held back."""
         if self.blank:
             self.pass_on(b"\n")
         self.blank = self.tail = self.start = False
 
-    def end(self):
+    def end(self) -> None:
         """Nothing more is written: what is still unclear is the data base."""
         held, self.unclear, self.next, self.piece = self.unclear + [self.piece] * bool(self.piece), [], None, b""
         for packet in held:
@@ -241,7 +241,7 @@ class Splitter:
         self.release()
 
 
-def open_log(spool, pid):
+def open_log(spool: str, pid: int) -> Kept:
     """The file for the words of one life of a process number: numbers come again."""
     number = 0
     while True:
@@ -251,19 +251,19 @@ def open_log(spool, pid):
             number += 1
 
 
-def note_start(log, real, name, args):
+def note_start(log: str, real: str, name: str, args: "list[str]") -> None:
     """Keeps how this make was started, beside its log, where the recorder asks it again after the build: SPOOL/again says so."""
     if os.path.exists(os.path.dirname(log) + "/again"):
         words = [real, name, os.getcwd(), "%d" % len(args), *args, *("%s=%s" % pair for pair in os.environ.items())]
         keep(log[:-len("make")] + "start", b"\0".join(os.fsencode(word) for word in words))
 
 
-def note_past(spool, args):
+def note_past(spool: str, args: "list[str]") -> None:
     """A make that prints its own words, and yet runs recipes: nobody can say what they do."""
     keep("%s/%d.past" % (spool, os.getpid()), os.fsencode("make " + " ".join(args).replace("\n", " ") + "\n"), "ab")
 
 
-def relay(splitter, reading):
+def relay(splitter: Splitter, reading: int) -> None:
     """Passes on what processes write that outlive make."""
     if os.fork() == 0:
         try:
@@ -273,7 +273,7 @@ def relay(splitter, reading):
             os._exit(0)
 
 
-def serve(splitter, child, reading, writing):
+def serve(splitter: Splitter, child: int, reading: int, writing: int) -> int:
     """Reads what make writes until it has ended; gives its raw status. A recipe may have asked the pipe not to wait: then make would fail where
     that is full, which it hardly is without the recorder's words."""
     watch = os.pidfd_open(child)
@@ -305,19 +305,19 @@ def serve(splitter, child, reading, writing):
     return os.waitpid(child, 0)[1]
 
 
-def head_of(args, flags, below, slots, where, path, errors, spoken):
+def head_of(args: "list[str]", flags: str, below: bool, slots: str, where: str, path: str, errors: str, spoken: bool) -> bytes:
     """The first lines of a log: the words of make, where its output goes, and whether it speaks English for the recorder alone."""
     lines = (("ARGS", " ".join(args)), ("FLAGS", flags), ("BELOW", "%d" % below), ("JOBS", slots), ("OUTPUT", where), ("LOG", path), ("ERRORS", errors), ("SPOKEN", "%d" % spoken))
     return "".join("%s %s\n" % (key, text.replace("\n", " ")) for key, text in lines).encode("utf-8", "surrogateescape")
 
 
-def as_usual():
+def as_usual() -> None:
     """Signals that Python or this program ignores do what they do without them."""
     for one in (signal.SIGPIPE, signal.SIGXFSZ, signal.SIGINT):
         signal.signal(one, signal.SIG_DFL)
 
 
-def run_logged(spool, name, real, args, flags, below, slots):
+def run_logged(spool: str, name: str, real: str, args: "list[str]", flags: str, below: bool, slots: str) -> int:
     """Runs make with the recorder's words and keeps what it says; gives its raw status."""
     extra, spoken = WORDS + (["-j1"] if asks_jobs(args, flags) else []), speak_english(os.environ)
     where, path, errors = goes_to(spool, 1), file_of(spool, 1), "joined" if is_one_file(1, 2) else goes_to(spool, 2)
@@ -348,7 +348,7 @@ def run_logged(spool, name, real, args, flags, below, slots):
     return raw
 
 
-def called_as(me, spool):
+def called_as(me: str, spool: str) -> str:
     """The name by which make was called: where a link leads to the wrapper, that link's, as a whole path if PATH does not lead to it."""
     name = os.path.basename(me)
     places = (os.path.join(folder, name) for folder in os.environ.get("PATH", "").split(":"))
@@ -356,7 +356,7 @@ def called_as(me, spool):
     return name if is_own or next((place for place in places if os.access(place, os.X_OK)), "") == me else me
 
 
-def main(spool):
+def main(spool: str) -> None:
     """Runs the real make, as the caller asked."""
     signal.signal(signal.SIGINT, signal.SIG_IGN)
     name, args = called_as(sys.argv[0], spool), sys.argv[1:]

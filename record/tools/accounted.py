@@ -12,6 +12,7 @@ from typing import List, Optional, Sequence, Set, Tuple
 from record.tools.shelltext import SHELLS
 from record.tools.shellvalues import HIDDEN, Asked, Values, parts_of
 from record.tools.shellwords import Script, Word
+from record.trace.events import LISTED
 from record.trace.lives import Life, Listed, Program
 
 SURE = re.compile(r"(?:[^/\[]|\[[^\[\]/]+\])*[*?](?:[^/])*|[^/\[]*\[[^\[\]/!^\\-]+\][^/\[]*")  # a pattern of names in one folder, whichever shell
@@ -49,7 +50,7 @@ def window(one: Listed) -> Tuple[int, int, Optional[Program]]:
 
 def is_busy(life: Life, program: Program) -> bool:
     """Whether a process that was started did more before its program ran than a shell does for one command."""
-    return any(child.born < program.place for child in life.children) or any(kind == "L" and place < program.place for (kind, _), place in life.events.items())
+    return any(child.born < program.place for child in life.children) or any(kind == LISTED and place < program.place for (kind, _), place in life.events.items())
 
 
 def may_run(command: List[Word], program: Program, values: Values) -> bool:

@@ -208,12 +208,13 @@ class Reader:
         word = plain(tokens[at][1])
         self.closed = None
         if word in GOES_ON:
-            self.end_row(False) if word not in ("!", "time") else None
+            if word not in ("!", "time"):
+                self.end_row(False)
             return at + 1, True
         if word in OPENS:
             self.frames.append(Frame(OPENS[word]))
             return self.head(tokens, at + 1) if word in ("for", "select", "case") else (at + 1, True)
-        if word in OPENS.values():
+        if word is not None and word in OPENS.values():
             self.close(word)
             return at + 1, False
         if word is not None and ASSIGNS.match(word) or tokens[at][1][:1] and ASSIGNS.match(tokens[at][1][0].text):

@@ -4,10 +4,11 @@ import os
 import re
 from typing import List
 
-from record.tools.shelltext import TAKEN, contents, shell_words
+from record.tools.shelltext import contents, shell_words, sourced
 
-COMMAND = re.compile(r"(?:^|[;&|({\n`!)]|\b(?:then|do|else|elif|if|while|until|time|command|builtin)\b)[ \t]*[\"']?\$(?!\(\()|\beval\b")  # one that a macro holds, or another program prints
-TAKES = re.compile(r"[)'\"\\][ \t]*(?:\.|source)[\"']?[ \t]+(?![-|&;<>)])\S")  # text of another file, behind a sign after which `TAKEN` sees none
+# A command that a macro holds, or another program prints: `$command`, `then "$1"`, `$(which cc)`, `eval`. (`$((` begins a number.)
+COMMAND = re.compile(r"(?:^|[;&|({\n`!)]|\b(?:then|do|else|elif|if|while|until|time|command|builtin)\b)[ \t]*[\"']?\$(?!\(\()|\beval\b")
+TAKES = re.compile(r"[)'\"\\][ \t]*(?:\.|source)[\"']?[ \t]+(?![-|&;<>)])\S")  # a script that is taken in behind a sign after which `sourced` sees none: `) . ./x`
 # Scripts that automake brings with it: they run what they are handed, and compare no ages.
 OF_AUTOMAKE = ("install-sh", "mkinstalldirs", "missing", "depcomp", "compile", "test-driver", "ylwrap", "py-compile", "ar-lib", "libtool")
 VERSION = "scriptversion="
@@ -26,5 +27,6 @@ def runs_unseen(argv: List[str], folder: str) -> bool:
 
 def is_open(text: str, folder: str, depth: int) -> bool:
     """Whether a text runs such commands, or one that it takes in."""
-    taken = [name.strip("'\"") for name in TAKEN.findall(text)]
-    return bool(COMMAND.search(text) or TAKES.search(text)) or depth < DEPTH and any(is_open(contents(os.path.join(folder, name)), folder, depth + 1) for name in taken if "$" not in name)
+    if COMMAND.search(text) or TAKES.search(text):
+        return True
+    return depth < DEPTH and any(is_open(contents(os.path.join(folder, name)), folder, depth + 1) for name in sourced(text) if "$" not in name)

@@ -13,6 +13,7 @@ from record.make.database import Base
 from record.make.owners import Owners, Work
 from record.make.words import Round, Words
 from record.tools.shelltext import contents
+from record.trace.events import LISTED, MAKER_SEEN, READ, REMOVED, WRITTEN
 from record.trace.lives import Life
 
 NAME = ".exists"
@@ -38,7 +39,7 @@ def settle_exists(lives: List[Life], logs: Iterable[Words]) -> Markers:
             if path.endswith(NAME) and os.path.basename(path) == NAME:
                 users.setdefault(path, []).append(life)
     bases = [one.base for words in logs for one in words.rounds if one.base is not None] if users else []
-    listed = {os.path.dirname(path) for path in users} & {path.partition("\0")[0] for life in lives if users for kind, path in life.events if kind == "L"}
+    listed = {os.path.dirname(path) for path in users} & {path.partition("\0")[0] for life in lives if users for kind, path in life.events if kind == LISTED}
     plain = {path for path in users if os.path.dirname(path) not in listed and all(is_plain(base, path) for base in bases)}
     found = {path for path in plain if all(is_marker(life, path) for life in users[path])}
     looks: Dict[Tuple[int, str], int] = {}
@@ -58,7 +59,7 @@ def credit_makes(owners: Owners, markers: Markers) -> None:
                 place, folder = markers.looks.get((id(make.life), path), -1), os.path.dirname(path)
                 if place >= 0 and all(waits(one, job.target, name) for job in one.jobs if is_used(make.work.get(id(job)), folder)):
                     for work in (work for above in owners.makes for work in above.work.values() if make in work.makes):
-                        work.add("K", folder, place)
+                        work.add(MAKER_SEEN, folder, place)
 
 
 def is_used(work: Optional[Work], folder: str) -> bool:
@@ -80,11 +81,11 @@ def waits(one: Round, target: str, name: str) -> bool:
 def is_marker(life: Life, path: str) -> bool:
     """Whether a process does no more with such a file than to touch it, or is a make that looks at it, by no function."""
     if life.is_make:
-        is_read = {("R", path), ("W", path), ("D", path)} & life.events.keys()
-        return not is_read and not any(asks(contents(one)) for kind, one in life.events if kind == "R")
+        is_read = {(READ, path), (WRITTEN, path), (REMOVED, path)} & life.events.keys()
+        return not is_read and not any(asks(contents(one)) for kind, one in life.events if kind == READ)
     name = os.path.basename("".join(life.argv[:1]))
     is_touch = name == "perl" and life.argv[1:5] == TOUCHES or name == "touch" and len(life.argv) == 2
-    return is_touch and ("D", path) not in life.events
+    return is_touch and (REMOVED, path) not in life.events
 
 
 def asks(text: str) -> bool:

@@ -12,6 +12,7 @@ from dataclasses import dataclass
 from functools import lru_cache
 from typing import Dict, Iterable, Iterator, List, Optional
 
+from record.trace.events import ABSENT, AGE_SEEN, MADE_QUIETLY, MAKER_SEEN, SEEN, STRICT, WAY_ABSENT
 from record.trace.lives import Life
 
 MAKERS = {"mkdir", "makedirs"}
@@ -133,15 +134,15 @@ def settle_made(life: Life, sources: List[str], begun: int, written: Dict[str, i
     are such folders."""
     if any(written.get(path, 0) > begun for path in sources):
         return False
-    made = {path: place for (kind, path), place in sorted(life.events.items(), key=lambda event: -event[1]) if kind in "ME" and place > begun}
+    made = {path: place for (kind, path), place in sorted(life.events.items(), key=lambda event: -event[1]) if kind in STRICT and place > begun}
     forms = all_forms(life, sources) if made else Forms(False)
     for path, place in made.items() if forms.is_quiet else ():
-        seen = [life.events[kind, path] for kind in ("SNAP" if forms.looks else "SNA") if (kind, path) in life.events]
+        seen = [life.events[kind, path] for kind in ((SEEN, ABSENT, AGE_SEEN, WAY_ABSENT) if forms.looks else (SEEN, ABSENT, AGE_SEEN)) if (kind, path) in life.events]
         if seen and min(seen) < (place if forms.looks else begun):
             continue
-        for kind in "ME":
+        for kind in STRICT:
             life.events.pop((kind, path), None)
-        life.events.setdefault(("T", path), place)
+        life.events.setdefault((MADE_QUIETLY, path), place)
         for folder in (path, *above(path, life.folder)) if forms.is_deep else (path,):
             ask(life, folder, place, begun, forms.looks)
     return bool(made) and forms.is_quiet
@@ -149,13 +150,13 @@ def settle_made(life: Life, sources: List[str], begun: int, written: Dict[str, i
 
 def ask(life: Life, folder: str, place: int, begun: int, looks: bool) -> None:
     """It asks for a folder, and makes it where it is not there."""
-    seen = {kind: life.events[kind, folder] for kind in "SNAP" if (kind, folder) in life.events}
+    seen = {kind: life.events[kind, folder] for kind in (SEEN, ABSENT, AGE_SEEN, WAY_ABSENT) if (kind, folder) in life.events}
     first = min(seen.values(), default=place)
     if looks and first < place or first < begun:
         return
     for kind in seen if not looks else ():
         del life.events[kind, folder]
-    life.events.setdefault(("K", folder), min(first, place))
+    life.events.setdefault((MAKER_SEEN, folder), min(first, place))
 
 
 def above(path: str, folder: str) -> Iterator[str]:

@@ -11,6 +11,9 @@ from dataclasses import dataclass, field
 from functools import lru_cache
 from typing import Dict, Iterable, Iterator, List, Set, Tuple
 
+from record.trace.events import (
+    ABSENT, AGE_SEEN, AGE_UNKNOWN, CREATED, FOLDER_REMOVED, LISTED, MADE_QUIETLY, MAKES, READ, REMOVED, SEEN, STRICT, WAY_ABSENT, WRITTEN,
+)
 from record.trace.lives import Life
 from record.trace.system import OF_SYSTEM
 
@@ -34,6 +37,8 @@ KINDS = (*SOURCES, *LINKED, *MODULES)  # other files may hold words for the comp
 BUILT_IN = re.compile(r"[cC]amlinternal\w*|[sS]tdlib|std_exit|lib(?:asm|caml)run\w*|(?:target_)?camlheader\w*")  # what OCaml looks for in any case
 GIVEN = ("-d", "-s", "-h")  # words before folders that must be there, for older versions
 OWN = ("module-info", "package-info")  # what Java looks for in any case
+NAME_CHANGES = CREATED + REMOVED + MAKES + FOLDER_REMOVED
+FOLDER_ASKS = SEEN + ABSENT + WAY_ABSENT + STRICT + AGE_UNKNOWN + AGE_SEEN  # what javac does with the folder of a package
 LARGE = 1 << 24
 KEPT = 4096
 
@@ -53,9 +58,9 @@ class Disk:
         disk = Disk()
         for life in lives:
             for kind, path in life.events:
-                if kind in "MT":
+                if kind in MAKES:
                     disk.made.add(path)
-                if kind in "CDMTX":
+                if kind in NAME_CHANGES:
                     folder, name = os.path.split(path.rstrip("/"))
                     disk.names.setdefault(folder, set()).add(name)
             for path, place in life.changed.items():
@@ -66,7 +71,7 @@ class Disk:
 
 def whole_lists(parts: Iterable[Life]) -> Set[str]:
     """The folders of which some processes ask for all names."""
-    return {path for part in parts for kind, path in part.events if kind == "L" and path.endswith("\0*")}
+    return {path for part in parts for kind, path in part.events if kind == LISTED and path.endswith("\0*")}
 
 
 def settle_modules(lives: List[Life]) -> Iterator[Tuple[str, str]]:
@@ -77,7 +82,7 @@ def settle_modules(lives: List[Life]) -> Iterator[Tuple[str, str]]:
         parts = list(parts_of(life))
         texts = read_by(parts, disk)
         if all(os.path.isfile(text) for text in texts) and not (kind_of(life) == "java" and is_open(life, parts)):
-            listed = {path.partition("\0")[0] for part in parts for kind, path in part.events if kind == "L"}
+            listed = {path.partition("\0")[0] for part in parts for kind, path in part.events if kind == LISTED}
             lists = whole_lists(parts)
             for part in parts:
                 settle_lists(life, part, texts, disk)
@@ -90,8 +95,8 @@ def settle_modules(lives: List[Life]) -> Iterator[Tuple[str, str]]:
 def settle_lists(life: Life, part: Life, texts: List[str], disk: Disk) -> None:
     """Lists of whole folders."""
     for (kind, path), place in list(part.events.items()):
-        if kind == "L" and path.endswith("\0*") and place > life.begun:
-            del part.events["L", path]
+        if kind == LISTED and path.endswith("\0*") and place > life.begun:
+            del part.events[LISTED, path]
             look_for(life, part, path.partition("\0")[0], place, texts, disk)
 
 
@@ -99,7 +104,7 @@ def look_for(life: Life, part: Life, folder: str, place: int, texts: List[str], 
     """A compiler looks for modules in a folder."""
     for name in sorted(disk.names.get(folder, ())):
         if may_ask(life, name, texts) or kind_of(life) == "java" and (name.lower().endswith(PACKED) or fills(folder, texts, disk)):
-            part.events.setdefault(("L", folder + "\0" + glob.escape(name)), place)
+            part.events.setdefault((LISTED, folder + "\0" + glob.escape(name)), place)
 
 
 def fills(folder: str, texts: List[str], disk: Disk) -> bool:
@@ -125,7 +130,7 @@ def is_open(life: Life, parts: List[Life]) -> bool:
             words += contents(os.path.join(life.folder, word[1:]), False).decode("utf-8", "replace").replace('"', " ").replace("'", " ").split()
     if any(OPEN.match(word) for word in words):
         return True
-    read = {path for part in parts for kind, path in part.events if kind == "R"}
+    read = {path for part in parts for kind, path in part.events if kind == READ}
     home = os.path.dirname(os.path.dirname(os.path.realpath(life.program or "/")))
     packed = [path for path in read if path.lower().endswith(PACKED) and not path.startswith(home + "/")]
     return "-proc:none" not in words and (any(path.endswith(SERVICE) for path in read) or any(holds(path, SERVICE, False) for path in packed))
@@ -134,16 +139,16 @@ def is_open(life: Life, parts: List[Life]) -> bool:
 def settle_packages(life: Life, part: Life, texts: List[str], disk: Disk, listed: Set[str]) -> None:
     """Folders of packages: Java's compilers ask for one before they list it, for all that they find listed there, and make one where it
     is not there and they write into it."""
-    filled = {os.path.dirname(path) for kind, path in part.events if kind in "WC"}
+    filled = {os.path.dirname(path) for kind, path in part.events if kind in (WRITTEN, CREATED)}
     given = {os.path.normpath(os.path.join(life.folder, value)) for word, value in zip(life.argv, life.argv[1:]) if word in GIVEN}
     for (kind, path), place in list(part.events.items()):
-        if kind in "SaA" and os.path.dirname(path) in listed and not may_ask(life, os.path.basename(path), texts):
+        if kind in (SEEN, AGE_UNKNOWN, AGE_SEEN) and os.path.dirname(path) in listed and not may_ask(life, os.path.basename(path), texts):
             del part.events[kind, path]
-        elif path in disk.made and path not in given and place > life.begun and kind in "SNPMEaA":
+        elif path in disk.made and path not in given and place > life.begun and kind in FOLDER_ASKS:
             del part.events[kind, path]
-            if kind in "ME" or path in filled:
-                part.events[("T", path)] = min(place, part.events.get(("T", path), place))
-            if kind in "SN":
+            if kind in STRICT or path in filled:
+                part.events[(MADE_QUIETLY, path)] = min(place, part.events.get((MADE_QUIETLY, path), place))
+            if kind in (SEEN, ABSENT):
                 look_for(life, part, path, place, texts, disk)
 
 
@@ -191,9 +196,9 @@ def parts_of(life: Life) -> Iterator[Life]:
 def read_by(parts: List[Life], disk: Disk) -> List[str]:
     """The files that a compiler read and has not made itself, where they are as they were then; else a name that no file has."""
     known = {id(part) for part in parts}
-    own = {path for part in parts for kind, path in part.events if kind == "C" and disk.writers.get(path, known) <= known}
-    links = {path for part in parts for kind, path in part.events if kind == "R" and os.path.islink(path)}
-    found = {path: place for part in parts for (kind, path), place in part.events.items() if kind == "R" and path not in own | links and may_name(path)}
+    own = {path for part in parts for kind, path in part.events if kind == CREATED and disk.writers.get(path, known) <= known}
+    links = {path for part in parts for kind, path in part.events if kind == READ and os.path.islink(path)}
+    found = {path: place for part in parts for (kind, path), place in part.events.items() if kind == READ and path not in own | links and may_name(path)}
     is_same = all(disk.written.get(path, 0) <= place for path, place in found.items())
     return sorted(found) if is_same else [""]
 
@@ -222,7 +227,7 @@ def asks_ocaml(life: Life, name: str, texts: List[str]) -> bool:
     module = stem[:1].upper() + stem[1:]
     spelled = {stem, module, stem[:1].lower() + stem[1:], *([stem[3:]] if stem.startswith(("lib", "dll")) else [])}
     words = life.argv[1:]
-    if name in map(os.path.basename, words) or BUILT_IN.fullmatch(stem):
+    if name in {os.path.basename(word) for word in words} or BUILT_IN.fullmatch(stem):
         return True
     program = program_of(life).replace(".opt", "")
     if suffix in LINKED and suffix not in MODULES:

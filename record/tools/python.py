@@ -12,6 +12,7 @@ from record.missing.looked import BYTE_CODE
 from record.tools import shelltext
 from record.tools.makedirs import settle_made
 from record.tools.texts import text_of
+from record.trace.events import ABSENT, AGE_SEEN, LISTED, MADE_QUIETLY, MAKER_SEEN, READ, SEEN, STRICT, WAY_ABSENT
 from record.trace.lives import Life
 
 PYTHON = re.compile(r"(?:.*/)?python[\d.]*$")
@@ -70,18 +71,18 @@ def settle_code(life: Life, others: Set[str]) -> None:
         is_cache = os.path.basename(path) == CACHE
         if cache_of(path) in others or place <= life.begun:
             continue
-        if kind in "RSNA" and ({("S", source), ("R", source)} & life.events.keys() or is_cache) or kind == "P" and is_cache:
+        if kind in (READ, SEEN, ABSENT, AGE_SEEN) and ({(SEEN, source), (READ, source)} & life.events.keys() or is_cache) or kind == WAY_ABSENT and is_cache:
             del life.events[kind, path]
-            life.events.setdefault(("K", path) if is_cache else ("R", source), place)
-        elif kind in "ME" and is_cache:
+            life.events.setdefault((MAKER_SEEN, path) if is_cache else (READ, source), place)
+        elif kind in STRICT and is_cache:
             del life.events[kind, path]
-            life.events.setdefault(("T", path), place)
+            life.events.setdefault((MADE_QUIETLY, path), place)
 
 
 def sources_of(life: Life) -> Dict[str, int]:
     """The modules that it reads; none where its script is not among them."""
     found = modules_of(life)
-    return found if script_of(life) in map(os.path.basename, found) else {}
+    return found if script_of(life) in {os.path.basename(path) for path in found} else {}
 
 
 def given_text(life: Life) -> str:
@@ -104,7 +105,7 @@ def modules_of(life: Life) -> Dict[str, int]:
     events = (event for one in life.threads or (life,) for event in one.events.items())
     for (kind, path), place in events:
         source = BYTE_CODE.sub(r"\1\2.py", path)
-        if kind == "R" and source.endswith(TEXTS) and not is_of_python(source, library):
+        if kind == READ and source.endswith(TEXTS) and not is_of_python(source, library):
             found[source] = min(place, found.get(source, place))
     return found
 
@@ -135,16 +136,16 @@ def settle_lists(life: Life, sources: Dict[str, int], own: List[str], written: D
     begun, text = read_at(life, sources), given_text(life)
     if text:
         sources, own = modules_of(life), [*modules_of(life)]
-    lists = {path: place for (kind, path), place in life.events.items() if kind == "L" and path.endswith("\0*") and place > life.begun}
+    lists = {path: place for (kind, path), place in life.events.items() if kind == LISTED and path.endswith("\0*") and place > life.begun}
     if not lists or not (sources or text) or LISTS.search(text) or any(lists_folders(path) or written.get(path, 0) > begun for path in own):
         return
     is_all = not any(lists_folders(path) for path in sources if path not in own)
     for path, place in lists.items():
         folder = path.partition("\0")[0]
         if (place > begun or is_all) and (text and folder == life.folder or any(os.path.dirname(source) == folder for source in sources)):
-            del life.events["L", path]
+            del life.events[LISTED, path]
             for pattern in MODULES:
-                life.events.setdefault(("L", folder + "\0" + pattern), place)
+                life.events.setdefault((LISTED, folder + "\0" + pattern), place)
 
 
 def library_of(life: Life) -> str:

@@ -35,9 +35,11 @@ class ScriptCutter(Cutter):
         self.documents: List[Document] = []
 
     def is_end(self) -> bool:
+        """Whether the bracket stands here that closes `$(`."""
         return self.inside and self.text[self.at] == ")" and self.depth == 0
 
     def operator(self) -> str:
+        """The operator that stands here; `<<` and `<<-` are read here, too."""
         if self.text.startswith(DOCUMENT, self.at):
             return "<<-" if self.text.startswith("<<-", self.at) else DOCUMENT
         return super().operator()
@@ -54,6 +56,7 @@ class ScriptCutter(Cutter):
         self.pieces, self.is_word, self.begun = [], False, ""
 
     def take(self, operator: str, found: List[Token]) -> None:
+        """An operator has been read: behind the end of a line stand the here-documents that the line asks for."""
         if operator and self.begun:
             raise Unread
         if operator.startswith(DOCUMENT):
@@ -65,6 +68,7 @@ class ScriptCutter(Cutter):
             self.read_document(self.documents.pop(0))
 
     def tokens(self) -> List[Token]:
+        """Operators and words of all of the script."""
         found = super().tokens()
         if self.begun or self.documents:
             raise Unread
@@ -90,6 +94,7 @@ class ScriptCutter(Cutter):
             document.pieces += body_pieces("".join(lines))
 
     def macro(self, quoted: bool) -> None:
+        """What a `$` begins: beyond macros and commands the words of the script (`$@`, `$1`), their number, defaults, and parts of values."""
         rest = self.text[self.at + 1:self.at + LONG]
         default, counts = DEFAULT.match(rest), COUNTS.match(rest)
         if rest.startswith("(") and not rest.startswith("(("):
@@ -131,6 +136,7 @@ class ScriptCutter(Cutter):
         self.at = inner.at + 1
 
     def add(self, kind: str, text: str, quoted: bool) -> None:
+        """One more piece."""
         if kind == "command" and (self.begun or self.documents) and "\n" in text:
             raise Unread  # shells differ in where the here-document begins
         super().add(kind, text, quoted)

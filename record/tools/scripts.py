@@ -15,6 +15,7 @@ from record.tools.shellcut import UNSET, Unread
 from record.tools.shellvalues import Asked, Values, parts_in, parts_of
 from record.tools.shellwords import Script
 from record.tools.surroundings import READ_AS, Surroundings, check, whole_text
+from record.trace.events import LISTED, READ
 from record.trace.lives import Life, Listed, Program
 
 KNOWN_SHELLS = ("dash", "bash")
@@ -81,7 +82,7 @@ class Scripts:
         started = self.around.outside(program, "BASH_ENV") if name == "bash" else []
         if self.has_traces or shell == "bash" and self.has_functions or started is None or {*started} - {"", UNSET}:
             return False
-        return ("R", program.script) in program.life.events
+        return (READ, program.script) in program.life.events
 
     def said(self, program: Program) -> Optional[Said]:
         """What the text of a script says; None where it cannot be read."""
@@ -124,8 +125,8 @@ def settle_scripts(lists: Sequence[Listed], lives: Sequence[Life], logs: Sequenc
     scripts = Scripts(lives, logs) if known else None
     for group in known:
         found = [scripts.patterns(one, group) for one in group] if scripts is not None else []
-        life, key = group[0].life, ("L", group[0].folder + "\0*")
+        life, key = group[0].life, (LISTED, group[0].folder + "\0*")
         if all(found) and key in life.events:
             place = life.events.pop(key)
             for pattern in sorted({pattern for patterns in found for pattern in patterns}):
-                life.events.setdefault(("L", group[0].folder + "\0" + pattern), place)
+                life.events.setdefault((LISTED, group[0].folder + "\0" + pattern), place)

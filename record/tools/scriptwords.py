@@ -27,6 +27,7 @@ class ScriptReader(Reader):
 
     # ---------------------------------------------------------------- operators
     def sign(self, state: State, operator: str, tokens: List[Token], at: int) -> int:
+        """An operator: where it goes on. `;;` ends a branch of `case`."""
         if operator == DOCUMENT:
             self.word(tokens[at - 1][1], state.blocks)  # the commands in it run
             return at
@@ -37,11 +38,13 @@ class ScriptReader(Reader):
         return super().sign(state, operator, tokens, at)
 
     def text_word(self, state: State, pieces: List[Piece], tokens: List[Token], at: int) -> int:
+        """A word: where it goes on."""
         if state.is_closed and not state.is_target:
             raise Unread  # words of such a command behind a file that it reads
         return super().text_word(state, pieces, tokens, at)
 
     def word(self, pieces: List[Piece], blocks: List[int]) -> Word:
+        """A word at this place; `${NAME:=VALUE}` in it may set a macro."""
         word = super().word(pieces, blocks)
         for match in (DEFAULT.fullmatch("{%s}" % piece.text) for piece in pieces if piece.kind == "default"):
             if match is not None and "=" in match.group(2):
@@ -50,6 +53,7 @@ class ScriptReader(Reader):
 
     # ---------------------------------------------------------------- words that begin a command
     def first(self, state: State, word: Word, tokens: List[Token], at: int) -> int:
+        """The first word of a command, or one before it: also `case`, and the name of a function."""
         plain = word.plain()
         if plain == "case":
             return self.case(state, tokens, at)
@@ -61,6 +65,7 @@ class ScriptReader(Reader):
         return super().first(state, word, tokens, at)
 
     def begin(self, state: State, word: Word, tokens: List[Token], at: int) -> int:
+        """The name of a command; one that sets macros is read with all its words."""
         handler = COMMANDS.get(word.plain())
         if handler is None:
             return super().begin(state, word, tokens, at)
@@ -136,6 +141,7 @@ class ScriptReader(Reader):
         return at + 1
 
     def loop(self, tokens: List[Token], at: int, blocks: List[int]) -> int:
+        """`for NAME in WORDS`, or `for NAME` over the words of the script: where it goes on, before its `do`."""
         name, behind = plain_at(tokens, at), after_lines(tokens, at + 1)
         if plain_at(tokens, behind) == "in":
             return super().loop([*tokens[:at + 1], *tokens[behind:]], at, blocks) + behind - at - 1

@@ -5,29 +5,43 @@ import re
 from functools import lru_cache
 from typing import List
 
-from record.tools.shelltext import FORMAT_OF_STAT, KEPT, LARGE, SHELLS, TAKEN, TAKES_IN, base_name, contents, is_interpreter, script_of, shell_words
+from record.tools.shelltext import FORMAT_OF_STAT, KEPT, LARGE, SHELLS, TAKES_IN, base_name, contents, is_interpreter, script_of, shell_words, sourced
 from record.tools.texts import text_of
 
-READ_TIMES = re.compile(r"(?:\btest|\[)\s[^;&|\n]*-N\s|\bfind\b[^;|\n]*\s-(?:anewer|amin|atime|used|newera\w|newer\wa)\s|\bstat\b[^;|&\n]*%[-+ 0#'\d.]*[xX]"
-                        r"|\bls\s([^;|&\n]*?\s)?(?:-\w*u|--time=(?:a|u))")
-READ_TIME = re.compile(r"\b(?:st_|get)?atime\b|(?<!\S)-A\s")  # of an interpreter's text
-QUALIFIED = re.compile(r"[\w*?\])/>]\(")  # a pattern of zsh that may ask for ages, as `*(om)` does
-TIME_OF_STAT = re.compile(r"%[-+ 0#'\d.]*[WXYZwxyz]|\s(-\w*t|--t)")
-# The words by which a program shows or compares ages, by its name.
+# Words of a shell's text, or of a program, that ask when a file was read last.
+READ_TIME_WORDS = re.compile(r"""
+      (?:\btest|\[)\s[^;&|\n]*-N\s                                                # [ -N x ]
+    | \bfind\b[^;|\n]*\s-(?:anewer|amin|atime|used|newera\w|newer\wa)\s           # find . -atime 1
+    | \bstat\b[^;|&\n]*%[-+ 0#'\d.]*[xX]                                          # stat -c %X x
+    | \bls\s([^;|&\n]*?\s)?(?:-\w*u|--time=(?:a|u))                               # ls -lu
+    """, re.VERBOSE)
+READ_TIME_NAMES = re.compile(r"\b(?:st_|get)?atime\b|(?<!\S)-A\s")  # the same in a text of Python or Perl: `st_atime`, `getatime(x)`, `-A $x`
+# Words of a shell's text, or of a program, that compare which of two files is newer, or show ages. A macro may hold the word that does so.
+# `ar` with `u` is not among them: it compares a file with its archive alone (record/make/ages.py).
+AGE_WORDS = re.compile(r"""
+      (^|\s|\[)[\"'\\]*-[\"'\\]*-?([no][\"'\\]*t|[ac]?newer[\w-]*|mtime|mmin|atime|amin|cmin|ctime|f?printf)[\"'\\]*[\s=]  # x -nt y, find -newer x, "-ot"
+    | \b(cp|mv|rsync|tar)\s+([^;|&\n]*?\s)?(-\w*u|--update)                       # cp -pu x y
+    | (?:\btest|\[)\s+(?:!\s+)?(?![-!])\S+\s+\"?-?\$\S+\s+[^\s;&|\])]             # test x $how y
+    | \btar\s+\w*u                                                                # tar uf x.tar y
+    | \bls\s+([^;|&\n]*?\s)?-\w*[tlc]                                             # ls -t
+    | \bstat\b[^;|&\n]*%[WXYZwxyz]                                                # stat -c %Y x
+    | --sort[= ]t                                                                 # ls --sort=time
+    | \bdate\s+[^;|&\n]*-r                                                        # date -r x
+    """, re.VERBOSE)
+# The same of one program, by its name: these words would be others elsewhere.
 SHOWS_AGES = {
-    "ls": re.compile(r"\s(-\w*[tlcugon]|--(fu|fo|so|ti))"),
+    "ls": re.compile(r"\s(-\w*[tlcugon]|--(fu|fo|so|ti))"),  # --full-time, --format, --sort, --time
     "date": re.compile(r"\s(-\w*r|--ref)"),
-    "tar": re.compile(r"^\s\w*[uN]|\s(-\w*[uN]|--(ne|af|up|keep-n))"),
+    "tar": re.compile(r"^\s\w*[uN]|\s(-\w*[uN]|--(ne|af|up|keep-n))"),  # --newer, --after-date, --update, --keep-newer-files
     "find": re.compile(r"\s-(f?ls|used)\s"),
     "cp": re.compile(r"\s(-\w*u|--u)"),
     "mv": re.compile(r"\s(-\w*u|--u)"),
     "du": re.compile(r"\s--ti"),
 }
-# `ar` with `u` is not among them: it compares a file with its archive alone (record/make/ages.py).
-AGES = re.compile(
-    r"(^|\s|\[)[\"'\\]*-[\"'\\]*-?([no][\"'\\]*t|[ac]?newer[\w-]*|mtime|mmin|atime|amin|cmin|ctime|f?printf)[\"'\\]*[\s=]|\b(cp|mv|rsync|tar)\s+([^;|&\n]*?\s)?(-\w*u|--update)"
-    r"|(?:\btest|\[)\s+(?:!\s+)?(?![-!])\S+\s+\"?-?\$\S+\s+[^\s;&|\])]|\btar\s+\w*u|\bls\s+([^;|&\n]*?\s)?-\w*[tlc]|\bstat\b[^;|&\n]*%[WXYZwxyz]|--sort[= ]t|\bdate\s+[^;|&\n]*-r")
-COMPUTED = re.compile(r"\beval[ \t]+[\"']?(?:\$\(|`)")  # the text that a program prints
+TIME_OF_STAT = re.compile(r"%[-+ 0#'\d.]*[WXYZwxyz]|\s(-\w*t|--t)")  # words of `stat` that show a time: `-c %010Y`, `-t`
+QUALIFIED = re.compile(r"[\w*?\])/>]\(")  # a pattern of zsh that may ask for ages, as `*(om)` does
+DEPTH = 3  # how many scripts may take in one another
+COMPUTED = re.compile(r"\beval[ \t]+[\"']?(?:\$\(|`)")  # `eval "$(..)"`: the text that a program prints
 
 
 def script_compares(path: str, folder: str, depth: int = 0) -> bool:
@@ -36,8 +50,9 @@ def script_compares(path: str, folder: str, depth: int = 0) -> bool:
         text = text_of(path, LARGE)
     except OSError:
         return True
-    taken = [name.strip("'\"") for name in TAKEN.findall(text)]
-    return len(text) == LARGE or bool(AGES.search(text) or COMPUTED.search(text)) or depth > 3 or any("$" in n or script_compares(os.path.join(folder, n), folder, depth + 1) for n in taken)
+    if len(text) == LARGE or AGE_WORDS.search(text) or COMPUTED.search(text) or depth > DEPTH:
+        return True
+    return any("$" in name or script_compares(os.path.join(folder, name), folder, depth + 1) for name in sourced(text))
 
 
 def shows_ages(argv: List[str]) -> bool:
@@ -55,14 +70,14 @@ def asks_reads(argv: List[str], folder: str) -> bool:
     is_known = base_name(argv) in SHELLS or base_name(argv) in ("test", "[", "find", "stat", "ls")
     if is_interpreter(argv):
         script = next((word for word in argv[1:] if not word.startswith("-")), "")
-        return bool(READ_TIME.search(" ".join(argv)) or READ_TIME.search(contents(os.path.join(folder, script))))
-    return is_known and (bool(READ_TIMES.search(" ".join(argv) + " ")) or bool(script_of(argv)) and asks_reads_in(os.path.join(folder, script_of(argv))))
+        return bool(READ_TIME_NAMES.search(" ".join(argv)) or READ_TIME_NAMES.search(contents(os.path.join(folder, script))))
+    return is_known and (bool(READ_TIME_WORDS.search(" ".join(argv) + " ")) or bool(script_of(argv)) and asks_reads_in(os.path.join(folder, script_of(argv))))
 
 
 @lru_cache(KEPT)
 def asks_reads_in(path: str) -> bool:
     """Whether the text of a script may do so."""
-    return bool(READ_TIMES.search(contents(path)))
+    return bool(READ_TIME_WORDS.search(contents(path)))
 
 
 def compares_ages(argv: List[str], folder: str) -> bool:
@@ -73,5 +88,5 @@ def compares_ages(argv: List[str], folder: str) -> bool:
     if base_name(argv) in SHELLS and not text and not script:
         return True  # its script comes from standard input, and nobody can read it
     if script and "libtool" not in script:
-        return script_compares(os.path.join(folder, script), folder) or bool(AGES.search(" ".join(argv[1:]) + " "))
-    return bool(AGES.search(" ".join(argv) + " ")) or bool(TAKES_IN.search(text))
+        return script_compares(os.path.join(folder, script), folder) or bool(AGE_WORDS.search(" ".join(argv[1:]) + " "))
+    return bool(AGE_WORDS.search(" ".join(argv) + " ")) or bool(TAKES_IN.search(text))

@@ -9,46 +9,58 @@ from typing import Iterable, List, Optional, Set, Tuple
 from record.tools.texts import text_of
 from record.trace.system import OF_SYSTEM
 
+KEPT = 4096  # how many files are remembered
+LARGE = 1 << 22  # how much of a script is read
+
+# Programs by their names.
 SHELLS = ("sh", "dash", "bash", "ksh", "zsh", "ash")
-NAMES_NEXT = re.compile(r"[-+]\w*[oO]\w*|--rcfile|--init-file")  # options of a shell whose value is the next word
-LETTERS = re.compile(r"-\w")
-NINJA = re.compile(r"(?:ninja|ninja-build|samu|samurai)(?:[-.\d]*)$")
-# Programs that look at files by name, and not to compare their ages, where AGES finds no word for that.
+NINJA = re.compile(r"(?:ninja|ninja-build|samu|samurai)(?:[-.\d]*)$")  # `ninja-1.11`
+INTERPRETERS = re.compile(r"(python|perl|ruby|node|lua|tclsh|php)[\d.]*$")  # `python3.11`
+# Programs that look at files by name, and not to compare their ages, where AGE_WORDS (shellages.py) finds no word for that.
 AGELESS = frozenset((
     "make gmake ninja rm cp mv ln ls cat test [ mkdir rmdir touch chmod chown install ginstall env dirname basename readlink realpath pwd head tail"
     " sort uniq wc cmp diff grep egrep fgrep sed awk gawk mawk nawk find xargs tar gzip gunzip xz bzip2 tee tr cut paste od du df stat date sha256sum md5sum"
     " mktemp flock which cc gcc c++ g++ cpp clang clang++ cc1 cc1plus collect2 lto1 as ld ld.bfd ld.gold gold lld ar ranlib nm strip objcopy objdump").split())
-VERSIONED = re.compile(r"(?:[\w.]+-linux-gnu-)?([a-z+\[.][a-z0-9+.]*?)(?:-[\d.]+)?$")
-PROGRESS = ("cmake_progress_start", "cmake_progress_report", "cmake_echo_color")
+VERSIONED = re.compile(r"(?:[\w.]+-linux-gnu-)?([a-z+\[.][a-z0-9+.]*?)(?:-[\d.]+)?$")  # one with a machine or a version: `x86_64-linux-gnu-gcc-12` is `gcc`
+TOOLS = re.compile(r"/usr/(?:local/)?bin/(?:makeinfo|texi2any|pod2man|pod2text|help2man)$")  # scripts of the system that compare no ages
+PROGRESS = ("cmake_progress_start", "cmake_progress_report", "cmake_echo_color")  # what `cmake -E` does to count what is built
 SORTERS = ("make", "gmake", "rm", "chmod", "chown", "rmdir", "git")  # a folder that `cp` or `mv` copies gets its names in that order
 NAMING = ("rm", "rmdir", "chmod", "chown")  # with `-v` or `-c` they say in which order they come to names
 COMPRESSORS = ("gzip", "pigz", "bzip2", "xz", "lzma", "lzip", "zstd", "compress")  # they refuse a file that has two names
-MAKERS = ("install-sh", "mkinstalldirs", "libtool")
+MAKERS = ("install-sh", "mkinstalldirs", "libtool")  # scripts that make folders for themselves
 EXTUTILS = re.compile(r"-MExtUtils::Command -e mkpath$|-MExtUtils::Install -e pm_to_blib\(")  # what Perl's makefiles make folders by
-TOOLS = re.compile(r"/usr/(?:local/)?bin/(?:makeinfo|texi2any|pod2man|pod2text|help2man)$")  # scripts of the system that compare no ages
-INTERPRETERS = re.compile(r"(python|perl|ruby|node|lua|tclsh|php)[\d.]*$")
-TAKES_IN = re.compile(r"(^|[;&|({\n`!]\s*|\b(then|do|else|elif|if|while|until|time|command|builtin)\s+|\b\w+=\S*\s+)(\.|source|eval)\s")  # text of another file
+PASSING = ("env", "nice", "ionice", "setsid", "timeout", "flock", "time", "stdbuf")  # they leave errors to who runs in their place
+
+# Words of programs.
+NAMES_NEXT = re.compile(r"[-+]\w*[oO]\w*|--rcfile|--init-file")  # options of a shell whose value is the next word: `-euo pipefail`
+LETTERS = re.compile(r"-\w")  # options of one letter each, as `-ec`; others have two dashes
+AT_ONCE = re.compile(r"\s(?:-\w*P\s*|--max-procs[= ])(?!\s|1\s)")  # of xargs, by which it runs several programs at once: `-P 4`
+FORCES, SAYS = re.compile(r"-[a-zA-Z]*f[a-zA-Z]*|--force"), re.compile(r"-[a-zA-Z]*[viI][a-zA-Z]*|--(?:verbose|interactive.*)")  # of rm: `-rf`, `-v`
+SHOWS = re.compile(r"-(?:print|ls|fprint|fls|exec|ok)")  # what find does beside `-delete`
+FORMAT_OF_STAT = re.compile(r"\s(-\w*c|--f|--p)")  # `stat -c`, `--format`, `--printf`: it shows no more than that asks for
+SIZE_OF_STAT = re.compile(r"%[-+ 0#'\d.]*[sbB]")  # a format that asks for a size: `%s`, `%010b`
+SHOWS_SIZES = {"ls": re.compile(r"\s(-\w*[sS]|--si|--so\w*[= ]s)"), "find": re.compile(r"\s-size\s")}  # `ls -s`, `--size`, `--sort=size`
+
+# Words of a shell's text.
 OPTIONS = re.compile(r"\b(shopt|compgen|GLOBIGNORE)\b|\s[-+]O\s")  # of bash, by which patterns say something else, or nothing
+# A text of another file, or one that is put together: `. ./x`, `then source x`, `a=1 eval "$x"`.
+TAKES_IN = re.compile(r"(^|[;&|({\n`!]\s*|\b(then|do|else|elif|if|while|until|time|command|builtin)\s+|\b\w+=\S*\s+)(\.|source|eval)\s")
+# The name of a script that a script takes in: `./x` in `if . ./x; then`, see `sourced`.
+SOURCED = re.compile(r"""
+    (?: (?:^|[;&|{(!]|=`|\w=\S*[ \t])[ \t]*                                  # where a command begins, and behind `a=1 `
+      | \b(?:then|do|else|elif|if|while|until|time|command|builtin)[ \t]+ )
+    (?:\.|source)[ \t]+([^\s;&|)#]+)
+    """, re.MULTILINE | re.VERBOSE)
 # Macros in the environment that give bash other options, and functions there: then the words of a shell do not say what it does.
 SHELL_MACROS = {"BASHOPTS", "SHELLOPTS"}
 SETS_OPTIONS = re.compile(r"\b(BASHOPTS|SHELLOPTS|BASH_FUNC_)|\bexport\s+-\w*f|\b(declare|typeset)\s+-(?=\w*x)\w*f")
-AT_ONCE = re.compile(r"\s(?:-\w*P\s*|--max-procs[= ])(?!\s|1\s)")  # words of xargs by which it runs several programs at once
-KEPT = 4096  # how many files are remembered
-LARGE = 1 << 22  # how much of a script is read
-PASSING = ("env", "nice", "ionice", "setsid", "timeout", "flock", "time", "stdbuf")  # they leave errors to who runs in their place
 WORD = re.compile(r"[^\s;|&<>()'\"`]+")  # a text without a word may be long: each sign is looked at once
-MAGIC = re.compile(r"[*?\[]")
-FORMAT_OF_STAT = re.compile(r"\s(-\w*c|--f|--p)")
-SIZE_OF_STAT = re.compile(r"%[-+ 0#'\d.]*[sbB]")
-SHOWS_SIZES = {"ls": re.compile(r"\s(-\w*[sS]|--si|--so\w*[= ]s)"), "find": re.compile(r"\s-size\s")}
-TAKEN = re.compile(r"(?m)(?:(?:^|[;&|{(!]|=`|\w=\S*[ \t])[ \t]*|\b(?:then|do|else|elif|if|while|until|time|command|builtin)[ \t]+)(?:\.|source)[ \t]+([^\s;&|)#]+)")  # scripts that a script takes in
-# What is thrown away, and errors that are not: a folder that is there already is reported there.
+MAGIC = re.compile(r"[*?\[]")  # what makes a word a pattern
+DIRECTORY = r"(?:\"[^\"]*\"|'[^']*'|[^\s;|&<>()'\"`]+)"  # a word that names a folder, perhaps in quotes
+# What is thrown away (`2>/dev/null`), and errors that are not (`2>log`, `2>&1`): a folder that is there already is reported there.
 NOWHERE = re.compile(r"(?:\b2\s*|&)?>>?\s*/dev/null(?:\s*2>&1)?")
 KEPT_ERRORS = re.compile(r"\b2\s*>|&>|>\s*&|\|&")
-REMOVES = re.compile(r"\s*rm\s[^;&|<>`$()\n]*$")  # a text that runs nothing else
-FORCES, SAYS = re.compile(r"-[a-zA-Z]*f[a-zA-Z]*|--force"), re.compile(r"-[a-zA-Z]*[viI][a-zA-Z]*|--(?:verbose|interactive.*)")  # options of rm
-SHOWS = re.compile(r"-(?:print|ls|fprint|fls|exec|ok)")  # what find does beside
-DIRECTORY = r"(?:\"[^\"]*\"|'[^']*'|[^\s;|&<>()'\"`]+)"
+REMOVES = re.compile(r"\s*rm\s[^;&|<>`$()\n]*$")  # a text that runs `rm` and nothing else
 
 
 def base_name(argv: List[str]) -> str:
@@ -297,6 +309,11 @@ def asks_size(argv: List[str]) -> bool:
     return name in SHOWS_SIZES and bool(SHOWS_SIZES[name].search(text))
 
 
+def sourced(text: str) -> List[str]:
+    """The names of scripts that the text of a script takes in, as it spells them, without quotes around them."""
+    return [name.strip("'\"") for name in SOURCED.findall(text)]
+
+
 @lru_cache(KEPT)
 def contents(path: str) -> str:
     """The text of a script; nothing where it is gone."""
@@ -315,7 +332,7 @@ def looks_at_links(argv: List[str]) -> bool:
         return bool(re.search(r"\s(-\w*[lnogs]|--(fo|fu))", text))
     if name in ("find", "tar", "rsync", "cpio", *COMPRESSORS):
         return name != "find" or bool(re.search(r"-links|-printf|-ls|-samefile", text))
-    return bool(INTERPRETERS.match(name)) and "-c" not in argv[:1] and ("stat" in text)
+    return is_interpreter(argv) and "stat" in text  # also in the text of `-c`
 
 
 def sets_options(argv: List[str], folder: str) -> bool:

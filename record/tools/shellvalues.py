@@ -14,6 +14,7 @@ from record.tools import shelltext
 from record.tools.scriptcut import DEFAULT
 from record.tools.shellcut import UNSET, Cutter, Piece, Unread
 from record.tools.shellwords import HIDES, RESERVED, Reader, Script, Setting, Word
+from record.trace.events import READ
 from record.trace.lives import Life
 from record.trace.system import OF_SYSTEM
 
@@ -61,7 +62,7 @@ def patterns_in(life: Life, where: str) -> List[str]:
 
 def parts_in(life: Life, where: str, asked: Iterable[Asked]) -> List[str]:
     """Those of some patterns that a shell may ask for in a folder."""
-    is_sure = not any(kind == "R" and not OF_SYSTEM.match(path) and (os.path.islink(path) or not os.path.lexists(path)) for kind, path in life.events)
+    is_sure = not any(kind == READ and not OF_SYSTEM.match(path) and (os.path.islink(path) or not os.path.lexists(path)) for kind, path in life.events)
     return sorted({one.part for one in asked if not one.folder or not is_sure or fnmatchcase(where, "*/" + one.folder)})
 
 

@@ -20,6 +20,7 @@ from record.tools.scriptwords import ScriptReader
 from record.tools.shellcut import UNSET, Unread
 from record.tools.shellvalues import COUNT, Values
 from record.tools.shellwords import OWN, Script
+from record.trace.events import READ
 from record.trace.lives import Life, Program
 
 # What shells set themselves, and what make hands on in a way of its own.
@@ -166,7 +167,7 @@ class Surroundings:
         """The texts of the makefiles that a make read; one that is gone, or is another one now, may hold anything."""
         folder = Owners.folder_of(life, words)
         for path in (os.path.normpath(os.path.join(folder, name)) for name in makefiles(words)):
-            read, later = life.events.get(("R", path), 0), self.changed.get(path, 0)
+            read, later = life.events.get((READ, path), 0), self.changed.get(path, 0)
             is_other = not os.path.isfile(path) and read or read < later and not path.endswith(WRITTEN_AGAIN)
             yield ANYTHING if is_other else shelltext.contents(path)
         yield " ".join((words.args, words.flags))

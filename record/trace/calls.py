@@ -1,21 +1,28 @@
-"""What each system call does to the name space, and which events it is."""
+"""What each system call does to the name space, and which events it is: the table HANDLERS says which method takes which calls of Linux.
+
+A finished call of a life goes in; events of that life come out (`put`), a name space that has changed, and what nobody can know: holes, and what
+is printed under a yes (sockets, locks, watchers). moves.py, processes.py, opened.py and started.py have the other methods.
+"""
 
 import re
-from typing import Callable, Dict, Tuple
+from typing import Callable, Dict, Iterable, List, Tuple
 
 from record.tools import listed, shelltext
-from record.trace.arguments import TEXT_END, opening, spelled
+from record.trace.arguments import TEXT_END, Opening, opening, spelled
 from record.trace.classes import SHARING
+from record.trace.events import (
+    ABSENT, AGE_SEEN, AGE_TAKEN, AGE_UNKNOWN, CREATED, ENTERED, FOLDER_KEPT, FOLDER_REMOVED, LINKS_CHANGED, LINKS_SEEN, LISTED, MADE,
+    MADE_BEFORE, MADE_QUIETLY, MAKE_LISTED, MODE_CHANGED, MODE_GIVEN, ORDER_SEEN, READ, REMOVED, SEEN, TIME_CHANGED,
+)
 from record.trace.lives import Life
-from record.trace.moves import Moves
 from record.trace.names import Found, Inode
-from record.trace.opened import CHANGING, OF_KERNEL, READING, Opened, requests
-from record.trace.processes import Processes
+from record.trace.opened import CHANGING, OF_KERNEL, READING, requests
 from record.trace.replay import DEVICES
 from record.trace.started import Started
 from record.trace.strace import BARE, MAKES_PROCESS, Call, first_text, folders, texts, unescape
 from record.trace.system import SETTINGS
 
+# Calls by what they do to the name that is their first path.
 LOOKS = {"stat", "lstat", "access", "getxattr", "lgetxattr", "listxattr", "llistxattr", "statfs", "newfstatat",
          "faccessat", "faccessat2", "name_to_handle_at", "statx", "fstatat64", "readlink", "readlinkat", "statfs64", "stat64", "lstat64",
          "oldstat", "oldlstat", "getxattrat", "listxattrat", "file_getattr"}
@@ -26,20 +33,23 @@ CHANGES = {"chmod", "chown", "lchown", "utime", "utimes", "truncate", "setxattr"
            "truncate64", "ftruncate64", "chown32", "lchown32", "fchown32", "utimensat_time64",
            "setxattrat", "removexattrat", "file_setattr"}
 TIMES = {"utime", "utimes", "utimensat", "futimesat", "utimensat_time64"}
-OF_PROCESS = re.compile(r"/proc/(?:(\d+)(?:/|$)|loadavg$)")
-SOCKET = re.compile(r'sun_path="((?:[^"\\]|\\.)*)"')
-OF_WRAPPER = {"execve", *MAKES_PROCESS}  # what counts of the recorder's own wrapper
+BY_NUMBER = {"fchmod", "fchown", "fchown32", "ftruncate", "ftruncate64", "fsetxattr", "fremovexattr"}  # by a descriptor alone
 NUMBERED = {"umask", "kill", "tkill", "tgkill", "rt_sigqueueinfo", "rt_tgsigqueueinfo", "pidfd_open"}  # calls whose first number is no descriptor
-BY_NUMBER = {"fchmod", "fchown", "fchown32", "ftruncate", "ftruncate64", "fsetxattr", "fremovexattr"}
-GIVEN_TIME = re.compile(r"tv_[nu]sec=\d+\}(?: /\*[^*]*\*/)?\]|modtime=")
-MODE = re.compile(r", (0[0-7]*)$")
-GIVEN_MODE = re.compile(r", (0[0-7]+)(?:, [A-Z0-9_|]+)?$")  # a later call has options behind it
-TIMED = re.compile(r"\s(-\w*w|--(wait|timeout))")  # `flock -w SECONDS`
-ANY_PORT = re.compile(r"_port=htons\(0\)")
+OF_WRAPPER = {"execve", *MAKES_PROCESS}  # what counts of the recorder's own wrapper
+THERE = ("EEXIST", "EISDIR", "ENXIO", "EACCES", "ENOTEMPTY")  # errors of an open that say that something has the name
+
+# Parts of arguments, as strace shows them.
+OF_PROCESS = re.compile(r"/proc/(?:(\d+)(?:/|$)|loadavg$)")  # `/proc/123/stat`: what the kernel shows of one process, or of all
+SOCKET = re.compile(r'sun_path="((?:[^"\\]|\\.)*)"')  # `{sa_family=AF_UNIX, sun_path="d/socket"}`
+ANY_PORT = re.compile(r"_port=htons\(0\)")  # `sin_port=htons(0)`: the kernel chooses the number
+GIVEN_TIME = re.compile(r"tv_[nu]sec=\d+\}(?: /\*[^*]*\*/)?\]|modtime=")  # `[.., {tv_sec=5, tv_nsec=0}]`: a time, and not UTIME_NOW or UTIME_OMIT
+MODE = re.compile(r", (0[0-7]*)$")  # of `mkdir("d", 0755)`
+GIVEN_MODE = re.compile(r", (0[0-7]+)(?:, [A-Z0-9_|]+)?$")  # of `fchmodat(AT_FDCWD</w>, "d", 0755, AT_SYMLINK_NOFOLLOW)`
+TIMED = re.compile(r"\s(-\w*w|--(wait|timeout))")  # words of a program that waits for a lock, but not for ever: `flock -w SECONDS`
 
 
 class Calls(Started):
-    """The calls, one method each."""
+    """Calls about one name: who looks at it, opens, lists, makes or removes it, or changes what is known of it; and sockets and locks."""
 
     def call(self, life: Life, call: Call) -> None:
         """One finished call."""
@@ -57,19 +67,17 @@ class Calls(Started):
             self.note_unfollowed(life, call)
 
     def on_bind(self, life: Life, call: Call, ok: bool) -> None:
-        """A socket with a name is a file, which whoever talks to it opens."""
+        """A socket with a name is a file: `bind` makes it, and who connects to it looks at it. One without a name of a file is no event."""
         path = SOCKET.search(call.args)
         if "AF_UNIX" in call.args and (ok or path is None) or "AF_INET" in call.args and not ANY_PORT.search(call.args):
             self.sockets.append(" ".join(life.argv)[:100])
         found = self.found(life, unescape(path.group(1)), True) if path is not None else None
         if found is not None and call.name == "bind" and ok:
-            self.write(life, found, True)
+            self.write(life, found)
         elif found is not None and call.name == "bind":
-            self.put_absent(life, found, "N" if call.error in ("ENOENT", "ENOTDIR") else "R")
+            self.put_absent(life, found, ABSENT if call.error in ("ENOENT", "ENOTDIR") else READ)
         elif found is not None:
-            self.put_look(life, found, call.error not in ("ENOENT", "ENOTDIR"), "R")
-
-    on_connect = on_bind
+            self.put_look(life, found, call.error not in ("ENOENT", "ENOTDIR"), READ)
 
     def on_flock(self, life: Life, call: Call, ok: bool) -> None:
         """Who waits for a lock does the same whoever has it; who does not wait sees whether another has it."""
@@ -85,6 +93,7 @@ class Calls(Started):
         return found.base, found.path
 
     def on_look(self, life: Life, call: Call, ok: bool) -> None:
+        """A look at a name: at what stands there, or at the link itself. It counts for ages too where the program may compare them."""
         base, path, folder, is_open, at_link = spelled(call.args)
         if folder:
             life.folder = folder
@@ -95,20 +104,20 @@ class Calls(Started):
         follow = not at_link and call.name not in NOFOLLOW
         plain = path if call.name == "stat" or (call.name == "newfstatat" and follow and not path.startswith("/")) else ""
         link = call.name.startswith("readlink") and ok
-        found = self.look(life, path, ok or call.error == "EINVAL", follow, "R" if link else "S", base, plain)
+        found = self.look(life, path, ok or call.error == "EINVAL", follow, READ if link else SEEN, base, plain)
         traits = life.traits()
         if traits.looks_at_links:
-            self.put(life, "h", found.path)
+            self.put(life, LINKS_SEEN, found.path)
         if traits.is_tool and not life.is_query:
             return
         if life.is_query or traits.is_interpreter and not (traits.makes_folders and shelltext.makes(life.argv, found.path)) or self.ages(life):
             is_folder = found.inode is not None and found.inode.kind == "d"
             if not is_folder or not self.is_own(life, path, found) or shelltext.names_here(life.argv):
-                self.put(life, "A", found.path)
+                self.put(life, AGE_SEEN, found.path)
         elif traits.asks_size and found.inode is not None and found.inode.kind == "d":
-            self.put(life, "A", found.path)
+            self.put(life, AGE_SEEN, found.path)
         elif self.is_unknown(life) and "access" not in call.name and "readlink" not in call.name:
-            self.put(life, "a", found.path)
+            self.put(life, AGE_UNKNOWN, found.path)
 
     @staticmethod
     def is_own(life: Life, path: str, found: Found) -> bool:
@@ -118,21 +127,24 @@ class Calls(Started):
         return path == "." or path.startswith("/") and above
 
     def on_chdir(self, life: Life, call: Call, ok: bool) -> None:
+        """A process looks at a folder and enters it, with its threads."""
         path = first_text(call.args) or ""
         if not path:  # none that the process can read
             return
         found = self.look(life, path, ok, True)
         if ok:
             life.enter(found.path)
-            self.put(life, "U", found.path)
+            self.put(life, ENTERED, found.path)
 
     def on_fchdir(self, life: Life, call: Call, ok: bool) -> None:
+        """A process enters a folder that it has open: no event, as it has opened that."""
         where = folders(call.args)
         if ok and where:
             life.enter(where[0])
 
     def on_open(self, life: Life, call: Call, ok: bool) -> None:
-        base, path, folder, flags, changes, follow = opening(call.args)
+        """A file or a folder is opened: it is read, or it is written, and perhaps created. A device is none, and what the kernel shows of processes."""
+        base, path, folder, flags, changes, follow = asked = opening(call.args)
         if folder:
             life.folder = folder
         if ok and changes and SETTINGS.match(call.opened or path):
@@ -142,7 +154,6 @@ class Calls(Started):
                 self.note_watcher(life, path)
                 return  # a pipe, a terminal or the like
             base, path = "", call.opened
-        changes = changes or call.name == "creat"
         if not ok and "RESOLVE_IN_ROOT" in call.args:
             self.holes.append("files that are opened after openat2 (RESOLVE_IN_ROOT) are not seen: " + " ".join(life.argv)[:100])
         if not path:
@@ -150,13 +161,8 @@ class Calls(Started):
         if "O_TMPFILE" in flags:  # a file without a name, in a folder that must be there
             self.look(life, path, ok, follow, base=base)
             return
-        if not ok and call.error == "ENOTDIR" and "O_DIRECTORY" in flags and life.traits().is_shell:
-            self.look_for_folder(life, path, base)
-            return
         if not ok:
-            found = self.look(life, path, call.error in ("EEXIST", "EISDIR", "ENXIO", "EACCES", "ENOTEMPTY"), follow, base=base)
-            if changes and call.error == "ENOENT" and found.missing != found.path:
-                self.put(life, "N", found.missing)
+            self.fail_to_open(life, call, asked)
             return
         found = self.found(life, path, follow, base)
         if call.opened.startswith("/") and call.opened != found.path and not DEVICES.match(call.opened):
@@ -164,25 +170,36 @@ class Calls(Started):
         life.handle = (call.result, found.path) if "O_PATH" in flags else (-1, "")
         if "O_TRUNC" not in flags and life.traits().is_shell and path != shelltext.script_of(life.argv):
             life.opened.add(found.path)
-        if not changes:
+        if changes or call.name == "creat":
+            self.open_to_write(life, found, flags, call.name == "creat")
+        else:
             self.take_in(life, found)
+
+    def fail_to_open(self, life: Life, call: Call, asked: Opening) -> None:
+        """Nothing was opened: the process sees that something has the name, or that nothing has it. Who wants to create a file sees also which folder is absent."""
+        if call.error == "ENOTDIR" and "O_DIRECTORY" in asked.flags and life.traits().is_shell:
+            self.look_for_folder(life, asked.path, asked.base)
             return
+        found = self.look(life, asked.path, call.error in THERE, asked.follow, base=asked.base)
+        if (asked.changes or call.name == "creat") and call.error == "ENOENT" and found.missing != found.path:
+            self.put(life, ABSENT, found.missing)
+
+    def open_to_write(self, life: Life, found: Found, flags: str, is_creat: bool) -> None:
+        """A file was opened to change it: what it held may be read too, unless it is emptied, or written alone."""
         if "O_EXCL" in flags:
             self.fresh.add(found.path)
         if "O_CREAT" in flags and not self.is_inside(found.path):
-            self.put(life, "C", found.path)  # the disk has it after the build: nobody knows whether it was there before
-        if "O_WRONLY" not in flags and "O_TRUNC" not in flags and call.name != "creat":
-            self.put(life, "R", found.path)
-        self.write(life, found, False)
-
-    on_openat = on_openat2 = on_creat = on_open
+            self.put(life, CREATED, found.path)  # the disk has it after the build: nobody knows whether it was there before
+        if "O_WRONLY" not in flags and "O_TRUNC" not in flags and not is_creat:
+            self.put(life, READ, found.path)
+        self.write(life, found)
 
     def look_for_folder(self, life: Life, path: str, base: str) -> None:
         """A shell that looks for names asks for a folder where a file is, as for `*/x`: it goes on as where nothing is there. So a folder
         or a link of this name counts, and no file."""
         found = self.found(life, path, True, base)
         folder, _, name = (found.path if found.inode is not None else found.missing or found.path).rpartition("/")
-        self.put(life, "L", "%s\0%s/" % (folder or "/", re.sub(r"[*?\[]", "?", name)))
+        self.put(life, LISTED, "%s\0%s/" % (folder or "/", re.sub(r"[*?\[]", "?", name)))
 
     def note_watcher(self, life: Life, path: str) -> None:
         """What the kernel shows of another process, or of all of them."""
@@ -190,21 +207,19 @@ class Calls(Started):
         if match is not None and not life.is_make and match.group(1) not in {str(one.pid) for one in life.threads or (life,)}:
             self.watchers.append(" ".join(life.argv)[:100])
 
-    def on_inotify_add_watch(self, life: Life, call: Call, ok: bool) -> None:
-        """Who waits for changes sees what runs beside it."""
+    def on_watch(self, life: Life, call: Call, ok: bool) -> None:
+        """Who waits for changes of a name looks at it, and sees what runs beside it."""
         self.look(life, "".join(texts(call.args)[:1]), ok, True)
         self.watchers.append(" ".join(life.argv)[:100])
-
-    on_fanotify_mark = on_inotify_add_watch
 
     def take_in(self, life: Life, found: Found) -> None:
         """A file or a folder is opened, and not to change it."""
         is_folder = found.inode is not None and found.inode.kind == "d"
         self.put_links(life, found)
-        self.put_look(life, found, True, "S" if is_folder else "R")
+        self.put_look(life, found, True, SEEN if is_folder else READ)
         traits = life.traits()
         if traits.looks_at_links:
-            self.put(life, "h", found.path)
+            self.put(life, LINKS_SEEN, found.path)
         if is_folder or life.is_query:
             return
         if life.is_make:
@@ -212,28 +227,28 @@ class Calls(Started):
         elif traits.is_shell:
             life.taken += (found.path,) if shelltext.takes_in(life.argv, found.path) else ()
         elif not traits.is_interpreter and (self.ages(life) or self.is_unknown(life)):
-            self.put(life, "A" if self.ages(life) else "a", found.path)
+            self.put(life, AGE_SEEN if self.ages(life) else AGE_UNKNOWN, found.path)
 
-    def on_getdents64(self, life: Life, call: Call, ok: bool) -> None:
+    def on_list(self, life: Life, call: Call, ok: bool) -> None:
+        """A folder is listed: the event says for which names (record/tools/listed.py), and whether their order counts. Make remembers what it lists."""
         where = folders(call.args)
         if not ok or not where:
             return
         if life.is_make:
-            self.put(life, "Q", where[0])
+            self.put(life, MAKE_LISTED, where[0])
         elif where[0] == "/proc":
             self.watchers.append(" ".join(life.argv)[:100])
         else:
             self.put_lists(life, where[0], listed.patterns(life, where[0], self.is_open_shell), call.result == 0)
             if not shelltext.sorts_names(life.argv):
-                self.put(life, "l", where[0])
-
-    on_getdents = on_readdir = on_getdents64
+                self.put(life, ORDER_SEEN, where[0])
 
     def on_mkdir(self, life: Life, call: Call, ok: bool) -> None:
+        """A folder is made, or is there already: with a word where the program shows who was first, else quietly; and its mode."""
         base, path = self.base_and_path(life, call)
         found = self.found(life, path.rstrip("/") or "/", False, base)
         quiet = shelltext.is_quiet_mkdir(life.argv) and not self.is_inside(life.program)
-        script = next((up.argv for up in life.up() if not up.is_make and shelltext.makes(up.argv, found.path)), [])
+        script: List[str] = next((up.argv for up in life.up() if not up.is_make and shelltext.makes(up.argv, found.path)), [])
         if script and not quiet:
             self.makers.append(" ".join(script)[:60])
             quiet = True
@@ -243,23 +258,21 @@ class Calls(Started):
                 child = Inode("d")
                 child.walked = True
                 self.names.put(found.folder, found.name, child)
-            self.put(life, "T" if quiet else "M", found.path)
-            self.put(life, "C", found.path + "/")
+            self.put(life, MADE_QUIETLY if quiet else MADE, found.path)
+            self.put(life, CREATED, found.path + "/")
         elif call.error == "EEXIST":
-            self.put(life, "T" if quiet else "E", found.path)
+            self.put(life, MADE_QUIETLY if quiet else MADE_BEFORE, found.path)
             if found.inode is None or found.inode.kind != "d":
-                self.put_look(life, found, True, "S")  # a file, or a link, has the name
+                self.put_look(life, found, True, SEEN)  # a file, or a link, has the name
         if ok or call.error == "EEXIST":
             mode = MODE.search(call.args)
             given = self.given_by(life, found.path) or "%o" % (int(mode.group(1), 8) & ~life.mask if mode else -1)
-            self.put(life, "o", found.path + "\0" + given)
+            self.put(life, MODE_GIVEN, found.path + "\0" + given)
             self.names.modes.setdefault(found.path, set()).add(given)
         else:
             self.look(life, path, False, False, base=base)
             if found.missing:
-                self.put(life, "N", found.missing)
-
-    on_mkdirat = on_mkdir
+                self.put(life, ABSENT, found.missing)
 
     def given_by(self, life: Life, path: str) -> str:
         """The mode and the owner that a folder has when `install -d` has ended, which names it: who makes it, and in how many steps, makes no difference."""
@@ -268,16 +281,16 @@ class Calls(Started):
         return given if given and any(self.names.find(begun, name, True).path == path for name in names) else ""
 
     def on_mknod(self, life: Life, call: Call, ok: bool) -> None:
+        """A file, a pipe with a name or a device is made: it counts as a file that is written."""
         base, path = self.base_and_path(life, call)
         found = self.found(life, path, False, base)
         if ok:
-            self.write(life, found, True)
+            self.write(life, found)
         else:
-            self.put_absent(life, found, "S" if call.error == "EEXIST" else "N")
-
-    on_mknodat = on_mknod
+            self.put_absent(life, found, SEEN if call.error == "EEXIST" else ABSENT)
 
     def on_unlink(self, life: Life, call: Call, ok: bool) -> None:
+        """A name or a folder is removed, and a file has a name less; or it is looked at, and stays."""
         base, path = self.base_and_path(life, call)
         found = self.found(life, path.rstrip("/"), False, base)
         folder = call.name == "rmdir" or "AT_REMOVEDIR" in call.args
@@ -285,19 +298,18 @@ class Calls(Started):
             there = call.error != "ENOENT"
             self.look(life, path, there, False, base=base)
             if folder and there:
-                self.put(life, "x", found.path)
+                self.put(life, FOLDER_KEPT, found.path)
             return
         others = [a for a in self.names.aliases(found.inode) if a != found.path]
         if found.folder is not None:
             self.names.take(found.folder, found.name)
-        self.put(life, "X" if folder else "D", found.path)
+        self.put(life, FOLDER_REMOVED if folder else REMOVED, found.path)
         self.hard_links += others[:1]
         for other in others:
-            self.put(life, "H", other)
-
-    on_rmdir = on_unlinkat = on_unlink
+            self.put(life, LINKS_CHANGED, other)
 
     def on_change(self, life: Life, call: Call, ok: bool) -> None:
+        """A file's length, mode, owner, time or attributes change: it is written. Of a folder the mode or the time changes."""
         base, path = self.base_and_path(life, call) if call.name not in BY_NUMBER else ("", "")
         path = path or next(iter(folders(call.args)), "")
         if not path or not path.startswith("/") and call.name in BY_NUMBER:
@@ -307,13 +319,13 @@ class Calls(Started):
             return
         found = self.found(life, path, call.name not in NOFOLLOW and "NOFOLLOW" not in call.args, base)
         if call.name in TIMES and GIVEN_TIME.search(TEXT_END.sub("", call.args)):
-            self.put(life, "c", found.path + "\0")
+            self.put(life, AGE_TAKEN, found.path + "\0")
         if found.inode is not None and found.inode.kind == "d":
             mode = GIVEN_MODE.search(call.args) if "chmod" in call.name else None
             given = self.given_by(life, found.path) or "%o" % (int(mode.group(1), 8) if mode else -1)
-            self.put(life, *(("t", found.path) if call.name in TIMES else ("m", "%s\0%s" % (found.path, given))))
+            self.put(life, *((TIME_CHANGED, found.path) if call.name in TIMES else (MODE_CHANGED, "%s\0%s" % (found.path, given))))
         else:
-            self.write(life, found, False)
+            self.write(life, found)
 
     def on_ioctl(self, life: Life, call: Call, ok: bool) -> None:
         """A request about an open file: it may change the file, or the names in a folder."""
@@ -327,8 +339,32 @@ class Calls(Started):
 
 
 Handler = Callable[[Calls, Life, Call, bool], None]
-HANDLERS: Dict[str, Handler] = {
-    **dict.fromkeys(CHANGES, Calls.on_change),
-    **dict.fromkeys(LOOKS, Calls.on_look),
-    **{name[len("on_"):]: handler for kind in (Moves, Processes, Opened, Started, Calls) for name, handler in vars(kind).items() if name.startswith("on_")},
-}
+# The calls of Linux that each method takes. Their classes are in classes.py: a call without a class and without a method is a hole.
+METHODS: Tuple[Tuple[Handler, Iterable[str]], ...] = (
+    (Calls.on_look, LOOKS),
+    (Calls.on_change, CHANGES),
+    (Calls.on_open, ("open", "openat", "openat2", "creat")),
+    (Calls.on_list, ("getdents", "getdents64", "readdir")),
+    (Calls.on_chdir, ("chdir",)),
+    (Calls.on_fchdir, ("fchdir",)),
+    (Calls.on_mkdir, ("mkdir", "mkdirat")),
+    (Calls.on_mknod, ("mknod", "mknodat")),
+    (Calls.on_unlink, ("unlink", "unlinkat", "rmdir")),
+    (Calls.on_rename, ("rename", "renameat", "renameat2")),
+    (Calls.on_link, ("link", "linkat")),
+    (Calls.on_symlink, ("symlink", "symlinkat")),
+    (Calls.on_execve, ("execve", "execveat")),
+    (Calls.on_fork, MAKES_PROCESS),
+    (Calls.on_core, ("core",)),  # no call: strace.py makes it of the line that says how a process ended
+    (Calls.on_ptrace, ("ptrace",)),
+    (Calls.on_kill, ("kill", "tkill", "tgkill", "rt_sigqueueinfo", "rt_tgsigqueueinfo", "pidfd_open")),
+    (Calls.on_umask, ("umask",)),
+    (Calls.on_unshare, ("unshare",)),
+    (Calls.on_fcntl, ("fcntl", "fcntl64")),
+    (Calls.on_ioctl, ("ioctl",)),
+    (Calls.on_flock, ("flock",)),
+    (Calls.on_socket, ("socket",)),
+    (Calls.on_bind, ("bind", "connect")),
+    (Calls.on_watch, ("inotify_add_watch", "fanotify_mark")),
+)
+HANDLERS: Dict[str, Handler] = {name: handler for handler, names in METHODS for name in names}

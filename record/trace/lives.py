@@ -1,16 +1,6 @@
-"""The tree of processes, and what each life of a process did to files.
+"""The tree of processes, and what each life of a process did to files: its events (events.py), by which all rules work.
 
-A process number comes again, so a life is what counts. An event is a kind and a path; its first place in the order of
-the trace is kept. Kinds:
-
-    R read    S looked at, there    N looked at, absent    P a folder on the way is absent    U a folder was entered
-    W write   C name created        D name removed         M mkdir   T quiet mkdir         E mkdir, there already
-    X rmdir   x rmdir that failed   L listed               m mode of a folder    t time of a folder
-    H number of links changed       h number of links looked at           Q listed by make
-    A looked at by a process that compares ages         K folder looked at by a script that makes it for itself
-    a looked at by a program of which nobody knows whether it compares ages
-    l listed in an order that the file system gives
-    o mode that a folder is made with                   c age taken over from another name, or from one that was looked at
+A process number comes again, so a life is what counts. An event is a kind and a path; its first place in the order of the trace is kept.
 """
 
 from dataclasses import dataclass, field

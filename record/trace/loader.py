@@ -1,14 +1,26 @@
 """The program that the kernel starts in the place of another one: the interpreter that a script or a binary file names."""
 
 import struct
-from typing import List
+from typing import List, NamedTuple
 
 from record.tools.shelltext import first_words
 
 INTERPRETER = 3  # the kind of a segment that names one
 LONGEST = 4096
-# By the class of a file: where the offset, the size and the number of its headers stand, and in a header the offset and the size of a segment.
-PLACES = {1: ("I", 28, 42, 4, 16), 2: ("Q", 32, 54, 8, 32)}
+
+
+class Layout(NamedTuple):
+    """Where a binary file says what its segments are: the format of a place in the file; where the place of the headers stands, and where their size
+    and number do; and in a header where the place and the length of the segment stand."""
+
+    word: str
+    headers: int
+    sizes: int
+    offset: int
+    length: int
+
+
+LAYOUTS = {1: Layout("I", 28, 42, 4, 16), 2: Layout("Q", 32, 54, 8, 32)}  # by the class of a file: 32 or 64 bits
 
 
 def interpreter_words(path: str) -> List[str]:
@@ -21,10 +33,10 @@ def loader_of(path: str) -> List[str]:
     try:
         with open(path, "rb") as file:
             head = file.read(64)
-            if head[:4] != b"\x7fELF" or len(head) < 64 or head[4] not in PLACES:
+            if head[:4] != b"\x7fELF" or len(head) < 64 or head[4] not in LAYOUTS:
                 return []
-            order, (word, at, sizes, offset, length) = "<" if head[5] == 1 else ">", PLACES[head[4]]
-            first, (size, count) = struct.unpack_from(order + word, head, at)[0], struct.unpack_from(order + "HH", head, sizes)
+            order, (word, headers, sizes, offset, length) = "<" if head[5] == 1 else ">", LAYOUTS[head[4]]
+            first, (size, count) = struct.unpack_from(order + word, head, headers)[0], struct.unpack_from(order + "HH", head, sizes)
             file.seek(first)
             table = file.read(size * count)
             for one in range(0, len(table) - size + 1, max(size, 1)):

@@ -1,7 +1,8 @@
-"""What calls that give a file another name do to the name space."""
+"""What calls that give a file another name do to the name space. calls.py says which calls each method takes."""
 
 from typing import Tuple
 
+from record.trace.events import ABSENT, AGE_TAKEN, CREATED, FOLDER_KEPT, FOLDER_REMOVED, LINKS_CHANGED, MADE, READ, REMOVED, SEEN, WRITTEN
 from record.trace.lives import Life
 from record.trace.names import Found, Inode
 from record.trace.replay import Replay
@@ -9,9 +10,10 @@ from record.trace.strace import BARE, TEXT, Call, folders, texts
 
 
 class Moves(Replay):
-    """The calls, one method each."""
+    """Calls about two names: an old one and a new one."""
 
     def two(self, life: Life, call: Call) -> Tuple[Found, Found]:
+        """Where the two paths of a call lead: the old one, and the new one, which is never followed where it ends in a link."""
         words = texts(call.args)
         where = folders(call.args)
         bases = where if len(where) == 2 else [life.folder, life.folder]
@@ -25,17 +27,18 @@ class Moves(Replay):
         self.holes.append("a file is known by the number of its descriptor alone: %s of %s" % (call.name, " ".join(life.argv)[:100]))
 
     def on_rename(self, life: Life, call: Call, ok: bool) -> None:
+        """The old name goes, and the new one has its file, with its age; what had the new name has a name less. Names below a folder go along."""
         if len(texts(call.args)) < 2:
             return
         old, new = self.two(life, call)
         if not ok:
-            self.put(life, "N" if old.inode is None else "S", old.path)
-            self.put_absent(life, new, "N" if new.inode is None else "S")
+            self.put(life, ABSENT if old.inode is None else SEEN, old.path)
+            self.put_absent(life, new, ABSENT if new.inode is None else SEEN)
             if call.error in ("ENOTEMPTY", "EEXIST"):
-                self.put(life, "x", new.path)  # that it holds something counts
+                self.put(life, FOLDER_KEPT, new.path)  # that it holds something counts
             return
-        self.put(life, "R", old.path)
-        self.put(life, "c", new.path + "\0" + old.path)
+        self.put(life, READ, old.path)
+        self.put(life, AGE_TAKEN, new.path + "\0" + old.path)
         if "RENAME_EXCHANGE" in call.args:
             self.holes.append("two names were exchanged in one step: " + old.path)
         if old.folder is None or new.folder is None:
@@ -44,66 +47,62 @@ class Moves(Replay):
             return  # two names of one file: nothing happens
         inode = self.names.take(old.folder, old.name) or Inode("f")
         gone = self.names.take(new.folder, new.name)
-        self.put(life, "D", old.path)
-        self.put(life, "C", new.path)
-        self.put(life, "W", new.path)
+        self.put(life, REMOVED, old.path)
+        self.put(life, CREATED, new.path)
+        self.put(life, WRITTEN, new.path)
         for other in self.names.aliases(gone):
-            self.put(life, "H", other)
+            self.put(life, LINKS_CHANGED, other)
         if inode.kind == "d":
             self.move_folder(life, old.path, new.path)
             for name, child in self.names.below(inode, ""):
-                self.put(life, "D", old.path + name)
-                self.put(life, "C", new.path + name)
-                self.put(life, "W", new.path + name)
+                self.put(life, REMOVED, old.path + name)
+                self.put(life, CREATED, new.path + name)
+                self.put(life, WRITTEN, new.path + name)
                 self.names.links.update([new.path + name] if child.kind == "l" else ())
                 if child.kind == "d":
                     self.move_folder(life, old.path + name, new.path + name)
         self.names.put(new.folder, new.name, inode)
 
-    on_renameat = on_renameat2 = on_rename
-
     def move_folder(self, life: Life, old: str, new: str) -> None:
         """A folder that is moved goes in one place and comes in another, and the processes that are in it go with it."""
-        self.put(life, "X", old)
-        self.put(life, "M", new)
+        self.put(life, FOLDER_REMOVED, old)
+        self.put(life, MADE, new)
         for one in self.lives.values():
             one.folder = new if one.folder == old else one.folder
 
     def on_link(self, life: Life, call: Call, ok: bool) -> None:
+        """A file gets a second name: that is written, with the age of the first, and all names see one more."""
         if len(texts(call.args)) < 2:
             return
         old, new = self.two(life, call)
-        self.put(life, "R" if ok else "S" if old.inode else "N", old.path)
+        self.put(life, READ if ok else SEEN if old.inode else ABSENT, old.path)
         if not ok:
-            self.put_absent(life, new, "S" if call.error == "EEXIST" else "N")
+            self.put_absent(life, new, SEEN if call.error == "EEXIST" else ABSENT)
             return
         inode = old.inode or Inode("f")
         self.fresh.add(new.path)
-        self.put(life, "C", new.path)
-        self.put(life, "W", new.path)
-        self.put(life, "c", new.path + "\0" + old.path)
+        self.put(life, CREATED, new.path)
+        self.put(life, WRITTEN, new.path)
+        self.put(life, AGE_TAKEN, new.path + "\0" + old.path)
         for other in self.names.aliases(inode):
-            self.put(life, "H", other)
+            self.put(life, LINKS_CHANGED, other)
         if new.folder is not None:
             self.names.put(new.folder, new.name, inode)
         self.hard_links.append(new.path)
 
-    on_linkat = on_link
-
     def on_symlink(self, life: Life, call: Call, ok: bool) -> None:
+        """A symbolic link is made: it counts as a file that is written."""
         words, where = texts(call.args), folders(call.args)
         if len(words) < 2:
             return
         found = self.found(life, words[1].rstrip("/"), False, where[-1] if where else life.folder)
         if not ok:
-            self.put_absent(life, found, "S" if call.error == "EEXIST" else "N")
+            self.put_absent(life, found, SEEN if call.error == "EEXIST" else ABSENT)
             return
         if not where and BARE.search(TEXT.sub('""', call.args)):
             self.put_bare(life, call)
         self.fresh.add(found.path)
-        self.put(life, "C", found.path)
-        self.put(life, "W", found.path)
+        self.put(life, CREATED, found.path)
+        self.put(life, WRITTEN, found.path)
         if found.folder is not None:
             self.names.put(found.folder, found.name, Inode("l", words[0]))
-
-    on_symlinkat = on_symlink

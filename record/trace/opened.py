@@ -1,4 +1,4 @@
-"""What calls do to what is open, such as requests (`ioctl`) and locks; and the calls that nobody follows."""
+"""What calls do to what is open, such as requests (`ioctl`) and locks; and the calls that nobody follows. calls.py says which calls each method takes."""
 
 import re
 from typing import Set
@@ -30,7 +30,7 @@ def requests(args: str) -> Set[str]:
 
 
 class Opened(Processes):
-    """The calls, one method each."""
+    """Calls about open files and sockets, and those that become a hole."""
 
     def on_fcntl(self, life: Life, call: Call, ok: bool) -> None:
         """Locks that are not waited for, and leases, by which a process sees that another one opens a file."""
@@ -38,8 +38,6 @@ class Opened(Processes):
             self.locks.append("%s locks %s" % (" ".join(life.argv)[:60], "".join(folders(call.args)[:1])))
         elif ok and LEASE.search(call.args):
             self.watchers.append(" ".join(life.argv)[:100])
-
-    on_fcntl64 = on_fcntl
 
     def on_socket(self, life: Life, call: Call, ok: bool) -> None:
         """Datagrams go to a server without a call that connects."""

@@ -3,9 +3,10 @@
 from typing import Dict, List, Tuple
 
 from record.make.owners import Make
+from record.trace.events import CREATED, FOLDER_REMOVED, MADE, REMOVED
 
 Change = Tuple[int, str, str]  # the place in the trace, the kind of event, the path
-KINDS = {"C": "f", "M": "d", "D": "", "X": ""}
+KINDS = {CREATED: "f", MADE: "d", REMOVED: "", FOLDER_REMOVED: ""}  # what stands there behind an event
 
 
 class Past:

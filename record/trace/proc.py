@@ -3,10 +3,12 @@
 import re
 from typing import Mapping
 
+from record.trace.events import MODE_CHANGED, TIME_CHANGED, TREE_CHANGES
 from record.trace.lives import Life
 
 FOLDER = re.compile(r"/proc/(self|thread-self|\d+)/(?:task/\d+/)?(cwd|root)(/.*|$)", re.S)
 NUMBER = re.compile(r"(?:/dev/fd|/proc/(?:self|thread-self|\d+)/(?:task/\d+/)?fd)/(\d+)(/.*|$)|/dev/std(?:in|out|err)()$", re.S)
+CHANGING = TREE_CHANGES + MODE_CHANGED + TIME_CHANGED
 
 
 def plain_path(life: Life, path: str, lives: Mapping[int, Life]) -> str:
@@ -29,4 +31,4 @@ def plain_path(life: Life, path: str, lives: Mapping[int, Life]) -> str:
 def is_hidden(kind: str, path: str) -> bool:
     """Whether an event is about a file or a folder of which only the number of a descriptor is known."""
     match = NUMBER.match(path)
-    return match is not None and (kind in "WCDMTXmt" or bool(match.group(2)))
+    return match is not None and (kind in CHANGING or bool(match.group(2)))

@@ -1,4 +1,5 @@
-"""What calls say of processes themselves: who starts whom, what they make names without, and what the trace does not see of them."""
+"""What calls say of processes themselves: who starts whom, what they make names without, and what the trace does not see of them. calls.py
+says which calls each method takes."""
 
 import os
 import re
@@ -7,10 +8,10 @@ from functools import lru_cache
 from typing import List
 
 from record.tools import shelltext
+from record.trace.events import LISTED
 from record.trace.lives import Life, Listed, Program
 from record.trace.moves import Moves
 from record.trace.strace import Call
-
 
 NUMBER = re.compile(r"-?(\d+)\b")  # of a process, or of the first one of a group
 
@@ -36,7 +37,7 @@ def lends_rights(program: str, user: int) -> bool:
 
 
 class Processes(Moves):
-    """The calls, one method each."""
+    """Calls about processes, and what is kept of the program that one begins to run."""
 
     def on_fork(self, life: Life, call: Call, ok: bool) -> None:
         """A process, or a thread, has started."""
@@ -46,8 +47,6 @@ class Processes(Moves):
             self.holes.append("a process runs unseen (CLONE_UNTRACED, as that of LeakSanitizer does): " + " ".join(life.argv)[:100])
         elif ok and call.result > 0:
             self.child(life, call.result, "CLONE_FS" in call.args)
-
-    on_vfork = on_clone = on_clone3 = on_fork
 
     def on_core(self, life: Life, call: Call, ok: bool) -> None:
         """The kernel keeps the memory of a process that a signal ends, in a file of whose name the trace says nothing."""
@@ -70,9 +69,8 @@ class Processes(Moves):
         if not life.is_make and (other is None or first_of(other) is not first_of(life)):
             self.watchers.append(" ".join(life.argv)[:100])
 
-    on_tkill = on_tgkill = on_rt_sigqueueinfo = on_rt_tgsigqueueinfo = on_pidfd_open = on_kill
-
     def on_umask(self, life: Life, call: Call, ok: bool) -> None:
+        """The bits that a process makes names without, as in `umask(022) = 0`."""
         life.set_mask(int(call.args, 8))
 
     def on_unshare(self, life: Life, call: Call, ok: bool) -> None:
@@ -86,12 +84,13 @@ class Processes(Moves):
         name = shelltext.script_of(life.argv)
         script = self.names.find(life.folder, name, True).path if name else ""
         shell = self.names.find(life.folder, first[0], True).path if name and first else life.program if name else ""
-        called, given = words[1] if words[1:] else words[0], words[0] if first else ""
-        life.programs.append(Program(life, life.argv, self.place, called, life.folder, script, shell, "".join(first[1:]), given, life.is_ninja, life.program))
+        life.programs.append(Program(
+            life, life.argv, self.place, name=words[1] if words[1:] else words[0], folder=life.folder, script=script, shell=shell,
+            option="".join(first[1:]), given=words[0] if first else "", is_ninja=life.is_ninja, file=life.program))
 
     def put_lists(self, life: Life, folder: str, patterns: List[str], is_end: bool) -> None:
         """A folder was listed for names of these patterns. The text of a script may say more of a list for any name (record/tools/scripts.py)."""
         for pattern in patterns:
-            self.put(life, "L", folder + "\0" + pattern)
+            self.put(life, LISTED, folder + "\0" + pattern)
         if patterns == ["*"]:
             self.lists.append(Listed(life, self.place, folder, not (self.is_open_shell or life.taken or life.cut), is_end))

@@ -5,14 +5,19 @@ import re
 from typing import Dict, List, Set, Tuple
 
 from record.tools import shellages, shelltext
+from record.trace.events import (
+    ABSENT, AGE_SEEN, AGE_UNKNOWN, CHANGES, CREATED, ENTERED, FOLDER_REMOVED, MADE, MADE_QUIETLY, MAKER_SEEN, READ, REMOVED, SEEN,
+    TREE_CHANGES, WAY_ABSENT, WRITTEN,
+)
 from record.trace.lives import Act, Life, Listed
 from record.trace.names import Found, Inode, Names
 from record.trace.proc import NUMBER, is_hidden, plain_path
-from record.trace.strace import Begun, Call, Ended, Event, Unread
+from record.trace.strace import Begun, Call, Event, Unread
 
 DEVICES = re.compile(r"/dev/(null|zero|full|u?random|tty\w*|ptmx|console|std(in|out|err)|fd(/.*)?|pts(/.*)?)$|/proc(/|$)|/sys(/|$)")
 
 PROGRESS = "/CMakeFiles/Progress"
+NAME_CHANGES = CREATED + REMOVED + MADE + FOLDER_REMOVED
 KERNEL = ("/dev/", "/proc", "/sys")  # how a name begins that is a device, or that the kernel shows
 
 
@@ -51,6 +56,7 @@ class Replay:
 
     # ---------------------------------------------------------------- processes
     def life(self, pid: int) -> Life:
+        """The life that has a process number now; a new one where it has none, of a parent that has begun to start a process, if that is clear."""
         life = self.lives.get(pid)
         if life is None or life.died <= self.place:
             life = Life(pid, born=self.place, folder=self.first_folder)
@@ -92,6 +98,7 @@ class Replay:
 
     @staticmethod
     def inherit(child: Life, parent: Life) -> None:
+        """What a process has from who started it: its folder, its mask, and until it runs a program of its own the words."""
         child.folder, child.cut, child.mask, child.taken = parent.folder, parent.cut, parent.mask, parent.taken
         child.argv = child.argv or parent.argv
         child.is_wrapper = parent.is_wrapper if not child.ran else child.is_wrapper
@@ -148,10 +155,11 @@ class Replay:
 
     # ---------------------------------------------------------------- events
     def put(self, life: Life, kind: str, path: str, word: str = "") -> None:
+        """An event of a life, and an act of make where a make does it. `word`: the path as make spelled it. Devices and the recorder's own files have none."""
         if path.startswith(KERNEL) and DEVICES.match(path) and not self.is_inside(path):
             if is_hidden(kind, path):
                 self.holes.append("a file is known by the number of its descriptor alone: %s of %s" % (path, " ".join(life.argv)[:100]))
-            for name in life.handed() if kind in "Aa" and NUMBER.match(path) else ():
+            for name in life.handed() if kind in (AGE_SEEN, AGE_UNKNOWN) and NUMBER.match(path) else ():
                 self.put(life, kind, name)
             return
         if path.startswith(self.spool):
@@ -159,15 +167,15 @@ class Replay:
         if PROGRESS in path and life.traits().shows_progress:
             self.progress.append(path[:path.index(PROGRESS) + len(PROGRESS)])
             return
-        if kind in "WCDMTX" and path.rstrip("/") not in self.fresh and not self.is_inside(path) and not (kind == "T" and path in self.names.above):
+        if kind in TREE_CHANGES and path.rstrip("/") not in self.fresh and not self.is_inside(path) and not (kind == MADE_QUIETLY and path in self.names.above):
             self.outside[path.rstrip("/")] = None
-        if life.is_make and life.number >= 0 or life.is_ninja and kind in "RU":
+        if life.is_make and life.number >= 0 or life.is_ninja and kind in (READ, ENTERED):
             life.acts.append(Act(self.place, kind, path, word))
         if (kind, path) not in life.events:
             life.events[kind, path] = self.place
-        if kind in "WCD":
+        if kind in CHANGES:
             life.changed[path] = self.place
-        if kind in "CDMX":
+        if kind in NAME_CHANGES:
             self.changes.append((self.place, kind, path))
 
     def is_inside(self, path: str) -> bool:
@@ -175,6 +183,7 @@ class Replay:
         return path.startswith(self.below_tops) or path in self.tops
 
     def found(self, life: Life, path: str, follow: bool, base: str = "", word: str = "") -> Found:
+        """Where a path leads a process, from its folder or from `base`; the links on the way are read. `follow`: also a link at the end."""
         if path.startswith(KERNEL):
             plain = plain_path(life, path, self.lives)
             found = Found(plain, None, None, "") if NUMBER.match(plain) else self.names.find(base or life.folder, plain, follow)
@@ -187,43 +196,44 @@ class Replay:
     def put_links(self, life: Life, found: Found, word: str = "") -> None:
         """Links on the way are read."""
         for link in found.links:
-            self.put(life, "R", link, word)
+            self.put(life, READ, link, word)
 
-    def look(self, life: Life, path: str, ok: bool, follow: bool, kind: str = "S", base: str = "", word: str = "") -> Found:
+    def look(self, life: Life, path: str, ok: bool, follow: bool, kind: str = SEEN, base: str = "", word: str = "") -> Found:
+        """A look at a path, which is an event of this kind where something is there (`ok`); what was found."""
         found = self.found(life, path, follow, base, word)
         self.put_look(life, found, ok, kind, word)
         return found
 
     def put_look(self, life: Life, found: Found, ok: bool, kind: str, word: str = "") -> None:
-        """A look at what was found."""
+        """A look at what was found: an event of this kind where something is there (`ok`), else that it is absent, and the folder on the way too."""
         if ok and found.inode is None and found.folder is not None and self.names.is_walked(found.folder):
             self.names.put(found.folder, found.name, Inode("f"))
-        if kind == "S" and not life.is_make and life.traits().makes_folders and shelltext.makes(life.argv, found.path):
+        if kind == SEEN and not life.is_make and life.traits().makes_folders and shelltext.makes(life.argv, found.path):
             for path in (found.path, *shelltext.above(life.argv, found.path)):
-                self.put(life, "K", path)
+                self.put(life, MAKER_SEEN, path)
         else:
-            self.put(life, kind if ok else "N", found.path, word)
+            self.put(life, kind if ok else ABSENT, found.path, word)
         if not ok and found.missing and found.missing != found.path:
-            self.put(life, "P", found.missing)
+            self.put(life, WAY_ABSENT, found.missing)
 
     def put_absent(self, life: Life, found: Found, kind: str) -> None:
         """A name that could not be made: that its folder is absent counts too."""
         self.put(life, kind, found.path)
         if found.missing and found.missing != found.path:
-            self.put(life, "N", found.missing)
+            self.put(life, ABSENT, found.missing)
 
-    def write(self, life: Life, found: Found, created: bool) -> None:
+    def write(self, life: Life, found: Found) -> None:
+        """A file is written, by all its names; it is created where nothing was there."""
         if found.inode is None and found.folder is not None:
             found.inode = Inode("f")
             self.names.put(found.folder, found.name, found.inode)
-            created = True
-            self.put(life, "C", found.path)
-        self.put(life, "W", found.path)
+            self.put(life, CREATED, found.path)
+        self.put(life, WRITTEN, found.path)
         if found.inode is not None and found.inode.unknown > 0:
             self.hard_links.append(found.path)
         if found.inode is not None and len(found.inode.names) > 1:
             for other in self.names.aliases(found.inode):
-                self.put(life, "W", other)
+                self.put(life, WRITTEN, other)
 
     def call(self, life: Life, call: Call) -> None:
         """One finished call."""

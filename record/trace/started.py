@@ -6,8 +6,10 @@ from typing import List
 from record.make.copies import is_other_make
 from record.tools import shellages, shelltext
 from record.tools.computed import runs_unseen
+from record.trace.events import AGE_SEEN, AGE_UNKNOWN, READ
 from record.trace.lives import Life
 from record.trace.loader import interpreter_words
+from record.trace.names import Found
 from record.trace.opened import Opened
 from record.trace.strace import Call, first_text, folders, is_cut, texts
 
@@ -18,6 +20,7 @@ class Started(Opened):
     """The calls that begin a program, and what follows from that."""
 
     def on_execve(self, life: Life, call: Call, ok: bool) -> None:
+        """A process begins to run another program: it reads the program, with all that the kernel reads for it, and has other words from here on."""
         program = first_text(call.args) or "".join(folders(call.args)[:1])
         if not program:
             return
@@ -25,11 +28,32 @@ class Started(Opened):
             self.fail_to_run(life, program, call.error)
             return
         words = [program, *texts(call.args)[1:]]
-        argv = words[1:]
         was_wrapper, was_make = life.is_wrapper, life.is_make
         forked = was_wrapper and not life.ran
-        life.taken = ()
         found = self.names.find(life.folder, words[0], True)
+        self.take_words(life, call, words, found)
+        self.begin_program(life, words, self.first_words(found.path))
+        if life.is_wrapper:
+            self.put_links(life, found)
+            return
+        self.note_rights(life, found.path)
+        self.is_open_shell = self.is_open_shell or shelltext.sets_options(life.argv, life.folder)
+        if shellages.asks_reads(life.argv, life.folder):
+            self.askers.append(" ".join(life.argv)[:100])
+        if self.is_real_make(found.path):
+            self.begin_make(life, was_wrapper, was_make, forked)
+        else:
+            life.is_make = life.is_make and life.number >= 0 and was_make
+            if is_other_make(found.path, self.real):
+                self.past.append(" ".join(life.argv)[:200])
+        self.look(life, words[0], True, True, READ)
+        self.look_at_interpreters(life, words[0])
+        self.note_handed(life)
+
+    def take_words(self, life: Life, call: Call, words: List[str], found: Found) -> None:
+        """A life has other words from here on, those of a script as its interpreter gets them. `words`: the program, and the words that it is handed."""
+        argv = words[1:]
+        life.taken = ()
         life.is_wrapper = found.path.startswith(self.spool + "/bin/")
         argv = argv if life.is_wrapper else shelltext.with_interpreter(argv, found.path, self.first_words(found.path))
         life.program = found.path
@@ -40,25 +64,6 @@ class Started(Opened):
         if life.cut:
             self.holes.append("the words of a program are too many to be seen: " + " ".join(argv)[:100])
         life.ran.append(argv)
-        self.begin_program(life, words, self.first_words(found.path))
-        if life.is_wrapper:
-            self.put_links(life, found)
-            return
-        self.note_rights(life, found.path)
-        self.is_open_shell = self.is_open_shell or shelltext.sets_options(argv, life.folder)
-        if shellages.asks_reads(argv, life.folder):
-            self.askers.append(" ".join(argv)[:100])
-        if self.is_real_make(found.path):
-            self.begin_make(life, was_wrapper, was_make, forked)
-        else:
-            life.is_make = life.is_make and life.number >= 0 and was_make
-            if is_other_make(found.path, self.real):
-                self.past.append(" ".join(life.argv)[:200])
-        self.look(life, words[0], True, True, "R")
-        self.look_at_interpreters(life, words[0])
-        self.note_handed(life)
-
-    on_execveat = on_execve
 
     def fail_to_run(self, life: Life, program: str, error: str) -> None:
         """A program did not start. Where the kernel does not know what kind of file it is, bash reads it itself, as a script."""
@@ -72,7 +77,7 @@ class Started(Opened):
         traits = life.traits()
         is_asked = traits.asks_input or not traits.is_interpreter and not traits.is_shell and self.is_unknown(life)
         for path in life.handed() if is_asked else ():
-            self.put(life, "A" if traits.asks_input or self.ages(life) else "a", path)
+            self.put(life, AGE_SEEN if traits.asks_input or self.ages(life) else AGE_UNKNOWN, path)
 
     def first_words(self, path: str) -> List[str]:
         """The words of a script's first line, read once: the build has ended."""
@@ -98,9 +103,10 @@ class Started(Opened):
             if found.path == self.real:  # the kernel runs make in the script's place
                 self.past.append(" ".join(life.argv)[:200])
             self.put_links(life, found)
-            self.put_look(life, found, found.inode is not None, "R")
+            self.put_look(life, found, found.inode is not None, READ)
 
     def begin_make(self, life: Life, was_wrapper: bool, was_make: bool, forked: bool) -> None:
+        """A process runs make: again, as the child of the wrapper that reads its words, as a question of the wrapper, or past the wrapper."""
         life.is_make = True
         if was_make and life.number >= 0:
             life.starts.append((self.place, life.folder))

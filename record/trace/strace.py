@@ -7,10 +7,12 @@ from typing import Callable, Dict, Iterable, Iterator, List, NamedTuple, Optiona
 
 KEPT, SHORT = 1 << 14, 1000  # how many texts are remembered, and how long they are at most
 Answer = TypeVar("Answer")
+# A whole call: its name, its arguments, its result, what the descriptor that it gave leads to, and the error.
+# `openat(AT_FDCWD</w>, "x", O_RDONLY) = 3</w/x>`, `stat("y", 0x7ffd) = -1 ENOENT (No such file or directory)`
 CALL = re.compile(r"(\w+)\((.*)\)\s+= (-?\d+|0x[0-9a-f]+|\?)(?:<((?:[^<>\\]|\\.)*)>(?:\(deleted\))?)?(?: (E\w+))?(?: \(.*\))?$", re.S)
-ESCAPE = re.compile(r"\\([0-7]{1,3}|x[0-9a-f]{2}|.)", re.S)
-TEXT = re.compile(r'(?<!\\)"((?:[^"\\]|\\.)*)"(\.\.\.)?')  # behind a backslash it is a sign in the name of a descriptor
-FOLDER = re.compile(r"(?:AT_FDCWD|\d+)<((?:[^<>\\]|\\.)*)>")
+ESCAPE = re.compile(r"\\([0-7]{1,3}|x[0-9a-f]{2}|.)", re.S)  # one byte in a text: `\303`, `\n`, `\"`
+TEXT = re.compile(r'(?<!\\)"((?:[^"\\]|\\.)*)"(\.\.\.)?')  # `"x"`, or `"xx"...` if it is cut; behind a backslash a quote is a sign in the name of a descriptor
+FOLDER = re.compile(r"(?:AT_FDCWD|\d+)<((?:[^<>\\]|\\.)*)>")  # a descriptor, and what it leads to: `AT_FDCWD</w>`, `3</w/x>`
 BARE = re.compile(r"(?:^|, )\d+(?:,|$)")  # a descriptor of which strace knows no name
 PLAIN = {"n": "\n", "t": "\t", "r": "\r", "v": "\v", "f": "\f"}
 

@@ -54,7 +54,7 @@ HIDDEN_GUARDS: List[Guard] = [
     Guard("past: what is made while make reads", "trace/past.py", "make.ready[start] if start < len(make.ready) else make.life.born", "make.life.born", hidden("target_that_is_made_while_make_reads"), YES),
     Guard("past: what is made for a makefile", "trace/past.py", "return max([make.ready", "ended = ()\n    return max([make.ready", hidden("target_that_is_made_for_a_makefile"), YES),
     Guard("past: what was made in an earlier place", "trace/past.py", "        if place < self.place:\n", "        if False:\n", trace("names_that_come_and_go")),
-    Guard("past: folders that are moved", "trace/past.py", '"M": "d", ', '"M": "f", ', trace("names_that_come_and_go")),
+    Guard("past: folders that are moved", "trace/past.py", 'MADE: "d", ', 'MADE: "f", ', trace("names_that_come_and_go")),
     Guard("past: folders that the make above made", "trace/past.py", "        elif found == \"d\" or name not in self.now:", "        elif found != \"d\" and name not in self.now:", hidden("folder_that_the_make_above_has_made"), FALSE_RACE),
     Guard("at once: below others that run at once", "at_once.py", " or beside_others and overlap_above(path, who, beside_others):", ":", hidden("two_makes_of_one_recipe_at_once"), UNSAID),
     Guard("at once: not one after the other", "at_once.py", "(wrote or wrote_too) and one.born < other.died and other.born < one.died for", "(wrote or wrote_too) for", hidden("two_makes_of_one_recipe_in_a_row")),

@@ -100,6 +100,8 @@ class Looks(unittest.TestCase):
         for words, wanted in (("stat -c %h x", True), ("stat x", True), ("stat -c %s x", False), ("ls -l", True), ("ls", False), ("tar cf x d", True),
                               ("find . -links 2", True), ("find . -name x", False), ("cat x", False)):
             self.assertEqual(wanted, shelltext.looks_at_links(words.split()), words)
+        for argv, wanted in ((["python3", "-c", "os.stat('x')"], True), (["perl", "-e", "lstat 'x'"], True), (["python3", "-c", "print()"], False)):
+            self.assertEqual(wanted, shelltext.looks_at_links(argv), argv)
 
     def test_scripts_are_searched(self) -> None:
         with support.Project({"old": "test a -nt b\n", "plain": "cat a\n"}) as project:
@@ -111,9 +113,9 @@ class Looks(unittest.TestCase):
 
     def test_scripts_that_a_script_takes_in(self) -> None:
         for text in (". ./x", "if . ./x; then", "then\tsource ./x", "x=1 . ./x", "(. ./x)", "command . ./x", "true && . ./x", "y=`. ./x`", "{ . ./x\n}", "time\n. ./x"):
-            self.assertEqual(["./x"], shelltext.TAKEN.findall(text.replace("./x`", "./x `")), text)
+            self.assertEqual(["./x"], shelltext.sourced(text.replace("./x`", "./x `")), text)
         for text in ('echo "the what command. */"', "# it runs `date`. It prints", "# see foo(1). It prints", "echo . ./x", "cd . x", "./x . y", "a.b c", "ls ../. x"):
-            self.assertEqual([], shelltext.TAKEN.findall(text), text)
+            self.assertEqual([], shelltext.sourced(text), text)
 
 
 if __name__ == "__main__":

@@ -185,6 +185,7 @@ SMALL: Dict[str, Small] = {
     "folder_links_counted": Small("race", "all: a b\na: ; mkdir d/n\nb: ; stat -c %h d > b\n", setup="mkdir d"),
     # names
     "links_of_a_file_counted": Small("race", "all: a b\na: ; ln x y\nb: ; stat -c %h x > b\n", {"x": "x"}),
+    "links_counted_by_a_text_of_python": Small("race", "all: a b\na: ; ln x y\nb: ; python3 -c 'import os; print(os.lstat(\"x\").st_nlink)' > b\n", {"x": "x"}),
     "link_on_the_way": Small("race", "all: a b\na: ; ln -sfn e l\nb: ; cat l/x > b\n", {"d/x": "d", "e/x": "e"}, "ln -s d l"),
     "link_that_a_recipe_makes": Small("safe", "all: a b c\na: ; echo a > a\nb: a ; ln -sf a b\nc: b ; cat b > c\n"),
     "link_to_a_file_that_was_there": Small(

@@ -1,0 +1,43 @@
+"""The kinds of events: what a process did to a path, or saw of it.
+
+An event is a kind and a path; a life keeps the first place of each in the order of the trace (lives.py). A kind is one letter, so that several are a text:
+`kind in LOOKS`. Behind the path of some kinds stands more, after a zero byte.
+"""
+
+# Looks at a name.
+READ = "R"  # a file was opened, run, linked or moved; or a link on the way was followed
+SEEN = "S"  # something was there
+ABSENT = "N"  # nothing was there; or a name could not be made, since its folder was absent
+WAY_ABSENT = "P"  # a folder on the way was absent
+ENTERED = "U"  # a folder was entered
+LINKS_SEEN = "h"  # who looked may count its names
+AGE_SEEN = "A"  # a process looked that compares ages
+AGE_UNKNOWN = "a"  # a process looked of which nobody knows whether it compares ages
+MAKER_SEEN = "K"  # a script looked at a folder that it makes for itself
+
+# Lists of folders.
+LISTED = "L"  # for names that fit a pattern: FOLDER\0PATTERN
+ORDER_SEEN = "l"  # in an order that the file system gives
+MAKE_LISTED = "Q"  # by a make
+
+# Changes.
+WRITTEN = "W"  # what a file holds, or what is known of it
+CREATED = "C"  # a name came; that of a folder has a slash behind it
+REMOVED = "D"  # a name went
+LINKS_CHANGED = "H"  # a file has a name more or less
+AGE_TAKEN = "c"  # the age of another file was given to it: PATH\0OTHER; nothing behind the zero byte for one that the process looked at
+MADE = "M"  # a folder was made, by a program that shows whether it was there
+MADE_QUIETLY = "T"  # a folder was made, or was there: the program does not show which
+MADE_BEFORE = "E"  # a folder could not be made, since the name was there
+MODE_GIVEN = "o"  # the mode that a folder was made with: PATH\0MODE
+MODE_CHANGED = "m"  # the mode of a folder: PATH\0MODE
+TIME_CHANGED = "t"  # the time of a folder
+FOLDER_REMOVED = "X"  # a folder went
+FOLDER_KEPT = "x"  # a folder could not be removed, since it held something
+
+LOOKS = READ + SEEN + ABSENT
+ASKS = LOOKS + WAY_ABSENT + MAKER_SEEN  # a process sees whether a name is there
+CHANGES = WRITTEN + CREATED + REMOVED
+MAKES = MADE + MADE_QUIETLY
+STRICT = MADE + MADE_BEFORE  # it shows who was the first to make a folder
+TREE_CHANGES = CHANGES + MAKES + FOLDER_REMOVED
