@@ -94,6 +94,6 @@ MISSING_GUARDS: List[Guard] = [
     Guard("missing: canned recipes", "missing/keeping.py", "for one in (text, *map(known.text_of, known.reached(text))))\n\n", "for one in (text, *(known.base.values.get(name, '') for name in known.reached(text))))\n\n", tree("a canned recipe that asks what is newer")),
     Guard("missing: files that are opened to read and to write", "missing/keeping.py", ' + (kind == "R")', "", tree("a state that is opened to read and to write")),
     Guard("warm: links that are made", "warm.py", "for node in nodes if not is_new_link(build, node, names))", "for node in nodes)", "test_warm.Warm.test_link_that_is_made"),
-    Guard("warm: links that were there", "warm.py", " and own not in names.before", "", "test_warm.Warm.test_link_that_is_made"),
+    Guard("warm: links that were there", "warm.py", " and path not in names.before", "", "test_warm.Warm.test_link_that_is_made"),
     Guard("missing: warm", "missing/report.py", 'else ["what was up to date did not run (WARM)"] if warm else []', "else []", verdict("warm"), "", ("main.py", "if ended == 0 and record.warm and not (options.warm or record.stands_alone):", "if False:")),
 ]
