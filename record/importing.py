@@ -84,7 +84,7 @@ def settle_all(replay: Calls, spool: Path, assumed: Assumptions) -> Owners:
     markers = settle_exists(replay.all, logs)
     for name in sorted(markers.paths):
         assumed.add("makers", name)
-    owners = Owners(replay.all, logs)
+    owners = Owners(replay.all, logs, replay.names.links)
     credit_makes(owners, markers)
     return owners
 

@@ -15,7 +15,7 @@ if TYPE_CHECKING:
 MACRO = re.compile(r"\$(?:\((?:call[ \t]+)?([\w.-]+)\)|\{(?:call[ \t]+)?([\w.-]+)\}|(\w))")
 DIR = re.compile(r"\$[({]dir[ \t]+([^\s$(){},]+)[)}]")
 PATH = r"(?P<path>[^\s$*?\[\\(){},;|&<>'\"`~#]+)"
-# A line of a recipe that makes a folder where it is not there, and says so at most.
+# What makes a folder where it is not there, and says so at most: the beginning of a recipe's line, or all of it.
 MAKES = re.compile(r"[ \t@+-]*\$\(if \$\(wildcard " + PATH + r"\),,[ \t]*(?:@?echo [^;&|`$<>()\n]*;[ \t]*)?\$\(shell mkdir -p (?P=path)\)\)[ \t]*")
 LOOKS = re.compile(r"\b(?:wildcard|realpath|eval)\b")  # functions of make that may look at a folder, also by what make remembers
 ACTS = re.compile(LOOKS.pattern + r"|\b(?:shell|file)\b")  # and those that may use it
@@ -33,11 +33,12 @@ def makes_ahead(builder: "Builder", at: int, folder: str) -> bool:
     base, known = builder.graph.base, builder.known
     lines = base.recipes.get(task.node.name, []) if ".SECONDEXPANSION" not in base.prerequisites else []
     for place, line in enumerate(lines):
-        found = MAKES.fullmatch(text_for(known, task.node.name, line))
+        text = text_for(known, task.node.name, line)
+        found = MAKES.match(text)
         if found is not None:
             path = builder.names.find(builder.make.folder, found.group("path"), True).path
             is_here = (path + "/").startswith(folder + "/")
-            return is_here and not leads_to(known, lines[:place], ACTS) and not leads_to(known, lines[place + 1:], LOOKS)
+            return is_here and not leads_to(known, lines[:place], ACTS) and not leads_to(known, [text[found.end():], *lines[place + 1:]], LOOKS)
     return False
 
 

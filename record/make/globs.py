@@ -6,7 +6,8 @@ from fnmatch import fnmatchcase
 from functools import cached_property
 from typing import Callable, Dict, Iterable, Iterator, List, Optional, Set
 
-from record.tools.shelltext import folders_of, loose
+from record.make.asked import EARLIER, EVERYTHING, MAGIC, NAMED, ODD, SIGN, UNKNOWN, Asked, parts_of, pieces
+from record.tools.shelltext import loose
 
 CALL = re.compile(r"\$([({])wildcard[ \t]+")
 CALLS = re.compile(r"\$([({])call[ \t]+")
@@ -18,7 +19,6 @@ VALUE = re.compile(r"(?:[^\n]*\\\n)*[^\n]*")
 BINDS = re.compile(r"\b(?:define|undefine|foreach|let)\s")
 REFERENCE = re.compile(r"\$(?:\(([\w.-]+)(?::[^$(){}*?\[]*)?\)|\{([\w.-]+)(?::[^$(){}*?\[]*)?\}|(\w))")
 COMPUTED = re.compile(r"\$(?:\(([\w.-]*)\$(?:\(([\w.-]+)\)|\{([\w.-]+)\}|(\w))([\w.-]*)\)|\{([\w.-]*)\$(?:\(([\w.-]+)\)|\{([\w.-]+)\}|(\w))([\w.-]*)\})")  # a name with one macro in it
-MAGIC = re.compile(r"[*?\[]")
 # What gives a value to a name of a target or to an argument: a loop over such a name, or one that is computed, and an assignment.
 BOUND = re.compile(r"\$[({](?:foreach|let)[ \t]+(?:[^,\n]*[^\w.,\s-]|(?:[^,\n]*\s)?\d)[^,\n]*,"
                    r"|(?m:^)(?!\t)(?:[^\n;#=]*:)?[ \t]*(?:(?:override|export|private|define)[ \t]+)*(?:\d+|[@<^+*?|%])[ \t]*(?:[+?!]|::?:?)?="
@@ -45,9 +45,6 @@ BRACKETS = {"(": ")", "{": "}"}
 PLAIN_NAME = re.compile(r"[\w./+-]+")
 PLAIN = re.compile(r"\$(?:[({]([\w.-]+)[)}]|(\w))")
 DEPTH = 8  # how often macros are put in the places of their names
-NAMED = "\x01"  # names without a pattern
-UNKNOWN = "\x02"  # anything
-SIGN = "\x03"  # a sign of a name that is none of a reference
 # Functions whose text has no pattern where their arguments have none.
 QUIET = re.compile(r"\$[({](?:dir|notdir|basename|suffix|addprefix|addsuffix|join|patsubst|subst|strip|sort|filter|filter-out|firstword"
                    r"|lastword|word|wordlist|abspath|realpath|if|or|and|findstring)[ \t]")
@@ -192,39 +189,40 @@ def with_values(text: str, values: Dict[str, str]) -> str:
     return text
 
 
-def patterns(texts: List[str], values: Dict[str, str], names: Iterable[str] = ("*",)) -> Set[str]:
-    """The patterns of one part of a path that makefiles look for; `*` where they cannot be known.
+def patterns(texts: List[str], values: Dict[str, str], names: Iterable[str] = ("*",)) -> Set[Asked]:
+    """The patterns of one part of a path that makefiles look for, and in which folders; everything where they cannot be known.
 
     `values` has macros with the text that make had for them at its end, and `names` are all targets that it considered.
     """
     macros = Macros("\n".join(texts), values, names)
-    found: Set[str] = set()
+    found: Set[Asked] = set()
     calls = list(arguments(macros.text))
     for words in calls:
         found.update(parts(words, macros))
     if macros.text.count("wildcard") > len(calls) or composes(macros.text, "wildcard"):
-        found.add("*")
+        found.add(EVERYTHING)
     return found
 
 
-def listed(texts: List[str], values: Dict[str, str], names: Iterable[str] = ("*",), asked: Callable[[], Set[str]] = lambda: {"*"}) -> Set[str]:
-    """The patterns in rules and in lines that include makefiles, and in macros that stand there; `*` where one of these may hold any.
+def listed(texts: List[str], values: Dict[str, str], names: Iterable[str] = ("*",), asked: Callable[[], Set[str]] = lambda: {"*"}) -> Set[Asked]:
+    """The patterns in rules and in lines that include makefiles, and in macros that stand there; everything where one of these may hold any.
 
     `asked` gives all names that make has considered, or may have looked for to find an implicit rule.
     """
     macros = Macros("\n".join(texts), values, names)
-    found: Set[str] = set()
+    found: Set[Asked] = set()
     if any(macros.may_be_rule(line.group()) for line in LINE.finditer(macros.text)):
-        found.add("*")
+        found.add(EVERYTHING)
     for text in [*(text for text in RULE.findall(macros.text) if not is_alone(text, SAYS)), *INCLUDE.findall(macros.text)]:
         if any(text.count(one) > text.count(other) for one, other in BRACKETS.items()):
-            found.add("*")  # a function goes on behind what looks like the end of the rule
+            found.add(EVERYTHING)  # a function goes on behind what looks like the end of the rule
         if "$$" in text and macros.is_plain_later(text):
             text = text.replace("$$", SIGN)
         if not macros.is_plain(text) and not is_unasked(text, macros, asked):
+            is_odd = re.search(r"[$(){}\\%s]" % SIGN, REFERENCE.sub("", text.replace("\\\n", " "))) is not None  # a blank may stand in a reference
             for word in (word for word in text.replace("\\\n", " ").split() if "$" not in word or not macros.is_plain(word)):
-                found |= parts(word, macros) if "$" in word else set(parts_of(word))
-    return {part.replace(SIGN, "?") for part in found}
+                found |= parts(word, macros, is_odd) if "$" in word else {one for piece in pieces(word) for one in parts_of(piece, is_odd)}
+    return found
 
 
 def is_unasked(text: str, macros: Macros, names: Callable[[], Set[str]]) -> bool:
@@ -267,27 +265,23 @@ def arguments(text: str, begins: "re.Pattern[str]" = CALL) -> Iterator[Optional[
         yield text[call.end(): at - 1] if depth == 0 else None
 
 
-def parts(words: Optional[str], macros: Macros) -> Set[str]:
-    """The parts of some words that hold a pattern."""
+def parts(words: Optional[str], macros: Macros, is_odd: bool = False) -> Set[Asked]:
+    """The parts of some words that hold a pattern. `is_odd`: nobody can say in which folders."""
     if words is None:
-        return {"*"}
+        return {EVERYTHING}
 
     def value(found: "re.Match[str]") -> str:
         name = found.group(1) or found.group(2) or found.group(3)
         fixed = macros.fixed(name) if ":" not in found.group(0) else None
-        return fixed if fixed is not None else NAMED if macros.has_no_pattern(name) or name.isdigit() and macros.has_plain_arguments() else UNKNOWN
+        if fixed is not None:
+            return EARLIER + re.sub(r"(\S+)", EARLIER + r"\1" + EARLIER, fixed) + EARLIER
+        return NAMED if macros.has_no_pattern(name) or name.isdigit() and macros.has_plain_arguments() else UNKNOWN
 
-    found: Set[str] = set()
-    for word in REFERENCE.sub(value, AUTOMATIC.sub(macros.target, words)).split():
+    found: Set[Asked] = set()
+    text = REFERENCE.sub(value, AUTOMATIC.sub(macros.target, words))
+    for word in text.split():
         if any(mark in word for mark in (UNKNOWN, "$", "(", "{")):
-            found.add("*")
+            found.add(EVERYTHING)
         else:
-            found.update(parts_of(word))
-    return {part.replace(NAMED, "*") for part in found}
-
-
-def parts_of(word: str) -> Iterator[str]:
-    """The parts of a path that hold a pattern; all but the last are about folders."""
-    *before, last = loose(word).split("/")
-    yield from (folders_of(part) for part in before if MAGIC.search(part))
-    yield from [last] if MAGIC.search(last) else []
+            found.update(one for piece in pieces(word) for one in parts_of(piece, is_odd or ODD.search(text) is not None))
+    return found

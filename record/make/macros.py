@@ -5,7 +5,7 @@ import re
 from dataclasses import dataclass, field
 from fnmatch import fnmatchcase
 from functools import cached_property, lru_cache
-from typing import Dict, Iterable, Iterator, List, NamedTuple, Set, Tuple
+from typing import Dict, Iterable, Iterator, List, NamedTuple, Optional, Set, Tuple
 
 from record.make.database import Base
 from record.make.database import LINES_TEXT as LINES
@@ -20,6 +20,8 @@ BEGIN = re.compile(r"\$(?:[({](?:(?:call|value|origin|flavor)[ \t]+)?|(\w))")
 EVAL = re.compile(r"\$([({])eval[ \t]")
 BUILT_IN = re.compile(r"\$([({])call\s+(call|eval|value|origin|flavor)\s*,")  # a function of make that `call` calls
 COMPUTED = re.compile(r"\$[({]call\s[^,(){}]*\$")  # a function that another macro names
+LOOP = re.compile(r"\$\(foreach[ \t]+([\w.-]+),[ \t]*\$\(([\w.-]+)\)[ \t]*,")  # over the words of one macro
+ALONE = re.compile(r"(?<!\S)\$\(([\w.-]+)\)(?!\S)")  # a macro that stands for whole words
 BARE = re.compile(r"(?<![({\w-])eval\b")  # its name where nothing calls it
 SETS = re.compile(r"[ \t]*(?:override[ \t]+|export[ \t]+)*([\w.-]+)[ \t]*(\+|\?|!|:{0,3})=")
 ASSIGNED = re.compile(r"(?<![\w.-])([\w.-]+)[ \t]*(?:[+?!]|:{1,3})?=((?:[^\n]*\\\n)*[^\n]*)")
@@ -180,12 +182,33 @@ class Macros:
     def named_by(self, name: str) -> Set[str]:
         """The macros that a macro refers to; those that a pattern fits."""
         if name not in self.named:
-            self.named[name] = set(matching(self.texts, name)) if "*" in name else named(self.text_of(name))
+            self.named[name] = set(matching(self.texts, name)) if "*" in name else named(self.with_loops(self.text_of(name)))
         return self.named[name]
+
+    def with_loops(self, text: str) -> str:
+        """A text in which a loop names the macros that it asks for where their names are the words of another one: `$(foreach x,$(ALL),$($(x)))`."""
+        for loop in reversed(list(LOOP.finditer(text))):
+            end, name = end_of(text, loop.start() + 1), re.escape(loop.group(1))
+            body, words = text[loop.end():end], self.words_of(loop.group(2), set())
+            if words is not None and not re.search(r"\b(?:eval\b|(?:foreach|let)[ \t]+[^,]*(?<![\w.-])%s(?![\w.-]))" % name, body):
+                body = re.sub(r"\$\(\$(?:\(%s\)|\{%s\})\)" % (name, name), "".join("$(%s)" % word for word in sorted(words)), body)
+                text = text[:loop.end()] + body + text[end:]
+        return text
+
+    def words_of(self, name: str, seen: Set[str]) -> Optional[Set[str]]:
+        """The words that a macro may have, where all of them stand in texts; None where they are put together otherwise."""
+        found: Set[str] = set()
+        for text in (one.replace("\\\n", " ") for one in self.texts.get(name, ()) if name not in seen):
+            others = [self.words_of(other, {*seen, name}) for other in ALONE.findall(text)]
+            words = set(ALONE.sub(" ", text).split())
+            if self.is_lost or None in others or not all(map(WORD.fullmatch, words)):
+                return None
+            found |= words.union(*(other or () for other in others))
+        return found
 
     def reached(self, text: str) -> Set[str]:
         """All macros that a text refers to, also by way of others."""
-        return {name for one in named(text) for name in self.reached_from(one)}
+        return {name for one in named(self.with_loops(text)) for name in self.reached_from(one)}
 
     def reached_from(self, start: str) -> Set[str]:
         """A macro, and all that it refers to, also by way of others."""

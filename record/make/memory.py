@@ -34,9 +34,10 @@ def place_listings(builder: "Builder") -> None:
 
 def add_list(make: Make, work: Work, folder: str, place: int) -> None:
     """A folder is listed for all that a make asks for by `wildcard`; before it sorted what it finds, the order of the names counts too."""
-    for pattern in make.globs:
+    patterns = make.patterns_in(folder)
+    for pattern in patterns:
         work.add(LISTED, folder + "\0" + pattern, place)
-    if make.globs and not make.words.sorts_names:
+    if patterns and not make.words.sorts_names:
         work.add(ORDER_SEEN, folder, place)
 
 

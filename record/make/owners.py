@@ -6,8 +6,9 @@ import os
 import re
 from dataclasses import dataclass, field
 from functools import cached_property
-from typing import TYPE_CHECKING, Dict, Iterable, List, Optional, Set, Tuple
+from typing import TYPE_CHECKING, Container, Dict, Iterable, List, Optional, Set, Tuple
 
+from record.make.asked import EVERYTHING, Asked, asked_in
 from record.make.database import Base
 from record.make.globs import listed, patterns
 from record.make.idle import TAKES, idle_of, without_idle
@@ -18,6 +19,7 @@ from record.make.words import SEVERAL, Job, Round, Words, makefiles
 from record.tools.texts import text_of
 from record.trace.events import ABSENT, CHANGES, ENTERED, LISTED, LOOKS, MAKE_LISTED, ORDER_SEEN, READ, REMOVED
 from record.trace.lives import Key, Life
+from record.trace.system import OF_SYSTEM
 
 if TYPE_CHECKING:
     from record.ninja.runs import Ninja
@@ -48,8 +50,9 @@ class Make:
     folder: str
     work: Dict[int, Work] = field(default_factory=dict)  # by id of the job
     acts: Dict[Tuple[int, str], Work] = field(default_factory=dict)  # by number of the round and target
-    globs: List[str] = field(default_factory=list)  # patterns that it asks for by `wildcard`
-    listed_first: List[str] = field(default_factory=list)  # those of rules, and of lines that include makefiles
+    globs: List[Asked] = field(default_factory=list)  # patterns that it asks for by `wildcard`
+    listed_first: List[Asked] = field(default_factory=list)  # those of rules, and of lines that include makefiles
+    by_links: bool = False  # it went by links: folders have other paths than its makefiles say
     ready: List[int] = field(default_factory=list)  # for each start: when it had read its makefiles
     is_called: bool = False  # a make above calls it by `$(shell ..)`: it has the environment with which that was started
     listed: Dict[str, int] = field(default_factory=dict)  # folder: when it was first listed by make itself
@@ -91,6 +94,14 @@ class Make:
     def begin(self, start: int) -> int:
         """When it began, or began again: then it knows nothing of what it has listed."""
         return self.life.starts[start][0] if start < len(self.life.starts) else 1 << 60
+
+    def patterns_in(self, folder: str) -> List[str]:
+        """The patterns of names that it asks for in a folder by `wildcard`."""
+        return asked_in(self.globs, self.folder, folder, self.by_links)
+
+    def all_patterns_in(self, folder: str) -> List[str]:
+        """The same, with those of rules, and of lines that include makefiles."""
+        return asked_in([*self.globs, *self.listed_first], self.folder, folder, self.by_links)
 
     def listed_in(self, start: int) -> Dict[str, Tuple[int, int]]:
         """When each folder was listed after a start: when its list was begun, and when the last piece was read."""
@@ -145,8 +156,8 @@ def written_by(lives: List[Life]) -> Dict[str, Tuple[int, int]]:
 class Owners:
     """Brings the words of makes and the lives of processes together."""
 
-    def __init__(self, lives: List[Life], words: List[Words]) -> None:
-        self.lives = lives
+    def __init__(self, lives: List[Life], words: List[Words], links: Container[str] = ()) -> None:
+        self.lives, self.links = lives, links  # `links`: all names that were links at some time
         self.holes: List[str] = []
         self.makes: List[Make] = []
         self.of_life: Dict[int, Make] = {}
@@ -177,6 +188,7 @@ class Owners:
         make = Make(words, life, self.folder_of(life, words))
         make.stale = {name for name in makefiles(words) if make.is_stale(name, self.written)}
         make.globs, make.listed_first = self.patterns_of(make)
+        make.by_links = any(act.kind == READ and act.path in self.links and not OF_SYSTEM.match(act.path) for act in life.acts)
         self.makes.append(make)
         self.of_life[id(life)] = make
         if words.status is None:
@@ -194,17 +206,17 @@ class Owners:
         return folder
 
     @staticmethod
-    def patterns_of(make: Make) -> Tuple[List[str], List[str]]:
+    def patterns_of(make: Make) -> Tuple[List[Asked], List[Asked]]:
         """The patterns of `$(wildcard ..)` in the makefiles that were read, and those of rules."""
         texts: Dict[str, str] = {}
         if make.stale:
-            return ["*"], []
+            return [EVERYTHING], []
         for name in makefiles(make.words):
             try:
                 texts[name] = text_of(os.path.join(make.folder, name))
             except OSError:
                 if not make.never_read(name):
-                    return ["*"], []
+                    return [EVERYTHING], []
         names = [name for one in make.words.rounds for name in one.nodes]
         idle, own = idle_of(make.words), [make.words.args, make.words.flags]
         if idle is not None and any(map(TAKES.search, (*own, *texts.values()))):
@@ -276,7 +288,7 @@ class Owners:
                 work.makes.append(make)
             for key, place in one.events.items():
                 if key[0] == MAKE_LISTED:
-                    for pattern in [*make.globs, *make.listed_first] if make is not None else ["*"]:
+                    for pattern in make.all_patterns_in(key[1]) if make is not None else ["*"]:
                         work.add(LISTED, key[1] + "\0" + pattern, place)
                     if not self.is_sorted:
                         work.add(ORDER_SEEN, key[1], place)

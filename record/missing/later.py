@@ -176,15 +176,15 @@ def phony_of(*bases: Base) -> Set[str]:
 
 
 def needs_of(name: str, first: Base, later: Base, vpath: Dict[str, str]) -> Optional[List[str]]:
-    """The prerequisites of a target whose ages count, in a later build. None where the makefiles then say less than they did, or
-    where a name is none of the data base: blanks in names cut them.
+    """The prerequisites of a target whose ages count, in a later build: makefiles may then say more or less than they did. None where a
+    name is none of the data base: blanks in names cut them, and the path of a library stands in the place of its `-l`.
 
     What an implicit rule adds is known from the build itself: a make that was stopped did not search.
     """
     then, now = first.prerequisites.get(name, []), later.prerequisites.get(name, [])
     spelled = {*now, *(vpath.get(one, one) for one in now)}
     is_searched = name in first.implicit or ".SECONDEXPANSION" in first.prerequisites
-    if not is_searched and not spelled.issuperset(then):
+    found = [one for one in dict.fromkeys([*then, *now]) if is_searched or one in spelled]
+    if len(found) < len({*then, *now}) and any(one.startswith("-l") for one in now):
         return None
-    found = list(dict.fromkeys([*then, *now]))
     return found if all(one in first.prerequisites or one in later.prerequisites for one in found) else None

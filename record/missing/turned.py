@@ -135,7 +135,7 @@ class Turned:
             born = min((life.born for life in task.works[0].lives), default=0)
             for folder, place in make.listed.items():
                 if asked is None or folder in asked:
-                    yield from ((("L", folder + "\0" + pattern), place) for pattern in make.globs)
+                    yield from ((("L", folder + "\0" + pattern), place) for pattern in make.patterns_in(folder))
             for path in {self.names.find(make.folder, word, True).path for word in words_said([text, *values, known.text]) if not MAGIC.search(word)}:
                 yield ("S" if self.was_there(path, born) else "N", path), born
 

@@ -31,7 +31,8 @@ FIRST = ("missing/keeping.py", "is_forced and looks_first(task))", "False)")
 MISSING_GUARDS: List[Guard] = [
     Guard("missing: what make knows later", "missing/later.py", "first.prerequisites.get(name, []), later.prerequisites", "first.prerequisites.get(name, []), first.prerequisites", tree("files of dependencies")),
     Guard("missing: names with blanks", "missing/later.py", "return found if all(one in first.prerequisites or one in later.prerequisites for one in found) else None", "return found", "test_later.Needs.test_blanks"),
-    Guard("missing: a graph that has less than before", "missing/later.py", "if not is_searched and not spelled.issuperset(then):", "if False:", "test_later.Needs.test_less_than_before"),
+    Guard("missing: a graph that has less than before", "missing/later.py", " if is_searched or one in spelled]", "]", tree("a rule that names less later")),
+    Guard("missing: paths of libraries", "missing/later.py", 'if len(found) < len({*then, *now}) and any(one.startswith("-l") for one in now):', "if False:", "test_later.Needs.test_path_of_a_library"),
     Guard("missing: a makefile from standard input", "missing/later.py", 'if "-" in named:', "if False:", "test_later.Words.test_again"),
     Guard("missing: phony prerequisites", "missing/due.py", "if name in self.phony or not self.is_there(name, paths[0]):", "if not self.is_there(name, paths[0]):", tree("a phony target that is a file")),
     Guard("missing: intermediate files", "missing/due.py", " or name in self.first.intermediate", "", tree("an intermediate file")),

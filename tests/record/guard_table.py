@@ -186,7 +186,7 @@ OWNERS: List[Guard] = [
     Guard("acts: not the removal of intermediate files", "make/owners.py", "self.removed_last(make) | ", "", small("intermediate_file_that_make_removes"), FALSE_RACE),
     Guard("acts: not the looks into archives", "make/owners.py", "self.removed_last(make) | self.read_archives(make, names)", "self.removed_last(make)", small("archive_beside_another_target"), FALSE_RACE),
     Guard("acts: what make lists", "make/build.py", "        place_listings(self)\n", "", case("make-wildcard"), YES, MEMORY),
-    Guard("wildcards: computed patterns are *", "make/globs.py", '"(", "{")):\n            found.add("*")', '"(", "{")):\n            found.add(word)', small("wildcard_that_is_computed"), YES),
+    Guard("wildcards: computed patterns are *", "make/globs.py", '"(", "{")):\n            found.add(EVERYTHING)', '"(", "{")):\n            found.add(Asked("*", word))', small("wildcard_that_is_computed"), YES),
     Guard("folder of make -C", "make/owners.py", '            if act.kind == ENTERED:\n                folder = act.path\n', "", small("decision_below_another_folder"), YES, LOOKS),
     Guard("outer recipe has what its makes do", "make/owners.py", "        todo = [life]\n        while todo:\n            one = todo.pop()\n            yield one\n            todo.extend(one.children)", "        yield life", case("subdirs-parallel"), YES),
     Guard("holes: a make that failed", "importing.py", "for one in failures(owners.makes, [], folder)]", "for one in ()]", case("inner-failure-ignored"), LOST_HOLE),

@@ -61,7 +61,7 @@ UNREAD_GUARDS: List[Guard] = [
     Guard("names: rules of one letter", "make/globs.py", ")?)?|(\\w))\")", ")?)?|(\\x00))\")", unread("rule_of_one_letter"), YES),
     Guard("names: of a second expansion", "make/globs.py", 'if "$$" in text and macros.is_plain_later(text):', "if False:", unread("names_of_a_second_expansion"), FALSE_RACE),
     Guard("names: patterns of a second expansion", "make/globs.py", 'if "$$" in text and macros.is_plain_later(text):', 'if "$$" in text:', unread("pattern_of_a_second_expansion"), YES),
-    Guard("folders in a pattern: of make", "make/globs.py", "yield from (folders_of(part) for part in before", "yield from (part for part in before", unread("file_where_make_goes_into_folders"), FALSE_RACE),
+    Guard("folders in a pattern: of make", "make/asked.py", "part if at == len(parts) - 1 else folders_of(part)", "part", unread("file_where_make_goes_into_folders"), FALSE_RACE),
     Guard("folders in a pattern: links", "tools/listed.py", "(is_folder or names.is_link(path))", "is_folder", unread("link_where_make_goes_into_folders"), YES),
     Guard("folders in a pattern: links for a while", "trace/names.py", "            self.links.add(join(folder.path(), name))\n", "            pass\n", unread("link_for_a_while"), YES),
     Guard("folders in a pattern: links that move", "trace/moves.py", 'self.names.links.update([new.path + name] if child.kind == "l" else ())', "pass", text("links_that_move")),

@@ -1,10 +1,16 @@
 """The patterns of `$(wildcard ..)`: too many make false races, one too few may hide a race."""
 
 import unittest
+from typing import Dict, Iterable, List, Set
 
 import support  # noqa: F401
 from record.make.database import read_base
-from record.make.globs import patterns
+from record.make.globs import patterns as asked
+
+
+def patterns(texts: List[str], values: Dict[str, str], names: Iterable[str] = ("*",)) -> Set[str]:
+    """The patterns of makefiles, whatever the folder."""
+    return {one.part for one in asked(texts, values, names)}
 
 
 class Globs(unittest.TestCase):

@@ -16,6 +16,8 @@ from test_replay import TOP, events_of, lives_of, played
 from test_small import COMMANDS, Small, test_of
 
 INNER = "all: in gen\ngen: ; %s; touch gen\nin: ; $(MAKE) -f in.mk; touch in\n"
+FOLDERS = {"d/k.h": "", "e/k.h": "", "k.c": "k"}
+MACRO_INSIDE = "all: in gen\ngen: ; echo n > d/n.c; touch gen\nin: ; E=%s $(MAKE) -f in.mk; touch in\n"
 TWO_RULES = "%.t: %.a ; cp $< $@\n%.t: %.b ; cp $< $@\n"
 KEPT = "all: gen t\nt: p ; touch t log\ngen: ; sleep 0.02; touch p gen\n"
 SOCKET = "import socket\nsocket.socket(socket.AF_UNIX).connect_ex('\\0race-test')\n"
@@ -36,6 +38,17 @@ HIDDEN: Dict[str, Small] = {
     "pattern_of_a_rule_by_a_macro_inside": Small("race", INNER % "echo n > d/n.c", {"d/k.c": "k", "in.mk": "C = d/*.c\nout: $(C) ; cat $^ > out\n"}),
     "pattern_of_a_rule_by_a_macro_of_other_names_inside": Small("safe", INNER % "echo n > d/n.h", {"d/k.c": "k", "in.mk": "C = d/*.c k.c\nP = d\nout: $(C) | $(P) ; cat $< > out\n", "k.c": ""}),
     "pattern_of_a_rule_by_a_macro_of_two_values_inside": Small("race", INNER % "echo n > d/n.h", {"d/k.c": "k", "d/k.h": "k", "in.mk": "C = d/*.h\nout: $(C) ; cat $^ > out\nC = d/*.c\n"}),
+    "pattern_behind_a_colon_inside": Small("race", INNER % "echo n > n.c", {"k.c": "k", "in.mk": "out:*.c ; cat $^ > out\n"}),
+    "pattern_behind_a_bar_inside": Small("race", INNER % "echo n > n.c", {"k.c": "k", "in.mk": "out: |*.c ; echo '$|' > out\n"}),
+    "pattern_of_another_folder_inside": Small("safe", INNER % "echo n > d/n.c", {**FOLDERS, "in.mk": "out: d/*.h *.c ; echo $^ > out\n"}),
+    "pattern_of_a_folder_of_another_name_inside": Small("safe", INNER % "echo n > d/n.c", {**FOLDERS, "in.mk": "E = .\nE += .\nout: ; echo $(wildcard d/*.h $(E)/e/*.c) > out\n"}),
+    "pattern_of_a_folder_by_another_inside": Small("race", INNER % "echo n > d/n.c", {**FOLDERS, "in.mk": "out: ; echo $(wildcard d/*.h e/../d/*.c) > out\n"}),
+    "pattern_of_a_folder_by_a_link_inside": Small("race", INNER % "echo n > d/n.c", {**FOLDERS, "in.mk": "out: d/*.h l/*.c ; echo $^ > out\n"}, "ln -s d l; touch d/k.c"),
+    "pattern_of_a_folder_by_a_macro_inside": Small("race", MACRO_INSIDE % "d", {**FOLDERS, "in.mk": "D := $(wildcard d/*.h $(E)/*.c)\nE := e\nout: ; echo $(D) > out\n"}),
+    "pattern_behind_a_macro_inside": Small("race", MACRO_INSIDE % "d/", {**FOLDERS, "in.mk": "D := $(wildcard d/*.h $(E)*.c)\nE :=\nout: ; echo $(D) > out\n"}),
+    "pattern_in_a_macro_of_words_inside": Small("race", MACRO_INSIDE % "'d/*.c'", {**FOLDERS, "in.mk": "D := $(wildcard d/*.h $(E))\nE := x e/*.c y\nout: ; echo $(D) > out\n"}),
+    "pattern_of_another_folder_in_a_recipe": Small("safe", "all: a b\na: ; touch d/n.c a\nb: ; echo $(wildcard d/*.h e/*.c) > b\n", FOLDERS),
+    "pattern_with_a_stem_inside": Small("race", INNER % "echo a > va.a", {"vk.a": "k", "in.mk": "all: v.zip\n%.zip: %*.a ; echo $^ > $@\n"}),
     "pattern_of_other_names_inside": Small("safe", INNER % "echo n > d/n.h", {"d/k.c": "k", "in.mk": "C = d/*.c\nO := out\n$(O): d/*.c | d ; cat $^ > out\n"}),
     "pattern_of_an_include_in_a_make_inside": Small("race", INNER % "echo X = 1 > d/n.mk", {"d/k.mk": "Y = 1\n", "in.mk": "include d/*.mk\nout: ; echo $(X) > out\n"}),
     "makefile_that_a_make_inside_looks_for": Small("race", "all: in gen\ngen: ; printf 'all: ; echo 2 > out\\n' > s/makefile; touch gen\nin: ; $(MAKE) -C s; touch in\n", {"s/Makefile": "all: ; echo 1 > out\n"}),

@@ -53,7 +53,11 @@ class Needs(unittest.TestCase):
         self.assertEqual(["a.c", "g.h"], self.needs("a.o", ["a.o: a.c | g.h", "a.c:", "g.h:"], ["a.o: a.c g.h", "a.c:", "g.h:"]))
 
     def test_less_than_before(self) -> None:
-        self.assertIsNone(self.needs("a", ["a: b", "b:"], ["a:", "b:"]))
+        self.assertEqual([], self.needs("a", ["a: b", "b:"], ["a:", "b:"]))
+        self.assertEqual(["c"], self.needs("a", ["a: b c", "b:", "c:"], ["a: c", "b:", "c:"]))
+
+    def test_path_of_a_library(self) -> None:
+        self.assertIsNone(self.needs("a", ["a: l/libx.a", "l/libx.a:"], ["a: -lx", "-lx:"]))
 
     def test_found_by_the_search(self) -> None:
         first = ["a.o: a.c\n#  Implicit rule search has been done.", "a.c:"]

@@ -16,6 +16,7 @@ Pairs = Set[Tuple[str, str]]  # a target, and what it reads and make does not kn
 PROJECTS: Dict[str, Tuple[str, Pairs]] = {
     "forgotten header": ("all: a.o b.o\na.o: a.c\n\tcat a.c h.h > a.o\nb.o: b.c h.h\n\tcat b.c h.h > b.o\n", {("a.o", "h.h")}),
     "named headers": ("all: a.o b.o\na.o: a.c h.h\n\tcat a.c h.h > a.o\nb.o: b.c h.h\n\tcat b.c h.h > b.o\n", set()),
+    "a rule that names less later": ("all: b.o a.o\nifeq ($(wildcard a.o),)\nb.o: b.c\nendif\nb.o:\n\tcat b.c > b.o\na.o: a.c\n\tcat a.c > a.o\n", {("b.o", "b.c")}),
     "files of dependencies": (
         "all: a.o b.o\n%.o: %.c\n\tcat $< h.h > $@\n\techo '$@: $< h.h' > $*.d\n-include a.d b.d\n", set()),
     "files of dependencies that are not read": (

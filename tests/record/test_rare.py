@@ -12,6 +12,7 @@ from test_small import Small, test_of
 
 # `a` starts when `s` has ended, and sets something of make; `b` may start before or after that.
 LATE = "V = 1\n%sall: a b\ns: ; touch s\na: s ; %stouch a\nb: ; %s > b\n"
+LOOPS = LATE % ("F = $(foreach x,$(L),$(if $($(x)),-D$(x)))\nset = $(eval V = 2)\nA = a\nB = b%s\n", "echo $(F); ", "echo $(V)")
 SETS = "$(eval V = 2)"
 SHOWS = 'echo "$$W"'
 FINDS = "all: a b\n%ss: ; touch s\na: s ; touch d/n.x a\nb: t ; echo %s > b\nt: ; touch t\n"
@@ -34,6 +35,13 @@ RARE: Dict[str, Small] = {
     "macro_of_an_exported_one_in_order": Small("safe", LATE.replace("b: ;", "b: a ;") % ("W = $(V)\nexport W\n", SETS, SHOWS)),
     "status_of_another_recipe": Small("safe", LATE % ("", "$(shell exit 3)", "echo '$(.SHELLSTATUS)'")),
     # functions of make whose names are put together
+    # a loop over the names of macros
+    "loop_over_names_of_macros": Small("safe", LOOPS % "\nL = A B"),
+    "loop_over_names_of_macros_that_set_another": Small("race", LOOPS % "$(set)\nL = A B"),
+    "loop_over_names_in_another_macro": Small("race", LOOPS % "\nL = A $(K)\nK = B set"),
+    "loop_over_names_that_are_put_together": Small("race", LOOPS % "\nL = $(subst x,e,A sxt)"),
+    "loop_over_names_in_another_loop": Small("race", LOOPS.replace("$(if $($(x)),-D$(x))", "$(foreach x,set,$($(x)))") % "\nL = A B"),
+    "loop_over_names_and_a_name_beside_it": Small("race", "x = set\n" + LOOPS.replace("echo $(F)", "echo $(foreach x,$(L),$($(x)))$($(x))") % "\nL = A B"),
     "eval_whose_name_is_put_together": Small("race", LATE % ("E = ev\n", "$(call $(E)al,V = 2)", "echo $(V)")),
     "eval_whose_name_a_macro_puts_together": Small("race", LATE % ("E = ev\nF = $(E)al\n", "$(call $(F),V = 2)", "echo $(V)")),
     "wildcard_whose_name_is_put_together": Small("race", FINDS % ("W = wild\n", "$(call $(W)card,d/*.x)"), {"d/k": ""}),
