@@ -19,6 +19,7 @@ from record.folder import Record, write_record
 from record.footprints import write_footprints
 from record.granted import add_granted, idle_targets, named_by_ninja
 from record.make.build import Builder
+from record.make.elsewhere import Elsewhere
 from record.make.graph import Build
 from record.make.owners import Owners
 from record.make.unasked import unasked
@@ -112,7 +113,8 @@ def import_record(spool: Path, names: Names, kept: Kept, real: str, folder: str,
                         ("hard-links", replay.hard_links), ("ages", replay.rewritten())):
         for example in found:
             assumed.add(kind, example)
-    ninjas, of_ninja, holes = import_ninjas(replay.all, owners, names, kept, assumed, record.status == 0)
+    elsewhere = Elsewhere(owners, names)
+    ninjas, of_ninja, holes = import_ninjas(replay.all, owners, elsewhere, names, kept, assumed, record.status == 0)
     record.holes += holes
     if record.status != 0:
         record.holes = explained(record.holes, owners.makes, ninjas, folder)
@@ -134,6 +136,7 @@ def import_record(spool: Path, names: Names, kept: Kept, real: str, folder: str,
     for place, make, number in sorted(((beginning(m, n), m, n) for m in owners.makes for n in range(len(m.words.rounds))), key=lambda found: found[0]):
         if make.words.rounds[number].jobs or any(n == number for n, _ in make.acts):
             builder = Builder(make, number, names, assumed, past.until(place))
+            builder.elsewhere = elsewhere
             builds.append(builder.run())
             record.holes += builder.holes
     for path in made_unseen(owners.makes, ninjas, names, past.until(sys.maxsize)):

@@ -2,14 +2,18 @@
 
 import os
 import re
+from functools import lru_cache
 from itertools import combinations
 from typing import TYPE_CHECKING, Dict, Iterator, List, Set, Tuple
 
 from record.make.owners import Make, Work
 from record.tools import shellages, shelltext
 from record.trace.events import AGE_SEEN, AGE_TAKEN, AGE_UNKNOWN, READ, SEEN, WRITTEN
+from record.trace.lives import Life
+from record.trace.names import Names
 
 PACKERS = ("tar", "bsdtar", "cpio", "pax", "zip")
+BY_LINKS = re.compile(r"(^| )-?[a-zA-Z]*L[a-zA-Z]*( |$)| --check-s")  # words of make: `-L`
 UPDATES = re.compile(r"-?[a-zA-Z]*u")  # the first word of `ar`, where it takes in newer files alone
 
 if TYPE_CHECKING:
@@ -43,18 +47,28 @@ def works_of(builder: "Builder", at: int) -> List[Tuple[int, Work]]:
 def note_sources(builder: "Builder") -> None:
     """Which names take over the age of which others: a file that is moved or linked, and one whose time a program sets, as `cp -p`
     and `touch -r` do, from what it looked at. An archive keeps the ages of what was put in."""
-    for at in range(len(builder.build.tasks)):
-        works = works_of(builder, at)
+    for works in [*(works_of(builder, at) for at in range(len(builder.build.tasks))), *([(-1, work)] for _, work in builder.askers.works)]:
         showing = (life for _, work in works for life in work.lives if any(map(shellages.shows_ages, life.ran)))
         shown = {path for life in showing for kind, path in life.events if kind == AGE_SEEN}  # a time may come from such a program, as a word
         for life in (life for _, work in works for life in work.lives):
             names = {path for kind, path in life.events if kind in (READ, SEEN)} | (life.handed() | shown if any(kind == AGE_TAKEN for kind, _ in life.events) else set())
-            looked = {path for path in names if path in builder.build.writers or path in builder.timers}
-            packs = any(shelltext.base_name(argv) in PACKERS for argv in life.ran)
-            for kind, path in life.events:
-                name, _, source = path.partition("\0")
-                if kind == AGE_TAKEN or kind == WRITTEN and packs:
-                    builder.sources.setdefault(name, []).append({source} if source else looked)
+            looked = {path for path in names if path in builder.build.writers or path in builder.timers or path in builder.askers.copies}
+            for name, source in takes_over(life):
+                builder.sources.setdefault(name, []).append({source} if source else looked)
+
+
+def packs(life: Life) -> bool:
+    """Whether a process puts files with their ages into an archive."""
+    return any(shelltext.base_name(argv) in PACKERS for argv in life.ran)
+
+
+def takes_over(life: Life) -> Iterator[Tuple[str, str]]:
+    """The names that take over the age of others, each with the one that is known; nothing where it may be any at which a process looked."""
+    is_packer = packs(life)
+    for kind, path in life.events:
+        if kind == AGE_TAKEN or kind == WRITTEN and is_packer:
+            name, _, source = path.partition("\0")
+            yield name, source
 
 
 def writers_of(builder: "Builder", path: str) -> Set[int]:
@@ -63,7 +77,7 @@ def writers_of(builder: "Builder", path: str) -> Set[int]:
         seen, todo, found = {path}, [path], set()
         while todo:
             name = todo.pop()
-            found |= builder.build.writers.get(name, set()) | builder.timers.get(name, set())
+            found |= builder.build.writers.get(name, set()) | builder.timers.get(name, set()) | builder.births.get(name, set())
             new = set().union(*builder.sources.get(name, ())) - seen
             seen |= new
             todo.extend(new)
@@ -100,23 +114,29 @@ def inner_ages(builder: "Builder", at: int, work: Work) -> None:
             compare(builder, at, first, second)
     for make in work.makes:
         for one in make.words.rounds:
-            paths = {n: inner_path(builder, make, one.vpath.get(n, n)) for n in one.nodes}
+            paths = {n: age_paths(builder.names, make, one.vpath.get(n, n)) for n in one.nodes}
             for name, node in one.nodes.items():
-                if paths[name] in builder.build.writers:
-                    for prerequisite in node.prerequisites:
-                        compare(builder, at, paths[name], paths[prerequisite])
+                for path in (path for path in paths[name] if writers_of(builder, path)):
+                    for other in (other for prerequisite in node.prerequisites for other in paths[prerequisite]):
+                        compare(builder, at, path, other)
 
 
-def inner_path(builder: "Builder", make: Make, name: str) -> str:
-    """The real path of a target of an inner make."""
-    return builder.names.find(make.folder, name, True).path
+@lru_cache(maxsize=None)
+def asks_links(flags: str, args: str) -> bool:
+    """Whether the words of a make let the age of a link count, and not only that of what stands behind it."""
+    return BY_LINKS.search("%s %s" % (flags, args)) is not None
+
+
+def age_paths(names: Names, make: Make, name: str) -> List[str]:
+    """The paths whose ages a make takes for that of a target: with `-L` that of a link too."""
+    return [names.find(make.folder, name, follow).path for follow in ((True, False) if asks_links(make.words.flags, make.words.args) else (True,))]
 
 
 def settled_by(builder: "Builder", at: int, work: Work, kind: str) -> Iterator[Tuple[int, int, str, str]]:
     """Pairs of tasks that nothing orders and that settle the ages of two names which a recipe has looked at, with these names."""
     writers, build = builder.build.writers, builder.build
     wrote: Dict[int, List[str]] = {}
-    for path in sorted({p for k, p in work.events if k == kind and (p in writers or p in builder.timers or p in builder.sources)}):
+    for path in sorted({p for k, p in work.events if k == kind and (p in writers or p in builder.timers or p in builder.births or p in builder.sources)}):
         for writer in writers_of(builder, path):
             wrote.setdefault(writer, []).append(path)
     for low, high in combinations(sorted(wrote), 2):
@@ -136,10 +156,11 @@ def ages_in_archives(builder: "Builder", at: int, work: Work) -> None:
                 compare(builder, at, archive, path)
 
 
-def ages_by_words(builder: "Builder", at: int, work: Work) -> None:
-    """Programs that compare ages: those of all names that they looked at, by who writes them. Of other programs nobody knows."""
+def ages_by_words(builder: "Builder", at: int, work: Work, words: str = "") -> None:
+    """Programs that compare ages: those of all names that they looked at, by who writes them. Of other programs nobody knows. `words`: who they
+    are where that is no task."""
     for low, high, first, second in settled_by(builder, at, work, AGE_SEEN):
         settle(builder, first, second, low, high)
     unknown = next(settled_by(builder, at, work, AGE_UNKNOWN), None)
     if unknown is not None:
-        builder.assumed.add("ages", "%s looks at %s and %s" % (builder.build.tasks[at].node.name, unknown[2], unknown[3]))
+        builder.assumed.add("ages", "%s looks at %s and %s" % (words or builder.build.tasks[at].node.name, unknown[2], unknown[3]))

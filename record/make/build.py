@@ -8,6 +8,7 @@ from typing import Dict, Iterable, List, Optional, Set, Tuple
 from record.assumptions import Assumptions
 from record.make.ages import add_ages
 from record.make.considered import Considered, is_row
+from record.make.elsewhere import Askers, Elsewhere, add_elsewhere, find_askers
 from record.make.fixed import asked_ages, fixed_looks, remade_anyway, unasked_ages, was_absent
 from record.make.folders import Events, add_folders
 from record.make.graph import Build, Graph, Node, Task, befores, drop_lonely, order_tasks
@@ -28,6 +29,7 @@ class Builder:
     """Makes the tasks of a round."""
 
     events_of_all: Optional[Events] = None
+    elsewhere: Optional[Elsewhere] = None
     works_late = False  # make does something for a recipe when that starts
 
     def __init__(self, make: Make, number: int, names: Names, assumed: Assumptions, before: Optional[Dict[str, str]] = None) -> None:
@@ -46,6 +48,8 @@ class Builder:
         self.began = -1
         self.timed: Dict[str, Set[int]] = {}  # name: who depends on its time
         self.timers: Dict[str, Set[int]] = {}  # folder: who changes its time
+        self.births: Dict[str, Set[int]] = {}  # folder: who makes it, as far as its time is asked for
+        self.askers = Askers([], [], set())
         self.aged: Dict[str, Set[int]] = {}  # name: who settles its age, as far as that was asked
         self.sources: Dict[str, List[Set[str]]] = {}  # name: those whose ages it may have
         self.holes: List[str] = []
@@ -338,11 +342,13 @@ class Builder:
         for label, at in self.first_of.items():
             build.tasks[at].reads.update(self.asked[label])
         add_inner(self, created)
+        find_askers(self, created)
         add_macros(self, created)
         add_outputs(self)
         count_listings(self, created)
         add_folders(self)
         add_ages(self)
+        add_elsewhere(self, created)
         # the next build reads the makefiles that this one looked for
         drop_lonely(self.build.tasks, {self.names.find(self.make.folder, name, True).path for name in makefiles(self.make.words)})
 
@@ -390,10 +396,3 @@ class Builder:
     def is_known(self, path: str) -> bool:
         """Whether the tree before the build says if a name was there."""
         return any(path == top or path.startswith(top.rstrip("/") + "/") for top in self.names.tops)
-
-    def first_birth(self) -> int:
-        """When the first recipe of this make began, since that was started anew."""
-        if self.began < 0:
-            since = self.make.begin(self.graph.round.start)
-            self.began = min((l.born for w in self.make.work.values() for l in w.lives if l.born >= since), default=1 << 60)
-        return self.began

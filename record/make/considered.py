@@ -12,6 +12,7 @@ from typing import TYPE_CHECKING, Dict, Iterator, List, Set, Tuple
 from record.make.database import Base
 from record.make.globs import MAGIC
 from record.make.graph import Node
+from record.make.memory import first_birth
 from record.make.searches import DEPTH, Searches, stems
 from record.make.words import Words, numbers_of
 from record.tools.shelltext import loose
@@ -63,7 +64,7 @@ class Considered:
         """Whether the folder of a name was first listed when a recipe had begun: else each schedule sees what was there before."""
         if path not in self.writers:
             return False
-        if self.builder.listed.get(os.path.dirname(path), (0, 1 << 60))[1] >= self.builder.first_birth():
+        if self.builder.listed.get(os.path.dirname(path), (0, 1 << 60))[1] >= first_birth(self.builder):
             return True
         self.builder.assumed.add("search", path)
         return False
@@ -130,7 +131,7 @@ class Considered:
         make, looks = self.builder.make, self.looks
         found: Dict[str, List[Tuple[str, str]]] = {}
         for place, events in make.pieces if self.expanding else ():
-            if place > self.builder.first_birth():
+            if place > first_birth(self.builder):
                 known = [(looks.get(node.name, 0), node) for node in self.expanding if self.end(node) > place]
                 since = max((look for look, _ in known if look <= place), default=-1)
                 for node in (node for look, node in known if look == since):

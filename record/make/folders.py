@@ -295,6 +295,8 @@ def add_times(builder: "Builder") -> None:
     wanted = builder.timed
     for at, events in each(builder):
         for kind, path, _ in events:
+            if kind in MAKES and path in wanted:
+                builder.births.setdefault(path, set()).add(at)
             if kind not in (CREATED, REMOVED, FOLDER_REMOVED, TIME_CHANGED):
                 continue
             where = path if kind == TIME_CHANGED else dirname(path.rstrip("/"))

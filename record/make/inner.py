@@ -26,7 +26,7 @@ def add_inner(builder: "Builder", created: Container[str]) -> None:
         for who, work in works_of(builder, at):
             ages = (compared(builder, make, who) for make in work.makes)
             by_ninja = (builder.names.find(ninja.folder, name, True).path for ninja in work.ninjas for pair in ninja.compared() for name in pair)
-            for folder in (path for path in chain(by_ninja, *ages) if path in created):
+            for folder in (path for path in chain(by_ninja, *ages) if path in created or path in builder.made):
                 builder.timed.setdefault(folder, set()).add(who)
             for make in work.makes:
                 builder.build.tasks[who].reads.update(path for path in asked_by(builder, make, last_parts) if path in writers)

@@ -68,7 +68,7 @@ def may_list(known: Macros, text: str) -> bool:
 
 def share_listings(builder: "Builder") -> None:
     """Make lists a folder once. A recipe that looks for names there later sees the same, and in another order it may be the first."""
-    make, began = builder.make, builder.first_birth()
+    make, began = builder.make, first_birth(builder)
     late = {folder: first for folder, (first, last) in builder.listed.items() if last > began}
     for node in builder.graph.nodes.values() if late else ():
         asked = folders_asked(builder.known, builder.names, node) if node.jobs or node.must and node.has_recipe else set()
@@ -142,3 +142,11 @@ def stems_of(builder: "Builder", name: str) -> Iterator[str]:
         last = os.path.basename(name)
         if last.startswith(head) and last.endswith(tail) and len(last) > len(head) + len(tail):
             yield last[len(head): len(last) - len(tail)]
+
+
+def first_birth(builder: "Builder") -> int:
+    """When the first recipe of a make began, since that was started anew."""
+    if builder.began < 0:
+        since = builder.make.begin(builder.graph.round.start)
+        builder.began = min((l.born for w in builder.make.work.values() for l in w.lives if l.born >= since), default=1 << 60)
+    return builder.began

@@ -6,13 +6,14 @@ from typing import Any, Dict, Iterable, List, Set, Tuple
 from record.assumptions import Assumptions
 from record.make.ages import ages_by_words, ages_in_archives, compare, inner_ages, note_sources
 from record.make.build import Builder
+from record.make.elsewhere import Askers, add_elsewhere, find_askers
 from record.make.folders import add_folders, apart, parents
 from record.make.graph import Build, Node, Task, befores, drop_lonely, order_tasks
 from record.make.inner import add_inner
 from record.make.owners import Work
 from record.make.unfiled import count_listings
 from record.ninja.fix import owner_of
-from record.ninja.manifest import Edge, Manifest
+from record.ninja.manifest import Edge
 from record.ninja.runs import NEVER, Job, Ninja, Stage
 from record.trace.names import Names, join
 
@@ -63,8 +64,8 @@ class NinjaBuild(Build):
 class NinjaBuilder(Builder):
     """Makes the tasks of a stage; footprints, folders and ages are those of make's builds."""
 
-    def __init__(self, ninja: Ninja, number: int, later: List[Tuple[str, Manifest]], removed: Set[str], names: Names, assumed: Assumptions) -> None:
-        self.ninja, self.stage, self.later = ninja, ninja.stages[number], later
+    def __init__(self, ninja: Ninja, number: int, removed: Set[str], names: Names, assumed: Assumptions) -> None:
+        self.ninja, self.stage = ninja, ninja.stages[number]
         self.make, self.number, self.names, self.assumed = ninja, number, names, assumed  # type: ignore[assignment]
         is_last = number == len(ninja.stages) - 1
         self.build = NinjaBuild(ninja, self.stage, "goals" if is_last else "manifest")
@@ -76,6 +77,8 @@ class NinjaBuilder(Builder):
         self.tried: Set[str] = set()
         self.timed: Dict[str, Set[int]] = {}
         self.timers: Dict[str, Set[int]] = {}
+        self.births: Dict[str, Set[int]] = {}
+        self.askers = Askers([], [], set())
         self.aged: Dict[str, Set[int]] = {}
         self.sources: Dict[str, List[Set[str]]] = {}
 
@@ -214,6 +217,7 @@ class NinjaBuilder(Builder):
         for at, task in enumerate(self.build.tasks):
             self.add_events(at, self.events(task), created)
         add_inner(self, created)
+        find_askers(self, created)
         count_listings(self, created)
         add_folders(self)
         self.add_logs()
@@ -224,15 +228,8 @@ class NinjaBuilder(Builder):
                 inner_ages(self, at, work)
                 ages_by_words(self, at, work)
                 ages_in_archives(self, at, work)
-        self.add_later_ages()
+        add_elsewhere(self, created)
         drop_lonely(self.build.tasks, set())
-
-    def add_later_ages(self) -> None:
-        """Later ninjas, and this one where it has read a manifest that was remade, compare the ages of what these tasks have made."""
-        ran = [at for at, task in enumerate(self.build.tasks) if task.works]
-        for folder, manifest in self.later if len(ran) > 1 else ():
-            for target, asked in manifest.compared():
-                compare(self, -1, *(self.names.find(folder, name, True).path for name in (target, asked)))
 
     def add_logs(self) -> None:
         """A command that reads the logs of its ninja sees which commands have ended: ninja writes a line for each."""

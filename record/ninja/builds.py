@@ -5,23 +5,25 @@ from typing import List, Tuple
 
 from record.assumptions import Assumptions
 from record.granted import add_granted_by_ninja
+from record.make.elsewhere import Elsewhere
 from record.make.graph import Build
 from record.make.owners import Owners
 from record.ninja.build import NinjaBuild, NinjaBuilder
 from record.ninja.log import Kept, Missing, ask_missing, version_of
-from record.ninja.manifest import Manifest, Unreadable
+from record.ninja.manifest import Unreadable
 from record.ninja.runs import Ninja, Runs, removed_names
 from record.trace.lives import Life
 from record.trace.names import Names
 
 
-def import_ninjas(lives: List[Life], owners: Owners, names: Names, kept: Kept, assumed: Assumptions, has_ended: bool) -> Tuple[List[Ninja], List[Build], List[str]]:
+def import_ninjas(lives: List[Life], owners: Owners, elsewhere: Elsewhere, names: Names, kept: Kept, assumed: Assumptions, has_ended: bool) -> Tuple[List[Ninja], List[Build], List[str]]:
     """All ninjas that ran, a build for each stage in which commands ran, and the holes; `has_ended`: the whole build did, well."""
     try:
         runs = Runs(lives, owners, names, kept, has_ended)
     except Unreadable as fault:
         return [], [], ["the manifest that ninja read cannot be read again: %s" % fault]
     holes, builds = runs.holes, []
+    elsewhere.ninjas = runs.ninjas
     for ninja in runs.ninjas:
         if ninja.is_tried:
             assumed.add("tried", ninja.folder)
@@ -36,16 +38,11 @@ def import_ninjas(lives: List[Life], owners: Owners, names: Names, kept: Kept, a
     for ninja in runs.ninjas:
         for number, stage in enumerate(ninja.stages):
             if stage.jobs and stage.is_read:
-                builder = NinjaBuilder(ninja, number, later_manifests(ninja, number, runs.ninjas), removed, names, assumed)
+                builder = NinjaBuilder(ninja, number, removed, names, assumed)
+                builder.elsewhere = elsewhere
                 builds.append(builder.run())
                 holes += builder.holes
     return runs.ninjas, builds, holes
-
-
-def later_manifests(ninja: Ninja, number: int, ninjas: List[Ninja]) -> List[Tuple[str, Manifest]]:
-    """What is read after a stage of a ninja has ended, by it or by a ninja that begins later, each with the folder of its names."""
-    found = [(ninja.folder, stage.manifest) for stage in ninja.stages[number + 1:]]
-    return found + [(other.folder, stage.manifest) for other in ninjas if other.life.born > ninja.life.died for stage in other.stages]
 
 
 def side_by_side(ninjas: List[Ninja], owners: Owners) -> List[List[str]]:

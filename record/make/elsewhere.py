@@ -1,0 +1,157 @@
+"""Who asks which of two files is newer, and belongs to no recipe of a build: makes and ninjas that come later or stand above it, and programs that
+run there, such as those of a script that calls make.
+
+A recipe that asks for ages waits for who made the files, or is a race itself. Who comes later waits for the whole build, and still sees in which
+order two recipes ran that nothing orders.
+"""
+
+from functools import cached_property
+from itertools import chain
+from typing import TYPE_CHECKING, Dict, Iterator, List, NamedTuple, Set, Tuple, Union
+
+from record.make.ages import age_paths, ages_by_words, compare, packs, takes_over, works_of
+from record.make.database import Base
+from record.make.owners import Make, Owners, Work
+from record.make.unfiled import Created, unordered
+from record.trace.events import AGE_SEEN, AGE_TAKEN, AGE_UNKNOWN, ORDER_SEEN
+from record.trace.lives import Life
+from record.trace.names import Names
+
+if TYPE_CHECKING:
+    from record.make.build import Builder
+    from record.ninja.runs import Ninja
+
+AGES = AGE_SEEN + AGE_UNKNOWN + AGE_TAKEN
+NEVER = 1 << 60
+
+
+class Pair(NamedTuple):
+    """A target and a prerequisite of which a round of a make, or a stage of a ninja, asks which is newer."""
+
+    tool: "Union[Make, Ninja]"
+    number: int
+    prerequisite: str
+    place: int  # when it first looked at the target, as far as that is known
+
+
+class Elsewhere:
+    """All makes, ninjas and programs of a recording that ask for ages."""
+
+    def __init__(self, owners: Owners, names: Names) -> None:
+        self.owners, self.names = owners, names
+        self.ninjas: "List[Ninja]" = []
+        self.groups: Dict[int, List[Life]] = {}
+        for life in owners.lives:
+            if any(kind in AGES + ORDER_SEEN for kind, _ in life.events) or packs(life):
+                self.groups.setdefault(id(part_of(life)), []).append(life)
+
+    @cached_property
+    def pairs(self) -> Dict[str, List[Pair]]:
+        """By target: what makes and ninjas compare with it."""
+        found: Dict[str, List[Pair]] = {}
+        for target, pair in chain(self.of_makes(), self.of_ninjas()):
+            found.setdefault(target, []).append(pair)
+        return found
+
+    def of_makes(self) -> Iterator[Tuple[str, Pair]]:
+        """What makes compare."""
+        for make in self.owners.makes:
+            for number, one in enumerate(make.words.rounds):
+                base, looks = one.base or Base(), make.first_looks.get(one.start, {})
+                paths = {name: age_paths(self.names, make, one.vpath.get(name, name)) for name in one.nodes}
+                for name, node in one.nodes.items():
+                    plain = [n for n in node.prerequisites if n in paths and n not in base.order_only.get(name, ()) and n not in base.phony]
+                    for target in paths[name] if plain and name not in base.phony else ():
+                        yield from ((target, Pair(make, number, path, looks.get(name, NEVER))) for n in plain for path in paths[n])
+
+    def of_ninjas(self) -> Iterator[Tuple[str, Pair]]:
+        """What ninjas compare."""
+        for ninja in self.ninjas:
+            for number, stage in enumerate(ninja.stages):
+                for names in stage.manifest.compared():
+                    target, path = (self.names.find(ninja.folder, name, True).path for name in names)
+                    yield target, Pair(ninja, number, path, NEVER)
+
+    def beside(self, builder: "Builder") -> "Askers":
+        """Those of them that may ask for what the recipes of a build leave."""
+        works = [work for at in range(len(builder.build.tasks)) for _, work in works_of(builder, at)]
+        own = {id(life) for work in works for life in work.lives}
+        begin = min((life.born for work in works for life in work.lives), default=0)
+        groups = [[life for life in lives if id(life) not in own and life.died > begin] for lives in self.groups.values()]
+        copies = {path for lives in groups for life in lives for path, _ in takes_over(life)}
+        changed = {*builder.build.writers, *builder.made, *builder.created(), *copies}
+        asked: Dict[str, List[Pair]] = {} if self.is_last(builder) else self.pairs
+        pairs = [(target, one.prerequisite) for target in sorted(changed & asked.keys()) for one in asked[target]
+                 if self.is_later(builder, one, own, begin) and not self.is_new(builder, target, one)]
+        return Askers(list(dict.fromkeys(pairs)), [work_of(lives, begin) for lives in groups if lives], copies)
+
+    def is_last(self, builder: "Builder") -> bool:
+        """Whether it is the last round of the only make, or the last stage of the only ninja."""
+        stages = [*(len(make.words.rounds) for make in self.owners.makes), *(len(ninja.stages) for ninja in self.ninjas)]
+        return stages == [builder.number + 1]
+
+    @staticmethod
+    def is_later(builder: "Builder", one: Pair, own: Set[int], begin: int) -> bool:
+        """Whether it may be asked behind a recipe of a build, and not in one. Ninja asks when it has read its manifest."""
+        if one.tool is builder.make:
+            return one.number > builder.number
+        return id(one.tool.life) not in own and (one.tool.life.born if one.tool.life.is_ninja else one.tool.life.died) > begin
+
+    def is_new(self, builder: "Builder", target: str, one: Pair) -> bool:
+        """Whether a make looked at a target when that was not there yet: then it makes it, whatever its age is later."""
+        first, _ = self.owners.written.get(target, (0, 0))
+        return one.place < first and self.names.before.get(target) is None and builder.is_known(target)
+
+
+class Askers(NamedTuple):
+    """Who may ask for ages of what the recipes of a build leave: pairs of paths, what programs did, and names that take over an age there."""
+
+    pairs: List[Tuple[str, str]]
+    works: List[Tuple[str, Work]]  # with words for who it was
+    copies: Set[str]
+
+
+def part_of(life: Life) -> Life:
+    """The process by which make began what a process belongs to; else the first one of all."""
+    for up in life.up():
+        if up.parent is None or up.parent.is_make or up.parent.is_ninja:
+            return up
+    return life
+
+
+def work_of(lives: List[Life], begin: int) -> Tuple[str, Work]:
+    """What some processes that belong together asked of ages, with words for one of them. What an interpreter looked at before a build began, it may
+    look at again behind that, and nobody knows for what."""
+    work = Work(lives=lives)
+    for life in lives:
+        for (kind, path), place in life.events.items():
+            if kind in AGES:
+                work.add(AGE_UNKNOWN if kind == AGE_SEEN and place < begin and life.traits().is_interpreter else kind, path, place)
+    return words_of(next((life for life in lives if any(kind == AGE_UNKNOWN for kind, _ in life.events)), lives[0])), work
+
+
+def words_of(life: Life) -> str:
+    """What a process is called in a report."""
+    return " ".join(life.argv)[:60]
+
+
+def find_askers(builder: "Builder", created: Created) -> None:
+    """Who may ask elsewhere for the ages of what a build leaves, and the folders for whose age they ask."""
+    if builder.elsewhere is None:
+        return
+    builder.askers = builder.elsewhere.beside(builder)
+    asked = [path for pair in builder.askers.pairs for path in pair] + [path for _, work in builder.askers.works for kind, path in work.events if kind == AGE_SEEN]
+    for path in asked:
+        if path in created or path in builder.made:
+            builder.timed.setdefault(path, set())
+
+
+def add_elsewhere(builder: "Builder", created: Created) -> None:
+    """Adds what is asked of ages elsewhere, where the schedule of this build settles the answer."""
+    for first, second in builder.askers.pairs:
+        compare(builder, -1, first, second)
+    for words, work in builder.askers.works:
+        ages_by_words(builder, -1, work, words)
+        for life, path in ((life, path) for life in work.lives for kind, path in life.events if kind == ORDER_SEEN and path in created):
+            if next(unordered(builder, sorted({who for names in created[path].values() for who in names})), None) is not None:
+                builder.assumed.add("listings", "%s lists %s" % (words_of(life), path))
