@@ -39,6 +39,7 @@ TEXTS = {
     "inherited": "targets that a later rule or a chain of rules asks for do the same whichever target's macros they inherit",
     "beside": "files that a process which no recipe started changed while make ran are touched by no recipe",
     "ages": "programs that nobody knows look at two files, and do not compare which is newer",
+    "afterwards": "interpreters, programs that nobody knows, and makes that only ask (-n, -q), which look at two files when the build that made them has ended, do not compare which is newer",
     "interpreters": "Perl, Python and other interpreters compare ages only of files that they looked at by name, and ask of a folder by its whole path no more than that it is there",
     # What the answer on missing inputs takes for granted.
     "later": "you edit sources, add and remove none, and what you edit gets a new time; recipes then read and write the files that they do now; makefiles, commands and the environment stay; each build ends well",

@@ -17,13 +17,14 @@ from record.configured import find_configured
 from record.folder import Record, write_record
 from record.footprints import write_footprints
 from record.granted import add_granted, idle_targets, named_by_ninja
+from record.make.afterwards import Afterwards
 from record.make.build import Builder
 from record.make.graph import Build
 from record.make.owners import Owners
 from record.make.unasked import unasked
 from record.make.words import read_logs
 from record.missing.inputs import write_missing
-from record.ninja.builds import beside, import_ninjas
+from record.ninja.builds import add_granted_by_ninjas, beside, find_ninjas, import_ninjas
 from record.ninja.builds import versions as ninja_versions
 from record.ninja.log import Kept
 from record.ninja.runs import Ninja
@@ -111,8 +112,11 @@ def import_record(spool: Path, names: Names, kept: Kept, real: str, folder: str,
                         ("hard-links", replay.hard_links), ("ages", replay.rewritten())):
         for example in found:
             assumed.add(kind, example)
-    ninjas, of_ninja, holes = import_ninjas(replay.all, owners, names, kept, assumed, record.status == 0)
-    record.holes += holes
+    ninjas, ties, holes = find_ninjas(replay.all, owners, names, kept, record.status == 0)
+    add_granted_by_ninjas(ninjas, ties, owners, assumed)
+    after = Afterwards.of(owners, ninjas, names)
+    of_ninja, more = import_ninjas(ninjas, replay.all, names, assumed, after)
+    record.holes += holes + more
     if not owners.makes and not ninjas:
         record.holes.append("no make and no ninja ran")
     for name in unasked(owners.makes, ninjas):
@@ -128,7 +132,7 @@ def import_record(spool: Path, names: Names, kept: Kept, real: str, folder: str,
     builds, past = [], Past(names.before, replay.changes)
     for place, make, number in sorted(((beginning(m, n), m, n) for m in owners.makes for n in range(len(m.words.rounds))), key=lambda found: found[0]):
         if make.words.rounds[number].jobs or any(n == number for n, _ in make.acts):
-            builder = Builder(make, number, names, assumed, past.until(place))
+            builder = Builder(make, number, names, assumed, past.until(place), after)
             builds.append(builder.run())
             record.holes += builder.holes
     for path in made_unseen(owners.makes, ninjas, names, past.until(sys.maxsize)):

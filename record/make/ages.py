@@ -3,7 +3,7 @@
 import os
 import re
 from itertools import combinations
-from typing import TYPE_CHECKING, Dict, Iterator, List, Set, Tuple
+from typing import TYPE_CHECKING, Dict, Iterable, Iterator, List, Set, Tuple
 
 from record.make.owners import Make, Work
 from record.tools import shellages, shelltext
@@ -111,11 +111,11 @@ def inner_path(builder: "Builder", make: Make, name: str) -> str:
     return builder.names.find(make.folder, name, True).path
 
 
-def settled_by(builder: "Builder", at: int, work: Work, kind: str) -> Iterator[Tuple[int, int, str, str]]:
+def settled_by(builder: "Builder", at: int, names: Iterable[str]) -> Iterator[Tuple[int, int, str, str]]:
     """Pairs of tasks that nothing orders and that settle the ages of two names which a recipe has looked at, with these names."""
     writers, build = builder.build.writers, builder.build
     wrote: Dict[int, List[str]] = {}
-    for path in sorted({p for k, p in work.events if k == kind and (p in writers or p in builder.timers or p in builder.sources)}):
+    for path in sorted({p for p in names if p in writers or p in builder.timers or p in builder.sources}):
         for writer in writers_of(builder, path):
             wrote.setdefault(writer, []).append(path)
     for low, high in combinations(sorted(wrote), 2):
@@ -137,8 +137,8 @@ def ages_in_archives(builder: "Builder", at: int, work: Work) -> None:
 
 def ages_by_words(builder: "Builder", at: int, work: Work) -> None:
     """Programs that compare ages: those of all names that they looked at, by who writes them. Of other programs nobody knows."""
-    for low, high, first, second in settled_by(builder, at, work, "A"):
+    for low, high, first, second in settled_by(builder, at, (path for kind, path in work.events if kind == "A")):
         settle(builder, first, second, low, high)
-    unknown = next(settled_by(builder, at, work, "a"), None)
+    unknown = next(settled_by(builder, at, (path for kind, path in work.events if kind == "a")), None)
     if unknown is not None:
         builder.assumed.add("ages", "%s looks at %s and %s" % (builder.build.tasks[at].node.name, unknown[2], unknown[3]))

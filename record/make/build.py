@@ -6,6 +6,7 @@ import re
 from typing import Dict, Iterable, List, Optional, Set, Tuple
 
 from record.assumptions import Assumptions
+from record.make.afterwards import Afterwards, add_later_ages, note_times
 from record.make.ages import add_ages
 from record.make.considered import Considered, is_row
 from record.make.fixed import asked_ages, fixed_looks, remade_anyway, unasked_ages, was_absent
@@ -31,11 +32,12 @@ class Builder:
     events_of_all: Optional[Events] = None
     works_late = False  # make does something for a recipe when that starts
 
-    def __init__(self, make: Make, number: int, names: Names, assumed: Assumptions, before: Optional[Dict[str, str]] = None) -> None:
+    def __init__(self, make: Make, number: int, names: Names, assumed: Assumptions, before: Optional[Dict[str, str]] = None, after: Optional[Afterwards] = None) -> None:
         self.graph = Graph(make, number)
         self.make, self.number, self.names, self.assumed = make, number, names, assumed
         self.build = Build(make, self.graph.round.stage, self.graph)
         self.before = names.before if before is None else before
+        self.after = after or Afterwards()
         self.of_node: Dict[str, int] = {}
         self.look_of: Dict[str, int] = {}
         self.first_of: Dict[str, int] = {}
@@ -335,8 +337,10 @@ class Builder:
         add_macros(self, created)
         add_outputs(self)
         count_listings(self, created)
+        note_times(self, created)
         add_folders(self)
         add_ages(self)
+        add_later_ages(self)
         # the next build reads the makefiles that this one looked for
         drop_lonely(self.build.tasks, {self.names.find(self.make.folder, name, True).path for name in makefiles(self.make.words)})
 

@@ -4,7 +4,8 @@ import os
 from typing import Any, Dict, Iterable, List, Set, Tuple
 
 from record.assumptions import Assumptions
-from record.make.ages import ages_by_words, ages_in_archives, compare, inner_ages, note_sources
+from record.make.afterwards import Afterwards, add_later_ages, note_times
+from record.make.ages import ages_by_words, ages_in_archives, inner_ages, note_sources
 from record.make.build import Builder
 from record.make.folders import add_folders, apart, parents
 from record.make.graph import Build, Node, Task, befores, drop_lonely, order_tasks
@@ -14,10 +15,11 @@ from record.make.unfiled import count_listings
 from record.ninja.fix import owner_of
 from record.ninja.manifest import Edge, Manifest
 from record.ninja.runs import NEVER, Job, Ninja, Stage
+from record.tools.listed import fits
 from record.trace.names import Names, join
 
 TEXT_LIMIT = 400
-LOGS = (".ninja_log", ".ninja_deps")
+LOG, DEPS = ".ninja_log", ".ninja_deps"
 FIRST, PRIME, BITS = 14695981039346656037, 1099511628211, (1 << 64) - 1
 
 
@@ -63,8 +65,8 @@ class NinjaBuild(Build):
 class NinjaBuilder(Builder):
     """Makes the tasks of a stage; footprints, folders and ages are those of make's builds."""
 
-    def __init__(self, ninja: Ninja, number: int, later: List[Tuple[str, Manifest]], removed: Set[str], names: Names, assumed: Assumptions) -> None:
-        self.ninja, self.stage, self.later = ninja, ninja.stages[number], later
+    def __init__(self, ninja: Ninja, number: int, after: Afterwards, removed: Set[str], names: Names, assumed: Assumptions) -> None:
+        self.ninja, self.stage, self.after = ninja, ninja.stages[number], after
         self.make, self.number, self.names, self.assumed = ninja, number, names, assumed  # type: ignore[assignment]
         is_last = number == len(ninja.stages) - 1
         self.build = NinjaBuild(ninja, self.stage, "goals" if is_last else "manifest")
@@ -215,8 +217,9 @@ class NinjaBuilder(Builder):
             self.add_events(at, self.events(task), created)
         add_inner(self, created)
         count_listings(self, created)
-        add_folders(self)
+        note_times(self, created)
         self.add_logs()
+        add_folders(self)
         self.add_files_of_dyndep()
         note_sources(self)
         for at, task in enumerate(self.build.tasks):
@@ -224,24 +227,29 @@ class NinjaBuilder(Builder):
                 inner_ages(self, at, work)
                 ages_by_words(self, at, work)
                 ages_in_archives(self, at, work)
-        self.add_later_ages()
+        add_later_ages(self)
         drop_lonely(self.build.tasks, set())
 
-    def add_later_ages(self) -> None:
-        """Later ninjas, and this one where it has read a manifest that was remade, compare the ages of what these tasks have made."""
-        ran = [at for at, task in enumerate(self.build.tasks) if task.works]
-        for folder, manifest in self.later if len(ran) > 1 else ():
-            for target, asked in manifest.compared():
-                compare(self, -1, *(self.names.find(folder, name, True).path for name in (target, asked)))
-
     def add_logs(self) -> None:
-        """A command that reads the logs of its ninja sees which commands have ended: ninja writes a line for each."""
-        folder = self.stage.manifest.top.value("builddir")
-        logs = {self.full(os.path.join(folder, name)) for name in LOGS}
-        ran = {at for at, task in enumerate(self.build.tasks) if task.works}
-        for at in sorted(ran):
-            for path in sorted({path for kind, path in self.events(self.build.tasks[at]) if kind in "RSN" and path in logs}):
-                apart(self, path + "/@output", "which commands stand in the log of ninja", at, ran - {at})
+        """A command that reads the logs of its ninja sees which commands have ended: ninja writes a line for each. One that lists their folder, or
+        asks for its age, sees whether the first one has ended, as ninja makes its logs then."""
+        tasks, folder = self.build.tasks, self.full(self.stage.manifest.top.value("builddir") or ".")
+        ran = {at for at, task in enumerate(tasks) if task.works}
+        for name, makers in (LOG, ran), (DEPS, {at for at in ran if self.build.edges[at].value("deps")}):
+            path = join(folder, name)
+            is_new = self.ninja.life.events.get(("C", path), -1) > self.stage.opened
+            if is_new and folder in self.timed:
+                self.timers.setdefault(folder, set()).update(makers)
+            for at in sorted(ran):
+                if any(kind in "RSN" and found == path for kind, found in self.events(tasks[at])):
+                    apart(self, path + "/@output", "which commands stand in the log of ninja", at, ran - {at})
+                elif is_new and self.lists(at, path) and not any(self.build.is_before(maker, at) for maker in makers):
+                    apart(self, path + "/@output", "that the log of ninja is there", at, makers - {at})
+
+    def lists(self, at: int, path: str) -> bool:
+        """Whether a task lists the folder of a path for such names."""
+        found = (name.split("\0") for kind, name in self.events(self.build.tasks[at]) if kind == "L")
+        return any(folder == os.path.dirname(path) and fits(pattern, path, self.names) for folder, pattern in found)
 
     def put_makers_first(self) -> None:
         """Lists who makes a declared output before who reads it, where nothing orders the two: a fix then lets the reader wait."""

@@ -5,47 +5,52 @@ from typing import List, Tuple
 
 from record.assumptions import Assumptions
 from record.granted import add_granted_by_ninja
+from record.make.afterwards import Afterwards
 from record.make.graph import Build
 from record.make.owners import Owners
 from record.ninja.build import NinjaBuild, NinjaBuilder
 from record.ninja.log import Kept, Missing, ask_missing, version_of
-from record.ninja.manifest import Manifest, Unreadable
+from record.ninja.manifest import Unreadable
 from record.ninja.runs import Ninja, Runs, removed_names
 from record.trace.lives import Life
 from record.trace.names import Names
 
 
-def import_ninjas(lives: List[Life], owners: Owners, names: Names, kept: Kept, assumed: Assumptions, has_ended: bool) -> Tuple[List[Ninja], List[Build], List[str]]:
-    """All ninjas that ran, a build for each stage in which commands ran, and the holes; `has_ended`: the whole build did, well."""
+def find_ninjas(lives: List[Life], owners: Owners, names: Names, kept: Kept, has_ended: bool) -> Tuple[List[Ninja], List[str], List[str]]:
+    """All ninjas that ran, the commands that several statements have, and the holes; `has_ended`: the whole build did, well."""
     try:
         runs = Runs(lives, owners, names, kept, has_ended)
     except Unreadable as fault:
         return [], [], ["the manifest that ninja read cannot be read again: %s" % fault]
-    holes, builds = runs.holes, []
-    for ninja in runs.ninjas:
-        if ninja.is_tried:
-            assumed.add("tried", ninja.folder)
-    for text in runs.ties:
-        assumed.add("ties", text[:60])
-    for argv in side_by_side(runs.ninjas, owners):
-        assumed.add("tops", " ".join(argv)[:60])
-    add_granted_by_ninja(runs.ninjas, owners, assumed)
-    removed = removed_names(lives) if runs.ninjas else set()
-    if runs.ninjas:
-        assumed.add("ninja", "")
-    for ninja in runs.ninjas:
+    return runs.ninjas, runs.ties, runs.holes
+
+
+def import_ninjas(ninjas: List[Ninja], lives: List[Life], names: Names, assumed: Assumptions, after: Afterwards) -> Tuple[List[Build], List[str]]:
+    """A build for each stage of a ninja in which commands ran, and the holes."""
+    holes: List[str] = []
+    builds: List[Build] = []
+    removed = removed_names(lives) if ninjas else set()
+    for ninja in ninjas:
         for number, stage in enumerate(ninja.stages):
             if stage.jobs and stage.is_read:
-                builder = NinjaBuilder(ninja, number, later_manifests(ninja, number, runs.ninjas), removed, names, assumed)
+                builder = NinjaBuilder(ninja, number, after, removed, names, assumed)
                 builds.append(builder.run())
                 holes += builder.holes
-    return runs.ninjas, builds, holes
+    return builds, holes
 
 
-def later_manifests(ninja: Ninja, number: int, ninjas: List[Ninja]) -> List[Tuple[str, Manifest]]:
-    """What is read after a stage of a ninja has ended, by it or by a ninja that begins later, each with the folder of its names."""
-    found = [(ninja.folder, stage.manifest) for stage in ninja.stages[number + 1:]]
-    return found + [(other.folder, stage.manifest) for other in ninjas if other.life.born > ninja.life.died for stage in other.stages]
+def add_granted_by_ninjas(ninjas: List[Ninja], ties: List[str], owners: Owners, assumed: Assumptions) -> None:
+    """What ninjas take for granted, whatever their tasks are."""
+    for ninja in ninjas:
+        if ninja.is_tried:
+            assumed.add("tried", ninja.folder)
+    for text in ties:
+        assumed.add("ties", text[:60])
+    for argv in side_by_side(ninjas, owners):
+        assumed.add("tops", " ".join(argv)[:60])
+    add_granted_by_ninja(ninjas, owners, assumed)
+    if ninjas:
+        assumed.add("ninja", "")
 
 
 def side_by_side(ninjas: List[Ninja], owners: Owners) -> List[List[str]]:
