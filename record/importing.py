@@ -13,6 +13,7 @@ from pathlib import Path
 from typing import List, Set
 
 from record.assumptions import Assumptions
+from record.cleaned import Cleaned
 from record.configured import find_configured
 from record.folder import Record, write_record
 from record.footprints import write_footprints
@@ -68,6 +69,7 @@ class Imported:
     assumed: Assumptions
     lives: List[Life]
     ninjas: List[Ninja]
+    cleaned: Cleaned
     idle: List[str]  # targets of makes that had nothing to do
     configured: Set[str]  # what configuring made
 
@@ -115,7 +117,7 @@ def import_record(spool: Path, names: Names, kept: Kept, real: str, folder: str,
     ninjas, ties, holes = find_ninjas(replay.all, owners, names, kept, record.status == 0)
     add_granted_by_ninjas(ninjas, ties, owners, assumed)
     after = Afterwards.of(owners, ninjas, names)
-    of_ninja, more = import_ninjas(ninjas, replay.all, names, assumed, after)
+    of_ninja, more = import_ninjas(ninjas, replay.all, names, assumed, after, Past(names.before, replay.changes))
     record.holes += holes + more
     if not owners.makes and not ninjas:
         record.holes.append("no make and no ninja ran")
@@ -140,12 +142,13 @@ def import_record(spool: Path, names: Names, kept: Kept, real: str, folder: str,
     builds = sorted(builds + of_ninja, key=lambda build: build.make.life.born)
     if (owners.makes or ninjas) and record.status == 0 and did_nothing(builds):
         record.holes.append(IDLE)
-    return Imported(builds, assumed, replay.all, ninjas, idle_targets(owners, names), find_configured(owners.makes, replay.all, names))
+    cleaned = Cleaned(names, replay.changes, [one.life for one in (*owners.makes, *ninjas)], replay.all)
+    return Imported(builds, assumed, replay.all, ninjas, cleaned, idle_targets(owners, names, cleaned), find_configured(owners.makes, replay.all, names))
 
 
 def finish(record: Record, found: Imported, names: Names, warm: bool) -> None:
     """What is known when all builds are: whether they were cold, and what ninja itself finds."""
-    there = {*warm_names(found.builds, found.ninjas, names), *found.idle}
+    there = {*warm_names(found.builds, found.ninjas, names, found.cleaned), *found.idle}
     record.warm, record.configured = sorted(there - found.configured), sorted(there & found.configured)
     for name in record.configured:
         found.assumed.add("configured", name)

@@ -65,12 +65,12 @@ class NinjaBuild(Build):
 class NinjaBuilder(Builder):
     """Makes the tasks of a stage; footprints, folders and ages are those of make's builds."""
 
-    def __init__(self, ninja: Ninja, number: int, after: Afterwards, removed: Set[str], names: Names, assumed: Assumptions) -> None:
+    def __init__(self, ninja: Ninja, number: int, after: Afterwards, before: Dict[str, str], removed: Set[str], names: Names, assumed: Assumptions) -> None:
         self.ninja, self.stage, self.after = ninja, ninja.stages[number], after
         self.make, self.number, self.names, self.assumed = ninja, number, names, assumed  # type: ignore[assignment]
         is_last = number == len(ninja.stages) - 1
         self.build = NinjaBuild(ninja, self.stage, "goals" if is_last else "manifest")
-        self.before, self.removed = names.before, removed
+        self.before, self.removed = before, removed
         self.holes: List[str] = []
         self.of_node: Dict[str, int] = {}
         self.look_of: Dict[str, int] = {}

@@ -14,6 +14,7 @@ from record.ninja.manifest import Unreadable
 from record.ninja.runs import Ninja, Runs, removed_names
 from record.trace.lives import Life
 from record.trace.names import Names
+from record.trace.past import Past
 
 
 def find_ninjas(lives: List[Life], owners: Owners, names: Names, kept: Kept, has_ended: bool) -> Tuple[List[Ninja], List[str], List[str]]:
@@ -25,17 +26,16 @@ def find_ninjas(lives: List[Life], owners: Owners, names: Names, kept: Kept, has
     return runs.ninjas, runs.ties, runs.holes
 
 
-def import_ninjas(ninjas: List[Ninja], lives: List[Life], names: Names, assumed: Assumptions, after: Afterwards) -> Tuple[List[Build], List[str]]:
-    """A build for each stage of a ninja in which commands ran, and the holes."""
+def import_ninjas(ninjas: List[Ninja], lives: List[Life], names: Names, assumed: Assumptions, after: Afterwards, past: Past) -> Tuple[List[Build], List[str]]:
+    """A build for each stage of a ninja in which commands ran, and the holes. `past`: which names were there when it began."""
     holes: List[str] = []
     builds: List[Build] = []
     removed = removed_names(lives) if ninjas else set()
-    for ninja in ninjas:
-        for number, stage in enumerate(ninja.stages):
-            if stage.jobs and stage.is_read:
-                builder = NinjaBuilder(ninja, number, after, removed, names, assumed)
-                builds.append(builder.run())
-                holes += builder.holes
+    stages = [(stage, ninja, number) for ninja in ninjas for number, stage in enumerate(ninja.stages) if stage.jobs and stage.is_read]
+    for stage, ninja, number in sorted(stages, key=lambda found: found[0].opened):
+        builder = NinjaBuilder(ninja, number, after, past.until(stage.opened), removed, names, assumed)
+        builds.append(builder.run())
+        holes += builder.holes
     return builds, holes
 
 

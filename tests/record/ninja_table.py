@@ -201,4 +201,9 @@ CASES += [
     Case("ages-that-a-script-compares", RACE, LATER % "", ["is newer"], words="sh ./all", files={"all": "ninja -j1; if test x -nt a; then touch y; fi\n"}),
     Case("ages-of-a-depfile", RACE, NAMED, ["/h is newer"], words="sh ./all",
          files={"all": "ninja -j1; ninja -f next.ninja\n", "next.ninja": "rule g\n  command = touch x y\n  generator = 1\nbuild x: g\n  depfile = x.m\n"}),
+    Case("folder-that-was-removed-first", RACE, sh("a", "", "mkdir -p d; touch a") + sh("b", "", "echo > d/b; touch b"), ["that the folder"], words="sh ./all", files={"all": "rm -r d; ninja -j1\n", "d/x": ""}),
+    Case("folder-that-a-stage-removed", RACE, REMADE.replace("next.ninja\n", "next.ninja | r\n") + sh("r", "", "rm -r d; touch r"), ["that the folder"], setup="touch -d 2001-01-01 build.ninja",
+         files={"next.ninja": RULES + REMADE + sh("a", "", "mkdir -p d; touch a") + sh("b", "", "echo > d/b; touch b"), "d/x": ""}),
+    Case("outputs-that-were-removed-first", SAFE, GEN + sh("a", "g", USE), words="sh ./all", files={"all": "ninja -t clean; ninja -j1\n"}, setup="ninja -j1 > /dev/null"),
+    Case("outputs-that-a-command-removes", NONE, GEN + sh("a", "g", USE) + sh("c", "", "ninja -t clean g a"), ["WARM"], words="sh ./all", files={"all": "ninja -j1 a; ninja c; ninja -j1 a\n"}, setup="ninja -j1 a > /dev/null"),
 ]
