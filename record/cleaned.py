@@ -22,11 +22,10 @@ class Cleaned:
             self.since.pop(path, None)  # what a script makes again may be of the earlier build
 
     def is_gone(self, path: str, life: Life) -> bool:
-        """Whether a make or ninja, and those above it, found it absent, or as others have made it since."""
+        """Whether a make or a ninja found it absent, or as recipes have made it since."""
         return self.since.get(path, sys.maxsize) <= start_of(life)
 
 
 def start_of(life: Life) -> int:
-    """When a make or ninja began, or the uppermost one above it."""
-    first = [up for up in life.up() if up.starts][-1]
-    return first.starts[0 if first.is_make else -1][0]
+    """When a make or a ninja began. A make begins anew where it has remade a makefile; a script may become a ninja."""
+    return life.starts[0 if life.is_make else -1][0]

@@ -51,7 +51,6 @@ HIDDEN_GUARDS: List[Guard] = [
     Guard("warm: what is put back", "cleaned.py", "            self.since.pop(path, None)", "            pass", warm("what_is_removed_and_put_back"), LOST_HOLE),
     Guard("warm: what makes have made since", "cleaned.py", "own = (life for life in lives if not any(up.is_make or up.is_ninja for up in life.up()))", "own = lives", warm("what_is_removed_and_made_by_several_makes"), "0 != 2"),
     Guard("warm: what a make with nothing to do finds", "granted.py", "[path for path in paths if not cleaned.is_gone(path, make.life)]", "paths", warm("what_is_removed_and_made_by_several_makes"), "0 != 2"),
-    Guard("warm: what makes inside find", "cleaned.py", "    first = [up for up in life.up() if up.starts][-1]\n", "    first = life\n", warm("what_is_removed_and_made_by_several_makes"), "0 != 2"),
     Guard("warm: folders with sources", "warm.py", ' and not any(kind != "d" and is_below(path, node.path) for path, kind in names.before.items()):', ":", warm("folder_with_sources"), "0 != 2"),
     Guard("warm: folders of other makes", "warm.py", "        for at, task in enumerate(other.tasks) if other is build or id(other.make) not in inside else ():", "        for at, task in enumerate(other.tasks) if other is build else ():", warm("folder_of_an_inner_make"), LOST_HOLE),
     Guard("warm: folders for makes inside", "warm.py", " if other is build or id(other.make) not in inside else ():", ":", warm("folder_for_an_inner_make"), "0 != 2"),

@@ -112,7 +112,8 @@ class Warm(unittest.TestCase):
     def test_what_is_removed_and_made_by_several_makes(self) -> None:
         self.assertEqual(0, self.cleaned("make clean; make a; make"))
         self.assertEqual(0, self.cleaned("make clean; make a; make a; make b"))
-        self.assertEqual(0, self.cleaned("rm -f a b; make", "all: ; $(MAKE) -f in.mk a && $(MAKE) -f in.mk b\n"))
+        self.assertEqual(0, self.cleaned("rm -f a b; make", "all: ; touch a && $(MAKE) -f in.mk\n.PHONY: all\n"))
+        self.assertEqual(0, self.cleaned("make", "all: ; rm -f a b && $(MAKE) -f in.mk\n.PHONY: all\n"))
 
     def test_what_is_removed_between_two_makes(self) -> None:
         self.assertEqual(2, self.cleaned("make; make clean; make"))
