@@ -12,11 +12,12 @@ class Cleaned:
     """By name: when the first make or ninja began that found it absent, though it was there before the recording."""
 
     def __init__(self, names: Names, changes: List[Change], tools: Iterable[Life], lives: Iterable[Life]) -> None:
-        past = Past(names.before, changes)
+        past, left = Past(names.before, changes), {path.rstrip("/") for _, kind, path in changes if kind in "DX"} & names.before.keys()
         self.since: Dict[str, int] = {}
         for start in sorted({start_of(life) for life in tools}):
-            for path in names.before.keys() - past.until(start).keys():
-                self.since.setdefault(path, start)
+            found = left - past.until(start).keys()
+            self.since.update(dict.fromkeys(found, start))
+            left -= found
         own = (life for life in lives if not any(up.is_make or up.is_ninja for up in life.up()))
         for path in {path for life in own for kind, path in life.events if kind == "C"}:
             self.since.pop(path, None)  # what a script makes again may be of the earlier build

@@ -47,9 +47,9 @@ class Afterwards:
                 found.add_pairs(stage.opened, ((real[target], real[asked]) for target, asked in stage.manifest.compared()))
         for life in owners.lives:
             kinds = {path: kind for kind, path in life.events if kind in "Aa"}
+            recipe, is_sure = (recipe_of(life, owners), not (life.is_query or life.traits().is_interpreter)) if kinds else (0, False)
             for path, kind in kinds.items():
-                is_sure = kind == "A" and not (life.is_query or life.traits().is_interpreter)
-                found.looks.setdefault(path, []).append(Look(life, recipe_of(life, owners), is_sure))
+                found.looks.setdefault(path, []).append(Look(life, recipe, is_sure and kind == "A"))
         return found
 
     def add_pairs(self, place: int, pairs: Iterator[Tuple[str, str]]) -> None:

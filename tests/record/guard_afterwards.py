@@ -23,6 +23,6 @@ AFTERWARDS_GUARDS: List[Guard] = [
     Guard("afterwards: programs before", "make/afterwards.py", "if look.life.died > end and id(look.life) not in own:", "if id(look.life) not in own:", after("test_of_a_script_before"), FALSE_RACE),
     Guard("afterwards: one recipe at a time", "make/afterwards.py", "seen.setdefault((look.recipe, is_sure), set())", "seen.setdefault((0, is_sure), set())", after("tests_of_two_recipes"), FALSE_RACE),
     Guard("afterwards: interpreters are said", "make/afterwards.py", '                builder.assumed.add("afterwards", ', "                str(", after("look_of_an_interpreter"), UNSAID),
-    Guard("afterwards: interpreters are no races", "make/afterwards.py", "not (life.is_query or life.traits().is_interpreter)", "not life.is_query", after("look_of_an_interpreter"), FALSE_RACE),
-    Guard("afterwards: makes that only ask are no races", "make/afterwards.py", "not (life.is_query or life.traits().is_interpreter)", "not life.traits().is_interpreter", after("query"), FALSE_RACE),
+    Guard("afterwards: interpreters are no races", "make/afterwards.py", "not (life.is_query or life.traits().is_interpreter))", "not life.is_query)", after("look_of_an_interpreter"), FALSE_RACE),
+    Guard("afterwards: makes that only ask are no races", "make/afterwards.py", "not (life.is_query or life.traits().is_interpreter))", "not life.traits().is_interpreter)", after("query"), FALSE_RACE),
 ]
