@@ -9,6 +9,7 @@ from record.tools.computed import runs_unseen
 from record.trace.lives import Life
 from record.trace.loader import interpreter_words
 from record.trace.opened import Opened
+from record.trace.processes import sets_others
 from record.trace.strace import Call, first_text, folders, is_cut, texts
 
 SCRIPTS = 5  # how many scripts may be the interpreter of one another; the kernel allows no more
@@ -46,6 +47,8 @@ class Started(Opened):
             return
         self.note_rights(life, found.path)
         self.is_open_shell = self.is_open_shell or shelltext.sets_options(argv, life.folder)
+        if sets_others(argv):
+            self.watchers.append(" ".join(argv)[:100])
         if shellages.asks_reads(argv, life.folder):
             self.askers.append(" ".join(argv)[:100])
         if self.is_real_make(found.path):
