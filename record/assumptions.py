@@ -13,7 +13,7 @@ TEXTS = {
     "unwritten": "all processes of recipes that do not write their own target were seen",
     "at-once": "two processes of one recipe that may touch a file at the same time do no harm",
     "sockets": "servers that processes talk to keep no files of the build; ports that they open are free; memory is shared by processes of one recipe alone",
-    "processes": "who lists the processes that run (ps, pgrep), signals or looks at one of another recipe, or waits for changes of files (inotify, leases), does the same whatever else runs",
+    "processes": "who lists the processes that run (ps, pgrep), signals or looks at one of another recipe, sets its limits (prlimit, renice, taskset), or waits for changes of files (inotify, leases), does the same whatever else runs",
     "read-times": "who asks when a file was read last (test -N, find -anewer, st_atime) does the same whoever has read it",
     "locks": "who asks for a lock of a file, and does not wait for it, does the same where another one has it",
     "queries": "what a make that only asks (-n, -q, -t) runs by `+` or $(MAKE) does the same in any order",
@@ -39,6 +39,7 @@ TEXTS = {
     "inherited": "targets that a later rule or a chain of rules asks for do the same whichever target's macros they inherit",
     "beside": "files that a process which no recipe started changed while make ran are touched by no recipe",
     "ages": "programs that nobody knows look at two files, and do not compare which is newer",
+    "afterwards": "interpreters, programs that nobody knows, and makes that only ask (-n, -q), which look at two files when the build that made them has ended, do not compare which is newer",
     "interpreters": "Perl, Python and other interpreters compare ages only of files that they looked at by name, and ask of a folder by its whole path no more than that it is there",
     # What the answer on missing inputs takes for granted.
     "later": "you edit sources, add and remove none, and what you edit gets a new time; recipes then read and write the files that they do now; makefiles, commands and the environment stay; each build ends well",

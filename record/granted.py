@@ -6,6 +6,7 @@ from typing import Iterator, List
 
 from record.assumptions import Assumptions
 from record.at_once import CHANGES, at_once_in, is_left
+from record.cleaned import Cleaned
 from record.make.owners import Make, Owners, Work
 from record.make.words import makefiles
 from record.ninja.runs import Ninja
@@ -42,13 +43,14 @@ def add_granted(owners: Owners, assumed: Assumptions, spool: str) -> None:
             assumed.add("jobs-said", "make " + make.words.args)
 
 
-def idle_targets(owners: Owners, names: Names) -> List[str]:
+def idle_targets(owners: Owners, names: Names, cleaned: Cleaned) -> List[str]:
     """Targets with a recipe that were there before, of rounds in which no recipe ran."""
     found: List[str] = []
     for make in owners.makes:
         for one in make.words.rounds:
             recipes = one.base.recipes if one.base is not None and one.stage == "goals" and not one.jobs else {}
-            found += [names.find(make.folder, one.vpath.get(n, n), True).path for n in one.nodes if recipes.get(n) and n not in one.must]
+            paths = (names.find(make.folder, one.vpath.get(n, n), True).path for n in one.nodes if recipes.get(n) and n not in one.must)
+            found += [path for path in paths if not cleaned.is_gone(path, make.life)]
     return [path for path in found if names.before.get(path) in ("f", "l") or is_beyond(path, names)]
 
 

@@ -13,6 +13,7 @@ from pathlib import Path
 from typing import List, Set
 
 from record.assumptions import Assumptions
+from record.cleaned import Cleaned
 from record.configured import find_configured
 from record.failed import explained, failures
 from record.folder import Record, write_record
@@ -25,7 +26,7 @@ from record.make.owners import Owners
 from record.make.unasked import unasked
 from record.make.words import read_logs
 from record.missing.inputs import write_missing
-from record.ninja.builds import beside, import_ninjas
+from record.ninja.builds import add_granted_by_ninjas, beside, find_ninjas, import_ninjas
 from record.ninja.builds import versions as ninja_versions
 from record.ninja.log import Kept
 from record.ninja.runs import Ninja
@@ -69,6 +70,7 @@ class Imported:
     assumed: Assumptions
     lives: List[Life]
     ninjas: List[Ninja]
+    cleaned: Cleaned
     idle: List[str]  # targets of makes that had nothing to do
     configured: Set[str]  # what configuring made
 
@@ -114,8 +116,11 @@ def import_record(spool: Path, names: Names, kept: Kept, real: str, folder: str,
         for example in found:
             assumed.add(kind, example)
     elsewhere = Elsewhere(owners, names)
-    ninjas, of_ninja, holes = import_ninjas(replay.all, owners, elsewhere, names, kept, assumed, record.status == 0)
-    record.holes += holes
+    ninjas, ties, holes = find_ninjas(replay.all, owners, names, kept, record.status == 0)
+    add_granted_by_ninjas(ninjas, ties, owners, assumed)
+    elsewhere.ninjas = ninjas
+    of_ninja, more = import_ninjas(ninjas, replay.all, elsewhere, names, assumed, Past(names.before, replay.changes))
+    record.holes += holes + more
     if record.status != 0:
         record.holes = explained(record.holes, owners.makes, ninjas, folder)
     else:
@@ -144,12 +149,13 @@ def import_record(spool: Path, names: Names, kept: Kept, real: str, folder: str,
     builds = sorted(builds + of_ninja, key=lambda build: build.make.life.born)
     if (owners.makes or ninjas) and record.status == 0 and did_nothing(builds):
         record.holes.append(IDLE)
-    return Imported(builds, assumed, replay.all, ninjas, idle_targets(owners, names), find_configured(owners.makes, replay.all, names))
+    cleaned = Cleaned(names, replay.changes, [one.life for one in (*owners.makes, *ninjas)], replay.all)
+    return Imported(builds, assumed, replay.all, ninjas, cleaned, idle_targets(owners, names, cleaned), find_configured(owners.makes, replay.all, names))
 
 
 def finish(record: Record, found: Imported, names: Names, warm: bool) -> None:
     """What is known when all builds are: whether they were cold, and what ninja itself finds."""
-    there = {*warm_names(found.builds, found.ninjas, names), *found.idle}
+    there = {*warm_names(found.builds, found.ninjas, names, found.cleaned), *found.idle}
     record.warm, record.configured = sorted(there - found.configured), sorted(there & found.configured)
     for name in record.configured:
         found.assumed.add("configured", name)

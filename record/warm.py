@@ -4,6 +4,7 @@ import os
 import re
 from typing import Dict, Iterator, List, Set
 
+from record.cleaned import Cleaned
 from record.make.graph import Build, Graph, Node, Task
 from record.make.owners import Make
 from record.missing.looked import is_below
@@ -15,17 +16,17 @@ BUILDS = re.compile(r"make|ninja", re.I)  # a recipe that may run several others
 MAKES_FOLDER = re.compile(r"\s*[@+-]*\s*mkdir\s+(?:(?:-p|--parents)\s+)?(?:\$@|\$\(@\)|([^\s;&|<>`$*?\[]+?))/?\s*")
 
 
-def warm_names(builds: List[Build], ninjas: List[Ninja], names: Names) -> List[str]:
+def warm_names(builds: List[Build], ninjas: List[Ninja], names: Names, cleaned: Cleaned) -> List[str]:
     """The targets that were there before: made again, or up to date.
 
-    What a tool makes to read it itself (makefiles, manifests) is no part of the question: configuring made it.
+    What a tool makes to read it itself (makefiles, manifests) is no part of the question: configuring made it. Nor is what was removed first.
     """
     found: Set[str] = set()
-    left = {path for build in builds for path in left_folders(build, builds, names)}
+    left = {path for build in builds for path in left_folders(build, builds, names) if not cleaned.is_gone(path, build.make.life)}
     beyond: Set[str] = set()
     for build in builds:
         if build.tool == "make" and build.stage == "goals":
-            nodes = [node for node in build.graph.nodes.values() if node.has_recipe and not node.phony]
+            nodes = [node for node in build.graph.nodes.values() if node.has_recipe and not node.phony and not cleaned.is_gone(node.path, build.make.life)]
             found.update(node.path for node in nodes if not is_new_link(build, node, names))
             beyond.update(node.path for node in nodes if not (node.jobs or node.must) and is_beyond(node.path, names))
     for build in builds:
@@ -33,7 +34,7 @@ def warm_names(builds: List[Build], ninjas: List[Ninja], names: Names) -> List[s
             found.difference_update(node.path for node in build.graph.nodes.values())
     made = {path for ninja in ninjas for path in made_by(ninja, names)}
     for ninja in ninjas:
-        own = targets_of(ninja, names)
+        own = {path for path in targets_of(ninja, names) if not cleaned.is_gone(path, ninja.life)}
         found.update(own)
         left.update(path for path in own - made if path in names.before)  # a folder too: its statement did not run
         beyond.update(path for path in own - made if is_beyond(path, names))

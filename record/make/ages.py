@@ -156,11 +156,11 @@ def ages_in_archives(builder: "Builder", at: int, work: Work) -> None:
                 compare(builder, at, archive, path)
 
 
-def ages_by_words(builder: "Builder", at: int, work: Work, words: str = "") -> None:
-    """Programs that compare ages: those of all names that they looked at, by who writes them. Of other programs nobody knows. `words`: who they
-    are where that is no task."""
+def ages_by_words(builder: "Builder", at: int, work: Work, assumed: str = "ages", words: str = "") -> None:
+    """Programs that compare ages: those of all names that they looked at, by who writes them. Of others nobody knows, which is what is `assumed`.
+    `words`: who they are where that is no task."""
     for low, high, first, second in settled_by(builder, at, work, AGE_SEEN):
         settle(builder, first, second, low, high)
     unknown = next(settled_by(builder, at, work, AGE_UNKNOWN), None)
     if unknown is not None:
-        builder.assumed.add("ages", "%s looks at %s and %s" % (words or builder.build.tasks[at].node.name, unknown[2], unknown[3]))
+        builder.assumed.add(assumed, "%s looks at %s and %s" % (words or builder.build.tasks[at].node.name, unknown[2], unknown[3]))

@@ -83,7 +83,7 @@ class Elsewhere:
         asked: Dict[str, List[Pair]] = {} if self.is_last(builder) else self.pairs
         pairs = [(target, one.prerequisite) for target in sorted(changed & asked.keys()) for one in asked[target]
                  if self.is_later(builder, one, own, begin) and not self.is_new(builder, target, one)]
-        return Askers(list(dict.fromkeys(pairs)), [work_of(lives, begin) for lives in groups if lives], copies)
+        return Askers(list(dict.fromkeys(pairs)), [work_of(lives) for lives in groups if lives], copies)
 
     def is_last(self, builder: "Builder") -> bool:
         """Whether it is the last round of the only make, or the last stage of the only ninja."""
@@ -119,14 +119,14 @@ def part_of(life: Life) -> Life:
     return life
 
 
-def work_of(lives: List[Life], begin: int) -> Tuple[str, Work]:
-    """What some processes that belong together asked of ages, with words for one of them. What an interpreter looked at before a build began, it may
-    look at again behind that, and nobody knows for what."""
+def work_of(lives: List[Life]) -> Tuple[str, Work]:
+    """What some processes that belong together asked of ages, with words for one of them. Interpreters and makes that only ask look at much and seldom
+    compare ages, so nobody knows of these whether they do."""
     work = Work(lives=lives)
     for life in lives:
         for (kind, path), place in life.events.items():
             if kind in AGES:
-                work.add(AGE_UNKNOWN if kind == AGE_SEEN and place < begin and life.traits().is_interpreter else kind, path, place)
+                work.add(AGE_UNKNOWN if kind == AGE_SEEN and (life.is_query or life.traits().is_interpreter) else kind, path, place)
     return words_of(next((life for life in lives if any(kind == AGE_UNKNOWN for kind, _ in life.events)), lives[0])), work
 
 
@@ -151,7 +151,7 @@ def add_elsewhere(builder: "Builder", created: Created) -> None:
     for first, second in builder.askers.pairs:
         compare(builder, -1, first, second)
     for words, work in builder.askers.works:
-        ages_by_words(builder, -1, work, words)
+        ages_by_words(builder, -1, work, "afterwards", words)
         for life, path in ((life, path) for life in work.lives for kind, path in life.events if kind == ORDER_SEEN and path in created):
             if next(unordered(builder, sorted({who for names in created[path].values() for who in names})), None) is not None:
                 builder.assumed.add("listings", "%s lists %s" % (words_of(life), path))

@@ -23,6 +23,7 @@ if TYPE_CHECKING:
 TRIES = 3
 JOBS = 4
 HINTS = 5
+CLEAN = "--clean-first"
 OWN = (".ninja_log", ".ninja_deps", ".ninja_lock")
 
 
@@ -53,19 +54,20 @@ def by_name(words: List[str], real: str, folder: str = "") -> List[str]:
     if is_cmake and cached(os.path.join(folder, words[2]), "CMAKE_GENERATOR") == "Unix Makefiles":
         found = words_of_cmake(words[3:])
         if found is not None:
-            return ["sh", "-c", 'cd "$0" && exec make -f Makefile "$@"', words[2], *found]
+            clean = "make -f Makefile clean && " if CLEAN in found else ""
+            return ["sh", "-c", 'cd "$0" && %sexec make -f Makefile "$@"' % clean, words[2], *(word for word in found if word != CLEAN)]
     return words
 
 
 def words_of_cmake(words: List[str]) -> Optional[List[str]]:
-    """What make gets of the words behind `cmake --build DIR`; None where they ask for more than that."""
+    """What make gets of the words behind `cmake --build DIR`, and CLEAN where it runs `make clean` first; None where they ask for more than that."""
     found: List[str] = []
     split = words.index("--") if "--" in words else len(words)
     kind = ""
     for word in words[:split]:
         name, equals, value = word.partition("=")
-        if word in ("-v", "--verbose"):
-            kind, found = "", found + ["VERBOSE=1"]
+        if word in ("-v", "--verbose", CLEAN):
+            kind, found = "", found + [word if word == CLEAN else "VERBOSE=1"]
         elif name in ("-t", "--target", "--config", "-j", "--parallel"):
             kind = name
             found += [value] if equals and name == "--target" else []

@@ -4,7 +4,7 @@ import os
 from typing import Any, Dict, Iterable, List, Set, Tuple
 
 from record.assumptions import Assumptions
-from record.make.ages import ages_by_words, ages_in_archives, compare, inner_ages, note_sources
+from record.make.ages import ages_by_words, ages_in_archives, inner_ages, note_sources
 from record.make.build import Builder
 from record.make.elsewhere import Askers, add_elsewhere, find_askers
 from record.make.folders import add_folders, apart, parents
@@ -15,10 +15,11 @@ from record.make.unfiled import count_listings
 from record.ninja.fix import owner_of
 from record.ninja.manifest import Edge
 from record.ninja.runs import NEVER, Job, Ninja, Stage
+from record.tools.listed import fits
 from record.trace.names import Names, join
 
 TEXT_LIMIT = 400
-LOGS = (".ninja_log", ".ninja_deps")
+LOG, DEPS = ".ninja_log", ".ninja_deps"
 FIRST, PRIME, BITS = 14695981039346656037, 1099511628211, (1 << 64) - 1
 
 
@@ -64,12 +65,12 @@ class NinjaBuild(Build):
 class NinjaBuilder(Builder):
     """Makes the tasks of a stage; footprints, folders and ages are those of make's builds."""
 
-    def __init__(self, ninja: Ninja, number: int, removed: Set[str], names: Names, assumed: Assumptions) -> None:
+    def __init__(self, ninja: Ninja, number: int, before: Dict[str, str], removed: Set[str], names: Names, assumed: Assumptions) -> None:
         self.ninja, self.stage = ninja, ninja.stages[number]
         self.make, self.number, self.names, self.assumed = ninja, number, names, assumed  # type: ignore[assignment]
         is_last = number == len(ninja.stages) - 1
         self.build = NinjaBuild(ninja, self.stage, "goals" if is_last else "manifest")
-        self.before, self.removed = names.before, removed
+        self.before, self.removed = before, removed
         self.holes: List[str] = []
         self.of_node: Dict[str, int] = {}
         self.look_of: Dict[str, int] = {}
@@ -219,8 +220,8 @@ class NinjaBuilder(Builder):
         add_inner(self, created)
         find_askers(self, created)
         count_listings(self, created)
-        add_folders(self)
         self.add_logs()
+        add_folders(self)
         self.add_files_of_dyndep()
         note_sources(self)
         for at, task in enumerate(self.build.tasks):
@@ -232,13 +233,25 @@ class NinjaBuilder(Builder):
         drop_lonely(self.build.tasks, set())
 
     def add_logs(self) -> None:
-        """A command that reads the logs of its ninja sees which commands have ended: ninja writes a line for each."""
-        folder = self.stage.manifest.top.value("builddir")
-        logs = {self.full(os.path.join(folder, name)) for name in LOGS}
-        ran = {at for at, task in enumerate(self.build.tasks) if task.works}
-        for at in sorted(ran):
-            for path in sorted({path for kind, path in self.events(self.build.tasks[at]) if kind in "RSN" and path in logs}):
-                apart(self, path + "/@output", "which commands stand in the log of ninja", at, ran - {at})
+        """A command that reads the logs of its ninja sees which commands have ended: ninja writes a line for each. One that lists their folder, or
+        asks for its age, sees whether the first one has ended, as ninja makes its logs then."""
+        tasks, folder = self.build.tasks, self.full(self.stage.manifest.top.value("builddir") or ".")
+        ran = {at for at, task in enumerate(tasks) if task.works}
+        for name, makers in (LOG, ran), (DEPS, {at for at in ran if self.build.edges[at].value("deps")}):
+            path = join(folder, name)
+            is_new = self.ninja.life.events.get(("C", path), -1) > self.stage.opened
+            if is_new and folder in self.timed:
+                self.timers.setdefault(folder, set()).update(makers)
+            for at in sorted(ran):
+                if any(kind in "RSN" and found == path for kind, found in self.events(tasks[at])):
+                    apart(self, path + "/@output", "which commands stand in the log of ninja", at, ran - {at})
+                elif is_new and self.lists(at, path) and not any(self.build.is_before(maker, at) for maker in makers):
+                    apart(self, path + "/@output", "that the log of ninja is there", at, makers - {at})
+
+    def lists(self, at: int, path: str) -> bool:
+        """Whether a task lists the folder of a path for such names."""
+        found = (name.split("\0") for kind, name in self.events(self.build.tasks[at]) if kind == "L")
+        return any(folder == os.path.dirname(path) and fits(pattern, path, self.names) for folder, pattern in found)
 
     def put_makers_first(self) -> None:
         """Lists who makes a declared output before who reads it, where nothing orders the two: a fix then lets the reader wait."""

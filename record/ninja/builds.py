@@ -14,35 +14,44 @@ from record.ninja.manifest import Unreadable
 from record.ninja.runs import Ninja, Runs, removed_names
 from record.trace.lives import Life
 from record.trace.names import Names
+from record.trace.past import Past
 
 
-def import_ninjas(lives: List[Life], owners: Owners, elsewhere: Elsewhere, names: Names, kept: Kept, assumed: Assumptions, has_ended: bool) -> Tuple[List[Ninja], List[Build], List[str]]:
-    """All ninjas that ran, a build for each stage in which commands ran, and the holes; `has_ended`: the whole build did, well."""
+def find_ninjas(lives: List[Life], owners: Owners, names: Names, kept: Kept, has_ended: bool) -> Tuple[List[Ninja], List[str], List[str]]:
+    """All ninjas that ran, the commands that several statements have, and the holes; `has_ended`: the whole build did, well."""
     try:
         runs = Runs(lives, owners, names, kept, has_ended)
     except Unreadable as fault:
         return [], [], ["the manifest that ninja read cannot be read again: %s" % fault]
-    holes, builds = runs.holes, []
-    elsewhere.ninjas = runs.ninjas
-    for ninja in runs.ninjas:
+    return runs.ninjas, runs.ties, runs.holes
+
+
+def import_ninjas(ninjas: List[Ninja], lives: List[Life], elsewhere: Elsewhere, names: Names, assumed: Assumptions, past: Past) -> Tuple[List[Build], List[str]]:
+    """A build for each stage of a ninja in which commands ran, and the holes. `past`: which names were there when it began."""
+    holes: List[str] = []
+    builds: List[Build] = []
+    removed = removed_names(lives) if ninjas else set()
+    stages = [(stage, ninja, number) for ninja in ninjas for number, stage in enumerate(ninja.stages) if stage.jobs and stage.is_read]
+    for stage, ninja, number in sorted(stages, key=lambda found: found[0].opened):
+        builder = NinjaBuilder(ninja, number, past.until(stage.opened), removed, names, assumed)
+        builder.elsewhere = elsewhere
+        builds.append(builder.run())
+        holes += builder.holes
+    return builds, holes
+
+
+def add_granted_by_ninjas(ninjas: List[Ninja], ties: List[str], owners: Owners, assumed: Assumptions) -> None:
+    """What ninjas take for granted, whatever their tasks are."""
+    for ninja in ninjas:
         if ninja.is_tried:
             assumed.add("tried", ninja.folder)
-    for text in runs.ties:
+    for text in ties:
         assumed.add("ties", text[:60])
-    for argv in side_by_side(runs.ninjas, owners):
+    for argv in side_by_side(ninjas, owners):
         assumed.add("tops", " ".join(argv)[:60])
-    add_granted_by_ninja(runs.ninjas, owners, assumed)
-    removed = removed_names(lives) if runs.ninjas else set()
-    if runs.ninjas:
+    add_granted_by_ninja(ninjas, owners, assumed)
+    if ninjas:
         assumed.add("ninja", "")
-    for ninja in runs.ninjas:
-        for number, stage in enumerate(ninja.stages):
-            if stage.jobs and stage.is_read:
-                builder = NinjaBuilder(ninja, number, removed, names, assumed)
-                builder.elsewhere = elsewhere
-                builds.append(builder.run())
-                holes += builder.holes
-    return runs.ninjas, builds, holes
 
 
 def side_by_side(ninjas: List[Ninja], owners: Owners) -> List[List[str]]:

@@ -8,6 +8,8 @@ import re
 from dataclasses import dataclass, field
 from typing import Callable, Dict, Iterator, List, Optional, Set, Tuple
 
+from record.ninja.depfile import depfile_inputs
+
 VARIABLE = re.compile(r"\$(?:\{([A-Za-z0-9_.-]+)\}|([A-Za-z0-9_-]+)|(.?))", re.S)
 TOKEN = re.compile(r" *(?:(\|\||\|@|\||:)|((?:\$(?:\{[A-Za-z0-9_.-]+\}|[A-Za-z0-9_-]+|[ $:|])|[^ :|$])+)|$)")
 LET = re.compile(r" *([A-Za-z0-9_.-]+) *= *(.*)", re.S)
@@ -213,9 +215,9 @@ class Manifest:
         return self._users
 
     def aged(self, edge: Edge) -> List[str]:
-        """The files whose ages ninja compares with those of a statement's outputs: through phony ones too."""
+        """The files whose ages ninja compares with those of a statement's outputs: through phony ones too, and those that its depfile names."""
         found: Dict[str, None] = {}
-        todo = edge.inputs + edge.implicit
+        todo = edge.inputs + edge.implicit + self.named(edge)
         while todo:
             path = todo.pop()
             if path not in found:
@@ -223,6 +225,11 @@ class Manifest:
                 maker = self.makers.get(path)
                 todo += maker.inputs + maker.implicit if maker is not None and maker.is_phony else []
         return list(found)
+
+    def named(self, edge: Edge) -> List[str]:
+        """The inputs that a depfile names which ninja leaves where it is. What it keeps in its log of them `-t missingdeps` compares."""
+        path = edge.path("depfile") if not edge.value("deps") else ""
+        return [canonical(name) for name in depfile_inputs(os.path.join(self.folder, path))] if path else []
 
     def compared(self) -> Iterator[Tuple[str, str]]:
         """Outputs, each with the inputs whose ages ninja compares with its own."""

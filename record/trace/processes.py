@@ -13,6 +13,8 @@ from record.trace.lives import Life, Listed, Program
 from record.trace.moves import Moves
 from record.trace.strace import Call
 
+SETTERS = ("prlimit", "taskset", "chrt", "ionice")
+OTHER = re.compile(r"-[a-zA-Z]*[pPu]|--(?:pid|pgid|uid)")  # the word behind which they name a process
 NUMBER = re.compile(r"-?(\d+)\b")  # of a process, or of the first one of a group
 
 
@@ -34,6 +36,12 @@ def lends_rights(program: str, user: int) -> bool:
     except OSError:
         return False
     return user != 0 and bool(found.st_mode & stat.S_ISUID and found.st_uid != user or found.st_mode & stat.S_ISGID and found.st_mode & stat.S_IXGRP)
+
+
+def sets_others(argv: List[str]) -> bool:
+    """Whether a program sets limits of a process that runs, by its words: what that starts later gets them too."""
+    name = shelltext.base_name(argv)
+    return name == "renice" or name in SETTERS and any(OTHER.match(word) for word in argv[1:])
 
 
 class Processes(Moves):

@@ -11,6 +11,7 @@ from record.trace.lives import Life
 from record.trace.loader import interpreter_words
 from record.trace.names import Found
 from record.trace.opened import Opened
+from record.trace.processes import sets_others
 from record.trace.strace import Call, first_text, folders, is_cut, texts
 
 SCRIPTS = 5  # how many scripts may be the interpreter of one another; the kernel allows no more
@@ -38,6 +39,8 @@ class Started(Opened):
             return
         self.note_rights(life, found.path)
         self.is_open_shell = self.is_open_shell or shelltext.sets_options(life.argv, life.folder)
+        if sets_others(life.argv):
+            self.watchers.append(" ".join(life.argv)[:100])
         if shellages.asks_reads(life.argv, life.folder):
             self.askers.append(" ".join(life.argv)[:100])
         if self.is_real_make(found.path):

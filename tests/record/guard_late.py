@@ -39,6 +39,8 @@ LATE_GUARDS: List[Guard] = [
     Guard("wildcard: at home", "make/memory.py", r'r"[$\\~]"', r'r"[$\\]"', late("wildcard_at_home"), YES),
     Guard("wildcard: a blank", "make/memory.py", r'r"[$\\~]"', r'r"[$~]"', late("wildcard_with_a_blank"), YES),
     Guard("processes: signals", "trace/processes.py", "self.watchers.append(", "str(", late("signal_for_another_recipe"), UNSAID),
+    Guard("processes: limits of others", "trace/started.py", "        if sets_others(life.argv):\n", "        if False:\n", late("limits_of_another_process"), UNSAID),
+    Guard("processes: limits of their own", "trace/processes.py", "name in SETTERS and any(OTHER.match(word) for word in argv[1:])", "name in SETTERS", late("limits_of_its_own_process"), "True is not false"),
     Guard("processes: signals inside of a recipe", "trace/processes.py", "first_of(other) is not first_of(life)", "other is not life", late("signal_for_its_own_process"), "True is not false"),
     Guard("processes: looks at one", "trace/calls.py", "            self.note_watcher(life, path)\n        follow", "            pass\n        follow", late("process_that_is_looked_for"), UNSAID),
     Guard("signals: no descriptors", "trace/calls.py", '"umask", "kill", "tkill", "tgkill", ', '"umask", ', trace("signal_is_no_descriptor")),

@@ -284,7 +284,7 @@ UNFILED: List[Guard] = [
     Guard("targets of one recipe: behind nothing", "make/unfiled.py", " and not builder.is_leaf(node):", ":", small("target_of_several_behind_nothing")),
     Guard("targets of one recipe: that name none", "make/unfiled.py", "if any(TARGET.search(one) for one in", "if any(True for one in", small("targets_of_one_recipe_by_their_names")),
     Guard("said: macros that are inherited", "make/unfiled.py", 'builder.assumed.add("inherited"', '(lambda *_: None)("inherited"', small("macro_that_is_inherited"), UNSAID),
-    Guard("said: programs that may compare ages", "make/ages.py", 'builder.assumed.add("ages"', '(lambda *_: None)("ages"', small("ages_by_a_program"), UNSAID),
+    Guard("said: programs that may compare ages", "make/ages.py", 'builder.assumed.add(assumed', '(lambda *_: None)(assumed', small("ages_by_a_program"), UNSAID),
     Guard("said: the order of listings", "make/unfiled.py", 'builder.assumed.add("listings"', '(lambda *_: None)("listings"', small("order_of_a_listing"), UNSAID),
     Guard("interpreters are read", "trace/started.py", "self.look(life, words[0], True, True, READ)\n        self.look_at_interpreters(life, words[0])", "self.look(life, words[0], True, True, READ)", small("interpreter_that_a_recipe_makes"), YES),
     Guard("interpreters: make", "trace/started.py", "if found.path == self.real:  # the kernel", "if False:  # the kernel", small("script_of_make_in_a_recipe"), LOST_HOLE),
@@ -301,7 +301,7 @@ UNFILED: List[Guard] = [
     Guard("ages: that are set", "trace/calls.py", 'self.put(life, AGE_TAKEN, found.path + "\\0")', "pass", small("age_that_cp_takes_over"), YES),
     Guard("ages: of what is moved", "trace/moves.py", '        self.put(life, AGE_TAKEN, new.path + "\\0" + old.path)\n        if "RENAME_EXCHANGE"', '        if "RENAME_EXCHANGE"', small("age_of_a_file_that_is_moved"), YES),
     Guard("ages: of a second name", "trace/moves.py", '        self.put(life, AGE_TAKEN, new.path + "\\0" + old.path)\n        for other', '        for other', small("age_of_a_second_name"), YES),
-    Guard("ages: in archives", "make/ages.py", "or kind == WRITTEN and packs", "", small("age_out_of_an_archive"), YES),
+    Guard("ages: in archives", "make/ages.py", "or kind == WRITTEN and is_packer", "", small("age_out_of_an_archive"), YES),
     Guard("ages: scripts that a script takes in", "tools/shellages.py", "script_compares(os.path.join(folder, name), folder, depth + 1)", "False", small("ages_by_a_script_that_is_taken_in"), YES),
 ]
 WARM: List[Guard] = [

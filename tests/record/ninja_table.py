@@ -186,3 +186,24 @@ CASES += [
     Case("another-name", NONE, GEN + sh("a", "", USE), ["a ninja of another name ran past the recorder: ./n2"], setup="cp $(command -v ninja) n2", files={"Makefile": "x: ; ./n2 -j1\n"}, words="make"),
     Case("tried-by-another", NONE, sh("x", "", "sh ./try && touch x"), ["nobody kept"], files={"try": TRY, "next": RULES + GEN + sh("a", "g", USE)}),
 ]
+LISTING, BESIDE = {"d/x": "", "e/x": ""}, sh("d/b", "", "touch $out")
+DEPS = "rule r\n  command = echo '$out: d/x' > $out.m; touch $out\n  deps = gcc\n  depfile = $out.m\nbuild d/b: r\n"
+NAMED = sh("h", "", "touch h") + sh("x", "", "sleep 0.1; echo 'x: h' > x.m; touch x")
+CASES += [
+    Case("log-that-is-listed", RACE, BESIDE + sh("e/a", "", "ls -A . > e/a"), ["that the log of ninja is there"], files=LISTING),
+    Case("log-that-is-listed-behind-another", SAFE, BESIDE + sh("e/a", "d/b", "ls -A . > e/a") + sh("d/c", "", "touch d/c"), files=LISTING),
+    Case("log-that-a-pattern-does-not-fit", SAFE, BESIDE + sh("e/a", "", "echo *.x > e/a"), files=LISTING),
+    Case("log-that-was-there", SAFE, BESIDE + sh("e/a", "", "ls -A . > e/a"), files=LISTING, setup="ninja -j1 d/b > /dev/null; rm d/b", options=["--warm"]),
+    Case("log-of-headers-that-is-listed", RACE, sh("d/c", "", "touch d/c") + DEPS + sh("e/a", "d/c", "ls -A . > e/a"), files=LISTING),
+    Case("log-and-the-age-of-its-folder", RACE, "builddir = l\n" + BESIDE + sh("e/a", "", "test l -nt e/x > e/a; touch e/a"), ["the time of the folder"], files={"l/x": "", **LISTING}),
+    Case("ages-of-a-later-make", RACE, LATER % "", ["is newer"], words="sh ./all", files={"all": "ninja -j1; make -f next.mk\n", "next.mk": "x: a ; touch x\n"}),
+    Case("ages-of-a-later-make-ordered", SAFE, LATER % " || a", words="sh ./all", files={"all": "ninja -j1; make -f next.mk\n", "next.mk": "x: a ; touch x\n"}),
+    Case("ages-that-a-script-compares", RACE, LATER % "", ["is newer"], words="sh ./all", files={"all": "ninja -j1; if test x -nt a; then touch y; fi\n"}),
+    Case("ages-of-a-depfile", RACE, NAMED, ["/h is newer"], words="sh ./all",
+         files={"all": "ninja -j1; ninja -f next.ninja\n", "next.ninja": "rule g\n  command = touch x y\n  generator = 1\nbuild x: g\n  depfile = x.m\n"}),
+    Case("folder-that-was-removed-first", RACE, sh("a", "", "mkdir -p d; touch a") + sh("b", "", "echo > d/b; touch b"), ["that the folder"], words="sh ./all", files={"all": "rm -r d; ninja -j1\n", "d/x": ""}),
+    Case("folder-that-a-stage-removed", RACE, REMADE.replace("next.ninja\n", "next.ninja | r\n") + sh("r", "", "rm -r d; touch r"), ["that the folder"], setup="touch -d 2001-01-01 build.ninja",
+         files={"next.ninja": RULES + REMADE + sh("a", "", "mkdir -p d; touch a") + sh("b", "", "echo > d/b; touch b"), "d/x": ""}),
+    Case("outputs-that-were-removed-first", SAFE, GEN + sh("a", "g", USE), words="sh ./all", files={"all": "ninja -t clean; ninja -j1\n"}, setup="ninja -j1 > /dev/null"),
+    Case("outputs-that-a-command-removes", NONE, GEN + sh("a", "g", USE) + sh("c", "", "ninja -t clean g a"), ["WARM"], words="sh ./all", files={"all": "ninja -j1 a; ninja c; ninja -j1 a\n"}, setup="ninja -j1 a > /dev/null"),
+]

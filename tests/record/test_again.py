@@ -46,7 +46,8 @@ class Words(unittest.TestCase):
                                   (["cmake", "--build", build], [*run, build]), (["cmake", "--build", build, "-j8", "-v"], [*run, build, "VERBOSE=1"]),
                                   (["cmake", "--build", build, "--target", "a", "b", "--parallel", "4"], [*run, build, "a", "b"]),
                                   (["cmake", "--build", build, "-t", "a", "--config", "Debug", "--", "-k", "X=1"], [*run, build, "a", "-k", "X=1"]),
-                                  (["cmake", "--build", build, "--clean-first"], ["cmake", "--build", build, "--clean-first"])):
+                                  (["cmake", "--build", build, "--fresh"], ["cmake", "--build", build, "--fresh"]),
+                                  (["cmake", "--build", build, "--clean-first", "-t", "a"], ["sh", "-c", run[2].replace("exec", "make -f Makefile clean && exec"), build, "a"])):
                 self.assertEqual(wanted, by_name(words, real), words)
 
     def test_cmake_where_ninja_builds(self) -> None:

@@ -39,11 +39,11 @@ ELSEWHERE: Dict[str, Small] = {
     "ages_for_the_make_above_that_makes_it_anyway": Small("safe", "all: x\nx: y q ; echo again >> x\ny: q\nq: ; $(MAKE) -f a.mk; touch q\n", {"a.mk": FIRST}),
     "ages_for_a_make_that_begins_again": Small("race", RESTART % ""),
     "ages_for_a_make_that_begins_again_in_order": Small("safe", RESTART % " y"),
-    "ages_for_a_query": Small("race", "", {"a.mk": FIRST, "b.mk": AGAIN}),
+    "ages_for_a_query": Small("safe", "", {"a.mk": FIRST, "b.mk": AGAIN}, says="interpreters, programs that nobody knows"),
     # programs elsewhere
     "ages_for_a_script": Small("race", "", {"a.mk": FIRST}),
     "ages_for_a_script_that_asked_before": Small("race", "", {"a.mk": FIRST, "x.c": ""}),
-    "ages_for_a_script_of_python": Small("safe", "", {"a.mk": FIRST, "x": "", "y": "", "w.py": PYTHON}, "touch -d 2001-01-01 x y", "programs that nobody knows"),
+    "ages_for_a_script_of_python": Small("safe", "", {"a.mk": FIRST, "x": "", "y": "", "w.py": PYTHON}, "touch -d 2001-01-01 x y", "interpreters, programs that nobody knows"),
     "ages_for_a_script_before": Small("safe", "", {"a.mk": FORCED, "x": "", "y": ""}),
     "ages_for_the_recipe_that_calls_make": Small("race", "all: ; $(MAKE) -f a.mk; %s\n" % ASKS, {"a.mk": FIRST}),
     "ages_for_the_recipe_that_calls_make_in_order": Small("safe", "all: ; $(MAKE) -f a.mk; %s\n" % ASKS, {"a.mk": ORDERED}),

@@ -113,7 +113,7 @@ class CMake(unittest.TestCase):
             again = project.record(["cmake", "--build", "b", "--clean-first"])
         self.assertEqual((0, 0), (outcome.status, (outcome.record or {})["missingdeps"]), outcome.text())
         self.assertNotIn("WARM", outcome.text())
-        self.assertEqual(2, again.status, again.text())
+        self.assertEqual(0, again.status, again.text())  # what an earlier build made is removed before ninja builds
 
 
 @unittest.skipUnless(shutil.which("ninja") and shutil.which("meson"), "meson or ninja is missing (Debian: apt-get install meson ninja-build)")

@@ -64,6 +64,8 @@ LATE: Dict[str, Small] = {
     # processes of other recipes
     "signal_for_another_recipe": Small("safe", "all: b\na: ; sleep 9 > /dev/null 2>&1 & echo $$! > a\nb: a ; kill `cat a`; touch b\n", says=SEES),
     "signal_for_its_own_process": Small("safe", "all: ; sleep 9 & kill $$!; touch all\n", lacks=SEES),
+    "limits_of_another_process": Small("safe", "all: a b\na: ; renice 0 -p $$PPID > /dev/null; touch a\nb: ; touch b\n", says=SEES),
+    "limits_of_its_own_process": Small("safe", "all: a b\na: ; prlimit --core=0 touch a\nb: ; touch b\n", lacks=SEES),
     "process_that_is_looked_for": Small("safe", "all: ; test -d /proc/$$PPID; touch all\n", says=SEES),
     # when a file was read last
     "read_time_in_a_word": Small("safe", "all: ; python3 -c \"import os; os.stat('k').st_atime\"; touch all\n", {"k": "k"}, says=READ),

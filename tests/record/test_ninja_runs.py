@@ -41,7 +41,7 @@ class Holes(unittest.TestCase):
         """The holes of the build of the only stage; `made` is a folder that ninja made."""
         if made:
             runs.ninjas[0].life.events[("M", runs.ninjas[0].folder + "/" + made)] = 12
-        builder = NinjaBuilder(runs.ninjas[0], 0, set(), self.names, Assumptions())
+        builder = NinjaBuilder(runs.ninjas[0], 0, self.names.before, set(), self.names, Assumptions())
         builder.run()
         return builder.holes
 

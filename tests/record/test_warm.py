@@ -93,6 +93,35 @@ class Warm(unittest.TestCase):
     def test_race(self) -> None:
         self.assertEqual(1, self.status("all: a b\na b: kept ; echo $@ > log\n" + KEPT))
 
+    def cleaned(self, script: str, makefile: str = "all: a b\na: ; touch a\nb: a ; cp a b\nclean: ; rm -f a b\n") -> int:
+        """The status of a recording of a script, in a tree that was built before."""
+        with support.Project({"Makefile": makefile, "s": "s", "in.mk": "all: b\nb: a ; cp a b\na: ; touch a\n"}) as project:
+            project.sh("make > log")
+            outcome = project.record(["sh", "-c", script])
+        self.assertEqual(outcome.status == 2, "WARM" in outcome.text(), outcome.text())
+        return outcome.status
+
+    def test_what_is_removed_first(self) -> None:
+        self.assertEqual(0, self.cleaned("make clean; make"))
+        self.assertEqual(0, self.cleaned("rm a b; make"))
+        self.assertEqual(1, self.cleaned("make clean; make", "all: a b\na: ; touch a\nb: ; cp a b\nclean: ; rm -f a b\n"))
+
+    def test_what_is_removed_in_part(self) -> None:
+        self.assertEqual(2, self.cleaned("rm b; make", "all: a b c\na c: ; touch $@\nb: a ; cp a b\n"))
+
+    def test_what_is_removed_and_made_by_several_makes(self) -> None:
+        self.assertEqual(0, self.cleaned("make clean; make a; make"))
+        self.assertEqual(0, self.cleaned("make clean; make a; make a; make b"))
+        self.assertEqual(0, self.cleaned("rm -f a b; make", "all: ; touch a && $(MAKE) -f in.mk\n.PHONY: all\n"))
+        self.assertEqual(0, self.cleaned("make", "all: ; rm -f a b && $(MAKE) -f in.mk\n.PHONY: all\n"))
+
+    def test_what_is_removed_between_two_makes(self) -> None:
+        self.assertEqual(2, self.cleaned("make; make clean; make"))
+
+    def test_what_is_removed_and_put_back(self) -> None:
+        self.assertEqual(2, self.cleaned("cp -p a k; make clean; mv k a; make"))
+        self.assertEqual(2, self.cleaned("cp -p a k; make clean; make b; mv k a; make"))
+
 
 if __name__ == "__main__":
     unittest.main()
