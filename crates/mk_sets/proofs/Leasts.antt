@@ -1,4 +1,4 @@
--- The least place that two sets of places have.
+-- The least number that two sets have.
 use Rattle.std.proofs.Common.{◌≡◌, ℕ, suc, ◌<◌, Bool, true, false, List, [], ◌∷◌, sym, ◌∙◌, ap, subst, refl, inl, inr, arith, find, Option, Some, None}
 use Rattle.std.specs.Prelude.{◌⊎◌, ◌||◌, ◌&&◌}
 use Rattle.std.specs.BTreeMap.{is_at}
@@ -10,7 +10,7 @@ use Rattle.std.specs.declared.cmp.Ordering.TheVariants.{Less, Equal, Greater}
 use Rattle.std.proofs.lemmas.Bool.{and_from, and_parts, cases_Bool, cases_order, cond-false, cond-true, or_from, or_left, or_right}
 use Rattle.std.proofs.lemmas.Map.Keys.{sorted_tail}
 use Rattle.std.proofs.lemmas.Map.Views.{All-after_first}
-use Rattle.mk_graph.specs.Places.{IsLeast}
+use Rattle.mk_sets.specs.Numbers.{IsLeast}
 
 -- the list has the number, as a set looks for it
 abbrev pub Has : List ℕ → ℕ → Bool

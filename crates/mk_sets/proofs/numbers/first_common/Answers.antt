@@ -1,7 +1,7 @@
 use Rattle.std.proofs.Common.{◌&&◌, sym, subst}
-use Rattle.mk_graph.specs.Places.{IsLeast, in_set}
-use Rattle.mk_graph.proofs.Sets.{found_least, least_same, turned}
-use Rattle.mk_graph.proofs.places.first_common.Goals as goal
+use Rattle.mk_sets.specs.Numbers.{IsLeast, in_set}
+use Rattle.mk_sets.proofs.Leasts.{found_least, least_same, turned}
+use Rattle.mk_sets.proofs.numbers.first_common.Goals as goal
 
 pub returns-then-len : goal.returns-then-len
 returns-then-len c =
