@@ -1,7 +1,7 @@
 //! The texts that include lines may name.
 ghost use Rattle.std.specs.Prelude.{◌≡◌, [], ◌∷◌, ◌++◌, map, OnOk};
 ghost use Rattle.std.specs.Option.{option_copied};
-ghost use Rattle.mk_text.specs.LogicalLines.{logical_lines};
+ghost use Rattle.mk_lines.specs.LogicalLines.{logical_lines};
 ghost use Rattle.mk_include.specs.Includes.{GivesTexts, includes_of, texts_of};
 
 use crate::cut::Cut;

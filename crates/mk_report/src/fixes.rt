@@ -13,7 +13,7 @@ use mk_name::fault::Halt;
 use mk_name::report::push_shown;
 use mk_path::path::Path;
 use mk_path::spelling::text_of;
-use mk_text::lines::TEXT_LIMIT;
+use mk_lines::lines::TEXT_LIMIT;
 use mk_text::spelling::plain_word;
 use std::alloc::{AllocError, Global};
 

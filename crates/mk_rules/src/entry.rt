@@ -15,7 +15,7 @@ use crate::words::names_in;
 use mk_macro::macros::Macros;
 use mk_name::fault::{Fault, Halt, Kind, Source};
 use mk_name::name::Name;
-use mk_text::parts::EntryParts;
+use mk_lines::parts::EntryParts;
 use mk_text::root::Root;
 use std::alloc::{AllocError, Global};
 
