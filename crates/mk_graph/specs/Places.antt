@@ -1,5 +1,5 @@
 -- Tables by which the source of a name is found: sets of places in the list of suffixes, by names ("Inference Rules").
-use Rattle.std.specs.Prelude.{◌≡◌, ℕ, ◌<◌, ◌≤◌, ◌⊎◌, ◌++◌, ◌-◌, ◌&&◌, ◌||◌, nat_eq, Bool, false, List, [], Option, Some, None, IsTrue, length, position, take}
+use Rattle.std.specs.Prelude.{◌≡◌, ℕ, ◌<◌, ◌⊎◌, ◌++◌, ◌-◌, ◌&&◌, ◌||◌, nat_eq, Bool, false, List, [], Option, Some, None, IsTrue, length, position, take}
 use Rattle.std.specs.BTreeMap.{get}
 use Rattle.std.specs.Cmp.Lexicographic.{slice_cmp}
 use Rattle.std.specs.declared.collections.BTreeMap.{BTreeMap}

@@ -1,7 +1,7 @@
 -- The logical lines of a makefile (POSIX.1-2024 XCU make, "Makefile Syntax", and the profile).
 -- A text is cut into blocks of physical lines, and each block is nothing, one logical line, or a fault.
 use Rattle.std.specs.Prelude.{ℕ, ◌+◌, ◌-◌, Bool, true, false, List, [], ◌∷◌, length, take, drop, map, codes, slice_get, slice_index, Option, None, Some, Result, Ok, Err, ◌==◌, ◌&&◌, ◌||◌, nat_lt, not, if◌then◌else◌}
-use Rattle.std.specs.List.{join_with_byte, list_any, list_all, before_first, filter_map, last_or, prefix_len, sum_by}
+use Rattle.std.specs.List.{join_with_byte, list_any, before_first, filter_map, last_or, prefix_len, sum_by}
 use Rattle.std.specs.Option.{option_and_then, option_flatten, option_map, option_map_or, unwrap_or}
 use Rattle.std.specs.Result.{result_err, result_ok}
 use Rattle.std.specs.Str.{bytes_eq}

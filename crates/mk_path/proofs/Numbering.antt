@@ -1,7 +1,6 @@
 -- Numbers of paths: their places among those in order.
-use Rattle.std.proofs.Common.{ℕ, ◌≡◌, ◌<◌, ◌&&◌, List, [], ◌∷◌, ◌++◌, length, get_or, map, Bool, true, false, not, if◌then◌else◌, Contains, Bor, Vec, Ordering, Less, Equal, Err, refl, sym, ap, ap₂, ◌∙◌, arith}
+use Rattle.std.proofs.Common.{ℕ, ◌≡◌, ◌<◌, ◌&&◌, List, [], ◌∷◌, length, get_or, map, Bool, true, false, not, if◌then◌else◌, Contains, Bor, Ordering, Less, Equal, Err, refl, sym, ap, ap₂, ◌∙◌, arith}
 use Rattle.std.specs.Cmp.{IsTotalOrder}
-use Rattle.std.specs.Global.{Global}
 use Rattle.std.specs.List.{AllByRecursion, list_any}
 use Rattle.std.specs.List.Sorted.{IsBinarySearchResult, IsSearchInRange, IsStrictlySortedBy}
 use Rattle.std.specs.Ordering.{is_eq}
