@@ -7,9 +7,9 @@ ghost use Rattle.mk_jobs.specs.Reaching.{uses_of};
 ghost use Rattle.mk_cert.specs.Pairs.{IsPaired};
 
 use crate::search::has_chain;
+use mk_index::bits::has_bit;
 use mk_jobs::jobs::Jobs;
 use mk_jobs::plan::NODE_LIMIT;
-use mk_index::bits::has_bit;
 use mk_proof::certificate::Certificate;
 
 /// How many bits a word has.

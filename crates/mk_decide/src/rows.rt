@@ -6,8 +6,8 @@ ghost use Rattle.mk_decide.specs.Bits.{AreRows, Gathers, block_nodes, row_at, ro
 
 use crate::before::Before;
 use crate::words::merge;
-use mk_jobs::jobs::Jobs;
 use mk_index::bits::{has_bit, set_bit};
+use mk_jobs::jobs::Jobs;
 use std::alloc::{AllocError, Global};
 use std::marker::Model;
 

@@ -11,9 +11,9 @@ ghost use Rattle.mk_fix.specs.Musts.{AreDirect, AreDirectBelow, AreFirsts, AreMu
 use crate::added::sources_of;
 use mk_decide::pairs::clashing_pairs;
 use mk_decide::words::merge;
+use mk_index::bits::{has_bit, set_bit};
 use mk_jobs::jobs::Jobs;
 use mk_name::fault::Halt;
-use mk_index::bits::{has_bit, set_bit};
 use std::alloc::{AllocError, Global};
 
 /// How many bits a word has.

@@ -5,10 +5,10 @@ ghost use Rattle.mk_name.specs.Gives.{Gives};
 ghost use Rattle.mk_lines.specs.LogicalLines.{logical_lines};
 ghost use Rattle.mk_include.specs.Includes.{reported_in};
 
-use mk_name::fault::{Fault, Halt, Source};
-use mk_name::name::Name;
 use mk_lines::line::Line;
 use mk_lines::lines::lines;
+use mk_name::fault::{Fault, Halt, Source};
+use mk_name::name::Name;
 use std::alloc::{AllocError, Global};
 use std::marker::Model;
 

@@ -9,8 +9,8 @@ ghost use Rattle.mk_missing.specs.Hearing.{AreHeard, Hears, IsNews};
 
 use crate::always::makes_own;
 use mk_decide::words::merge;
-use mk_jobs::jobs::Jobs;
 use mk_index::bits::{has_bit, set_bit};
+use mk_jobs::jobs::Jobs;
 use std::alloc::{AllocError, Global};
 use std::marker::Model;
 

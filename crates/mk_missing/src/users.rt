@@ -10,8 +10,8 @@ ghost use Rattle.mk_missing.specs.Files.{IsFile};
 ghost use Rattle.mk_missing.specs.Users.{AreUsers, files_of};
 
 use crate::kept::keep;
-use mk_jobs::jobs::Jobs;
 use mk_index::index::Place;
+use mk_jobs::jobs::Jobs;
 use mk_path::path::Path;
 use std::alloc::{AllocError, Global};
 

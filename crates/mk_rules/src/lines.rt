@@ -20,11 +20,11 @@ use crate::rule::Rule;
 use mk_include::cut::Cut;
 use mk_include::includes::Includes;
 use mk_include::words::{word_text, words};
+use mk_lines::line::Line;
+use mk_lines::parts::{EntryParts, IncludeParts, Parts};
 use mk_macro::macros::Macros;
 use mk_name::fault::{Halt, Source};
 use mk_name::name::Name;
-use mk_lines::line::Line;
-use mk_lines::parts::{EntryParts, IncludeParts, Parts};
 use mk_text::root::Root;
 use std::alloc::Global;
 

@@ -13,9 +13,9 @@ use crate::lines::{Reader, SoFar};
 use crate::rule::Rule;
 use crate::rulebook::Rulebook;
 use mk_include::includes::Includes;
+use mk_lines::line::Line;
 use mk_macro::macros::Macros;
 use mk_name::fault::{Fault, Halt, Kind, Source};
-use mk_lines::line::Line;
 use mk_text::root::Root;
 use std::alloc::Global;
 
