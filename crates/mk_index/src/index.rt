@@ -39,13 +39,26 @@ struct Found {
 
 /// What nodes read and write, by the numbers of their paths. Made once, it answers which nodes reach a node, and where two
 /// nodes overlap, without a look at any path.
-#[derive(Debug, Drop)]
+#[derive(Debug)]
 pub struct Index {
     reads: Table,
     writes: Table,
     ups: Ups,
     writers: Table,
     readers: Table,
+}
+
+// By hand, so that it is proved once (docs/GATE.md, "What costs the prover").
+impl Drop for Index {
+    fn drop(self) {
+        let Index {
+            reads: _,
+            writes: _,
+            ups: _,
+            writers: _,
+            readers: _,
+        } = self;
+    }
 }
 
 impl Model for Index {

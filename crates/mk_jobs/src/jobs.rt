@@ -26,7 +26,7 @@ use std::marker::Model;
 
 /// A plan, the root of its names, and for each node the paths that its footprints read and write. A node's number is its
 /// place in serial order.
-#[derive(Debug, Drop)]
+#[derive(Debug)]
 pub struct Jobs {
     plan: Plan,
     root: Root,
@@ -36,6 +36,20 @@ pub struct Jobs {
     index: Index,
     /// The prerequisites of each node, rising.
     needs: Table,
+}
+
+// By hand, so that it is proved once (docs/GATE.md, "What costs the prover").
+impl Drop for Jobs {
+    fn drop(self) {
+        let Jobs {
+            plan: _,
+            root: _,
+            reads: _,
+            writes: _,
+            index: _,
+            needs: _,
+        } = self;
+    }
 }
 
 impl Model for Jobs {
