@@ -78,7 +78,7 @@ impl Footprints {
     pub(crate) fn into_root(self) -> Root
         ensures { result ≡ self.root }
     {
-        let Footprints { root, .. } = self;
+        let Footprints { root, by_target: _ } = self;
         root
     }
 
