@@ -34,10 +34,10 @@ from record.trace.skips import sift
 
 STRACE = ["strace", "-f", "-q", "-y", "--seccomp-bpf", "-s", str(32 * os.sysconf("SC_PAGE_SIZE")), "-e", "signal=hup,int,quit,abrt,kill,segv,pipe,term,xfsz", "-e", "trace=" + traced()]
 EXAMPLE = """examples:
-  race-record -- make -C src all       one serial build, then the verdict
-  race-record -- cmake --build build   the same where ninja builds
-  race-record --missing -- make        also: which files recipes read and make does not know of
-  race-record --warm                   after WARM, where what it names is part of each clean tree: judge again, without a build
+  race-record -- make                     after make clean: one serial build, then the verdict
+  race-record --fresh -- ninja -C build   where ninja builds, also for CMake and Meson: of a clean copy
+  race-record --missing -- make           also: which files recipes read and make does not know of
+  race-record --warm                      after WARM, where what it names is part of each clean tree: judge again, without a build
 statuses: 0 safe, with --missing also nothing missing, 1 races or missing inputs,
           2 no verdict on one of the two, 3 usage or a tool that is missing"""
 WRAPPER = ("record.make.limits", "record.make.options", "record.make.outputs", "record.make.wrapper")

@@ -2,6 +2,7 @@
 
 import json
 import os
+import re
 import shutil
 import subprocess
 import sys
@@ -11,6 +12,7 @@ from pathlib import Path
 from typing import Dict, List, Optional, Tuple
 
 import support
+from record.assumptions import TEXTS
 from record.judge import Verdict, ended, explained
 from record.missing.report import Question, missing_text
 from record.report import Colours, Judged, report
@@ -19,6 +21,7 @@ from support import TOP
 COMPANIONS = ("record", "report", "confirm")
 HOLES = ["hole %d" % number for number in range(23)]
 ABOUT = {"counts": {"recipes": 1}}
+ROW = re.compile(r"^\| `([^`]+)` \(`([\w-]+)`\)", re.M)  # of a line that is taken for granted: how it begins, and its key
 
 
 def written(holes: List[str]) -> Dict[str, object]:
@@ -66,6 +69,16 @@ class NoVerdict(unittest.TestCase):
     def test_ends_without_an_answer(self) -> None:
         self.assertEqual(("ended with status 3", "was stopped by signal 9: race-report asks it again"), (ended(3), ended(-9)))
         self.assertEqual("race: F22 is no fault here", explained("race: F22 is no fault here"))
+
+
+@unittest.skipIf(not (TOP / "docs").is_dir(), "the pages are not beside the recorder")
+class Pages(unittest.TestCase):
+    """What is taken for granted, and the pages that say what to do about each line."""
+
+    def test_each_line_has_its_row(self) -> None:
+        rows = [row for name in ("RECORD.md", "MISSING.md") for row in ROW.findall((TOP / "docs" / name).read_text(encoding="utf-8"))]
+        self.assertEqual(sorted(TEXTS), sorted(key for _, key in rows))
+        self.assertEqual([], [(key, begins) for begins, key in rows if not TEXTS[key].startswith(begins)])
 
 
 @unittest.skipIf(any(not (TOP / name).is_dir() for name in COMPANIONS), "the other companions are not beside the recorder")
