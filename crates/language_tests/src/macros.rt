@@ -1,8 +1,8 @@
 //! Macros that a fault leaves as they were.
 use crate::made::{expands, is_good};
+use mk_lines::line::Line;
+use mk_lines::lines::lines;
 use mk_macro::macros::Macros;
-use mk_text::line::Line;
-use mk_text::lines::lines;
 use std::alloc::Global;
 
 /// Assignments that fail.

@@ -6,7 +6,7 @@ use Rattle.std.proofs.lemmas.List.Folds.{list_any-from_Any}
 use Rattle.mk_path.specs.declared.path.Path.{Path}
 use Rattle.mk_path.specs.Paths.{is_over}
 use Rattle.mk_path.specs.Texts.{text_of}
-use Rattle.mk_path.specs.Uses.{ReachesPath}
+use Rattle.mk_index.specs.Uses.{ReachesPath}
 use Rattle.mk_path.proofs.Overs.{over_self}
 use Rattle.mk_jobs.specs.Jobs.{Jobs, IsValid, is_live, reads_of, writes_of}
 use Rattle.mk_proof.specs.Shapes.{Trace}

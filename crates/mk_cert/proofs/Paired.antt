@@ -6,8 +6,8 @@ use Rattle.std.specs.Int.{bit_at}
 use Rattle.std.proofs.lemmas.Bool.{cases_lt}
 use Rattle.std.proofs.lemmas.List.{get_or-replicate, get_or_past, length-replicate}
 use Rattle.std.proofs.lemmas.Nat.Bits.{bit_at-zero}
-use Rattle.mk_path.specs.Bits.{HasBit}
-use Rattle.mk_path.specs.Uses.{Reaches}
+use Rattle.mk_index.specs.Bits.{HasBit}
+use Rattle.mk_index.specs.Uses.{Reaches}
 use Rattle.mk_jobs.specs.Jobs.{Jobs, IsValid, node_count}
 use Rattle.mk_jobs.specs.Reaching.{uses_of}
 use Rattle.mk_jobs.specs.Shape.{IsWellFormed}

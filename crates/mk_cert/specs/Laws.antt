@@ -5,7 +5,7 @@ use Rattle.mk_jobs.specs.Reaching.{uses_of}
 use Rattle.mk_jobs.specs.Shape.{IsWellFormed}
 use Rattle.mk_path.specs.declared.path.Path.{Path}
 use Rattle.mk_path.specs.Texts.{text_of}
-use Rattle.mk_path.specs.Uses.{IsOverlap}
+use Rattle.mk_index.specs.Uses.{IsOverlap}
 use Rattle.mk_sched.specs.Stores.{Store, AgreesWith, is_stale}
 use Rattle.mk_sched.specs.Events.{Event, Running, phase, is_started, running_below, store_after}
 use Rattle.mk_sched.specs.Runs.{IsRun}

@@ -2,7 +2,7 @@
 use Rattle.std.specs.Prelude.{ℕ, ◌≡◌, ◌≢◌, ◌⊎◌, ◌↔◌, ◌++◌, Bool, true, List, [], ◌∷◌, if◌then◌else◌}
 use Rattle.mk_path.specs.declared.path.Path.{Path}
 use Rattle.mk_path.specs.Texts.{text_of}
-use Rattle.mk_path.specs.Uses.{IsOverlap}
+use Rattle.mk_index.specs.Uses.{IsOverlap}
 use Rattle.mk_jobs.specs.Reaching.{uses_of}
 use Rattle.mk_jobs.specs.Jobs.{Jobs, Before, node_count, is_live, is_listed}
 use Rattle.mk_proof.specs.Shapes.{Trace, trace_of}

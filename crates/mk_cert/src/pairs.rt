@@ -1,15 +1,15 @@
 //! Whether the chains of a certificate are enough.
 ghost use Rattle.std.specs.Prelude.{ℕ, ◌≡◌, ◌≢◌, ◌<◌, ◌≤◌, ◌*◌, ◌/◌, ◌↔◌, ◌^◌, IsTrue, length};
-ghost use Rattle.mk_path.specs.Bits.{HasBit};
-ghost use Rattle.mk_path.specs.Uses.{Reaches};
+ghost use Rattle.mk_index.specs.Bits.{HasBit};
+ghost use Rattle.mk_index.specs.Uses.{Reaches};
 ghost use Rattle.mk_jobs.specs.Jobs.{node_count};
 ghost use Rattle.mk_jobs.specs.Reaching.{uses_of};
 ghost use Rattle.mk_cert.specs.Pairs.{IsPaired};
 
 use crate::search::has_chain;
+use mk_index::bits::has_bit;
 use mk_jobs::jobs::Jobs;
 use mk_jobs::plan::NODE_LIMIT;
-use mk_path::bits::has_bit;
 use mk_proof::certificate::Certificate;
 
 /// How many bits a word has.

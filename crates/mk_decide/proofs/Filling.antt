@@ -4,7 +4,7 @@ use Rattle.std.proofs.lemmas.Bool.{cases_order}
 use Rattle.std.proofs.lemmas.List.{take_at, drop_at, take-append-le, drop-append-le, drop-drop, length-drop}
 use Rattle.std.proofs.lemmas.Nat.{mul-le}
 use Rattle.mk_jobs.specs.Jobs.{Jobs, Before, IsValid, prerequisites_of, node_count}
-use Rattle.mk_path.specs.Bits.{HasBit}
+use Rattle.mk_index.specs.Bits.{HasBit}
 use Rattle.mk_decide.specs.Bits.{AreRows, Gathers, block_nodes, row_at, row_words}
 use Rattle.mk_decide.proofs.Edges.{prerequisite_from, before_from}
 use Rattle.mk_decide.proofs.Choosing.{from_not_less}

@@ -5,7 +5,7 @@ use Rattle.mk_jobs.specs.Jobs.{Jobs, Before, Clash, IsRaceFree, node_count}
 use Rattle.mk_jobs.specs.Shape.{IsWellFormed}
 use Rattle.mk_jobs.proofs.Reaching.{clash_is_reach}
 use Rattle.mk_jobs.proofs.JobsLemmas.{before_less, clash_live, shape_valid}
-use Rattle.mk_path.specs.Uses.{Reaches}
+use Rattle.mk_index.specs.Uses.{Reaches}
 use Rattle.mk_jobs.specs.Reaching.{uses_of}
 use Rattle.mk_decide.specs.LeastRaces.{IsFound, IsSettled, IsUpTo, Lowers}
 use Rattle.mk_decide.specs.Races.{IsRace, IsLeastRace}

@@ -15,7 +15,7 @@ use Rattle.mk_jobs.specs.Jobs.{Jobs, Clash, node_count}
 use Rattle.mk_jobs.specs.Shape.{IsWellFormed}
 use Rattle.mk_jobs.proofs.Reaching.{clash_is_reach}
 use Rattle.mk_jobs.proofs.JobsLemmas.{clash_live}
-use Rattle.mk_path.specs.Uses.{Reaches}
+use Rattle.mk_index.specs.Uses.{Reaches}
 use Rattle.mk_jobs.specs.Reaching.{uses_of}
 use Rattle.mk_decide.specs.Pairs.{ArePairs, HasManyPairs, Holds, IsRising, OnlyClashing, pair_limit}
 use Rattle.mk_proof.specs.Shapes.{pair_cmp}

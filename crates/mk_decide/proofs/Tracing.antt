@@ -10,7 +10,7 @@ use Rattle.std.proofs.lemmas.List.{append_assoc, get_or_past, length-append}
 use Rattle.std.proofs.lemmas.List.Elements.{All-append, All-cons, All-contains, All-nil, Contains-append_cases}
 use Rattle.mk_path.specs.declared.path.Path.{Path}
 use Rattle.mk_path.specs.Texts.{text_of}
-use Rattle.mk_path.specs.Uses.{IsOverlap, ReachesPath}
+use Rattle.mk_index.specs.Uses.{IsOverlap, ReachesPath}
 use Rattle.mk_jobs.specs.Jobs.{Before, IsValid, Jobs, is_listed, is_live, node_count, reads_of, writes_of}
 use Rattle.mk_jobs.specs.Plan.{node_limit}
 use Rattle.mk_jobs.specs.Reaching.{uses_of}

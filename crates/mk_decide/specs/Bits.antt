@@ -1,7 +1,7 @@
 -- Rows of bits, kept in words of 64: what a block of rows holds inside. Bit n of a row speaks of the node that stands n behind the
 -- first node of the block.
 use Rattle.std.specs.Prelude.{ℕ, ◌≡◌, ◌<◌, ◌≤◌, ◌↔◌, ◌⊎◌, ◌+◌, ◌*◌, List, length, take, drop, Contains}
-use Rattle.mk_path.specs.Bits.{HasBit}
+use Rattle.mk_index.specs.Bits.{HasBit}
 use Rattle.mk_jobs.specs.Jobs.{Jobs, Before, node_count}
 
 -- how many words a row of a block has

@@ -2,7 +2,7 @@
 use Rattle.std.specs.Prelude.{ℕ, ◌≡◌, List}
 use Rattle.mk_path.specs.declared.path.Path.{Path}
 use Rattle.mk_path.specs.Texts.{text_of}
-use Rattle.mk_path.specs.Uses.{IsLeastOverlap}
+use Rattle.mk_index.specs.Uses.{IsLeastOverlap}
 use Rattle.mk_jobs.specs.Jobs.{Jobs}
 use Rattle.mk_jobs.specs.Reaching.{uses_of}
 use Rattle.mk_proof.specs.Shapes.{Trace}

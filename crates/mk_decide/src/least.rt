@@ -2,7 +2,7 @@
 ghost use Rattle.std.specs.Prelude.{ℕ, ◌≡◌, ◌≢◌, ◌<◌, ◌↔◌, ◌⊎◌, IfSome, IsNone, Some, false, true};
 ghost use Rattle.mk_jobs.specs.Jobs as spec;
 ghost use Rattle.mk_jobs.specs.Jobs.{Clash, IsRaceFree, node_count};
-ghost use Rattle.mk_path.specs.Uses.{Reaches};
+ghost use Rattle.mk_index.specs.Uses.{Reaches};
 ghost use Rattle.mk_jobs.specs.Reaching.{uses_of};
 ghost use Rattle.mk_jobs.specs.Shape.{IsWellFormed};
 ghost use Rattle.mk_decide.specs.LeastRaces.{IsFound, IsSettled, IsUpTo, Lowers};

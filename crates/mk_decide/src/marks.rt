@@ -2,8 +2,8 @@
 ghost use Rattle.std.specs.Prelude.{ℕ, ◌↔◌, ◌*◌, ◌^◌, ◌<◌, ◌≤◌, IfNone, IfSome, length};
 ghost use Rattle.mk_jobs.specs.Jobs.{node_count};
 ghost use Rattle.mk_jobs.specs.Shape.{IsWellFormed};
-ghost use Rattle.mk_path.specs.Bits.{HasBit};
-ghost use Rattle.mk_path.specs.Uses.{Reaches};
+ghost use Rattle.mk_index.specs.Bits.{HasBit};
+ghost use Rattle.mk_index.specs.Uses.{Reaches};
 ghost use Rattle.mk_jobs.specs.Reaching.{uses_of};
 
 use mk_jobs::jobs::Jobs;

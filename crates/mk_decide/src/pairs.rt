@@ -4,7 +4,7 @@ ghost use Rattle.std.specs.List.{Contains};
 ghost use Rattle.mk_name.specs.Gives.{HaltsAmong};
 ghost use Rattle.mk_jobs.specs.Jobs.{node_count};
 ghost use Rattle.mk_jobs.specs.Shape.{IsWellFormed};
-ghost use Rattle.mk_path.specs.Uses.{Reaches};
+ghost use Rattle.mk_index.specs.Uses.{Reaches};
 ghost use Rattle.mk_jobs.specs.Reaching.{uses_of};
 ghost use Rattle.mk_decide.specs.Pairs.{ArePairs, HasManyPairs, Holds, IsRising, OnlyClashing, pair_limit, too_many};
 

@@ -1,13 +1,13 @@
 //! A row of bits for each node: which nodes of a block are before it.
 ghost use Rattle.std.specs.Prelude.{ℕ, ◌≡◌, ◌<◌, ◌≤◌, ◌+◌, ◌-◌, ◌*◌, ◌↔◌, ◌⊎◌, All, IfOk, IsTrue, length};
 ghost use Rattle.mk_jobs.specs.Jobs.{IsValid, node_count};
-ghost use Rattle.mk_path.specs.Bits.{HasBit};
+ghost use Rattle.mk_index.specs.Bits.{HasBit};
 ghost use Rattle.mk_decide.specs.Bits.{AreRows, Gathers, block_nodes, row_at, row_words};
 
 use crate::before::Before;
 use crate::words::merge;
+use mk_index::bits::{has_bit, set_bit};
 use mk_jobs::jobs::Jobs;
-use mk_path::bits::{has_bit, set_bit};
 use std::alloc::{AllocError, Global};
 use std::marker::Model;
 

@@ -4,7 +4,7 @@ use Rattle.std.specs.Prelude.{IfSome, ◌==◌, option_map, if◌then◌else◌}
 use Rattle.std.specs.List.{All, Contains}
 use Rattle.std.proofs.lemmas.List.Elements.{All-nil, All-push, Contains-append_right}
 use Rattle.std.proofs.lemmas.Option.{same_Some}
-use Rattle.mk_text.specs.Blocks.{physical_lines}
+use Rattle.mk_text.specs.Lexical.{physical_lines}
 use Rattle.mk_files.specs.Files.{Files}
 use Rattle.mk_files.specs.Includes.{IncludesMayBeRead, IncludesMayFail, LineMayBeRead, LineMayFail, MayBeRead, Pair, both, line_pairs, pairs_of}
 

@@ -1,7 +1,7 @@
 //! The texts that include lines may name: a file names theirs, one path a line.
 ghost use Rattle.std.specs.Prelude.{◌≡◌, ◌++◌, IfErr, IfOk, IfSome, List, OnOk, Some, map, option_map, ℕ};
 ghost use Rattle.std.specs.List.{All, Contains};
-ghost use Rattle.mk_text.specs.Blocks.{physical_lines};
+ghost use Rattle.mk_text.specs.Lexical.{physical_lines};
 ghost use Rattle.mk_files.specs.Includes as spec;
 
 use crate::failures::Failure;

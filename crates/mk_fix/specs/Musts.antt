@@ -1,7 +1,7 @@
 -- What has to be in order: for private clauses and laws.
 use Rattle.std.specs.Prelude.{ℕ, ◌<◌, ◌⊎◌, ◌↔◌, List, Contains}
 use Rattle.mk_jobs.specs.Jobs.{Jobs, Clash, IsPrerequisite}
-use Rattle.mk_path.specs.Bits.{HasBit}
+use Rattle.mk_index.specs.Bits.{HasBit}
 use Rattle.mk_decide.specs.Bits.{row_at}
 use Rattle.mk_decide.specs.Pairs.{IsRising}
 

@@ -1,7 +1,7 @@
 //! The fix of jobs: the races without a way around.
 ghost use Rattle.std.specs.Prelude.{ℕ, ◌≡◌, ◌<◌, ◌≤◌, ◌*◌, ◌+◌, ◌↔◌, ◌⊎◌, [], All, Contains, Err, IfErr, IfOk, List, OnOk, get_or, length, map};
 ghost use Rattle.mk_name.specs.Gives.{HaltsAmong};
-ghost use Rattle.mk_path.specs.Bits.{HasBit};
+ghost use Rattle.mk_index.specs.Bits.{HasBit};
 ghost use Rattle.mk_jobs.specs.Jobs.{IsPrerequisite, node_count};
 ghost use Rattle.mk_jobs.specs.Shape.{IsWellFormed};
 ghost use Rattle.mk_decide.specs.Pairs.{ArePairs, HasManyPairs, too_many};
@@ -11,9 +11,9 @@ ghost use Rattle.mk_fix.specs.Musts.{AreDirect, AreDirectBelow, AreFirsts, AreMu
 use crate::added::sources_of;
 use mk_decide::pairs::clashing_pairs;
 use mk_decide::words::merge;
+use mk_index::bits::{has_bit, set_bit};
 use mk_jobs::jobs::Jobs;
 use mk_name::fault::Halt;
-use mk_path::bits::{has_bit, set_bit};
 use std::alloc::{AllocError, Global};
 
 /// How many bits a word has.

@@ -32,10 +32,20 @@ impl Model for Footprint {
 }
 
 /// What the recipe of each target reads and writes, below one root. A target has a footprint where some line names it.
-#[derive(Debug, Drop)]
+#[derive(Debug)]
 pub struct Footprints {
     root: Root,
     by_target: BTreeMap<Name, Footprint>,
+}
+
+// By hand, so that it is proved once (docs/GATE.md, "What costs the prover").
+impl Drop for Footprints {
+    fn drop(self) {
+        let Footprints {
+            root: _,
+            by_target: _,
+        } = self;
+    }
 }
 
 impl Model for Footprints {
@@ -68,7 +78,7 @@ impl Footprints {
     pub(crate) fn into_root(self) -> Root
         ensures { result ≡ self.root }
     {
-        let Footprints { root, .. } = self;
+        let Footprints { root, by_target: _ } = self;
         root
     }
 

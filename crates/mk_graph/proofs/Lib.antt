@@ -11,7 +11,6 @@ mod NodesOf
 mod Placing
 pub mod PlannedOnce
 mod Rowing
-mod Sets
 mod Sources
 mod Steps
 mod SuffixRules

@@ -1,7 +1,6 @@
 -- Tables by which the source of a name is found: sets of places in the list of suffixes, by names ("Inference Rules").
-use Rattle.std.specs.Prelude.{◌≡◌, ℕ, ◌<◌, ◌≤◌, ◌⊎◌, ◌++◌, ◌-◌, ◌&&◌, ◌||◌, nat_eq, Bool, false, List, [], Option, Some, None, IsTrue, length, position, take}
+use Rattle.std.specs.Prelude.{◌≡◌, ℕ, ◌<◌, ◌⊎◌, ◌++◌, ◌-◌, ◌&&◌, ◌||◌, nat_eq, Bool, false, List, [], Option, Some, None, IsTrue, length, position, take}
 use Rattle.std.specs.BTreeMap.{get}
-use Rattle.std.specs.BTreeSet.{contains}
 use Rattle.std.specs.Cmp.Lexicographic.{slice_cmp}
 use Rattle.std.specs.declared.collections.BTreeMap.{BTreeMap}
 use Rattle.std.specs.declared.collections.BTreeSet.{BTreeSet}
@@ -9,15 +8,12 @@ use Rattle.std.specs.Global.{Global}
 use Rattle.std.specs.Option.{is_some, option_map_or}
 use Rattle.std.specs.Ordering.{nat_cmp}
 use Rattle.mk_name.specs.Names.{Name, same_name, has}
+use Rattle.mk_sets.specs.Numbers.{in_set}
 use Rattle.mk_graph.specs.Suffix.{from_last_period}
 
 -- sets of places by names
 abbrev pub Table : Type 0
 Table = BTreeMap Name (BTreeSet ℕ Global) Global
-
--- the set has the place
-abbrev pub in_set : BTreeSet ℕ Global → ℕ → Bool
-in_set places place = contains nat_cmp places place
 
 -- the place stands beside the name
 abbrev pub stands_beside : Table → Name → ℕ → Bool
@@ -61,16 +57,6 @@ AreRulePlaces suffixes rules table = ArePlaces (λ old new. new ++ old) (IsOld s
 -- beside each name of the table stand the places of the suffixes with which it is one of these names
 abbrev pub AreNamePlaces : List Name → List Name → Table → Type 0
 AreNamePlaces suffixes names table = ArePlaces (λ stem s. stem ++ s) (λ stem. IsTrue (is_key table stem)) suffixes names table
-
--- the least place from this one on in a set
-abbrev pub IsNext : BTreeSet ℕ Global → ℕ → Option ℕ → Type 0
-IsNext places from None = (p : ℕ) → from ≤ p → in_set places p ≡ false
-IsNext places from (Some n) = (from ≤ n) × IsTrue (in_set places n) × ((p : ℕ) → from ≤ p → p < n → in_set places p ≡ false)
-
--- the least number that passes a test
-abbrev pub IsLeast : (ℕ → Bool) → Option ℕ → Type 0
-IsLeast test None = (p : ℕ) → test p ≡ false
-IsLeast test (Some n) = IsTrue (test n) × ((p : ℕ) → p < n → test p ≡ false)
 
 -- the least place of a suffix that passes a test
 abbrev pub IsLeastSuffix : List Name → (Name → Bool) → Option ℕ → Type 0

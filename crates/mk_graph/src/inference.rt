@@ -5,16 +5,17 @@ ghost use Rattle.mk_rules.specs.Book.{has_inference, is_phony};
 ghost use Rattle.mk_jobs.specs.Numbered.{name_at};
 ghost use Rattle.mk_graph.specs.Looked.{looked_of};
 ghost use Rattle.mk_graph.specs.Makers.{inferred_source, is_there, old_suffix, source_of};
-ghost use Rattle.mk_graph.specs.Places.{IsLeast, IsLeastSuffix, IsOld, in_set};
+ghost use Rattle.mk_sets.specs.Numbers.{IsLeast, in_set};
+ghost use Rattle.mk_graph.specs.Places.{IsLeastSuffix, IsOld};
 ghost use Rattle.mk_graph.specs.SourceIndex.{IsSourceIndex};
 
 use crate::index::SourceIndex;
 use crate::looked::Looked;
 use crate::makers::has_recipe;
-use crate::places::{first_common, next_place};
 use crate::suffix::suffix_of;
 use mk_name::name::Name;
 use mk_rules::rulebook::Rulebook;
+use mk_sets::numbers::{first_common, next_from};
 use mk_text::listing::Listing;
 use std::alloc::{AllocError, Global};
 use std::collections::BTreeSet;
@@ -54,7 +55,7 @@ fn first_there(
 {
     let suffixes = book.suffixes();
     let mut from = 0;
-    'places: while let Some(place) = next_place(places, from) {
+    'places: while let Some(place) = next_from(places, from) {
         let name = stem.with_tail(alloc, stem.as_bytes().len(), suffixes[place].as_bytes())?;
         if is_there(book, listing, &name) {
             return Ok(Some(place));

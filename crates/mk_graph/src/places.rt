@@ -1,8 +1,7 @@
 //! Tables of places in the list of suffixes, by names.
-ghost use Rattle.std.specs.Prelude.{◌≡◌, ◌&&◌, ◌||◌, ℕ, List, find, nat_eq, OnOk};
-ghost use Rattle.std.specs.List.{All};
+ghost use Rattle.std.specs.Prelude.{◌≡◌, ◌&&◌, ◌||◌, ℕ, List, nat_eq, OnOk};
 ghost use Rattle.mk_name.specs.Names.{Name, same_name};
-ghost use Rattle.mk_graph.specs.Places.{IsLeast, IsNext, in_set, is_key, stands_beside};
+ghost use Rattle.mk_graph.specs.Places.{is_key, stands_beside};
 
 use mk_name::name::Name;
 use std::alloc::{AllocError, Global};
@@ -42,34 +41,4 @@ pub(crate) fn put_known(table: &mut Table, name: Name, place: usize) -> Result<(
     places.insert(place)?;
     table.insert(name, places)?;
     Ok(())
-}
-
-/// The least place from this one on.
-pub(crate) fn next_place(places: &BTreeSet<usize>, from: usize) -> Option<usize>
-    ensures { IsNext places.now from result }
-{
-    places.range(from..).next().copied()
-}
-
-/// The first place of one set that the other has too.
-fn first_in(few: &BTreeSet<usize>, many: &BTreeSet<usize>) -> Option<usize>
-    ensures { result ≡ find (in_set many.now) few.now.keys }
-{
-    for place in few {
-        if many.contains(place) {
-            return Some(*place);
-        }
-    }
-    None
-}
-
-/// The least place that both sets have. The smaller is gone through, and the other asked.
-pub(crate) fn first_common(one: &BTreeSet<usize>, other: &BTreeSet<usize>) -> Option<usize>
-    ensures { IsLeast (λ p. in_set one.now p && in_set other.now p) result }
-{
-    if one.len() <= other.len() {
-        first_in(one, other)
-    } else {
-        first_in(other, one)
-    }
 }

@@ -10,7 +10,7 @@ use Rattle.mk_name.specs.Reported.{Reported}
 use Rattle.mk_name.specs.declared.fault.Halt.{Halt}
 use Rattle.mk_name.specs.declared.fault.Halt.TheVariants as halts
 use Rattle.mk_name.specs.declared.fault.Source.TheVariants as sources
-use Rattle.mk_text.specs.LogicalLines.{logical_lines}
+use Rattle.mk_lines.specs.LogicalLines.{logical_lines}
 use Rattle.mk_text.specs.Spelling.{bad_name, is_path, path_name, plain_name}
 use Rattle.mk_include.specs.Includes.{Cut, Named, includes_of, is_bad, named_pair, texts_of}
 use Rattle.mk_include.proofs.TextTable.{texts_more}

@@ -9,8 +9,8 @@ use Rattle.mk_name.specs.Names.{Name, same_name}
 use Rattle.mk_name.specs.Reported.{Reported}
 use Rattle.mk_name.specs.declared.fault.Halt.{Halt}
 use Rattle.mk_name.specs.declared.fault.Source.TheVariants as sources
-use Rattle.mk_text.specs.LogicalLine.{LogicalLine}
-use Rattle.mk_text.specs.LogicalLines.{logical_lines}
+use Rattle.mk_lines.specs.LogicalLine.{LogicalLine}
+use Rattle.mk_lines.specs.LogicalLines.{logical_lines}
 use Rattle.mk_text.specs.Spelling.{bad_name, is_path, plain_name}
 
 -- what a text is cut into: its lines, or its first fault

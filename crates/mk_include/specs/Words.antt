@@ -7,7 +7,7 @@ use Rattle.mk_name.specs.Reported.{Reported}
 use Rattle.mk_name.specs.declared.fault.Kind.{Kind}
 use Rattle.mk_name.specs.declared.fault.Kind.TheVariants.{UnknownInclude, IncludeTooDeep, TooManyIncludes}
 use Rattle.mk_name.specs.declared.fault.Source.TheVariants.{Makefile}
-use Rattle.mk_text.specs.Blocks.{is_blank}
+use Rattle.mk_text.specs.Lexical.{is_blank}
 use Rattle.mk_text.specs.Spelling.{word_name}
 use Rattle.mk_include.specs.Includes.{Cut, Texts}
 

@@ -2,13 +2,13 @@
 ghost use Rattle.std.specs.Prelude.{◌≡◌, IfOk};
 ghost use Rattle.std.specs.Result.{result_map_both};
 ghost use Rattle.mk_name.specs.Gives.{Gives};
-ghost use Rattle.mk_text.specs.LogicalLines.{logical_lines};
+ghost use Rattle.mk_lines.specs.LogicalLines.{logical_lines};
 ghost use Rattle.mk_include.specs.Includes.{reported_in};
 
+use mk_lines::line::Line;
+use mk_lines::lines::lines;
 use mk_name::fault::{Fault, Halt, Source};
 use mk_name::name::Name;
-use mk_text::line::Line;
-use mk_text::lines::lines;
 use std::alloc::{AllocError, Global};
 use std::marker::Model;
 

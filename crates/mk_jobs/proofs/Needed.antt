@@ -5,7 +5,7 @@ use Rattle.std.specs.Ordering.{nat_cmp}
 use Rattle.std.proofs.lemmas.Bool.{cases_lt, false≢true}
 use Rattle.std.proofs.lemmas.List.{get_or_append_left, get_or_default, get_or_push, length_push}
 use Rattle.std.proofs.lemmas.List.Sorted.{Contains-permutation, IsPermutation-sym, searched}
-use Rattle.mk_path.specs.Table.{row_of}
+use Rattle.mk_index.specs.Table.{row_of}
 use Rattle.mk_jobs.specs.Plan.{Node, node_at}
 use Rattle.mk_jobs.specs.Needs.{IsNeedsOf}
 

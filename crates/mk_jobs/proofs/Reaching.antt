@@ -6,7 +6,7 @@ use Rattle.std.proofs.lemmas.List.Folds.{Any-from_list_any, list_any-from_Any}
 use Rattle.mk_name.specs.Names.{Name}
 use Rattle.mk_path.specs.declared.path.Path.{Path}
 use Rattle.mk_path.specs.Paths.{covered, covers}
-use Rattle.mk_path.specs.Uses.{IsOverlap, Reaches, touched_by}
+use Rattle.mk_index.specs.Uses.{IsOverlap, Reaches, touched_by}
 use Rattle.mk_path.proofs.Overs.{covers_own_name, over_covers_name, paths_of_one_name}
 use Rattle.mk_jobs.specs.Jobs.{Clash, ClashOn, Jobs, is_live, may_read, may_touch, may_write, node_count, reads_of, writes_of}
 use Rattle.mk_jobs.specs.Reaching.{ClashIsReach, uses_of}

@@ -1,6 +1,6 @@
 -- What a value of jobs keeps inside.
 use Rattle.std.specs.Prelude.{ℕ, ◌≡◌, List, length}
-use Rattle.mk_path.specs.Index.{Index, IsIndexed}
+use Rattle.mk_index.specs.Index.{Index, IsIndexed}
 use Rattle.mk_jobs.specs.Jobs.{Jobs}
 use Rattle.mk_jobs.specs.Needs.{AreNeeds}
 use Rattle.mk_jobs.specs.Reaching.{uses_of}

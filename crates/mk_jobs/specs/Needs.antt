@@ -1,7 +1,7 @@
 -- The prerequisites of nodes, kept in rising order.
 use Rattle.std.specs.Prelude.{ℕ, ◌≡◌, ◌<◌, List, length}
 use Rattle.std.specs.List.Sorted.{IsNonDecreasing, IsPermutation}
-use Rattle.mk_path.specs.Table.{row_of}
+use Rattle.mk_index.specs.Table.{row_of}
 use Rattle.mk_jobs.specs.Plan.{Node, node_at}
 
 -- a row has the prerequisites of the node at its place, in order

@@ -1,6 +1,6 @@
 -- Who clashes, by the paths of footprints.
 use Rattle.std.specs.Prelude.{ℕ, ◌≢◌, ◌⊎◌, ◌↔◌}
-use Rattle.mk_path.specs.Uses.{Reaches, Uses}
+use Rattle.mk_index.specs.Uses.{Reaches, Uses}
 use Rattle.mk_jobs.specs.Jobs.{Clash, Jobs}
 use Rattle.mk_jobs.specs.Shape.{IsWellFormed}
 

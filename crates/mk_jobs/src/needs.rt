@@ -4,7 +4,7 @@ ghost use Rattle.std.specs.List.Sorted.{IsNonDecreasing, IsPermutation};
 ghost use Rattle.mk_jobs.specs.Needs.{AreNeeds};
 
 use crate::plan::Plan;
-use mk_path::table::Table;
+use mk_index::table::Table;
 use std::alloc::{AllocError, Global};
 
 /// For each node of a plan the numbers of its prerequisites, rising. The only error is out of memory.

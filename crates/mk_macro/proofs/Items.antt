@@ -5,7 +5,7 @@ use Rattle.std.specs.List.{position_or_len}
 use Rattle.std.specs.Option.{unwrap_or}
 use Rattle.std.proofs.lemmas.Bool.{false_from_ne_true}
 use Rattle.memchr.specs.Find.{IsFirstByte}
-use Rattle.mk_text.specs.Outside.{dollar}
+use Rattle.mk_lines.specs.Outside.{dollar}
 use Rattle.mk_macro.specs.Reference.{Plain}
 use Rattle.mk_macro.specs.References.{behind, dollar_item, dollar_length, holds, items_behind, items_of, item_at, more_bytes}
 

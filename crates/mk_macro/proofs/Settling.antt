@@ -5,7 +5,7 @@ use Rattle.std.specs.List.{list_any, slice_split, onto_first}
 use Rattle.std.specs.Cmp.Lexicographic.{pointwise}
 use Rattle.std.proofs.lemmas.List.{take-append-drop}
 use Rattle.std.proofs.lemmas.List.Folds.{list_any-append}
-use Rattle.mk_text.specs.Blocks.{is_blank}
+use Rattle.mk_text.specs.Lexical.{is_blank}
 use Rattle.mk_macro.specs.Reference.{Change}
 use Rattle.mk_macro.specs.Substitution.{changed_word, with_change, woven}
 use Rattle.mk_macro.specs.Words.{ComesToSame}

@@ -20,7 +20,7 @@ use Rattle.mk_macro.specs.Macros.{Definition, Macros}
 use Rattle.mk_macro.specs.Reference.{Change, Item, Reference, Plain, Refers, Broken}
 use Rattle.mk_macro.specs.References.{holds, items_of}
 use Rattle.mk_macro.specs.Substitution.{changed}
-use Rattle.mk_text.specs.Outside.{dollar}
+use Rattle.mk_lines.specs.Outside.{dollar}
 use Rattle.mk_macro.proofs.Items.{all_plain}
 use Rattle.mk_macro.proofs.Steps.{Level, Stands, bytes_on, bytes_seen, bytes_too_long, closes, closes_long, enters, fails, finishes, goes_on, names, the, too_large, too_long}
 

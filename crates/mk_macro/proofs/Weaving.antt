@@ -6,7 +6,7 @@ use Rattle.std.proofs.lemmas.Bool.{false_from_ne_true, false≢true, lt-ltb}
 use Rattle.std.proofs.lemmas.List.{append-nil, drop-append-le, drop_more, take-append-le, take_rest}
 use Rattle.std.proofs.lemmas.List.Folds.{list_any_at}
 use Rattle.std.proofs.lemmas.List.Splits.{slice_split_first, slice_split_none}
-use Rattle.mk_text.specs.Blocks.{is_blank}
+use Rattle.mk_text.specs.Lexical.{is_blank}
 use Rattle.mk_macro.specs.Reference.{Change}
 use Rattle.mk_macro.specs.Substitution.{changed_word, with_change, woven}
 use Rattle.mk_macro.proofs.Places.{first_is, place_inside}

@@ -3,11 +3,11 @@ use Rattle.std.specs.Prelude.{◌≡◌, ℕ, List, [], ◌∷◌, ◌++◌, Opt
 use Rattle.std.specs.Result.{result_map_both}
 use Rattle.mk_name.specs.Names.{Name}
 use Rattle.mk_name.specs.Reported.{Reported}
-use Rattle.mk_text.specs.LogicalLine.{LogicalLine, parts_of}
-use Rattle.mk_text.specs.declared.parts.Parts.{Parts}
-use Rattle.mk_text.specs.declared.parts.Parts.TheVariants.{Assign, Entry, Recipe, Include}
-use Rattle.mk_text.specs.declared.line.Operator.{Operator}
-use Rattle.mk_text.specs.declared.line.Operator.TheVariants as operators
+use Rattle.mk_lines.specs.LogicalLine.{LogicalLine, parts_of}
+use Rattle.mk_lines.specs.declared.parts.Parts.{Parts}
+use Rattle.mk_lines.specs.declared.parts.Parts.TheVariants.{Assign, Entry, Recipe, Include}
+use Rattle.mk_lines.specs.declared.line.Operator.{Operator}
+use Rattle.mk_lines.specs.declared.line.Operator.TheVariants as operators
 use Rattle.mk_macro.specs.declared.definition.Manner.{Manner}
 use Rattle.mk_macro.specs.declared.definition.Manner.TheVariants.{Delayed, Immediate, Given}
 use Rattle.mk_macro.specs.Expansion.{IsExpansion}

@@ -5,7 +5,7 @@ use Rattle.std.specs.Option.{option_map_or}
 use Rattle.mk_name.specs.Reported.{Reported}
 use Rattle.mk_name.specs.declared.fault.Kind.TheVariants.{BadAssignment}
 use Rattle.mk_name.specs.declared.fault.Source.TheVariants.{Settings}
-use Rattle.mk_text.specs.LogicalLines.{equals, is_macro_name}
+use Rattle.mk_text.specs.Lexical.{is_macro_name, equals}
 use Rattle.mk_macro.specs.declared.definition.Manner.TheVariants.{Given}
 use Rattle.mk_macro.specs.Macros.{Macros, no_macros, defined}
 use Rattle.mk_macro.specs.References.{holds, before, behind}

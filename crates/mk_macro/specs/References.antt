@@ -1,8 +1,8 @@
 -- The items of a text: bytes that stand for themselves, and references (POSIX.1-2024 XCU make, "Macros").
 use Rattle.std.specs.Prelude.{ℕ, zero, suc, ◌+◌, Bool, List, [], ◌∷◌, Option, None, Some, ◌==◌, ◌&&◌, not, if◌then◌else◌}
 use Rattle.std.specs.List.{list_any, before_first, after_first, position_or_len}
-use Rattle.mk_text.specs.LogicalLines.{colon, equals, is_macro_name}
-use Rattle.mk_text.specs.Outside.{dollar}
+use Rattle.mk_text.specs.Lexical.{is_macro_name, colon, equals}
+use Rattle.mk_lines.specs.Outside.{dollar}
 use Rattle.mk_macro.specs.Reference.{Change, Item, Plain, Refers, Broken}
 
 -- a text holds this byte

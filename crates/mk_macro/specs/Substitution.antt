@@ -1,7 +1,7 @@
 -- Substitutions at the ends of words (POSIX.1-2024 XCU make, "Macros").
 use Rattle.std.specs.Prelude.{ℕ, ◌-◌, List, [], ◌∷◌, ◌++◌, Option, None, Some, length, take, map, filter, nat_eq, if◌then◌else◌}
 use Rattle.std.specs.List.{slice_split, ends_with}
-use Rattle.mk_text.specs.Blocks.{is_blank}
+use Rattle.mk_text.specs.Lexical.{is_blank}
 use Rattle.mk_macro.specs.Reference.{Change}
 
 -- a word, with what stands at its end changed; between two blanks there may be no word

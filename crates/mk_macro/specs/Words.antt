@@ -1,7 +1,7 @@
 -- A text by its words, whatever follows it.
 use Rattle.std.specs.Prelude.{◌≡◌, ℕ, false, List, ◌++◌, Option, None, Some, length, max}
 use Rattle.std.specs.List.{list_any}
-use Rattle.mk_text.specs.Blocks.{is_blank}
+use Rattle.mk_text.specs.Lexical.{is_blank}
 use Rattle.mk_macro.specs.Reference.{Change}
 use Rattle.mk_macro.specs.Substitution.{changed, changed_word, with_change}
 

@@ -6,9 +6,9 @@ ghost use Rattle.mk_macro.specs.Macros.{defined, macros_of};
 
 use crate::definition::{Definition, Manner};
 use crate::macros::Macros;
+use mk_lines::line::{Line, Operator};
+use mk_lines::parts::Parts;
 use mk_name::fault::Halt;
-use mk_text::line::{Line, Operator};
-use mk_text::parts::Parts;
 use std::alloc::{AllocError, Global};
 
 impl Macros {

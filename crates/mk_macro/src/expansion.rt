@@ -5,7 +5,7 @@ ghost use Rattle.mk_macro.specs.Expansion.{IsExpansion, byte_limit};
 ghost use Rattle.mk_macro.specs.Limits.{IsOverReferred, IsReferred};
 ghost use Rattle.mk_macro.specs.Macros.{macros_of};
 ghost use Rattle.mk_macro.specs.References.{holds};
-ghost use Rattle.mk_text.specs.Outside.{dollar};
+ghost use Rattle.mk_lines.specs.Outside.{dollar};
 
 use crate::fault::unnamed;
 use crate::item::{Item, Reference, first_item, holds};

@@ -2,7 +2,7 @@
 //! long and no longer.
 ghost use Rattle.std.specs.Prelude.{◌≡◌, ◌≤◌, ◌<◌, ◌+◌, ◌++◌, ◌==◌, ℕ, List, length, IfErr, IfNone, IfOk, IfSome, OnOk};
 ghost use Rattle.std.specs.List.{position};
-ghost use Rattle.mk_text.specs.Blocks.{is_blank};
+ghost use Rattle.mk_text.specs.Lexical.{is_blank};
 ghost use Rattle.mk_macro.specs.Limits.{IsOver};
 ghost use Rattle.mk_macro.specs.Substitution.{changed, changed_word, with_change};
 ghost use Rattle.mk_macro.specs.Words.{AreWords, ComesToSame, IsOneWord, reach};

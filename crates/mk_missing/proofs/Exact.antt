@@ -4,8 +4,7 @@ use Rattle.std.specs.List.Sorted.{IsStrictlyIncreasing, IsStrictlySortedBy}
 use Rattle.std.proofs.lemmas.List.{length-map}
 use Rattle.mk_name.specs.Names.{Name}
 use Rattle.mk_path.specs.declared.path.Path.{Path}
-use Rattle.mk_path.specs.Index.{path_at}
-use Rattle.mk_path.specs.Paths.{path_cmp}
+use Rattle.mk_path.specs.Paths.{path_cmp, path_at}
 use Rattle.mk_jobs.specs.Jobs.{Jobs}
 use Rattle.mk_jobs.specs.Shape.{IsWellFormed}
 use Rattle.mk_stale.specs.Watching.{IsDeclared}

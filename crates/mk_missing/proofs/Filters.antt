@@ -4,7 +4,7 @@ use Rattle.std.proofs.lemmas.Bool.{cases_Bool}
 use Rattle.std.proofs.lemmas.List.Elements.{Contains-append_right}
 use Rattle.std.proofs.lemmas.List.Kept.{IsStrictlySortedBy-filter}
 use Rattle.mk_path.specs.declared.path.Path.{Path}
-use Rattle.mk_path.specs.Index.{path_at}
+use Rattle.mk_path.specs.Paths.{path_at}
 use Rattle.mk_proof.specs.Shapes.{pair_cmp}
 use Rattle.mk_missing.specs.Finding.{AreChecked}
 

@@ -10,9 +10,9 @@ use Rattle.mk_name.specs.Names.{Name, same_name, has}
 use Rattle.mk_name.proofs.Names.{name_is_exact}
 use Rattle.mk_path.specs.declared.path.Path.{Path}
 use Rattle.mk_path.specs.Laws.{Covers, IsFolderOf, IsOver}
-use Rattle.mk_path.specs.Nearest.{IsInner}
+use Rattle.mk_index.specs.Nearest.{IsInner}
 use Rattle.mk_path.specs.Paths.{covers, folders, same_path}
-use Rattle.mk_path.proofs.FolderKinds.{inner_folder, kinds, outer_of_inner, shorter_folder}
+use Rattle.mk_index.proofs.FolderKinds.{inner_folder, kinds, outer_of_inner, shorter_folder}
 use Rattle.mk_path.proofs.Overs.{over_self}
 use Rattle.mk_jobs.specs.Jobs.{Jobs, name_of, node_count, reads_of, writes_of}
 use Rattle.mk_jobs.specs.Plan.{Node, nobody}

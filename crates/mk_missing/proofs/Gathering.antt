@@ -9,10 +9,10 @@ use Rattle.std.proofs.lemmas.List.Elements.{All-contains, All-push, Contains-get
 use Rattle.std.proofs.lemmas.List.Folds.{Any-from_list_any}
 use Rattle.std.proofs.lemmas.List.Kept.{AllPairs-from_increasing}
 use Rattle.std.proofs.lemmas.Option.{slice_get_cases}
-use Rattle.mk_path.specs.declared.index.Place.{Place}
+use Rattle.mk_index.specs.declared.index.Place.{Place}
 use Rattle.mk_path.specs.declared.path.Path.{Path}
 use Rattle.mk_path.specs.Paths.{is_over}
-use Rattle.mk_path.specs.Uses.{AreAllPlaces, has_over, path_of, paths_of}
+use Rattle.mk_index.specs.Uses.{AreAllPlaces, has_over, path_of, paths_of}
 use Rattle.mk_jobs.specs.Jobs.{Jobs, node_count, reads_of, writes_of}
 use Rattle.mk_jobs.specs.Reaching.{uses_of}
 use Rattle.mk_jobs.specs.Shape.{IsWellFormed}

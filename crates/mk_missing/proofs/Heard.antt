@@ -2,7 +2,7 @@
 use Rattle.std.proofs.Common.{ℕ, ◌≡◌, ◌<◌, ◌+◌, ◌*◌, ◌&&◌, ◌↔◌, ◌⊎◌, Bool, true, false, List, ◌++◌, length, take, All, refl, sym, ap, subst, ◌∙◌, inl, inr, arith}
 use Rattle.std.proofs.lemmas.Bool.{and_from, and_parts, both_ways, cases_order}
 use Rattle.std.proofs.lemmas.List.{take_at, drop_at}
-use Rattle.mk_path.specs.Bits.{HasBit}
+use Rattle.mk_index.specs.Bits.{HasBit}
 use Rattle.mk_jobs.specs.Jobs.{Jobs, IsPrerequisite, IsValid, is_live, node_count, prerequisites_of}
 use Rattle.mk_jobs.proofs.JobsLemmas.{writer_live}
 use Rattle.mk_decide.specs.Bits.{row_at}

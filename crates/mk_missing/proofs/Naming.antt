@@ -5,7 +5,7 @@ use Rattle.std.proofs.lemmas.List.{get_or_append_left, get_or-map, length-map}
 use Rattle.std.proofs.lemmas.List.Elements.{All-contains, Contains-get_or}
 use Rattle.std.proofs.Math.Seq.{get_or-append_seam}
 use Rattle.mk_path.specs.declared.path.Path.{Path}
-use Rattle.mk_path.specs.Index.{path_at}
+use Rattle.mk_path.specs.Paths.{path_at}
 use Rattle.mk_jobs.specs.Jobs.{Before, Jobs}
 use Rattle.mk_missing.specs.Files.{IsLastIfAny, writes_file}
 use Rattle.mk_missing.specs.Finding.{AreChecked}

@@ -9,8 +9,7 @@ use Rattle.std.proofs.lemmas.Option.{unwrap_or-slice_get}
 use Rattle.mk_name.specs.Names.{Name, has, same_name}
 use Rattle.mk_name.proofs.Names.{name_is_exact}
 use Rattle.mk_path.specs.declared.path.Path.{Path}
-use Rattle.mk_path.specs.Index.{path_at}
-use Rattle.mk_path.specs.Paths.{covered, covers, is_over}
+use Rattle.mk_path.specs.Paths.{covered, covers, is_over, path_at}
 use Rattle.mk_path.proofs.Overs.{covers_own_name, over_self}
 use Rattle.mk_jobs.specs.Jobs.{Jobs, is_live, may_write, reads_of, writes_of}
 use Rattle.mk_jobs.specs.Shape.{IsWellFormed}

@@ -3,7 +3,7 @@ use Rattle.std.proofs.Common.{ℕ, ◌≡◌, ◌<◌, ◌≤◌, ◌+◌, ◌&&
 use Rattle.std.specs.List.Sorted.{IsStrictlyIncreasing}
 use Rattle.std.proofs.lemmas.Bool.{and_from, and_parts, both_ways, cases_Bool, cases_lt}
 use Rattle.std.proofs.lemmas.List.Elements.{All-push, All-weaker, Contains-append_left, Contains-push, Contains-push_cases}
-use Rattle.mk_path.proofs.Placing.{rise_push}
+use Rattle.mk_index.proofs.Placing.{rise_push}
 use Rattle.mk_jobs.specs.Jobs.{Jobs, is_listed, is_live, is_phony, node_count}
 use Rattle.mk_jobs.proofs.JobsLemmas.{live_node}
 use Rattle.mk_missing.specs.Violations.{IsPresent}

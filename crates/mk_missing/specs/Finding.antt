@@ -2,7 +2,7 @@
 use Rattle.std.specs.Prelude.{ℕ, ◌≡◌, ◌<◌, ◌⊎◌, true, false, List, Contains, length, Option, Some, None}
 use Rattle.mk_name.specs.Names.{Name}
 use Rattle.mk_path.specs.declared.path.Path.{Path}
-use Rattle.mk_path.specs.Index.{path_at}
+use Rattle.mk_path.specs.Paths.{path_at}
 use Rattle.mk_jobs.specs.Jobs.{Jobs, Before, name_of, node_count}
 use Rattle.mk_decide.specs.Pairs.{IsRising}
 use Rattle.mk_stale.specs.Watching.{Carries, RunsWith, is_never_there}

@@ -1,6 +1,6 @@
 -- Of which nodes a node hears, by bits in rows: for private clauses.
 use Rattle.std.specs.Prelude.{ℕ, ◌≡◌, ◌<◌, ◌≤◌, ◌↔◌, ◌⊎◌, ◌*◌, Bool, true, false, List, Contains, get_or, length}
-use Rattle.mk_path.specs.Bits.{HasBit}
+use Rattle.mk_index.specs.Bits.{HasBit}
 use Rattle.mk_decide.specs.Bits.{row_at}
 use Rattle.mk_jobs.specs.Jobs.{Jobs, IsPrerequisite, is_live, node_count}
 use Rattle.mk_jobs.specs.Shape.{IsWellFormed}

@@ -3,8 +3,7 @@ use Rattle.std.specs.Prelude.{ℕ, ◌≡◌, ◌≢◌, ◌<◌, ◌↔◌, tru
 use Rattle.std.specs.List.Sorted.{IsStrictlyIncreasing, IsStrictlySortedBy}
 use Rattle.mk_name.specs.Names.{Name}
 use Rattle.mk_path.specs.declared.path.Path.{Path}
-use Rattle.mk_path.specs.Index.{path_at}
-use Rattle.mk_path.specs.Paths.{path_cmp}
+use Rattle.mk_path.specs.Paths.{path_cmp, path_at}
 use Rattle.mk_jobs.specs.Jobs.{Jobs, Before, is_listed, is_live, is_phony}
 use Rattle.mk_decide.specs.Pairs.{IsRising}
 use Rattle.mk_stale.specs.Watching.{RunsWith}

@@ -1,6 +1,6 @@
 //! A row of bits for each node: of which nodes it hears.
 ghost use Rattle.std.specs.Prelude.{ℕ, ◌≡◌, ◌<◌, ◌≤◌, ◌+◌, ◌*◌, ◌↔◌, ◌⊎◌, ◌&&◌, All, IfOk, IsTrue, false, length, true};
-ghost use Rattle.mk_path.specs.Bits.{HasBit};
+ghost use Rattle.mk_index.specs.Bits.{HasBit};
 ghost use Rattle.mk_jobs.specs.Jobs.{IsValid, is_live, node_count, prerequisites_of};
 ghost use Rattle.mk_decide.specs.Bits.{row_at};
 ghost use Rattle.mk_stale.specs.Watching as watching;
@@ -9,8 +9,8 @@ ghost use Rattle.mk_missing.specs.Hearing.{AreHeard, Hears, IsNews};
 
 use crate::always::makes_own;
 use mk_decide::words::merge;
+use mk_index::bits::{has_bit, set_bit};
 use mk_jobs::jobs::Jobs;
-use mk_path::bits::{has_bit, set_bit};
 use std::alloc::{AllocError, Global};
 use std::marker::Model;
 

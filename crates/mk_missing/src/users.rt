@@ -1,17 +1,17 @@
 //! Who uses each file.
 ghost use Rattle.std.specs.Prelude.{ℕ, ◌≡◌, ◌<◌, ◌↔◌, All, Contains, IfOk, IsTrue, length};
 ghost use Rattle.std.specs.List.Sorted.{IsStrictlyIncreasing, IsStrictlySortedBy};
-ghost use Rattle.mk_path.specs.Holders.{row_limit};
+ghost use Rattle.mk_index.specs.Holders.{row_limit};
 ghost use Rattle.mk_path.specs.Paths.{path_cmp};
-ghost use Rattle.mk_path.specs.Uses.{IsPlaceOf, path_of};
+ghost use Rattle.mk_index.specs.Uses.{IsPlaceOf, path_of};
 ghost use Rattle.mk_jobs.specs.Jobs.{node_count};
 ghost use Rattle.mk_jobs.specs.Reaching.{uses_of};
 ghost use Rattle.mk_missing.specs.Files.{IsFile};
 ghost use Rattle.mk_missing.specs.Users.{AreUsers, files_of};
 
 use crate::kept::keep;
+use mk_index::index::Place;
 use mk_jobs::jobs::Jobs;
-use mk_path::index::Place;
 use mk_path::path::Path;
 use std::alloc::{AllocError, Global};
 

@@ -1,6 +1,6 @@
 //! Files, their last writers, and the writers that violations are due to.
 ghost use Rattle.std.specs.Prelude.{◌≡◌, ◌<◌, All, IfOk, length, map};
-ghost use Rattle.mk_path.specs.Index.{path_at};
+ghost use Rattle.mk_path.specs.Paths.{path_at};
 ghost use Rattle.mk_missing.specs.Users.{AreUsers, files_of as files};
 ghost use Rattle.mk_missing.specs.Violations.{AreLateBy, IsLate};
 

@@ -1,6 +1,6 @@
 //! All that is wrong of a kind.
 ghost use Rattle.std.specs.Prelude.{◌≡◌, ◌<◌, ◌+◌, ◌++◌, ◌∷◌, [], All, IfOk, OnOk, false, length, true};
-ghost use Rattle.mk_path.specs.Holders.{row_limit};
+ghost use Rattle.mk_index.specs.Holders.{row_limit};
 ghost use Rattle.mk_missing.specs.Finding.{AreChecked, AreFound};
 ghost use Rattle.mk_missing.specs.Kinds.{IsFine, IsWrong};
 ghost use Rattle.mk_missing.specs.Users.{AreUsers, files_of};

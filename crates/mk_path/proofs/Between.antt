@@ -11,8 +11,7 @@ use Rattle.std.proofs.lemmas.Map.Keys.{Less-from_sorted}
 use Rattle.mk_name.specs.Names.{Name, has}
 use Rattle.mk_path.specs.declared.path.Path.{Path}
 use Rattle.mk_path.specs.Covering.{tree_at}
-use Rattle.mk_path.specs.Index.{path_at}
-use Rattle.mk_path.specs.Paths.{path_cmp, same_path}
+use Rattle.mk_path.specs.Paths.{path_cmp, same_path, path_at}
 use Rattle.mk_path.proofs.Halves.{rises}
 use Rattle.mk_path.proofs.Numbering.{behind, behind_at, same_path_is}
 use Rattle.mk_path.proofs.PathOrder.{path_cmp_total}

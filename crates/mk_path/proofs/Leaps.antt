@@ -9,8 +9,7 @@ use Rattle.std.proofs.lemmas.Map.Keys.{Less-from_sorted, sorted_from_all_adjacen
 use Rattle.mk_name.specs.Names.{Name}
 use Rattle.mk_path.specs.declared.path.Path.{Path}
 use Rattle.mk_path.specs.Covering.{has_tree, tree_at}
-use Rattle.mk_path.specs.Index.{path_at}
-use Rattle.mk_path.specs.Paths.{path_cmp, same_path}
+use Rattle.mk_path.specs.Paths.{path_cmp, same_path, path_at}
 use Rattle.mk_path.proofs.Between.{IsMiss, begins_before, bound_from, has_not, miss_from, none_longer, then_tied}
 use Rattle.mk_path.proofs.Halves.{search_reports}
 use Rattle.mk_path.proofs.PathOrder.{path_cmp_total, path_ties}

@@ -1,7 +1,6 @@
 -- Numbers of paths: their places among those in order.
-use Rattle.std.proofs.Common.{ℕ, ◌≡◌, ◌<◌, ◌&&◌, List, [], ◌∷◌, ◌++◌, length, get_or, map, Bool, true, false, not, if◌then◌else◌, Contains, Bor, Vec, Ordering, Less, Equal, Err, refl, sym, ap, ap₂, ◌∙◌, arith}
+use Rattle.std.proofs.Common.{ℕ, ◌≡◌, ◌<◌, ◌&&◌, List, [], ◌∷◌, length, get_or, map, Bool, true, false, not, if◌then◌else◌, Contains, Bor, Ordering, Less, Equal, Err, refl, sym, ap, ap₂, ◌∙◌, arith}
 use Rattle.std.specs.Cmp.{IsTotalOrder}
-use Rattle.std.specs.Global.{Global}
 use Rattle.std.specs.List.{AllByRecursion, list_any}
 use Rattle.std.specs.List.Sorted.{IsBinarySearchResult, IsSearchInRange, IsStrictlySortedBy}
 use Rattle.std.specs.Ordering.{is_eq}
@@ -11,9 +10,7 @@ use Rattle.std.proofs.lemmas.List.{get_or-map, length-map, get_or_default}
 use Rattle.std.proofs.lemmas.List.Folds.{list_any_at}
 use Rattle.mk_name.proofs.Names.{name_is_exact}
 use Rattle.mk_path.specs.declared.path.Path.{Path}
-use Rattle.mk_path.specs.Index.{path_at}
-use Rattle.mk_path.specs.Paths.{path_cmp, same_path}
-use Rattle.mk_path.specs.Places.{AreNumbers, ArePlaces}
+use Rattle.mk_path.specs.Paths.{path_cmp, same_path, path_at}
 use Rattle.mk_path.proofs.Halves.{search_reports}
 use Rattle.mk_path.proofs.PathOrder.{path_cmp_total, path_ties}
 
@@ -93,11 +90,3 @@ behind_some (x ∷ xs) p there =
       there = (k, below, get_or_default (x ∷ xs) k (get_or (x ∷ xs) k x) x below);
       is = sym (get_or-map behind (x ∷ xs) k x p below) ∙ there.2;
     }
-
--- row by row
-pub numbers_more : (paths : List Path) (table : List (List ℕ)) (rows : List (Vec Path Global)) (numbers : List ℕ) (row : Vec Path Global)
-    → AreNumbers paths table rows → ArePlaces paths numbers row.items → AreNumbers paths (table ++ numbers ∷ []) (rows ++ row ∷ [])
-numbers_more paths [] [] numbers row are places = (places, tt)
-numbers_more paths [] (r ∷ rows) numbers row are places = absurd are
-numbers_more paths (ns ∷ table) [] numbers row are places = absurd are
-numbers_more paths (ns ∷ table) (r ∷ rows) numbers row are places = (are.0, numbers_more paths table rows numbers row are.1 places)

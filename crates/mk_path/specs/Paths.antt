@@ -1,5 +1,5 @@
 -- Paths of footprints: which names each covers, and which lies over which.
-use Rattle.std.specs.Prelude.{ℕ, ◌==◌, ◌&&◌, ◌||◌, ◌++◌, Bool, List, [], ◌∷◌, map, drop, codes, not, if◌then◌else◌}
+use Rattle.std.specs.Prelude.{ℕ, ◌==◌, ◌&&◌, ◌||◌, ◌++◌, Bool, false, List, [], ◌∷◌, map, drop, get_or, codes, not, if◌then◌else◌}
 use Rattle.std.specs.Cmp.Lexicographic.{slice_cmp}
 use Rattle.std.specs.List.{list_any}
 use Rattle.std.specs.declared.cmp.Ordering.{Ordering}
@@ -46,3 +46,7 @@ covered root paths x = list_any (λ p. covers root p x) paths
 -- p is q, or a tree that q's name stands in
 abbrev pub is_over : List ℕ → Path → Path → Bool
 is_over root p q = same_path p q || (p.tree && covers root p q.name)
+
+-- the path at a place
+abbrev pub path_at : List Path → ℕ → Path
+path_at paths t = get_or paths t (record { name = []; tree = false })

@@ -5,8 +5,7 @@ ghost use Rattle.std.specs.List.{list_any};
 ghost use Rattle.std.specs.List.Sorted.{IsStrictlySortedBy};
 ghost use Rattle.mk_name.specs.Names.{has};
 ghost use Rattle.mk_path.specs.Covering.{found, found_outer, found_over_root, has_tree, inner_folders, tree_at};
-ghost use Rattle.mk_path.specs.Index.{path_at};
-ghost use Rattle.mk_path.specs.Paths.{covered, path_cmp, same_path};
+ghost use Rattle.mk_path.specs.Paths.{covered, path_cmp, same_path, path_at};
 ghost use Rattle.mk_text.specs.Spelling.{top_of};
 
 use crate::path::Path;
@@ -15,7 +14,7 @@ use mk_text::root::Root;
 use std::cmp::Ordering;
 
 /// How a path stands to the path of a name and a kind, by name and then the file before the tree.
-pub(crate) fn order(path: &Path, name: &[u8], tree: bool) -> Ordering
+pub fn order(path: &Path, name: &[u8], tree: bool) -> Ordering
     ensures { result ≡ path_cmp path.now (record { name = name.now; tree = tree }) }
 {
     let bytes = path.name.as_bytes();
@@ -33,7 +32,7 @@ fn has_path(paths: &[Path], name: &[u8], tree: bool) -> bool
 }
 
 /// A bound of the beginnings that two texts have in common: none of these is longer. It is found by halves.
-pub(crate) fn common(first: &[u8], second: &[u8]) -> usize
+pub fn common(first: &[u8], second: &[u8]) -> usize
     ensures { (k : ℕ) → k ≤ length first.now → k ≤ length second.now → take k first.now ≡ take k second.now → k ≤ result }
 {
     let mut low = 0;

@@ -5,8 +5,8 @@ use Rattle.mk_name.specs.Reported.{Reported}
 use Rattle.mk_name.specs.declared.fault.Source.{Source}
 use Rattle.mk_name.specs.declared.fault.Source.TheVariants as sources
 use Rattle.mk_text.specs.Listing.{listing_of}
-use Rattle.mk_text.specs.LogicalLine.{LogicalLine}
-use Rattle.mk_text.specs.LogicalLines.{logical_lines}
+use Rattle.mk_lines.specs.LogicalLine.{LogicalLine}
+use Rattle.mk_lines.specs.LogicalLines.{logical_lines}
 use Rattle.mk_text.specs.Spelling.{root_of}
 use Rattle.mk_include.specs.Includes.{Texts as Included, includes_of}
 use Rattle.mk_macro.specs.Macros.{Macros}

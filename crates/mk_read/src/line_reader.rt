@@ -2,7 +2,7 @@
 ghost use Rattle.std.specs.Prelude.{◌++◌, [], IfOk, List, Result, ℕ};
 ghost use Rattle.mk_name.specs.Gives.{Answers};
 ghost use Rattle.mk_name.specs.Reported.{Reported};
-ghost use Rattle.mk_text.specs.Blocks.{physical_lines};
+ghost use Rattle.mk_text.specs.Lexical.{physical_lines};
 ghost use Rattle.mk_text.specs.LineFeed.{HasRead};
 
 use mk_name::fault::{Fault, Halt};

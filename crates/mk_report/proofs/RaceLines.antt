@@ -2,7 +2,7 @@
 use Rattle.std.proofs.Common.{◌≡◌, ◌∙◌, ℕ, List, [], ◌∷◌, ◌++◌, append_assoc, refl, sym, ap}
 use Rattle.std.proofs.lemmas.List.{append-nil}
 use Rattle.mk_path.specs.declared.path.Path.{Path}
-use Rattle.mk_path.specs.Uses.{IsLeastOverlap}
+use Rattle.mk_index.specs.Uses.{IsLeastOverlap}
 use Rattle.mk_jobs.specs.Jobs.{Clash, Jobs}
 use Rattle.mk_jobs.specs.Reaching.{uses_of}
 use Rattle.mk_report.specs.RacesText.{AreRaceLines, IsRaceLine, race_line}

@@ -6,8 +6,8 @@ use Rattle.mk_name.specs.Shown.{kind_line, line, name_line, place_line, shown}
 use Rattle.mk_name.specs.Reported.{Reported}
 use Rattle.mk_path.specs.declared.path.Path.{Path}
 use Rattle.mk_path.specs.Texts.{text_of}
-use Rattle.mk_path.specs.Uses.{IsLeastOverlap}
-use Rattle.mk_text.specs.LogicalLines.{text_limit}
+use Rattle.mk_index.specs.Uses.{IsLeastOverlap}
+use Rattle.mk_lines.specs.LogicalLines.{text_limit}
 use Rattle.mk_text.specs.Spelling.{word_name}
 use Rattle.mk_jobs.specs.Jobs.{Clash, Jobs, is_listed, is_phony, maker_of, name_of}
 use Rattle.mk_jobs.specs.Reaching.{uses_of}

@@ -3,7 +3,7 @@ use Rattle.std.specs.Prelude.{ℕ, ◌≡◌, List, [], ◌∷◌, ◌++◌, cod
 use Rattle.mk_name.specs.Shown.{line, shown}
 use Rattle.mk_path.specs.declared.path.Path.{Path}
 use Rattle.mk_path.specs.Texts.{text_of}
-use Rattle.mk_path.specs.Uses.{IsLeastOverlap}
+use Rattle.mk_index.specs.Uses.{IsLeastOverlap}
 use Rattle.mk_jobs.specs.Jobs.{Clash, Jobs}
 use Rattle.mk_jobs.specs.Reaching.{uses_of}
 use Rattle.mk_report.specs.ReportText.{counts_text, name_text, number_line, verb_text}

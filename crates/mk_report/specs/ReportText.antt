@@ -7,7 +7,7 @@ use Rattle.mk_name.specs.Shown.{line, shown}
 use Rattle.mk_path.specs.declared.path.Path.{Path}
 use Rattle.mk_path.specs.Paths.{is_over}
 use Rattle.mk_path.specs.Texts.{text_of}
-use Rattle.mk_path.specs.Uses.{IsLeastOverlap}
+use Rattle.mk_index.specs.Uses.{IsLeastOverlap}
 use Rattle.mk_jobs.specs.Jobs.{Clash, Jobs, is_idle, is_live, name_of, node_count, writes_of}
 use Rattle.mk_jobs.specs.Reaching.{uses_of}
 use Rattle.mk_proof.specs.Shapes.{Trace, ends_of, node_of}

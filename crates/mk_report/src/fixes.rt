@@ -9,11 +9,11 @@ use crate::names::{name_of, push_label};
 use crate::safe::clash_of;
 use crate::verb::writes_whole;
 use mk_jobs::jobs::Jobs;
+use mk_lines::lines::TEXT_LIMIT;
 use mk_name::fault::Halt;
 use mk_name::report::push_shown;
 use mk_path::path::Path;
 use mk_path::spelling::text_of;
-use mk_text::lines::TEXT_LIMIT;
 use mk_text::spelling::plain_word;
 use std::alloc::{AllocError, Global};
 

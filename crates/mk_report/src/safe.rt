@@ -1,6 +1,6 @@
 //! The report of jobs that are safe.
 ghost use Rattle.std.specs.Prelude.{ℕ, ◌≡◌, ◌++◌, ◌<◌, ◌↔◌, IfSome, IsSome, List, OnOk, length};
-ghost use Rattle.mk_path.specs.Uses.{IsLeastOverlap};
+ghost use Rattle.mk_index.specs.Uses.{IsLeastOverlap};
 ghost use Rattle.mk_jobs.specs.Jobs.{Clash};
 ghost use Rattle.mk_jobs.specs.Reaching.{uses_of};
 ghost use Rattle.mk_report.specs.ReportText.{AreOrderLines, IsOrderText, IsSafeText, order_line, safe_head};

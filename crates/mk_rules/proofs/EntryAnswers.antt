@@ -4,7 +4,7 @@ use Rattle.mk_name.specs.Gives.{Answers, Gives, Halts, HaltsAmong}
 use Rattle.mk_name.specs.Names.{Name}
 use Rattle.mk_name.specs.declared.fault.Halt.{Halt}
 use Rattle.mk_name.specs.declared.fault.Halt.TheVariants as halts
-use Rattle.mk_text.specs.Parts.{EntryParts}
+use Rattle.mk_lines.specs.Parts.{EntryParts}
 use Rattle.mk_macro.specs.Macros.{Macros}
 use Rattle.mk_rules.specs.Book.{Entry}
 use Rattle.mk_rules.specs.Entries.{EntrySays, PartSays, bad_prerequisites, bad_targets, checked_entry, entry_of, good_names}

@@ -4,9 +4,9 @@ use Rattle.mk_name.specs.Gives.{HaltsAmong}
 use Rattle.mk_name.specs.Reported.{Reported}
 use Rattle.mk_name.specs.declared.fault.Halt.{Halt}
 use Rattle.mk_name.specs.declared.fault.Halt.TheVariants as halts
-use Rattle.mk_text.specs.LogicalLine.{parts_of}
-use Rattle.mk_text.specs.Parts.{EntryParts, IncludeParts}
-use Rattle.mk_text.specs.declared.parts.Parts.{Parts}
+use Rattle.mk_lines.specs.LogicalLine.{parts_of}
+use Rattle.mk_lines.specs.Parts.{EntryParts, IncludeParts}
+use Rattle.mk_lines.specs.declared.parts.Parts.{Parts}
 use Rattle.mk_macro.specs.Assignments.{IsAssignment}
 use Rattle.mk_macro.specs.Expansion.{IsExpansion}
 use Rattle.mk_macro.specs.Macros.{Entries, Macros, macros_of}

@@ -2,7 +2,7 @@
 use Rattle.std.proofs.Common.{◌≡◌, ℕ, zero, suc, ◌+◌, ◌-◌, ◌<◌, ◌≤◌, Bool, List, [], ◌∷◌, ◌++◌, refl, sym, ◌∙◌, ap, arith, length, take, drop, get_or}
 use Rattle.std.proofs.lemmas.List.{drop_all, drop_more, length-drop, take-append-drop, take_all, take_more}
 use Rattle.mk_name.specs.declared.fault.Source.{Source}
-use Rattle.mk_text.specs.LogicalLine.{LogicalLine}
+use Rattle.mk_lines.specs.LogicalLine.{LogicalLine}
 use Rattle.mk_rules.specs.Placed.{Placed, begins_with_command, placed}
 
 -- what stands behind a place, up to the end

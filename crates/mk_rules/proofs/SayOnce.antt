@@ -5,10 +5,10 @@ use Rattle.std.specs.Result.{result_map_both}
 use Rattle.mk_name.specs.Names.{Name}
 use Rattle.mk_name.specs.Reported.{Reported}
 use Rattle.mk_name.specs.declared.fault.Kind.TheVariants.{TwoRecipes}
-use Rattle.mk_text.specs.LogicalLine.{parts_of}
-use Rattle.mk_text.specs.Parts.{EntryParts, IncludeParts}
-use Rattle.mk_text.specs.declared.parts.Parts.{Parts}
-use Rattle.mk_text.specs.declared.parts.Parts.TheVariants.{Assign, Entry, Recipe, Include}
+use Rattle.mk_lines.specs.LogicalLine.{parts_of}
+use Rattle.mk_lines.specs.Parts.{EntryParts, IncludeParts}
+use Rattle.mk_lines.specs.declared.parts.Parts.{Parts}
+use Rattle.mk_lines.specs.declared.parts.Parts.TheVariants.{Assign, Entry, Recipe, Include}
 use Rattle.mk_include.specs.Includes.{Cut, Texts, reported_in}
 use Rattle.mk_include.specs.Words.{word_text, words_of}
 use Rattle.mk_macro.specs.Assignments.{Becomes, Effect, Fixes, IsBehind, LeadsTo, Stays, effect, immediate}

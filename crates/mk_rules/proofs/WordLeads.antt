@@ -8,8 +8,8 @@ use Rattle.mk_name.specs.declared.fault.Halt.{Halt}
 use Rattle.mk_name.specs.declared.fault.Halt.TheVariants as halts
 use Rattle.mk_name.specs.declared.fault.Kind.TheVariants.{UnknownInclude}
 use Rattle.mk_name.specs.declared.fault.Source.TheVariants as sources
-use Rattle.mk_text.specs.LogicalLine.{LogicalLine}
-use Rattle.mk_text.specs.Parts.{IncludeParts}
+use Rattle.mk_lines.specs.LogicalLine.{LogicalLine}
+use Rattle.mk_lines.specs.Parts.{IncludeParts}
 use Rattle.mk_macro.specs.Expansion.{IsExpansion}
 use Rattle.mk_macro.specs.Macros.{Macros}
 use Rattle.std.specs.Option.{option_map_or}

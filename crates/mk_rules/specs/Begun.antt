@@ -4,10 +4,10 @@ use Rattle.mk_name.specs.Names.{Name}
 use Rattle.mk_name.specs.declared.fault.Halt.{Halt}
 use Rattle.mk_name.specs.declared.fault.Halt.TheVariants as halts
 use Rattle.mk_name.specs.declared.fault.Source.TheVariants as sources
-use Rattle.mk_text.specs.LogicalLine.{LogicalLine, parts_of}
-use Rattle.mk_text.specs.Parts.{IncludeParts}
-use Rattle.mk_text.specs.declared.parts.Parts.{Parts}
-use Rattle.mk_text.specs.declared.parts.Parts.TheVariants.{Assign, Entry, Recipe, Include}
+use Rattle.mk_lines.specs.LogicalLine.{LogicalLine, parts_of}
+use Rattle.mk_lines.specs.Parts.{IncludeParts}
+use Rattle.mk_lines.specs.declared.parts.Parts.{Parts}
+use Rattle.mk_lines.specs.declared.parts.Parts.TheVariants.{Assign, Entry, Recipe, Include}
 use Rattle.mk_macro.specs.Expansion.{IsExpansion}
 use Rattle.mk_macro.specs.Macros.{Macros}
 use Rattle.mk_include.specs.Includes.{Cut, Texts, reported_in}

@@ -6,7 +6,7 @@ use Rattle.mk_name.specs.Reported.{Reported}
 use Rattle.mk_name.specs.declared.fault.Kind.{Kind}
 use Rattle.mk_name.specs.declared.fault.Kind.TheVariants.{MixedSpecial, DefaultPrerequisites}
 use Rattle.mk_name.specs.declared.fault.Source.TheVariants.{Makefile}
-use Rattle.mk_text.specs.Parts.{EntryParts}
+use Rattle.mk_lines.specs.Parts.{EntryParts}
 use Rattle.mk_macro.specs.Macros.{Macros}
 use Rattle.mk_macro.specs.Expansion.{IsExpansion}
 use Rattle.mk_rules.specs.Book.{Entry}

@@ -5,9 +5,9 @@ use Rattle.mk_name.specs.declared.fault.Halt.{Halt}
 use Rattle.mk_name.specs.declared.fault.Halt.TheVariants as halts
 use Rattle.mk_name.specs.declared.fault.Source.{Source}
 use Rattle.mk_name.specs.declared.fault.Source.TheVariants.{Base, Makefile}
-use Rattle.mk_text.specs.LogicalLine.{LogicalLine}
-use Rattle.mk_text.specs.declared.line.LineKind.{LineKind}
-use Rattle.mk_text.specs.declared.line.LineKind.TheVariants as kinds
+use Rattle.mk_lines.specs.LogicalLine.{LogicalLine}
+use Rattle.mk_lines.specs.declared.line.LineKind.{LineKind}
+use Rattle.mk_lines.specs.declared.line.LineKind.TheVariants as kinds
 
 -- a logical line, the text where it stands, and whether a command line stands right below it there
 pub record Placed : Type 0 where

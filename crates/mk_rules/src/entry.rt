@@ -12,10 +12,10 @@ use crate::placed::Placed;
 use crate::rule::Rule;
 use crate::special::is_special;
 use crate::words::names_in;
+use mk_lines::parts::EntryParts;
 use mk_macro::macros::Macros;
 use mk_name::fault::{Fault, Halt, Kind, Source};
 use mk_name::name::Name;
-use mk_text::parts::EntryParts;
 use mk_text::root::Root;
 use std::alloc::{AllocError, Global};
 

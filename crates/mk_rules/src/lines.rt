@@ -5,7 +5,7 @@
 ghost use Rattle.std.specs.Prelude.{◌≡◌, ◌<◌, ◌+◌, map, suc, IfErr, OnErr, OnOk};
 ghost use Rattle.mk_macro.specs.Macros as specs;
 ghost use Rattle.mk_macro.specs.Macros.{macros_of};
-ghost use Rattle.mk_text.specs.LogicalLine.{parts_of};
+ghost use Rattle.mk_lines.specs.LogicalLine.{parts_of};
 ghost use Rattle.mk_include.specs.Includes.{texts_of, reported_in};
 ghost use Rattle.mk_include.specs.Words.{include_limit};
 ghost use Rattle.mk_rules.specs.Before.{IsBefore};
@@ -20,11 +20,11 @@ use crate::rule::Rule;
 use mk_include::cut::Cut;
 use mk_include::includes::Includes;
 use mk_include::words::{word_text, words};
+use mk_lines::line::Line;
+use mk_lines::parts::{EntryParts, IncludeParts, Parts};
 use mk_macro::macros::Macros;
 use mk_name::fault::{Halt, Source};
 use mk_name::name::Name;
-use mk_text::line::Line;
-use mk_text::parts::{EntryParts, IncludeParts, Parts};
 use mk_text::root::Root;
 use std::alloc::Global;
 

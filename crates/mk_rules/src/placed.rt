@@ -2,8 +2,8 @@
 ghost use Rattle.std.specs.Prelude.{◌≡◌};
 ghost use Rattle.mk_rules.specs.Placed.{IsReportedAt, begins_with_command};
 
+use mk_lines::line::{Line, LineKind};
 use mk_name::fault::{Halt, Source};
-use mk_text::line::{Line, LineKind};
 use std::alloc::{AllocError, Global};
 use std::marker::Model;
 

@@ -13,9 +13,9 @@ use crate::lines::{Reader, SoFar};
 use crate::rule::Rule;
 use crate::rulebook::Rulebook;
 use mk_include::includes::Includes;
+use mk_lines::line::Line;
 use mk_macro::macros::Macros;
 use mk_name::fault::{Fault, Halt, Kind, Source};
-use mk_text::line::Line;
 use mk_text::root::Root;
 use std::alloc::Global;
 
@@ -140,7 +140,7 @@ fn checked(alloc: Global, book: Rulebook) -> Result<Rulebook, Halt>
 /// prerequisites. The words of an include line are read from the left, and the text of one before the next:
 /// `BadName`, `UnknownInclude` for a name that no text has, `IncludeTooDeep` where [`DEPTH_LIMIT`] texts are
 /// open around it, `TooManyIncludes` behind 1,000 texts in all (profile); then the faults of the text's own
-/// lines, as [`mk_text::lines::lines`] reports them, in the source `Include` of its plain name. After all
+/// lines, as [`mk_lines::lines::lines`] reports them, in the source `Include` of its plain name. After all
 /// lines `TwoRecipes` for the first target rule that gives commands to a target which has some from one
 /// before it: it reports the first such target, at the rule's line. Out of memory may come in place of any
 /// answer.

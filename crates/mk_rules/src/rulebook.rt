@@ -58,12 +58,24 @@ impl Specials {
 
 /// What the makefiles say of each name: the target rules in their order, with an index from each target to
 /// its rules, and what the special targets and the inference rules say.
-#[derive(Debug, Drop)]
+#[derive(Debug)]
 pub struct Rulebook {
     rules: Vec<Rule>,
     targets: NameSet,
     places: Vec<Vec<usize>>,
     specials: Specials,
+}
+
+// By hand, so that it is proved once (docs/GATE.md, "What costs the prover").
+impl Drop for Rulebook {
+    fn drop(self) {
+        let Rulebook {
+            rules: _,
+            targets: _,
+            places: _,
+            specials: _,
+        } = self;
+    }
 }
 
 impl Model for Rulebook {

@@ -3,7 +3,7 @@ use Rattle.std.proofs.Common.{◌≡◌, ℕ, ◌≤◌, ◌==◌, List, [], ◌
 use Rattle.std.specs.List.{onto_first}
 use Rattle.std.proofs.lemmas.Bool.{cases_Bool, cond-true, cond-false}
 use Rattle.std.proofs.lemmas.List.Splits.{length-slice_split}
-use Rattle.mk_text.specs.Blocks.{newline, physical_lines}
+use Rattle.mk_text.specs.Lexical.{newline, physical_lines}
 
 -- the last of some lines runs on with the first of the others
 abbrev pub joined : List (List ℕ) → List (List ℕ) → List (List ℕ)

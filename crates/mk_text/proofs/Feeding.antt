@@ -7,7 +7,7 @@ use Rattle.std.proofs.lemmas.List.{append-nil, length-append, length-take, take-
 use Rattle.mk_name.specs.Reported.{Reported}
 use Rattle.mk_name.specs.Gives.{HaltsAmong}
 use Rattle.mk_name.specs.declared.fault.Source.{Source}
-use Rattle.mk_text.specs.Blocks.{physical_lines}
+use Rattle.mk_text.specs.Lexical.{physical_lines}
 use Rattle.mk_text.specs.Fed.{IsCut}
 use Rattle.mk_text.specs.LineFeed.{HasEndedBy, HasRead, HasReadBy, HasStopped, IsIn, IsStoppedIn, IsUnderWay, Reader, fault_at, halt_of, place_behind}
 use Rattle.mk_text.specs.declared.line_sink.Stop.{Stop}

@@ -1,13 +1,6 @@
-pub mod Blocks
-pub mod GivesLines
 pub mod Fed
+pub mod Lexical
 pub mod LineFeed
-pub mod Listing
 pub mod ListReader
-pub mod LogicalLine
-pub mod LogicalLines
-pub mod Outside
-pub mod Parts
-pub mod Pieces
-pub mod Slices
+pub mod Listing
 pub mod Spelling

@@ -2,8 +2,7 @@
 ghost use Rattle.std.specs.Prelude.{◌≡◌, ◌<◌, ◌∷◌, [], length, map, IfOk, IfSome};
 ghost use Rattle.std.specs.List.{list_all};
 ghost use Rattle.std.specs.Option.{option_map_or};
-ghost use Rattle.mk_text.specs.Blocks.{is_blank, physical_lines};
-ghost use Rattle.mk_text.specs.LogicalLines.{is_macro_byte, is_macro_name};
+ghost use Rattle.mk_text.specs.Lexical.{is_blank, physical_lines, is_macro_byte, is_macro_name};
 
 use memchr::memchr;
 use std::alloc::{AllocError, Global};

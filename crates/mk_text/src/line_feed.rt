@@ -1,7 +1,7 @@
 //! Texts of lines that come in pieces.
 ghost use Rattle.std.specs.Prelude.{◌≡◌, ◌++◌, ◌∷◌, [], Err, IfErr, List, None, OnOk, Some, take, ℕ};
 ghost use Rattle.mk_name.specs.Gives.{Answers};
-ghost use Rattle.mk_text.specs.Blocks.{physical_lines};
+ghost use Rattle.mk_text.specs.Lexical.{physical_lines};
 ghost use Rattle.mk_text.specs.LineFeed as spec;
 ghost use Rattle.mk_text.specs.LineFeed.{HasEndedBy, HasRead, HasStopped, IsIn, IsStoppedIn, IsUnderWay};
 ghost use Rattle.mk_text.specs.declared.line_sink.Stop.{Stop};

@@ -18,9 +18,16 @@ use std::collections::{BTreeMap, BTreeSet};
 use std::marker::Model;
 
 /// The names of the files that exist, each once.
-#[derive(Debug, Drop)]
+#[derive(Debug)]
 pub struct Listing {
     names: BTreeSet<Name>,
+}
+
+// By hand, so that it is proved once (docs/GATE.md, "What costs the prover").
+impl Drop for Listing {
+    fn drop(self) {
+        let Listing { names: _ } = self;
+    }
 }
 
 impl Model for Listing {

@@ -10,13 +10,24 @@ use std::alloc::{AllocError, Global};
 use std::marker::Model;
 
 /// The directory that relative paths start from. Names below it are spelled without it (profile).
-#[derive(Debug, Drop)]
+#[derive(Debug)]
 pub struct Root {
     text: Vec<u8>,
     /// The reduced components of the text.
     parts: Vec<Vec<u8>>,
     /// The components, spelled from the top.
     top: Vec<u8>,
+}
+
+// By hand, so that it is proved once (docs/GATE.md, "What costs the prover").
+impl Drop for Root {
+    fn drop(self) {
+        let Root {
+            text: _,
+            parts: _,
+            top: _,
+        } = self;
+    }
 }
 
 impl Model for Root {

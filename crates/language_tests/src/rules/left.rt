@@ -1,10 +1,10 @@
 //! What is left of the macros behind a makefile, also where it has a fault.
 use crate::made::{expands, is_good, of_root};
 use mk_include::includes::Includes;
+use mk_lines::line::Line;
+use mk_lines::lines::lines;
 use mk_macro::macros::Macros;
 use mk_rules::reading::read_rules;
-use mk_text::line::Line;
-use mk_text::lines::lines;
 use mk_text::root::Root;
 use std::alloc::{AllocError, Global};
 

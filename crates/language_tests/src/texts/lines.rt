@@ -1,6 +1,6 @@
 //! The logical lines of a text, by their places and pieces.
-use mk_text::line::{Line, LineKind, Operator};
-use mk_text::lines::lines;
+use mk_lines::line::{Line, LineKind, Operator};
+use mk_lines::lines::lines;
 use std::alloc::Global;
 
 /// A line of each kind, two of them continued.

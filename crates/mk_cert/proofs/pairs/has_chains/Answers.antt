@@ -1,6 +1,6 @@
 use Rattle.std.proofs.Common.{◌≢◌, arith, inl, inr, subst, sym}
 use Rattle.std.proofs.lemmas.Bool.{cases_eq}
-use Rattle.mk_path.specs.Uses.{Reaches}
+use Rattle.mk_index.specs.Uses.{Reaches}
 use Rattle.mk_jobs.specs.Reaching.{uses_of}
 use Rattle.mk_cert.specs.Pairs.{IsPaired}
 use Rattle.mk_cert.proofs.pairs.has_chains.Goals as goal

@@ -1,5 +1,5 @@
 use Rattle.std.proofs.Common.{ℕ, ◌≢◌, ◌<◌}
-use Rattle.mk_path.specs.Uses.{Reaches}
+use Rattle.mk_index.specs.Uses.{Reaches}
 use Rattle.mk_jobs.specs.Reaching.{uses_of}
 use Rattle.mk_cert.specs.Pairs.{IsPaired}
 use Rattle.mk_cert.proofs.pairs.has_chains.Given as goal

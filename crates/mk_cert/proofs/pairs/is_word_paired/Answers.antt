@@ -1,6 +1,6 @@
 use Rattle.std.proofs.Common.{◌≡◌, ◌<◌, ◌+◌, ◌*◌, ◌%◌, ◌∙◌, ap, arith, inl, inr, refl, subst, sym}
 use Rattle.std.proofs.lemmas.Bool.{cases_eq, false≢true}
-use Rattle.mk_path.specs.Bits.{HasBit}
+use Rattle.mk_index.specs.Bits.{HasBit}
 use Rattle.mk_cert.specs.Pairs.{IsPaired}
 use Rattle.mk_cert.proofs.pairs.is_word_paired.Goals as goal
 use Rattle.mk_cert.proofs.pairs.is_word_paired.Goals.{else-a-b-via-then-a-b+then-has_bit+else-not-has_pair, else-a-b-via-then-a-b+else-has_bit, else-a-b-via-else-a-b}

@@ -1,6 +1,6 @@
 use Rattle.std.proofs.Common.{ℕ, ◌≡◌, ◌≢◌, ◌∙◌, subst, inl, inr, arith}
 use Rattle.std.proofs.lemmas.Bool.{cases_lt}
-use Rattle.mk_path.specs.Uses.{Reaches}
+use Rattle.mk_index.specs.Uses.{Reaches}
 use Rattle.mk_jobs.specs.Reaching.{uses_of}
 use Rattle.mk_decide.specs.LeastRaces.{IsSettled}
 use Rattle.mk_decide.proofs.Finding.{AllSettled, found_least, found_none, settled_lower}

@@ -1,5 +1,5 @@
 use Rattle.std.proofs.Common.{ℕ, ◌≡◌, ◌≢◌, ◌<◌}
-use Rattle.mk_path.specs.Uses.{Reaches}
+use Rattle.mk_index.specs.Uses.{Reaches}
 use Rattle.mk_jobs.specs.Reaching.{uses_of}
 use Rattle.mk_decide.specs.LeastRaces.{IsFound, IsSettled}
 use Rattle.mk_decide.proofs.least.least_race.Given as goal

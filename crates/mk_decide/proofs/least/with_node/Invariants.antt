@@ -1,5 +1,5 @@
 use Rattle.std.proofs.Common.{ℕ, ◌≡◌, ◌≢◌, ◌<◌, ◌-◌}
-use Rattle.mk_path.specs.Bits.{HasBit}
+use Rattle.mk_index.specs.Bits.{HasBit}
 use Rattle.mk_decide.specs.LeastRaces.{IsFound, IsSettled, Lowers}
 use Rattle.mk_decide.proofs.least.with_node.Given as goal
 

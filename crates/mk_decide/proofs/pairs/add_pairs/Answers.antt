@@ -1,6 +1,6 @@
 use Rattle.std.proofs.Common.{ℕ, ◌≡◌, ◌≢◌, ◌<◌, ◌+◌, ◌∙◌, ◌∷◌, ◌++◌, [], List, sym, ap, subst, inl, inr, arith}
 use Rattle.std.proofs.lemmas.Bool.{cases_lt}
-use Rattle.mk_path.specs.Bits.{HasBit}
+use Rattle.mk_index.specs.Bits.{HasBit}
 use Rattle.mk_decide.specs.Pairs.{Holds, OnlyClashing}
 use Rattle.mk_decide.proofs.Finding.{reach_clashes, reach_clashes_back}
 use Rattle.mk_decide.proofs.Paired.{clash_pushed, held_falling, held_pushed, held_rising}

@@ -1,5 +1,5 @@
 use Rattle.std.proofs.Common.{ℕ, ◌≢◌, ◌<◌, ◌-◌}
-use Rattle.mk_path.specs.Bits.{HasBit}
+use Rattle.mk_index.specs.Bits.{HasBit}
 use Rattle.mk_decide.specs.Pairs.{Holds, OnlyClashing}
 use Rattle.mk_decide.proofs.pairs.add_pairs.Given as goal
 

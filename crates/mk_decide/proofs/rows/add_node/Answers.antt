@@ -1,6 +1,6 @@
 use Rattle.std.proofs.Common.{ℕ, ◌≡◌, ◌↔◌, ◌⊎◌, List, bit_or, length, sym, subst, inl, inr, arith}
 use Rattle.std.specs.Simd.Lanes.{zip2}
-use Rattle.mk_path.specs.Bits.{HasBit}
+use Rattle.mk_index.specs.Bits.{HasBit}
 use Rattle.mk_decide.proofs.RowBits.{merged_bits}
 use Rattle.mk_decide.proofs.rows.add_node.Goals as goal
 

@@ -1,7 +1,7 @@
 use Rattle.std.proofs.Common.{rules, ℕ, ◌≡◌, ◌<◌, ◌↔◌, ◌⊎◌, ◌-◌, ◌++◌, ◌∷◌, [], List, All, length, replicate, take, get_or, refl, sym, subst, arith}
 use Rattle.std.proofs.lemmas.List.{take_more, take_all}
 use Rattle.std.proofs.lemmas.List.Elements.{All-replicate}
-use Rattle.mk_path.specs.Bits.{HasBit}
+use Rattle.mk_index.specs.Bits.{HasBit}
 use Rattle.mk_decide.specs.Bits.{Gathers, block_nodes}
 use Rattle.mk_decide.proofs.RowBits.{gathers_more, gathers_none, gathers_same}
 use Rattle.mk_decide.proofs.rows.fill_row.Goals as goal

@@ -1,6 +1,6 @@
 use Rattle.std.proofs.Common.{◌≡◌, ◌+◌, [], length}
 use Rattle.std.specs.Option.{option_map_or}
-use Rattle.mk_text.specs.Blocks.{physical_lines}
+use Rattle.mk_text.specs.Lexical.{physical_lines}
 use Rattle.mk_due.specs.Good.{IsTally}
 use Rattle.mk_due.specs.Items.{items_from, items_of}
 use Rattle.mk_due.proofs.reading.items_in.Given as goal

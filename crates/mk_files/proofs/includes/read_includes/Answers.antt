@@ -3,7 +3,7 @@ use Rattle.std.proofs.lemmas.Result.{IfOk-weaker}
 use Rattle.std.specs.Borrow.{Bor}
 use Rattle.std.specs.Option.{option_and_then}
 use Rattle.std.specs.Prelude.{IfSome}
-use Rattle.mk_text.specs.Blocks.{physical_lines}
+use Rattle.mk_text.specs.Lexical.{physical_lines}
 use Rattle.mk_files.specs.Files.{Files}
 use Rattle.mk_files.specs.Includes.{Pair, includes_in, pairs_of, shown}
 use Rattle.mk_files.proofs.Included.{line_fails, lines_read, of_bytes}

@@ -1,7 +1,7 @@
 use Rattle.std.proofs.Common.{[], ◌++◌, ◌∙◌, ap, inl, inr, refl}
 use Rattle.std.proofs.lemmas.Result.{err_from_is_err_and}
 use Rattle.std.specs.Option.{option_map_or}
-use Rattle.mk_text.specs.Blocks.{physical_lines}
+use Rattle.mk_text.specs.Lexical.{physical_lines}
 use Rattle.mk_files.specs.Files.{Files}
 use Rattle.mk_files.specs.Includes.{shown}
 use Rattle.mk_files.proofs.Included.{all_may, line_more, none_more, none_yet, one_fails, one_more}

@@ -1,6 +1,6 @@
 use Rattle.std.proofs.Common.{◌≡◌, ◌+◌, ◌++◌, List, [], Some, length}
 use Rattle.std.specs.Option.{option_map_or}
-use Rattle.mk_text.specs.Blocks.{physical_lines}
+use Rattle.mk_text.specs.Lexical.{physical_lines}
 use Rattle.mk_files.specs.Includes.{Pair, pairs_of, shown}
 use Rattle.mk_files.proofs.Included.{AreReadUpTo}
 use Rattle.mk_files.proofs.includes.read_listed.Given as goal

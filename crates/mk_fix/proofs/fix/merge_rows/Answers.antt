@@ -1,7 +1,7 @@
 use Rattle.std.proofs.Common.{ℕ, ◌≡◌, ◌+◌, ◌-◌, ◌*◌, ◌∙◌, ◌↔◌, ◌⊎◌, List, bit_or, length, take, drop, get_or, sym, ap, subst, arith, length-take-le, length-drop}
 use Rattle.std.specs.Simd.Lanes.{zip2}
 use Rattle.std.proofs.lemmas.List.{take_more, take_all}
-use Rattle.mk_path.specs.Bits.{HasBit}
+use Rattle.mk_index.specs.Bits.{HasBit}
 use Rattle.mk_decide.specs.Bits.{row_at}
 use Rattle.mk_fix.specs.Musts.{IsBehind}
 use Rattle.mk_fix.proofs.Musting.{behind_more, behind_none}

@@ -1,5 +1,5 @@
 use Rattle.std.proofs.Common.{ℕ, ◌↔◌, ◌⊎◌, length, take}
-use Rattle.mk_path.specs.Bits.{HasBit}
+use Rattle.mk_index.specs.Bits.{HasBit}
 use Rattle.mk_fix.specs.Musts.{IsBehind}
 use Rattle.mk_fix.proofs.fix.merge_rows.Given as goal
 

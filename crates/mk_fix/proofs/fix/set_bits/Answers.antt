@@ -1,6 +1,6 @@
 use Rattle.std.proofs.Common.{ℕ, ◌↔◌, ◌⊎◌, List, Contains, take, get_or, sym, subst, inl, inr, arith}
 use Rattle.std.proofs.lemmas.List.{take_more, take_all}
-use Rattle.mk_path.specs.Bits.{HasBit}
+use Rattle.mk_index.specs.Bits.{HasBit}
 use Rattle.mk_fix.proofs.Musting.{set_more}
 use Rattle.mk_fix.proofs.fix.set_bits.Goals as goal
 

@@ -1,5 +1,5 @@
 use Rattle.std.proofs.Common.{ℕ, ◌↔◌, ◌⊎◌, Contains, take}
-use Rattle.mk_path.specs.Bits.{HasBit}
+use Rattle.mk_index.specs.Bits.{HasBit}
 use Rattle.mk_fix.proofs.fix.set_bits.Given as goal
 
 -- the bits of the nodes so far are set

@@ -1,7 +1,7 @@
 use Rattle.std.proofs.Common.{rules, ◌==◌, length, not}
 use Rattle.std.proofs.lemmas.Iterator.Consumers.{YieldsList-from_filter, map_from_collect}
 use Rattle.std.proofs.lemmas.Iterator.Splits.{YieldsList-from_slice_split}
-use Rattle.mk_text.specs.Blocks.{is_blank}
+use Rattle.mk_text.specs.Lexical.{is_blank}
 use Rattle.mk_include.proofs.words.words.Goals as goal
 
 pub returns : goal.returns

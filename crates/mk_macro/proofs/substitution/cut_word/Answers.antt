@@ -1,5 +1,5 @@
 use Rattle.std.proofs.Common.{◌∙◌, sym}
-use Rattle.mk_text.specs.Blocks.{is_blank}
+use Rattle.mk_text.specs.Lexical.{is_blank}
 use Rattle.mk_macro.proofs.Places.{none_passes}
 use Rattle.mk_macro.proofs.Weaving.{cut_more}
 use Rattle.mk_macro.proofs.substitution.cut_word.Goals as goal

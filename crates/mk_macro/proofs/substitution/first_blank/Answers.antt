@@ -1,4 +1,4 @@
-use Rattle.mk_text.specs.Blocks.{is_blank}
+use Rattle.mk_text.specs.Lexical.{is_blank}
 use Rattle.mk_macro.proofs.Places.{found_inside, place_found}
 use Rattle.mk_macro.proofs.substitution.first_blank.Goals as goal
 

@@ -1,6 +1,6 @@
 use Rattle.std.proofs.Common.{ℕ, ◌≡◌, ◌↔◌, ◌⊎◌, List, arith, length, take, get_or, sym, subst, true}
 use Rattle.std.proofs.lemmas.List.{take_more}
-use Rattle.mk_path.specs.Bits.{HasBit}
+use Rattle.mk_index.specs.Bits.{HasBit}
 use Rattle.mk_decide.specs.Bits.{row_at}
 use Rattle.mk_missing.proofs.News.{Gains, gains_more}
 use Rattle.mk_missing.proofs.hearing.add_news.Goals as goal

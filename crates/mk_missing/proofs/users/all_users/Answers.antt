@@ -1,7 +1,7 @@
 use Rattle.std.proofs.Common.{◌≡◌, ◌↔◌, ◌∙◌, Contains, List, ap, map, subst, sym}
 use Rattle.std.proofs.lemmas.List.{take_all}
 use Rattle.mk_path.specs.declared.path.Path.{Path}
-use Rattle.mk_path.specs.Uses.{path_of}
+use Rattle.mk_index.specs.Uses.{path_of}
 use Rattle.mk_jobs.specs.Reaching.{uses_of}
 use Rattle.mk_missing.specs.Files.{IsFile}
 use Rattle.mk_missing.specs.Users.{files_of}

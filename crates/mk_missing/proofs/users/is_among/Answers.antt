@@ -1,4 +1,4 @@
-use Rattle.mk_path.proofs.Searching.{found_is}
+use Rattle.mk_index.proofs.Searching.{found_is}
 use Rattle.mk_missing.proofs.users.is_among.Goals as goal
 
 pub returns : goal.returns

@@ -1,7 +1,7 @@
 use Rattle.std.proofs.Common.{ℕ, ◌≡◌, ◌-◌, ◌↔◌, ◌∙◌, Bool, true, Contains, List, length, subst, sym}
 use Rattle.std.specs.Prelude.{slice_get}
 use Rattle.mk_path.specs.declared.path.Path.{Path}
-use Rattle.mk_path.specs.Uses.{path_of}
+use Rattle.mk_index.specs.Uses.{path_of}
 use Rattle.mk_jobs.specs.Reaching.{uses_of}
 use Rattle.mk_missing.specs.Files.{reads_file, writes_file}
 use Rattle.mk_missing.proofs.Gathering.{last_most, over_reads, over_writes, users_are}

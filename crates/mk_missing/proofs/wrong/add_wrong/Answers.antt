@@ -1,6 +1,6 @@
 use Rattle.std.proofs.Common.{ℕ, ◌≡◌, ◌⊎◌, ◌∙◌, true, false, Contains, List, get_or, take, ap, inl, inr, refl, subst, sym}
 use Rattle.std.proofs.lemmas.List.{get_or_read, take_all, take_more}
-use Rattle.mk_path.specs.Index.{path_at}
+use Rattle.mk_path.specs.Paths.{path_at}
 use Rattle.mk_jobs.specs.Jobs.{Jobs}
 use Rattle.mk_missing.specs.Kinds.{IsFine, IsWrong}
 use Rattle.mk_missing.specs.Users.{AreUsers, files_of}

@@ -1,6 +1,6 @@
 use Rattle.std.proofs.Common.{◌≡◌, ◌+◌, [], length}
 use Rattle.std.specs.Option.{option_map_or}
-use Rattle.mk_text.specs.Blocks.{physical_lines}
+use Rattle.mk_text.specs.Lexical.{physical_lines}
 use Rattle.mk_task.specs.Good.{IsTally}
 use Rattle.mk_task.specs.Tasks.{tasks_from, tasks_of}
 use Rattle.mk_task.proofs.reading.tasks_in.Given as goal

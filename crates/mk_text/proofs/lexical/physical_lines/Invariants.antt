@@ -1,6 +1,6 @@
 use Rattle.std.proofs.Common.{◌≡◌, ◌+◌, ◌++◌, [], length, map}
 use Rattle.std.specs.Option.{option_map_or}
-use Rattle.mk_text.specs.Blocks.{physical_lines}
+use Rattle.mk_text.specs.Lexical.{physical_lines}
 use Rattle.mk_text.proofs.lexical.physical_lines.Given as goal
 
 -- the lines found and those of the rest are the text's

@@ -1,6 +1,6 @@
 use Rattle.std.proofs.Common.{◌==◌, ◌+◌, ◌∙◌, ◌∷◌, sym, ap, take}
 use Rattle.std.proofs.lemmas.List.{take_rest}
-use Rattle.mk_text.specs.Blocks.{newline, physical_lines}
+use Rattle.mk_text.specs.Lexical.{newline, physical_lines}
 use Rattle.mk_text.proofs.Searches.{split_found, split_whole}
 use Rattle.mk_text.proofs.lexical.split_line.Goals as goal
 

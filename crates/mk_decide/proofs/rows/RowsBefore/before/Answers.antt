@@ -1,7 +1,7 @@
 use Rattle.std.proofs.Common.{ℕ, ◌≡◌, ◌<◌, ◌↔◌, ◌-◌, ◌∙◌, List, refl, true, sym, subst, ap, arith}
 use Rattle.std.specs.Prelude.{IsTrue}
 use Rattle.std.proofs.lemmas.List.{take_at}
-use Rattle.mk_path.specs.Bits.{HasBit}
+use Rattle.mk_index.specs.Bits.{HasBit}
 use Rattle.mk_jobs.specs.Jobs.{Jobs, Before, edge, node_count}
 use Rattle.mk_decide.specs.Bits.{row_at, row_words}
 use Rattle.mk_decide.proofs.Filling.{row_answers}

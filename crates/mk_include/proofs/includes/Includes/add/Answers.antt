@@ -1,5 +1,5 @@
 use Rattle.std.proofs.Common.{◌++◌, ◌∷◌, [], sym, ap, ◌∙◌}
-use Rattle.mk_text.specs.LogicalLines.{logical_lines}
+use Rattle.mk_lines.specs.LogicalLines.{logical_lines}
 use Rattle.mk_include.specs.Includes.{texts_of}
 use Rattle.mk_include.proofs.TextTable.{text_added, text_kept}
 use Rattle.mk_include.proofs.includes.Includes.add.Goals as goal

@@ -1,6 +1,6 @@
 use Rattle.std.proofs.Common.{◌↔◌, ◌⊎◌, subst}
-use Rattle.mk_path.specs.Bits.{HasBit}
-use Rattle.mk_path.specs.Uses.{Reaches}
+use Rattle.mk_index.specs.Bits.{HasBit}
+use Rattle.mk_index.specs.Uses.{Reaches}
 use Rattle.mk_jobs.specs.Jobs.{Jobs}
 use Rattle.mk_jobs.specs.Reaching.{uses_of}
 use Rattle.mk_jobs.proofs.jobs.Jobs.mark_reaching.Goals as goal

@@ -1,7 +1,7 @@
 use Rattle.std.proofs.Common.{sym, subst₂, List, Vec}
 use Rattle.std.specs.Global.{Global}
 use Rattle.mk_path.specs.declared.path.Path.{Path}
-use Rattle.mk_path.specs.Uses.{AreRising, uses_of}
+use Rattle.mk_index.specs.Uses.{AreRising, uses_of}
 use Rattle.mk_jobs.specs.Jobs.{reads_of, writes_of}
 use Rattle.mk_jobs.proofs.jobs.Jobs.new.Goals as goal
 

@@ -1,6 +1,6 @@
 use Rattle.std.proofs.Common.{◌<◌, ◌∙◌, [], false, List, length, get_or, sym, ap, subst}
 use Rattle.mk_path.specs.declared.path.Path.{Path}
-use Rattle.mk_path.specs.Uses.{paths_of}
+use Rattle.mk_index.specs.Uses.{paths_of}
 use Rattle.mk_jobs.specs.Jobs.{reads_of, writes_of}
 use Rattle.mk_jobs.specs.Reaching.{uses_of}
 use Rattle.mk_jobs.proofs.jobs.Jobs.path.Goals as goal

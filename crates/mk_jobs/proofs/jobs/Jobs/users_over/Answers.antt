@@ -1,6 +1,6 @@
 use Rattle.std.proofs.Common.{◌<◌, arith, subst, sym}
-use Rattle.mk_path.specs.Uses.{IsPlaceOf}
-use Rattle.mk_path.proofs.Placing.{placed_of}
+use Rattle.mk_index.specs.Uses.{IsPlaceOf}
+use Rattle.mk_index.proofs.Placing.{placed_of}
 use Rattle.mk_jobs.specs.Jobs.{Jobs, node_count}
 use Rattle.mk_jobs.specs.Reaching.{uses_of}
 use Rattle.mk_jobs.proofs.jobs.Jobs.users_over.Goals as goal

@@ -1,5 +1,5 @@
 use Rattle.std.proofs.Common.{Ok, ap, subst}
-use Rattle.mk_text.specs.LogicalLine.{LogicalLine}
+use Rattle.mk_lines.specs.LogicalLine.{LogicalLine}
 use Rattle.mk_macro.specs.Assignments.{IsAssignment}
 use Rattle.mk_macro.specs.Macros.{macros_of}
 use Rattle.mk_rules.proofs.LineLeads.{assignment_leads}

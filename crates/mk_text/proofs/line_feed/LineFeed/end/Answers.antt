@@ -1,6 +1,6 @@
 use Rattle.std.proofs.Common.{◌≡◌, List, ℕ, Option, not, false, ap, sym, subst, ◌∙◌}
 use Rattle.std.specs.Prelude.{is_some}
-use Rattle.mk_text.specs.Blocks.{physical_lines}
+use Rattle.mk_text.specs.Lexical.{physical_lines}
 use Rattle.mk_text.specs.LineFeed.{HasEndedBy, HasStopped, Reader}
 use Rattle.mk_text.specs.declared.line_sink.Stop.{Stop}
 use Rattle.mk_text.proofs.Feeding.{ends_by, last_line, under_way}

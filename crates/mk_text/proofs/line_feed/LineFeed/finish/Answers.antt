@@ -1,7 +1,7 @@
 use Rattle.std.proofs.Common.{Option, ap, sym, subst, ◌∙◌}
 use Rattle.mk_name.specs.Gives.{HaltsAmong}
 use Rattle.mk_name.specs.declared.fault.Halt.{Halt}
-use Rattle.mk_text.specs.Blocks.{physical_lines}
+use Rattle.mk_text.specs.Lexical.{physical_lines}
 use Rattle.mk_text.specs.LineFeed.{HasEndedBy, Reader}
 use Rattle.mk_text.specs.declared.line_sink.Stop.{Stop}
 use Rattle.mk_text.proofs.Feeding.{halts_of}

@@ -1,7 +1,7 @@
 use Rattle.std.proofs.Common.{◌≡◌, ◌++◌, ◌∷◌, [], ap, sym, ◌∙◌, append_assoc}
 use Rattle.std.specs.Option.{option_map_or}
 use Rattle.std.proofs.lemmas.Result.{err_from_is_err_and}
-use Rattle.mk_text.specs.Blocks.{physical_lines}
+use Rattle.mk_text.specs.Lexical.{physical_lines}
 use Rattle.mk_text.proofs.FedLines.{some_lines}
 use Rattle.mk_text.proofs.Feeding.{piece_lines, stops_in}
 use Rattle.mk_text.proofs.line_feed.LineFeed.read.Goals as goal

@@ -1,6 +1,6 @@
 use Rattle.std.proofs.Common.{◌+◌, ◌++◌, ℕ, List, [], length}
 use Rattle.std.specs.Option.{option_map_or}
-use Rattle.mk_text.specs.Blocks.{physical_lines}
+use Rattle.mk_text.specs.Lexical.{physical_lines}
 use Rattle.mk_text.specs.LineFeed.{IsIn}
 use Rattle.mk_text.proofs.Feeding.{ReadsOn}
 use Rattle.mk_text.proofs.line_feed.LineFeed.read.Given as goal

@@ -1,0 +1,13 @@
+pub mod Bits
+pub mod Gather
+pub mod Holders
+pub mod Index
+pub mod Marks
+pub mod Meets
+pub mod Nearest
+pub mod Placed
+pub mod Places
+pub mod Sweep
+pub mod Table
+pub mod Ups
+pub mod Uses

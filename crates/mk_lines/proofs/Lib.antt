@@ -1,0 +1,9 @@
+mod Blanks
+mod Cuts
+mod Outsides
+mod Piecing
+mod Places
+mod Sequence
+mod Short
+mod Sorting
+mod Stand

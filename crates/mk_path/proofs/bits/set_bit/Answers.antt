@@ -1,6 +1,0 @@
-use Rattle.std.proofs.Common.{arith}
-use Rattle.mk_path.proofs.SetBits.{set_bits}
-use Rattle.mk_path.proofs.bits.set_bit.Goals as goal
-
-pub returns : goal.returns
-returns c = λ k. set_bits c.args.row.now c.args.n k (omega arith)

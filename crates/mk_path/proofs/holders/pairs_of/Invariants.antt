@@ -1,5 +1,0 @@
-use Rattle.mk_path.specs.Holders.{ArePairs}
-use Rattle.mk_path.proofs.holders.pairs_of.Given as goal
-
-abbrev pub invariant-loop-n : goal.invariant-loop-n
-invariant-loop-n l = ArePairs l.rows l.n l.pairs.items

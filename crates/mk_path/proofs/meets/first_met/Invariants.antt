@@ -1,5 +1,0 @@
-use Rattle.mk_path.proofs.Meeting.{HasMetNone}
-use Rattle.mk_path.proofs.meets.first_met.Given as goal
-
-abbrev pub invariant-loop-i : goal.invariant-loop-i
-invariant-loop-i l = HasMetNone l.ups l.mine l.theirs l.at l.last l.i

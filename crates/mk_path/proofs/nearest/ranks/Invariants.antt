@@ -1,6 +1,0 @@
-use Rattle.std.proofs.Common.{map}
-use Rattle.mk_path.specs.Nearest.{AreRanks}
-use Rattle.mk_path.proofs.nearest.ranks.Given as goal
-
-abbrev pub invariant-loop-path : goal.invariant-loop-path
-invariant-loop-path l = AreRanks l.top (map (λ path. path.now) l.paths) l.path-index l.ranks.items

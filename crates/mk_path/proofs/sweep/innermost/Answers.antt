@@ -1,6 +1,0 @@
-use Rattle.std.proofs.Common.{sym}
-use Rattle.mk_path.proofs.Sweeping.{innermost_is}
-use Rattle.mk_path.proofs.sweep.innermost.Goals as goal
-
-pub returns-in-Some-clause-some : goal.returns-in-Some-clause-some
-returns-in-Some-clause-some c = innermost_is c.args.stack.now c.in-Some.top.now (sym c.in-Some.ensures.value)
