@@ -7,6 +7,7 @@ from fnmatch import fnmatchcase
 from typing import Iterable, Iterator, List, NamedTuple
 
 from record.tools.shelltext import folders_of, loose
+from record.trace.lives import Life
 
 MAGIC = re.compile(r"[*?\[]")
 NAMED = "\x01"  # names without a pattern
@@ -69,3 +70,8 @@ def asked_in(asked: Iterable[Asked], own: str, folder: str, by_links: bool) -> L
 def whole(pattern: str, own: str) -> str:
     """The pattern of a folder, as one of its whole path."""
     return os.path.normpath(os.path.join(glob.escape(own), pattern)) if pattern[:1] != ANY else pattern
+
+
+def is_of_linker(life: Life) -> bool:
+    """Whether GCC runs this make to optimise while it links (`-flto=2`): its makefile, which is gone then, has nothing but rules."""
+    return any(os.path.basename(up.program) == "lto-wrapper" for up in list(life.up())[1:3])  # our wrapper may stand between them

@@ -8,7 +8,7 @@ from dataclasses import dataclass, field
 from functools import cached_property
 from typing import TYPE_CHECKING, Container, Dict, Iterable, List, Optional, Set, Tuple
 
-from record.make.asked import EVERYTHING, Asked, asked_in
+from record.make.asked import EVERYTHING, Asked, asked_in, is_of_linker
 from record.make.database import Base
 from record.make.globs import listed, patterns
 from record.make.idle import TAKES, idle_of, without_idle
@@ -187,7 +187,7 @@ class Owners:
         """One more make, with what it said; that it did not end, or failed, is a hole."""
         make = Make(words, life, self.folder_of(life, words))
         make.stale = {name for name in makefiles(words) if make.is_stale(name, self.written)}
-        make.globs, make.listed_first = self.patterns_of(make)
+        make.globs, make.listed_first = ([], []) if is_of_linker(make.life) else self.patterns_of(make)
         make.by_links = any(act.kind == READ and act.path in self.links and not OF_SYSTEM.match(act.path) for act in life.acts)
         self.makes.append(make)
         self.of_life[id(life)] = make

@@ -14,6 +14,7 @@ PAIR = "all: x y\nx: ; mkdir -p out; touch x\ny: ; %s; touch y\n"
 # A makefile of Perl, and one below it: both have a rule for `b/.exists`.
 PERL = "NOECHO = @\nMKPATH = mkdir -p\nCHMOD = chmod\nTOUCH = touch\nPERM_DIR = 755\nDFSEP = /\n"
 MARKER = "$(D)$(DFSEP).exists :: Makefile\n\t$(NOECHO) $(MKPATH) $(D)\n\t$(NOECHO) $(CHMOD) $(PERM_DIR) $(D)\n\t$(NOECHO) $(TOUCH) $(D)$(DFSEP).exists\n"
+MAIN = "int main(void) { return 0; }\n"
 OUTER = PERL + "D = b\n.PHONY: all dirs sub\nall: dirs sub\ndirs: $(D)$(DFSEP).exists\n%s" + MARKER + "sub: ; $(MAKE) -C in\n"
 INNER = PERL + "D = ../b\n.PHONY: all dirs\nall: x\ndirs: $(D)$(DFSEP).exists\nx: dirs ; echo x > ../b/x; touch x\n" + MARKER
 
@@ -32,6 +33,7 @@ FIRST = "F = " + AHEAD + "\nall: out/a out/b\ns: ; touch s\nout/a: s ; $(F)\n\te
 
 PROJECTS: Dict[str, Small] = {
     # `.exists` files of Perl's makefiles
+    "programs_that_are_optimised_while_linked": Small("safe", "all: a b\na b: ; cc -O1 -flto=2 -o $@ $@.c\n", {"a.c": MAIN, "b.c": MAIN}),
     "marker_of_two_makes": Small("safe", OUTER % "", {"in/Makefile": INNER}, "umask 022"),
     "marker_that_is_older_than_a_file": Small("race", OUTER % "all: f\nf: $(D)$(DFSEP).exists ; touch f\n", {"in/Makefile": INNER}, "umask 022"),
     "marker_that_a_recipe_does_not_wait_for": Small("race", OUTER % "", {"in/Makefile": INNER.replace("all: x", "all: dirs x").replace("x: dirs ;", "x: ;")}, "umask 022"),
