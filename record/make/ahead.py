@@ -31,6 +31,8 @@ def makes_ahead(builder: "Builder", at: int, folder: str) -> bool:
     if builder.build.tool != "make" or task.kind not in ("recipe", "look"):
         return False
     base, known = builder.graph.base, builder.known
+    if builder.make.words.exports_to_shell and any(ACTS.search(known.text_of(name)) for name in known.handed_on):
+        return False  # one of them may look at the folder before the first `$(shell ..)` makes it
     lines = base.recipes.get(task.node.name, []) if ".SECONDEXPANSION" not in base.prerequisites else []
     for place, line in enumerate(lines):
         text = text_for(known, task.node.name, line)

@@ -16,6 +16,7 @@ FINISHED = re.compile(r"^ *Finished prerequisites of target file '(.*)'\.$")
 MUST = re.compile(r"^ *Must remake target '(.*)'\.$")
 FAILED = re.compile(r"^ *(?:Failed to remake|Giving up on) target file '(.*)'\.$")
 SORTED = (4, 3)  # from this version on, make sorts what patterns find
+EXPORTING = (4, 4)  # and from this one on `$(shell ..)` gets exported macros, which make works out for it
 RUNNING = re.compile(r" *Recipe of '")  # make says so where it does not wait for a recipe
 SEVERAL = "a makefile or GNUMAKEFLAGS asks for several jobs, and so they ran; say -j1: make "
 # Lines of which each word counts: one that is none of those above was not read as a whole.
@@ -107,6 +108,11 @@ class Words:
     def sorts_names(self) -> bool:
         """Whether what patterns of its makefiles find is sorted; else it comes in the order in which the file system shows a folder."""
         return numbers_of(self.version) >= SORTED
+
+    @property
+    def exports_to_shell(self) -> bool:
+        """Whether make works out exported macros for each `$(shell ..)`, and not only for recipes."""
+        return numbers_of(self.version) >= EXPORTING
 
     @property
     def kept_errors(self) -> str:

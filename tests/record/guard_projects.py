@@ -69,6 +69,8 @@ NUMBERS: List[Guard] = [
     Guard("numbers: all of them", "make/owners.py", "return first if len(first) == len(wanted) and", "return first if", "test_owners.Holes.test_processes_that_are_lost_between_two"),
 ]
 PROJECT_GUARDS: List[Guard] = [
+    Guard("projects: shells that get exported macros", "make/ahead.py", "if builder.make.words.exports_to_shell and", "if False and",
+          "test_projects.Ahead.test_macro_that_looks_at_the_folder", YES),
     Guard("projects: makes by which GCC optimises", "make/owners.py", "([], []) if is_of_linker(make.life) else self.patterns_of(make)", "self.patterns_of(make)",
           project("programs_that_are_optimised_while_linked"), FALSE_RACE),
     *NUMBERS,

@@ -4,6 +4,7 @@ import os
 import sys
 import unittest
 from typing import Dict
+from unittest import mock
 
 import support
 from record.tools.makedirs import forms_of
@@ -167,6 +168,22 @@ class Makedirs(unittest.TestCase):
         makefile = "all: x y\nx y: ; python3 -S t/$@.py > $@; echo > t/$@.py\n"
         with support.Project({"Makefile": makefile, "t/x.py": script, "t/y.py": script}) as project:
             self.assertEqual(1, project.record().status)
+
+
+class Ahead(unittest.TestCase):
+    """Folders that make makes for its recipes, under a make that hands exported macros to `$(shell ..)`."""
+
+    def outcome(self, value: str) -> int:
+        """The status of a build, as make 4.4 would make it, that exports a macro with this value."""
+        makefile = "export X = %s\nall: out/a out/b\nout/a out/b: ; " % value + AHEAD % "" + "echo $$X > $@\n"
+        with mock.patch("record.make.words.EXPORTING", (4, 0)), support.Project({"Makefile": makefile}) as project:
+            return project.record().status
+
+    def test_macro_that_looks_at_the_folder(self) -> None:
+        self.assertEqual(1, self.outcome("$(shell test -d out && echo x)"))
+
+    def test_macro_that_looks_at_nothing(self) -> None:
+        self.assertEqual(0, self.outcome("x"))
 
 
 class Tops(unittest.TestCase):
