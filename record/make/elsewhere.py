@@ -120,14 +120,21 @@ def part_of(life: Life) -> Life:
 
 
 def work_of(lives: List[Life]) -> Tuple[str, Work]:
-    """What some processes that belong together asked of ages, with words for one of them. Interpreters and makes that only ask look at much and seldom
-    compare ages, so nobody knows of these whether they do."""
-    work = Work(lives=lives)
+    """What some processes that belong together asked of ages, with words for one of those of which nobody knows whether they compare them."""
+    work, unknown = Work(lives=lives), []
     for life in lives:
         for (kind, path), place in life.events.items():
-            if kind in AGES:
-                work.add(AGE_UNKNOWN if kind == AGE_SEEN and (life.is_query or life.traits().is_interpreter) else kind, path, place)
-    return words_of(next((life for life in lives if any(kind == AGE_UNKNOWN for kind, _ in life.events)), lives[0])), work
+            asked = AGE_UNKNOWN if kind == AGE_SEEN and is_vague(life) else kind
+            if asked in AGES:
+                work.add(asked, path, place)
+            if asked == AGE_UNKNOWN:
+                unknown.append(life)
+    return words_of((unknown or lives)[0]), work
+
+
+def is_vague(life: Life) -> bool:
+    """Whether it looks at much and seldom compares ages: interpreters, and makes that only ask."""
+    return life.is_query or life.traits().is_interpreter
 
 
 def words_of(life: Life) -> str:
@@ -140,7 +147,7 @@ def find_askers(builder: "Builder", created: Created) -> None:
     if builder.elsewhere is None:
         return
     builder.askers = builder.elsewhere.beside(builder)
-    asked = [path for pair in builder.askers.pairs for path in pair] + [path for _, work in builder.askers.works for kind, path in work.events if kind == AGE_SEEN]
+    asked = [path for pair in builder.askers.pairs for path in pair] + [path for _, work in builder.askers.works for kind, path in work.events if kind in (AGE_SEEN, AGE_UNKNOWN)]
     for path in asked:
         if path in created or path in builder.made:
             builder.timed.setdefault(path, set())

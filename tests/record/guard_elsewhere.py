@@ -22,7 +22,7 @@ ELSEWHERE_GUARDS: List[Guard] = [
     Guard("elsewhere: programs", MODULE, "if id(life) not in own and life.died > begin]", "if False]", elsewhere("ages_for_a_script"), YES),
     Guard("elsewhere: programs that came before", MODULE, " and life.died > begin]", "]", elsewhere("ages_for_a_script_before"), FALSE_RACE),
     Guard("elsewhere: programs that belong together", MODULE, "self.groups.setdefault(id(part_of(life)), [])", "self.groups.setdefault(0, [])", elsewhere("ages_of_two_recipes_that_ask_apart"), FALSE_RACE),
-    Guard("elsewhere: shells", MODULE, " and (life.is_query or life.traits().is_interpreter) else kind", " else kind", elsewhere("ages_for_a_script_that_asked_before"), YES),
+    Guard("elsewhere: shells", MODULE, " and is_vague(life) else kind", " else kind", elsewhere("ages_for_a_script_that_asked_before"), YES),
     Guard("elsewhere: interpreters", MODULE, 'AGE_UNKNOWN if kind == AGE_SEEN and', 'AGE_UNKNOWN if False and', elsewhere("ages_for_a_script_of_python"), FALSE_RACE),
     Guard("elsewhere: copies", MODULE, "*builder.created(), *copies}", "*builder.created()}", elsewhere("ages_that_copies_keep"), YES),
     Guard("elsewhere: archives", MODULE, " or packs(life):", ":", elsewhere("ages_that_an_archive_keeps"), YES),
