@@ -4,6 +4,8 @@ from typing import List
 
 from guard_table import FALSE_RACE, LOST_HOLE, UNSAID, WITHHELD, YES, Guard
 
+ELSEWHERE = ("make/elsewhere.py", "    builder.askers = builder.elsewhere.beside(builder)\n", "")  # what runs in no recipe is asked for there too
+
 
 def seen(name: str) -> str:
     """The test of a makefile of test_seen.py."""
@@ -66,9 +68,9 @@ SEEN_GUARDS: List[Guard] = [
     Guard("ages: operators behind a backslash", "tools/shellages.py", r"""[\"'\\]*-[\"'\\]*-?(""", "-(", words("operators_that_are_spelled_in_another_way")),
     Guard("ages: negated operators", "tools/shellages.py", r"(?:!\s+)?(?![-!])", "(?![-!])", seen("ages_by_a_negated_macro"), YES),
     Guard("ages: by words of their own", "tools/shellages.py", "    if shows_ages(argv):\n        return True\n", "", seen("ages_by_all_of_stat"), YES),
-    Guard("ages: of what make calls", "make/ages.py", ", *([(builder.acts_at.get(task.label, at), acts)] if acts is not None else [])", "", seen("ages_by_a_function"), YES),
+    Guard("ages: of what make calls", "make/ages.py", ", *([(builder.acts_at.get(task.label, at), acts)] if acts is not None else [])", "", seen("ages_by_a_function"), YES, ELSEWHERE),
     Guard("ages: of makes that make calls", "make/owners.py", "    work.makes += ran.makes\n", "", seen("ages_in_a_make_of_a_function"), YES),
-    Guard("ages: that make copies", "make/owners.py", "    work.lives += ran.lives\n", "", seen("age_that_a_function_copies"), YES),
+    Guard("ages: that make copies", "make/owners.py", "    work.lives += ran.lives\n", "", seen("age_that_a_function_copies"), YES, ELSEWHERE),
     Guard("ages: scripts behind if", "tools/shelltext.py", "|elif|if|while|until|time|command|builtin)[ \\t]+ )", ")[ \\t]+ )", seen("ages_by_a_script_behind_if"), YES),
     Guard("ages: texts that are printed", "tools/shellages.py", " or COMPUTED.search(text)", "", seen("ages_by_a_text_that_is_printed"), YES),
     Guard("ages: scripts that are changed", "importing.py", '("ages", replay.rewritten())', '("ages", [])', seen("ages_by_a_script_that_is_changed_then"), UNSAID),
