@@ -98,6 +98,42 @@ def cut_words(spool: Path, lives: List[Life]) -> List[str]:
     return [next((" ".join(life.argv)[:100] for life in lives if life.pid == pid and life.is_make), "make") for pid in pids]
 
 
+def note_holes(spool: Path, replay: Calls, owners: Owners, names: Names, record: Record) -> None:
+    """The holes of the trace itself, and of makes that ran past the recorder."""
+    record.holes += ["a limit on the size of files (ulimit -f) cuts what a make says: " + one for one in cut_words(spool, replay.all)]
+    record.holes += replay.holes + owners.holes + names.mounted(mount_points()) + names.too_long()
+    record.holes += ["nobody knows who started a process: " + one for one in replay.strays()]
+    record.holes += ["a make ran past the recorder: " + p for p in replay.past]
+    for path in sorted(spool.glob("*.past")):
+        record.holes += ["a make that prints its own words (-d, -p, --debug), or has nowhere to print them, ran past the recorder: " + t for t in path.read_text(errors="replace").splitlines()]
+
+
+def add_seen(replay: Calls, assumed: Assumptions) -> None:
+    """What is taken for granted of what the trace shows, whoever did it."""
+    for kind, found in (("sockets", replay.sockets), ("processes", replay.watchers), ("read-times", replay.askers), ("locks", replay.locks),
+                        ("hard-links", replay.hard_links), ("ages", replay.rewritten())):
+        for example in found:
+            assumed.add(kind, example)
+    for name in replay.outside:
+        assumed.add("outside", name)
+    for argv in replay.makers:
+        assumed.add("makers", argv)
+    for path in sorted(set(replay.progress)):
+        assumed.add("progress", path)
+
+
+def builds_of_makes(owners: Owners, elsewhere: Elsewhere, past: Past, names: Names, assumed: Assumptions, record: Record) -> List[Build]:
+    """A build for each round of a make in which something was done, in the order in which they began; their holes too."""
+    builds = []
+    for place, make, number in sorted(((beginning(m, n), m, n) for m in owners.makes for n in range(len(m.words.rounds))), key=lambda found: found[0]):
+        if make.words.rounds[number].jobs or any(n == number for n, _ in make.acts):
+            builder = Builder(make, number, names, assumed, past.until(place))
+            builder.elsewhere = elsewhere
+            builds.append(builder.run())
+            record.holes += builder.holes
+    return builds
+
+
 def import_record(spool: Path, names: Names, kept: Kept, real: str, folder: str, record: Record) -> Imported:
     """Of a trace and make's words: the builds, the holes, and what was taken for granted."""
     assumed = Assumptions()
@@ -105,16 +141,7 @@ def import_record(spool: Path, names: Names, kept: Kept, real: str, folder: str,
     owners = settle_all(replay, spool, assumed)
     if owners.makes:
         assumed.add("serial", "")
-    record.holes += ["a limit on the size of files (ulimit -f) cuts what a make says: " + one for one in cut_words(spool, replay.all)]
-    record.holes += replay.holes + owners.holes + names.mounted(mount_points()) + names.too_long()
-    record.holes += ["nobody knows who started a process: " + one for one in replay.strays()]
-    record.holes += ["a make ran past the recorder: " + p for p in replay.past]
-    for path in sorted(spool.glob("*.past")):
-        record.holes += ["a make that prints its own words (-d, -p, --debug), or has nowhere to print them, ran past the recorder: " + t for t in path.read_text(errors="replace").splitlines()]
-    for kind, found in (("sockets", replay.sockets), ("processes", replay.watchers), ("read-times", replay.askers), ("locks", replay.locks),
-                        ("hard-links", replay.hard_links), ("ages", replay.rewritten())):
-        for example in found:
-            assumed.add(kind, example)
+    note_holes(spool, replay, owners, names, record)
     elsewhere = Elsewhere(owners, names)
     ninjas, ties, holes = find_ninjas(replay.all, owners, names, kept, record.status == 0)
     add_granted_by_ninjas(ninjas, ties, owners, assumed)
@@ -129,21 +156,11 @@ def import_record(spool: Path, names: Names, kept: Kept, real: str, folder: str,
         record.holes.append("no make and no ninja ran")
     for name in unasked(owners.makes, ninjas):
         assumed.add("unasked", name)
-    for name in replay.outside:
-        assumed.add("outside", name)
-    for argv in replay.makers:
-        assumed.add("makers", argv)
-    for path in sorted(set(replay.progress)):
-        assumed.add("progress", path)
+    add_seen(replay, assumed)
     add_granted(owners, assumed, str(spool))
     named_by_ninja(ninjas, assumed, str(spool))
-    builds, past = [], Past(names.before, replay.changes)
-    for place, make, number in sorted(((beginning(m, n), m, n) for m in owners.makes for n in range(len(m.words.rounds))), key=lambda found: found[0]):
-        if make.words.rounds[number].jobs or any(n == number for n, _ in make.acts):
-            builder = Builder(make, number, names, assumed, past.until(place))
-            builder.elsewhere = elsewhere
-            builds.append(builder.run())
-            record.holes += builder.holes
+    past = Past(names.before, replay.changes)
+    builds = builds_of_makes(owners, elsewhere, past, names, assumed, record)
     for path in made_unseen(owners.makes, ninjas, names, past.until(sys.maxsize)):
         record.holes.append("%s was absent, and something else made it while the build ran, so its recipe did not run: let nothing else build here, and record again" % path)
     builds = sorted(builds + of_ninja, key=lambda build: build.make.life.born)
