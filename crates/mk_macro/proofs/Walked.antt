@@ -1,10 +1,11 @@
 -- The ways through the loop of an expansion.
-use Rattle.std.proofs.Common.{◌≡◌, ℕ, ◌+◌, ◌<◌, ◌≤◌, false, List, [], ◌∷◌, ◌++◌, Option, Some, None, Result, Ok, Err, length, map, refl, sym, ◌∙◌, ap, subst, arith}
+use Rattle.std.proofs.Common.{◌≡◌, ℕ, ◌+◌, ◌<◌, ◌≤◌, Bool, true, false, inl, inr, List, [], ◌∷◌, ◌++◌, Option, Some, None, Result, Ok, Err, length, map, refl, sym, ◌∙◌, ap, subst, arith}
 use Rattle.std.specs.Prelude.{Vec, reverse}
 use Rattle.std.specs.Global.{Global}
 use Rattle.std.specs.Result.{IsErrAnd}
 use Rattle.std.proofs.lemmas.Result.{err_from_is_err_and}
 use Rattle.std.proofs.lemmas.List.{append-nil, reverse-append}
+use Rattle.mk_name.specs.Names.{Name}
 use Rattle.mk_name.specs.Reported.{Reported}
 use Rattle.mk_name.specs.Gives.{HaltsAmong}
 use Rattle.mk_name.specs.declared.fault.Halt.{Halt}
@@ -12,10 +13,10 @@ use Rattle.mk_name.specs.declared.fault.Halt.TheVariants as halts
 use Rattle.mk_name.specs.declared.fault.Kind.TheVariants.{BadReference}
 use Rattle.mk_macro.specs.Answers.{AnswersText}
 use Rattle.mk_macro.specs.declared.open.Open.{Open}
-use Rattle.mk_macro.specs.Expansion.{Expands, IsExpansion, byte_limit, is_late, macro_fault, refusal}
-use Rattle.mk_macro.specs.Expansion.{broken, refused, undefined, itself, nothing}
+use Rattle.mk_macro.specs.Expansion.{Expands, Gives, IsExpansion, byte_limit, is_late, macro_fault, refusal}
+use Rattle.mk_macro.specs.Expansion.{broken, refused, undefined, itself, late, nothing}
 use Rattle.mk_macro.specs.Layer.{Holds, Output, Puts, Text, grown}
-use Rattle.mk_macro.specs.Limits.{IsOver, IsRefusal, IsReferred, IsOverReferred, IsTooMuch}
+use Rattle.mk_macro.specs.Limits.{IsFinal, IsOver, IsRefusal, IsReferred, IsOverReferred, IsTooMuch}
 use Rattle.mk_macro.specs.Macros.{Definition, Macros}
 use Rattle.mk_macro.specs.Reference.{Change, Item, Reference, Plain, Refers, Broken}
 use Rattle.mk_macro.specs.References.{holds, items_of}
@@ -28,13 +29,28 @@ use Rattle.mk_macro.proofs.Steps.{Level, Stands, bytes_on, bytes_seen, bytes_too
 pub fault_answer : (m : Macros) (text : List ℕ) (f : Reported) → Expands m [] (items_of text) 0 (Err f) → IsExpansion m text (Err f)
 fault_answer m text f e = record { outcome = Err f; expands = e; answers = refl }
 
+-- a text that stands for itself, inside a value
+unexpanded : (m : Macros) (busy : List Name) (text : List ℕ) (count : ℕ) → length text ≤ byte_limit → holds dollar text ≡ false → Expands m busy (items_of text) count (the text count)
+unexpanded m busy text count short none =
+    subst (λ (items : List Item). Expands m busy items count (the text count)) (sym (all_plain text none)) (bytes_seen [] [] text nothing (omega arith))
+
 -- a text with no dollar sign, and no more bytes than a text may have, stands for itself
 pub plain_answer : (m : Macros) (text : List ℕ) → length text ≤ byte_limit → holds dollar text ≡ false → IsExpansion m text (Ok text)
 plain_answer m text short none = record {
   outcome = the text 0;
-  expands = subst (λ (items : List Item). Expands m [] items 0 (the text 0)) (sym (all_plain text none)) (bytes_seen [] [] text nothing (omega arith));
+  expands = unexpanded m [] text 0 short none;
   answers = refl;
 }
+
+-- what a value gives that stands for itself
+module _ {m : Macros} {busy : List Name} {r : Reference} {count : ℕ} (d : Definition) (allowed : refusal busy count r.name ≡ None) (found : m r.name ≡ Some d) where
+  plain_gives : (is : Bool) → is_late d.manner ≡ is → length d.value ≤ byte_limit → holds dollar d.value ≡ false → Gives m busy (Refers r) count (the (changed r.change d.value) (count + 1))
+  plain_gives false at_once short none = itself allowed found at_once refl
+  plain_gives true expanded short none = late allowed found expanded (unexpanded m (r.name ∷ busy) d.value (count + 1) short none) refl
+
+  pub final_gives : IsFinal d → Gives m busy (Refers r) count (the (changed r.change d.value) (count + 1))
+  final_gives (inl at_once) = itself allowed found at_once refl
+  final_gives (inr plain) = plain_gives (is_late d.manner) refl plain.0 plain.1
 
 module _ (P : Result (List ℕ) Reported → Type 0) where
   over_halts : (halt : Halt) (limit a : ℕ) → IsOver halt limit a → (limit < a → P (Err too_large)) → HaltsAmong halt P
@@ -46,7 +62,7 @@ module _ (P : Result (List ℕ) Reported → Type 0) where
   refusal_halts (halts.Fault f) r is k = k f is
 
   referred_halts : (o : Option Definition) (change : Option Change) (output : Output) (text : Text) (texts : List Text) (halt : Halt) → Holds output text texts → IsOverReferred o change output halt
-      → ((d : Definition) → o ≡ Some d → is_late d.manner ≡ false → byte_limit < length text.own + length (changed change d.value) → P (Err too_large)) → HaltsAmong halt P
+      → ((d : Definition) → o ≡ Some d → IsFinal d → byte_limit < length text.own + length (changed change d.value) → P (Err too_large)) → HaltsAmong halt P
   referred_halts None change output text texts halt holds is k = absurd is
   referred_halts (Some d) change output text texts halt holds is k = over_halts halt byte_limit _ (is.1 text texts holds) (k d refl is.0)
 
@@ -63,7 +79,7 @@ module _ (P : Result (List ℕ) Reported → Type 0) where
 
   pub referred_answer : (result : Result (Vec ℕ Global) Halt) (halt : Halt) (o : Option Definition) (change : Option Change) (output : Output) (text : Text) (texts : List Text) → Holds output text texts
       → IsErrAnd result (λ y. y ≡ halt) → IsOverReferred o change output halt
-      → ((d : Definition) → o ≡ Some d → is_late d.manner ≡ false → byte_limit < length text.own + length (changed change d.value) → P (Err too_large)) → AnswersText result P
+      → ((d : Definition) → o ≡ Some d → IsFinal d → byte_limit < length text.own + length (changed change d.value) → P (Err too_large)) → AnswersText result P
   referred_answer result halt o change output text texts holds same is k = passed_on result halt same (referred_halts o change output text texts halt holds is k)
 
 -- the stack
@@ -101,7 +117,7 @@ module _ {m : Macros} {text : List ℕ} {output : Output} {left : List Item} {co
       referred_over result halt same over =
           let now = left_is e s in
           referred_answer (IsExpansion m text) result halt (m r.name) r.change output now.inner now.texts now.holds same over
-          (λ d found at_once h. fault_answer m text too_large (too_long opens (changed r.change d.value) now (itself allowed found at_once refl) h))
+          (λ d found final h. fault_answer m text too_large (too_long opens (changed r.change d.value) now (final_gives d allowed found final) h))
 
       at_once : (o : Option Definition) (after : Output) → m r.name ≡ o → IsReferred o r.change output after None → Stands m text opens after (items_of behind) (count + 1)
       at_once None after found is =
@@ -110,7 +126,7 @@ module _ {m : Macros} {text : List ℕ} {output : Output} {left : List Item} {co
         where
           nothing_more : (t : Text) → t ≡ grown t []
           nothing_more t = ap (λ xs. record t { own = xs }) (sym (append-nil t.own))
-      at_once (Some d) after found is = goes_on opens (changed r.change d.value) after (left_is e s) (itself allowed found is.0 refl) is.1
+      at_once (Some d) after found is = goes_on opens (changed r.change d.value) after (left_is e s) (final_gives d allowed found is.0) is.1
 
       pub referred_on : (after : Output) → IsReferred (m r.name) r.change output after None → Stands m text opens after (items_of behind) (count + 1)
       referred_on after is = at_once (m r.name) after refl is

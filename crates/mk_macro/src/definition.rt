@@ -1,8 +1,11 @@
 //! What a macro stands for (POSIX.1-2024 XCU make, "Macros").
-ghost use Rattle.std.specs.Prelude.{◌≡◌, ◌++◌, ◌<◌, ◌^◌, length, IfOk, OnOk, OnErr};
+ghost use Rattle.std.specs.Prelude.{◌≡◌, ◌↔◌, ◌++◌, ◌<◌, ◌^◌, length, IfOk, IsTrue, OnOk, OnErr};
 ghost use Rattle.mk_macro.specs.Expansion.{is_late};
+ghost use Rattle.mk_macro.specs.Limits.{IsFinal};
 ghost use Rattle.mk_macro.specs.Macros.{is_given};
 
+use crate::item::holds;
+use crate::layer::BYTE_LIMIT;
 use std::alloc::{AllocError, Global};
 use std::marker::Model;
 
@@ -74,6 +77,17 @@ impl Definition {
             Manner::Immediate => false,
             Manner::Delayed | Manner::Given => true,
         }
+    }
+
+    /// Whether the value stands for itself wherever the macro is used: it is never expanded, or it has no dollar sign and is no
+    /// longer than an expanded text may be.
+    pub fn is_final(&self) -> bool
+        ensures { IsTrue result ↔ IsFinal self.now }
+    {
+        if !self.is_late() {
+            return true;
+        }
+        self.value.len() <= BYTE_LIMIT && !holds(&self.value, b'$')
     }
 
     /// Whether an operand gave the value.

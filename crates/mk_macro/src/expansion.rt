@@ -33,11 +33,11 @@ impl Macros {
     {
         match self.definition(reference.name()) {
             None => Ok(None),
-            Some(definition) if definition.is_late() => Ok(Some(definition.value())),
-            Some(definition) => {
+            Some(definition) if definition.is_final() => {
                 out.push(alloc, reference.change(), definition.value())?;
                 Ok(None)
             }
+            Some(definition) => Ok(Some(definition.value())),
         }
     }
 

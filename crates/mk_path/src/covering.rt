@@ -31,9 +31,12 @@ fn has_path(paths: &[Path], name: &[u8], tree: bool) -> bool
         .is_ok()
 }
 
-/// A bound of the beginnings that two texts have in common: none of these is longer. It is found by halves.
+/// The length of the longest beginning that two texts have in common. It is found by halves.
 pub fn common(first: &[u8], second: &[u8]) -> usize
-    ensures { (k : ℕ) → k ≤ length first.now → k ≤ length second.now → take k first.now ≡ take k second.now → k ≤ result }
+    ensures first { result ≤ length first.now }
+    ensures second { result ≤ length second.now }
+    ensures same { take result first.now ≡ take result second.now }
+    ensures longest { (k : ℕ) → k ≤ length first.now → k ≤ length second.now → take k first.now ≡ take k second.now → k ≤ result }
 {
     let mut low = 0;
     let mut high = first.len().min(second.len());

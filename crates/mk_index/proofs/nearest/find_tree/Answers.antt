@@ -48,5 +48,5 @@ returns-in-Err-clause-bound c =
     let before = c.index-trees-place-in-Err.result in
     let found = c.in-Err.ensures.position (λ y. path_cmp y.now (tree_at name)) (always_returns_same _ _ _ (λ a r f called. search rules)) in
     let bound = bound_from (map behind trees) name place c.common.result c.as_bytes.result.now
-    (λ some. ap (λ (p : Path). p.name) (behind_at trees (place - 1) before (omega (arith, some, c.in-Err.ensures.bound))) ∙ sym c.as_bytes.ensures) c.common.ensures in
+    (λ some. ap (λ (p : Path). p.name) (behind_at trees (place - 1) before (omega (arith, some, c.in-Err.ensures.bound))) ∙ sym c.as_bytes.ensures) c.common.ensures.longest in
     λ v k more within tree. longer_missed c.args.paths.now trees place v c.common.result k name c.requires c.in-Err.ensures.bound found bound more within tree

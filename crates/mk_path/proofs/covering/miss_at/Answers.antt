@@ -21,19 +21,19 @@ pub returns-then-most-near-clause-bound : goal.returns-then-most-near-clause-bou
 returns-then-most-near-clause-bound c =
     let miss : IsMiss c.args.paths.now c.args.name.now c.args.place = record { within = c.requires.within; before = c.requires.before; after = c.requires.after } in
     none_past c.args.paths.now c.args.name.now c.args.place c.common-most.result c.as_bytes-near.result.now c.index-paths-place.result miss (omega arith)
-    c.as_bytes-near.ensures c.common-most.ensures c.requires.rise
+    c.as_bytes-near.ensures c.common-most.ensures.longest c.requires.rise
 
 pub returns-then-most-near-clause-left : goal.returns-then-most-near-clause-left
 returns-then-most-near-clause-left c =
     let miss : IsMiss c.args.paths.now c.args.name.now c.args.place = record { within = c.requires.within; before = c.requires.before; after = c.requires.after } in
     left_before_near c.args.paths.now c.args.name.now c.args.place c.common-most.result c.as_bytes-near.result.now c.index-paths-place.result miss (omega arith)
-    c.as_bytes-near.ensures c.common-most.ensures c.if-most-near.true
+    c.as_bytes-near.ensures c.common-most.ensures.longest c.if-most-near.true
 
 pub returns-else-most-near-clause-bound : goal.returns-else-most-near-clause-bound
 returns-else-most-near-clause-bound c =
     let miss : IsMiss c.args.paths.now c.args.name.now c.args.place = record { within = c.requires.within; before = c.requires.before; after = c.requires.after } in
     none_past c.args.paths.now c.args.name.now c.args.place c.common-most.result c.as_bytes-near.result.now c.index-paths-place.result miss (omega arith)
-    c.as_bytes-near.ensures c.common-most.ensures c.requires.rise
+    c.as_bytes-near.ensures c.common-most.ensures.longest c.requires.rise
 
 pub returns-else-most-near-clause-left : goal.returns-else-most-near-clause-left
 returns-else-most-near-clause-left c =
