@@ -7,6 +7,7 @@ pub mod Layer
 pub mod Limits
 pub mod Macros
 pub mod Operands
+pub mod Recent
 pub mod Reference
 pub mod References
 pub mod Runs

@@ -1,5 +1,6 @@
 //! What a text expands to (POSIX.1-2024 XCU make, "Macros", and the profile).
 ghost use Rattle.std.specs.Prelude.{◌≡◌, ◌≤◌, ◌<◌, ◌^◌, false, length, option_map, IfErr, IfOk, IfSome};
+ghost use Rattle.std.specs.Option.{option_copied};
 ghost use Rattle.mk_macro.specs.Answers.{AnswersText};
 ghost use Rattle.mk_macro.specs.Expansion.{IsExpansion, byte_limit};
 ghost use Rattle.mk_macro.specs.Limits.{IsOverReferred, IsReferred};
@@ -7,6 +8,7 @@ ghost use Rattle.mk_macro.specs.Macros.{macros_of};
 ghost use Rattle.mk_macro.specs.References.{holds};
 ghost use Rattle.mk_lines.specs.Outside.{dollar};
 
+use crate::definition::Definition;
 use crate::fault::unnamed;
 use crate::item::{Item, Reference, first_item, holds};
 use crate::layer::BYTE_LIMIT;
@@ -16,31 +18,30 @@ use crate::output::Output;
 use mk_name::fault::{Halt, Kind};
 use std::alloc::Global;
 
-impl Macros {
-    /// Puts what a reference gives at the end of the innermost text, where that is no more than the
-    /// limit; or gives the value that is to be expanded first.
-    fn refer(
-        &self,
-        out: &mut Output,
-        alloc: Global,
-        reference: &Reference,
-    ) -> Result<Option<&[u8]>, Halt>
-        ensures referred { IfOk result (λ value. IsReferred (macros_of self.now reference.now.name)
-            reference.now.change out.old out.new (option_map (λ v. v.now) value)) }
-        ensures over { IfErr result (IsOverReferred (macros_of self.now reference.now.name)
-            reference.now.change out.old) }
-        ensures short { IfOk result (λ value. IfSome value (λ v. length v.now < 2 ^ 64)) }
-    {
-        match self.definition(reference.name()) {
-            None => Ok(None),
-            Some(definition) if definition.is_final() => {
-                out.push(alloc, reference.change(), definition.value())?;
-                Ok(None)
-            }
-            Some(definition) => Ok(Some(definition.value())),
+/// Puts what a reference to this macro gives at the end of the innermost text, where that is no more than the
+/// limit; or gives the value that is to be expanded first.
+fn refer<'a>(
+    out: &mut Output,
+    alloc: Global,
+    reference: &Reference,
+    definition: Option<&'a Definition>,
+) -> Result<Option<&'a [u8]>, Halt>
+    ensures referred { IfOk result (λ value. IsReferred (option_copied definition.entry)
+        reference.now.change out.old out.new (option_map (λ v. v.now) value)) }
+    ensures over { IfErr result (IsOverReferred (option_copied definition.entry) reference.now.change out.old) }
+    ensures short { IfOk result (λ value. IfSome value (λ v. length v.now < 2 ^ 64)) }
+{
+    match definition {
+        None => Ok(None),
+        Some(definition) if definition.is_final() => {
+            out.push(alloc, reference.change(), definition.value())?;
+            Ok(None)
         }
+        Some(definition) => Ok(Some(definition.value())),
     }
+}
 
+impl Macros {
     /// What a text expands to ("Macros"): each reference gives the value of its macro, changed by
     /// its substitution, and nothing where the macro is not defined; `$$` gives a dollar sign. A
     /// value that is not immediate is expanded first, as the text of its own.
@@ -77,6 +78,7 @@ impl Macros {
         let mut opens: Vec<Open> = Vec::new(alloc);
         let mut rest = text;
         let mut count = 0;
+        let mut last = None;
         'items: loop {
             let Some((item, behind)) = first_item(rest) else {
                 let Some(open) = opens.pop() else {
@@ -94,7 +96,9 @@ impl Macros {
                     let name = reference.name();
                     refuse(alloc, &opens, count, name)?;
                     count += 1;
-                    let value = self.refer(&mut out, alloc, &reference)?;
+                    let found = self.recalled(last, name);
+                    last = Some(found);
+                    let value = refer(&mut out, alloc, &reference, found.definition)?;
                     if let Some(value) = value {
                         opens.push(Open { name, rest })?;
                         out.open(alloc, reference.into_change())?;

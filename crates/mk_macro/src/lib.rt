@@ -15,4 +15,5 @@ pub mod macros;
 mod open;
 mod operands;
 mod output;
+mod recent;
 mod substitution;

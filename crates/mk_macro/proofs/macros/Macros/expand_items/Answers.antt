@@ -12,16 +12,18 @@ use Rattle.mk_macro.proofs.Work.{work, work_push}
 use Rattle.mk_macro.proofs.macros.Macros.expand_items.Goals as goal
 
 pub items-init : goal.items-init
-items-init c = rw c.new-opens.ensures.items (begins (macros_of c.args.self.now) c.args.text.now c.new-out.result c.new-out.ensures)
+items-init c = (rw c.new-opens.ensures.items (begins (macros_of c.args.self.now) c.args.text.now c.new-out.result c.new-out.ensures), tt)
 
 pub returns-in_err-close : goal.returns-in_err-close
 returns-in_err-close c =
-    closed_over c.items.opens.items c.pop.new.self.items c.in-Some-pop.open c.in-Some-pop.ensures.items c.in_default.ensures.items c.items.invariant
+    closed_over c.items.opens.items c.pop.new.self.items c.in-Some-pop.open c.in-Some-pop.ensures.items c.in_default.ensures.items c.items.invariant.0
     c.from_residual-in_err-close.result _ c.from_residual-in_err-close.ensures.1 c.in_err-close.ensures.over
 
 pub items-preserved-in_default : goal.items-preserved-in_default
-items-preserved-in_default c =
-    closed_on c.items.opens.items c.pop.new.self.items c.in-Some-pop.open c.in-Some-pop.ensures.items c.in_default.ensures.items c.items.invariant c.close.new.self c.in_ok-close.ensures.closed
+items-preserved-in_default c = (
+  closed_on c.items.opens.items c.pop.new.self.items c.in-Some-pop.open c.in-Some-pop.ensures.items c.in_default.ensures.items c.items.invariant.0 c.close.new.self c.in_ok-close.ensures.closed,
+  c.items.invariant.1,
+)
 
 pub items-smaller-in_default : goal.items-smaller-in_default
 items-smaller-in_default c =
@@ -32,17 +34,19 @@ items-smaller-in_default c =
 pub returns-in-Broken : goal.returns-in-Broken
 returns-in-Broken c =
     rw c.unnamed.ensures
-    (broken_fails (reverse c.items.opens.items) c.items.invariant (items_of c.in-Some.behind.now)
+    (broken_fails (reverse c.items.opens.items) c.items.invariant.0 (items_of c.in-Some.behind.now)
     (c.in-Some.ensures.items ∙ ap (λ x. items_in x ++ items_of c.in-Some.behind.now) c.in-Broken.is))
 
 pub items-preserved-in_ok-push-in-Plain : goal.items-preserved-in_ok-push-in-Plain
-items-preserved-in_ok-push-in-Plain c =
-    plain_on (reverse c.items.opens.items) c.items.invariant c.in-Plain.bytes.now c.in-Some.behind.now c.push.new.self
-    (c.in-Some.ensures.items ∙ ap (λ x. items_in x ++ items_of c.in-Some.behind.now) c.in-Plain.is) c.in_ok-push-in-Plain.ensures.put
+items-preserved-in_ok-push-in-Plain c = (
+  plain_on (reverse c.items.opens.items) c.items.invariant.0 c.in-Plain.bytes.now c.in-Some.behind.now c.push.new.self
+      (c.in-Some.ensures.items ∙ ap (λ x. items_in x ++ items_of c.in-Some.behind.now) c.in-Plain.is) c.in_ok-push-in-Plain.ensures.put,
+  c.items.invariant.1,
+)
 
 pub returns-in_err-push-in-Plain : goal.returns-in_err-push-in-Plain
 returns-in_err-push-in-Plain c =
-    plain_over (reverse c.items.opens.items) c.items.invariant c.from_residual-in_err-push-in-Plain.result _ c.in-Plain.bytes.now c.in-Some.behind.now
+    plain_over (reverse c.items.opens.items) c.items.invariant.0 c.from_residual-in_err-push-in-Plain.result _ c.in-Plain.bytes.now c.in-Some.behind.now
     (c.in-Some.ensures.items ∙ ap (λ x. items_in x ++ items_of c.in-Some.behind.now) c.in-Plain.is) c.from_residual-in_err-push-in-Plain.ensures.1 c.in_err-push-in-Plain.ensures.over
 
 pub returns-in_err-refuse-in-Refers : goal.returns-in_err-refuse-in-Refers
@@ -52,7 +56,7 @@ returns-in_err-refuse-in-Refers c =
     ap (λ os. refusal (busy_names os) c.items.count name) (sym c.deref.ensures.value)
     ∙ ap (λ n. refusal (busy_names c.deref.result.now) c.items.count n) (sym c.name-name.ensures) in
     refusal_answer (IsExpansion (macros_of c.args.self.now) c.args.text.now) c.from_residual-in_err-refuse-in-Refers.result _ _ c.from_residual-in_err-refuse-in-Refers.ensures.1 c.in_err-refuse-in-Refers.ensures.refused
-    (λ f is. refused_fails (reverse c.items.opens.items) c.items.invariant c.in-Refers.reference c.in-Some.behind.now
+    (λ f is. refused_fails (reverse c.items.opens.items) c.items.invariant.0 c.in-Refers.reference c.in-Some.behind.now
     (c.in-Some.ensures.items ∙ ap (λ x. items_in x ++ items_of c.in-Some.behind.now) c.in-Refers.is) f (same ∙ is))
 
 pub returns-in_err-value-in-Refers : goal.returns-in_err-value-in-Refers
@@ -61,9 +65,10 @@ returns-in_err-value-in-Refers c =
     let same =
     ap (λ os. refusal (busy_names os) c.items.count name) (sym c.deref.ensures.value)
     ∙ ap (λ n. refusal (busy_names c.deref.result.now) c.items.count n) (sym c.name-name.ensures) in
-    referred_over (reverse c.items.opens.items) c.items.invariant c.in-Refers.reference c.in-Some.behind.now
+    let found = c.recalled-found.ensures.definition ∙ ap (macros_of c.args.self.now) (c.recalled-found.ensures.name ∙ c.name-name.ensures) in
+    referred_over (reverse c.items.opens.items) c.items.invariant.0 c.in-Refers.reference c.in-Some.behind.now
     (c.in-Some.ensures.items ∙ ap (λ x. items_in x ++ items_of c.in-Some.behind.now) c.in-Refers.is) (same ∙ c.in_ok-refuse-in-Refers.ensures.allowed)
-    c.from_residual-in_err-value-in-Refers.result _ c.from_residual-in_err-value-in-Refers.ensures.1 c.in_err-value-in-Refers.ensures.over
+    c.from_residual-in_err-value-in-Refers.result _ c.from_residual-in_err-value-in-Refers.ensures.1 (rw (found) at c.in_err-value-in-Refers.ensures.over)
 
 pub items-preserved : goal.items-preserved
 items-preserved c =
@@ -71,9 +76,12 @@ items-preserved c =
     let same =
     ap (λ os. refusal (busy_names os) c.items.count name) (sym c.deref.ensures.value)
     ∙ ap (λ n. refusal (busy_names c.deref.result.now) c.items.count n) (sym c.name-name.ensures) in
-    referred_on (reverse c.items.opens.items) c.items.invariant c.in-Refers.reference c.in-Some.behind.now
-    (c.in-Some.ensures.items ∙ ap (λ x. items_in x ++ items_of c.in-Some.behind.now) c.in-Refers.is) (same ∙ c.in_ok-refuse-in-Refers.ensures.allowed) c.refer.new.out
-    (rw c.in_default-value.is at c.in_ok-value-in-Refers.ensures.referred)
+    let found = c.recalled-found.ensures.definition ∙ ap (macros_of c.args.self.now) (c.recalled-found.ensures.name ∙ c.name-name.ensures) in (
+      referred_on (reverse c.items.opens.items) c.items.invariant.0 c.in-Refers.reference c.in-Some.behind.now
+          (c.in-Some.ensures.items ∙ ap (λ x. items_in x ++ items_of c.in-Some.behind.now) c.in-Refers.is) (same ∙ c.in_ok-refuse-in-Refers.ensures.allowed) c.refer.new.out
+          (rw (c.in_default-value.is, found) at c.in_ok-value-in-Refers.ensures.referred),
+      c.recalled-found.ensures.definition,
+    )
 
 pub items-preserved-in-Some-value : goal.items-preserved-in-Some-value
 items-preserved-in-Some-value c =
@@ -82,9 +90,12 @@ items-preserved-in-Some-value c =
     let same =
     ap (λ os. refusal (busy_names os) c.items.count name) (sym c.deref.ensures.value)
     ∙ ap (λ n. refusal (busy_names c.deref.result.now) c.items.count n) (sym c.name-name.ensures) in
-    referred_in (reverse c.items.opens.items) c.items.invariant c.in-Refers.reference c.in-Some.behind.now
-    (c.in-Some.ensures.items ∙ ap (λ x. items_in x ++ items_of c.in-Some.behind.now) c.in-Refers.is) (same ∙ c.in_ok-refuse-in-Refers.ensures.allowed) c.in-Some-value.value.now c.refer.new.out c.open.new.self (record { name = c.name-name.result; rest = c.in-Some.behind })
-    c.name-name.ensures refl opened c.items.opens.items _ refl c.in_ok-push-in-Refers.ensures.items (rw c.in-Some-value.is at c.in_ok-value-in-Refers.ensures.referred)
+    let found = c.recalled-found.ensures.definition ∙ ap (macros_of c.args.self.now) (c.recalled-found.ensures.name ∙ c.name-name.ensures) in (
+      referred_in (reverse c.items.opens.items) c.items.invariant.0 c.in-Refers.reference c.in-Some.behind.now
+          (c.in-Some.ensures.items ∙ ap (λ x. items_in x ++ items_of c.in-Some.behind.now) c.in-Refers.is) (same ∙ c.in_ok-refuse-in-Refers.ensures.allowed) c.in-Some-value.value.now c.refer.new.out c.open.new.self (record { name = c.name-name.result; rest = c.in-Some.behind })
+          c.name-name.ensures refl opened c.items.opens.items _ refl c.in_ok-push-in-Refers.ensures.items (rw (c.in-Some-value.is, found) at c.in_ok-value-in-Refers.ensures.referred),
+      c.recalled-found.ensures.definition,
+    )
 
 pub items-smaller-in-Some-value : goal.items-smaller-in-Some-value
 items-smaller-in-Some-value c =

@@ -1,6 +1,7 @@
 use Rattle.std.proofs.Common.{◌+◌, ◌-◌, ◌*◌, ◌^◌, length, reverse}
 use Rattle.mk_macro.specs.Expansion.{reference_limit}
 use Rattle.mk_macro.specs.Macros.{macros_of}
+use Rattle.mk_macro.specs.Recent.{IsRecent}
 use Rattle.mk_macro.specs.References.{items_of}
 use Rattle.mk_macro.proofs.Steps.{Stands}
 use Rattle.mk_macro.proofs.Work.{work}
@@ -9,6 +10,7 @@ use Rattle.mk_macro.proofs.macros.Macros.expand_items.Given as goal
 abbrev pub invariant-items : goal.invariant-items
 invariant-items l =
     Stands (macros_of l.self) l.text (reverse l.opens.items) l.out (items_of l.rest) l.count
+    × IsRecent (macros_of l.self) l.last
 
 -- a reference counts more than any value is long
 abbrev pub decreases-items : goal.decreases-items
