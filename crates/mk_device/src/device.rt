@@ -1,5 +1,5 @@
 //! Devices: what bytes are read from, and what they are written to.
-ghost use Rattle.std.specs.Prelude.{◌≡◌, ◌<◌, ◌≤◌, ◌↔◌, ℕ, Bool, true, false, is_err, List, Option, length, take, IfOk, OnOk, OnErr, IfSome, IsErrOf};
+ghost use Rattle.std.specs.Prelude.{◌≡◌, ◌≢◌, ◌<◌, ◌≤◌, ◌↔◌, ℕ, Bool, true, false, is_err, List, Option, Some, length, take, IfOk, OnOk, OnErr, IfSome, IsErrOf};
 ghost use Rattle.std.specs.Io.KnownBytes.{Appends, Consumes, IsAtEnd};
 ghost use Rattle.mk_device.specs.Device.{AppendsBeginning};
 
@@ -17,6 +17,9 @@ pub trait Intake {
     /// A read was refused. A device that has failed is not read again.
     ghost has_failed: { Self → Bool };
 
+    /// Whether reads come to the end of the device, and none before is refused, where the contract states it.
+    ghost readable: { Self → Option Bool };
+
     /// At most so many reads give something from here on.
     ghost reads_left: { Self → ℕ };
 
@@ -28,6 +31,9 @@ pub trait Intake {
         ensures bytes { IfOk result (λ n. Consumes (left self.old) (left self.new) (take n buffer.new)) }
         ensures end { IfOk result (λ n. n ≡ 0 → 0 < length buffer.new → IsAtEnd (left self.new)) }
         ensures fewer { IfOk result (λ n. 0 < n → reads_left self.new < reads_left self.old) }
+        ensures can { IfOk result (λ n. n ≡ 0 → 0 < length buffer.new → readable self.old ≢ Some false) }
+        ensures cannot { OnErr result (readable self.old ≢ Some true) }
+        ensures same { OnOk result (readable self.new ≡ readable self.old) }
         ensures failed { has_failed self.new ≡ is_err result };
 }
 
@@ -86,6 +92,8 @@ pub fn read_all<I: Intake>(alloc: Global, device: &mut I) -> Result<Vec<u8>, Rea
     ensures bytes { IfOk result (λ all. IfSome (I.left device.old) (λ bytes. all.items ≡ bytes)) }
     ensures consumed { IfOk result (λ all. Consumes (I.left device.old) (I.left device.new) all.items) }
     ensures end { OnOk result (IsAtEnd (I.left device.new)) }
+    ensures can { OnOk result (I.readable device.old ≢ Some false) }
+    ensures cannot { IsErrOf result ReadStop.Broken → I.readable device.old ≢ Some true }
     ensures broken { IsErrOf result ReadStop.Broken ↔ (I.has_failed device.new ≡ true) }
 {
     let mut all = Vec::new(alloc);

@@ -6,7 +6,7 @@ use std::io::{ErrorKind, Read};
 use std::marker::Model;
 
 /// A reader as a device. It fails where the reader does, and at its 2^64th read. A read that a signal interrupts is
-/// made again, and counts as another.
+/// made again, and counts as another. Nothing is stated of whether it can be read to its end.
 #[derive(Drop)]
 pub struct Feed<R: Read> {
     reader: R,
@@ -36,9 +36,13 @@ impl<R: Read> Feed<R> {
 }
 
 impl<R: Read> Intake for Feed<R> {
+    ghost use Rattle.mk_device.specs.Device.{not_stated};
+
     ghost left = { λ f. f.left };
 
     ghost has_failed = { λ f. f.failed };
+
+    ghost readable = { not_stated };
 
     ghost reads_left = { λ f. f.reads };
 

@@ -5,11 +5,19 @@ use Rattle.std.specs.List.{All}
 use Rattle.std.specs.Prelude.{IfSome}
 use Rattle.std.specs.Option.{option_to_list}
 use Rattle.std.specs.Borrow.{Bor}
-use Rattle.mk_files.specs.Builds.{AreRead, IsGiven, IsPlanRead, IsPlanReadAs, IsReadAs, all_marks, other_text, path_mark, path_marks, plan_marks, plan_path_marks, plan_stated_at, stated_at}
+use Rattle.mk_device.specs.Device.{left_if, readable_if}
+use Rattle.mk_read.proofs.Gave.{all_given, all_left}
+use Rattle.mk_read.specs.Builds.{AreReadable, IsListed, MayStop}
+use Rattle.mk_read.specs.Read.{GaveAll}
+use Rattle.mk_read.specs.declared.builds.BuildStop.{BuildStop}
+use Rattle.mk_read.specs.declared.builds.BuildStop.TheVariants.{Broken, Memory}
+use Rattle.mk_read.specs.declared.builds.BuildText.TheVariants as texts
+use Rattle.mk_read.specs.declared.builds.ReadPlan.{ReadPlan}
+use Rattle.mk_files.specs.Builds.{AreRead, IsGiven, IsPlanRead, IsPlanReadAs, IsReadAs, all_marks, base_mark, other_text, path_mark, path_marks, plan_marks, plan_path_marks, plan_stated_at, stated_at}
 use Rattle.mk_files.specs.Files.{Files}
 use Rattle.mk_files.specs.Inputs.{Hold, IsFirstToFail, IsLeftOut, IsShortOr, Mark, MayWork, marks}
-use Rattle.mk_files.specs.declared.builds.ReadBuild.{ReadBuild}
-use Rattle.mk_files.specs.declared.builds.ReadPlan.{ReadPlan}
+use Rattle.mk_files.specs.declared.builds.ReadJob.{ReadJob}
+use Rattle.mk_files.specs.Failures.{unread}
 use Rattle.mk_files.specs.declared.failures.Failure.{Failure}
 use Rattle.mk_files.specs.declared.failures.Failure.TheVariants as failures
 use Rattle.mk_request.specs.Requests.{base_input, build_inputs, input_at, job_inputs}
@@ -73,13 +81,6 @@ still_shut files now path input failure same shut = inr (shut.0, λ is. shut.1 (
 pub still_opens : (files now : Files) (path : List ℕ) → now ≡ files → now.opens path ≢ Some false → files.opens path ≢ Some false
 still_opens files now path same opens = λ is. opens (ap (λ (f : Files). f.opens path) same ∙ is)
 
--- the mark of the base
-pub base_mark : (works : List ℕ → Option Bool) (base : Option (Bor (List ℕ))) (given : Option InputPath)
-    → given ≡ option_map (λ path. record { input = inputs.Base; path = path }) base
-    → option_map (path_mark works) given ≡ option_map (λ path. (inputs.Base, works path.now)) base
-base_mark works None given is = ap (option_map (path_mark works)) is
-base_mark works (Some path) given is = ap (option_map (path_mark works)) is
-
 last_no_base : (other : Option InputPath) → IfSome other (λ known. known.input ≢ inputs.Base) → All not_base (option_to_list other)
 last_no_base None none = All-nil not_base
 last_no_base (Some known) none = All-cons not_base known [] none (All-nil not_base)
@@ -117,7 +118,7 @@ inputs_of_all (Some base) makefile listing footprints other = refl
 -- the marks of a build's inputs are those of the files that are opened
 marks_of_plan : (works : List ℕ → Option Bool) (base : Option (Bor (List ℕ))) (makefile listing : Bor (List ℕ))
     → marks works (base_input base ++ input_at inputs.Makefile makefile ++ input_at inputs.Listing listing)
-    ≡ plan_marks (option_map (λ path. (inputs.Base, works path.now)) base) (inputs.Makefile, works makefile.now) (inputs.Listing, works listing.now)
+    ≡ plan_marks (option_map (λ path. base_mark works path.now) base) (inputs.Makefile, works makefile.now) (inputs.Listing, works listing.now)
 marks_of_plan works None makefile listing = refl
 marks_of_plan works (Some base) makefile listing = refl
 
@@ -127,7 +128,7 @@ plan_marks_are works build = marks_of_plan works build.base build.makefile build
 marks_of_each : (works : List ℕ → Option Bool) (base : Option (Bor (List ℕ))) (makefile listing footprints : Bor (List ℕ)) (other : Option InputPath)
     → marks works ((base_input base ++ input_at inputs.Makefile makefile ++ input_at inputs.Listing listing)
     ++ input_at inputs.Footprints footprints ++ option_to_list other)
-    ≡ all_marks (plan_marks (option_map (λ path. (inputs.Base, works path.now)) base) (inputs.Makefile, works makefile.now)
+    ≡ all_marks (plan_marks (option_map (λ path. base_mark works path.now) base) (inputs.Makefile, works makefile.now)
     (inputs.Listing, works listing.now)) (inputs.Footprints, works footprints.now) (option_map (path_mark works) other)
 marks_of_each works None makefile listing footprints None = refl
 marks_of_each works None makefile listing footprints (Some known) = refl
@@ -199,6 +200,75 @@ module _ (plan : List Mark) (footprints : Mark) (other : Option Mark) where
   all_work worked foots others =
       All-append MayWork plan (footprints ∷ option_to_list other) worked (All-cons MayWork footprints (option_to_list other) foots others)
 
+module _ {F : Type 0} (reads : F → Option Bool) (base : Option F) (makefile listing : F) where
+  abbrev marked : List Mark
+  marked = plan_marks (option_map (base_mark reads) base) (inputs.Makefile, reads makefile) (inputs.Listing, reads listing)
+
+  -- a base that may be read
+  base_works : (given : Option F) → readable_if reads given ≢ Some false → All MayWork (option_to_list (option_map (base_mark reads) given))
+  base_works None can = All-nil MayWork
+  base_works (Some file) can = one (inputs.Base, reads file) can
+
+  -- or may fail
+  base_alone : (given : Option F) → readable_if reads given ≢ Some true
+      → IsShortOr (IsFirstToFail (option_to_list (option_map (base_mark reads) given))) (failures.Read inputs.Base)
+  base_alone None fails = absurd (fails refl)
+  base_alone (Some file) fails = alone inputs.Base (reads file) (failures.Read inputs.Base) (refl, fails)
+
+  -- what stops the reading of a plan's files is the first of them that fails
+  pub plan_stops : (stop : BuildStop)
+      → MayStop stop (record { base = readable_if reads base; makefile = reads makefile; listing = reads listing; footprints = Some true })
+      → IsShortOr (IsFirstToFail marked) (unread stop)
+  plan_stops (Broken texts.Base) may =
+      base_fails (option_map (base_mark reads) base) (inputs.Makefile, reads makefile) (inputs.Listing, reads listing) _ (base_alone base may)
+  plan_stops (Broken texts.Makefile) may =
+      makefile_fails (option_map (base_mark reads) base) (inputs.Makefile, reads makefile) (inputs.Listing, reads listing) _
+      (base_works base may.0) (inr (refl, may.1))
+  plan_stops (Broken texts.Listing) may =
+      listing_fails (option_map (base_mark reads) base) (inputs.Makefile, reads makefile) (inputs.Listing, reads listing) _
+      (base_works base may.0) may.1 (inr (refl, may.2))
+  plan_stops (Broken texts.Footprints) may = absurd (may.3 refl)
+  plan_stops Memory may = inl refl
+
+  -- where nothing stops the reading all files of the plan may be read
+  pub plan_goes : (mark : Option Bool)
+      → AreReadable (record { base = readable_if reads base; makefile = reads makefile; listing = reads listing; footprints = mark })
+      → All MayWork marked
+  plan_goes mark can =
+      plan_works (option_map (base_mark reads) base) (inputs.Makefile, reads makefile) (inputs.Listing, reads listing)
+      (base_works base can.base) can.makefile can.listing
+
+  module _ (footprints : F) (other : Option Mark) where
+    -- the same of a build's files
+    pub build_stops : (stop : BuildStop)
+        → MayStop stop (record { base = readable_if reads base; makefile = reads makefile; listing = reads listing; footprints = reads footprints })
+        → IsShortOr (IsFirstToFail (all_marks marked (inputs.Footprints, reads footprints) other)) (unread stop)
+    build_stops (Broken texts.Base) may = plan_fails marked (inputs.Footprints, reads footprints) other _ (plan_stops (Broken texts.Base) may)
+    build_stops (Broken texts.Makefile) may = plan_fails marked (inputs.Footprints, reads footprints) other _ (plan_stops (Broken texts.Makefile) may)
+    build_stops (Broken texts.Listing) may = plan_fails marked (inputs.Footprints, reads footprints) other _ (plan_stops (Broken texts.Listing) may)
+    build_stops (Broken texts.Footprints) may =
+        footprints_fail marked (inputs.Footprints, reads footprints) other _
+        (plan_works (option_map (base_mark reads) base) (inputs.Makefile, reads makefile) (inputs.Listing, reads listing)
+        (base_works base may.0) may.1 may.2) (inr (refl, may.3))
+    build_stops Memory may = inl refl
+
+module _ {F : Type 0} (left : F → Option (List ℕ)) where
+  -- the text of a base is what its file states
+  base_given : (base : Option F) (new : Option (List ℕ)) (text : List ℕ) → GaveAll (left_if left base) new text → IsGiven (option_map left base) text
+  base_given None new text all = all_left (Some []) new text all
+  base_given (Some file) new text all = all_left (left file) new text all
+
+  -- what devices gave of a plan is what their files state
+  pub plan_given : (base : Option F) (makefile listing : F) (root : List ℕ) (read : ReadPlan) (b m l : Option (List ℕ))
+      → GaveAll (left_if left base) b read.base.items → GaveAll (left makefile) m read.makefile.items
+      → (text : List ℕ) × GaveAll (left listing) l text × IsListed root text read.listing
+      → IsPlanRead (record { base = option_map left base; makefile = left makefile; listing = left listing }) root read
+  plan_given base makefile listing root read b m l base_all makefile_all listed = record {
+    base = base_given base b read.base.items base_all;
+    makefile = all_left (left makefile) m read.makefile.items makefile_all;
+    listing = λ text is. subst (λ (t : List ℕ). IsListed root t read.listing) (all_given (left listing) l listed.0 text listed.1 is) listed.2;
+  }
+
 module _ (files : List ℕ → Option (List ℕ)) (text : InputFile → List ℕ) where
   abbrev holds : InputPath → Type 0
   holds known = files known.path.now ≡ Some (text known.input)
@@ -253,12 +323,12 @@ module _ (files : List ℕ → Option (List ℕ)) (text : InputFile → List ℕ
       (subst (λ (l : List InputPath). Hold files l text) (inputs_of_plan build.base build.makefile build.listing) hold) are).0
 
   -- what was read of a build is what its files hold
-  pub read_as : (build : BuildArgs) (footprints : Bor (List ℕ)) (other : Option InputPath) (root : List ℕ) (read : ReadBuild)
+  pub read_as : (build : BuildArgs) (footprints : Bor (List ℕ)) (other : Option InputPath) (root : List ℕ) (read : ReadJob)
       → IfSome other (λ known. known.input ≢ inputs.Base) → Hold files (job_inputs build footprints other) text
       → AreRead (stated_at files build footprints other) root read → IsReadAs root other text read
   read_as build footprints other root read none hold are =
       let rest : List InputPath = at inputs.Footprints footprints ∷ option_to_list other in
-      let plan = plan_is build rest root read.plan (no_base_behind footprints other none)
+      let plan = plan_is build rest root read.build.plan (no_base_behind footprints other none)
       (subst (λ (l : List InputPath). Hold files l text) (inputs_of_all build.base build.makefile build.listing footprints other) hold) are.plan in
       record {
         plan = plan.0;

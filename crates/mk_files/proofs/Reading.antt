@@ -20,31 +20,35 @@ marks_more works inputs i d within =
     sym (ap (marks works) (take_more inputs i d within) ∙ map-append (λ (known : InputPath). (known.input, works known.path.now)) (take i inputs) (get_or inputs i d ∷ []))
 
 -- the first of the inputs are open, and the opener states what it stated at the start
-pub record FirstAreOpen {F : Type 0} (text : F → Option (List ℕ)) (reads : F → Option Bool) (inputs : List InputPath) (files now : Files)
+pub record FirstAreOpen {F : Type 0} (failed : F → Bool) (text : F → Option (List ℕ)) (reads : F → Option Bool) (inputs : List InputPath) (files now : Files)
     (ready : List (OpenInput F)) (i : ℕ) : Type 0 where
   pub same : now ≡ files
+  pub works : All (λ file. failed file.file ≡ false) ready
   pub opened : All MayWork (marks files.opens (take i inputs))
   pub named : map (λ file. file.input) ready ≡ map (λ known. known.input) (take i inputs)
   pub marked : map (λ file. (file.input, reads file.file)) ready ≡ marks files.reads (take i inputs)
   pub reported : (want : InputFile → List ℕ) → HoldEach files.text inputs want → All (λ file. text file.file ≡ Some (want file.input)) ready
 
--- what is read so far, of all files, and those that are left
-pub record AreReadSoFar {F : Type 0} (text : F → Option (List ℕ)) (reads : F → Option Bool) (all rest : List (OpenInput F)) (texts : List InputText) : Type 0 where
+-- what is read so far, of all files, and those that are left, none of which has failed
+pub record AreReadSoFar {F : Type 0} (failed : F → Bool) (text : F → Option (List ℕ)) (reads : F → Option Bool) (all rest : List (OpenInput F))
+    (texts : List InputText) : Type 0 where
   pub before : List (OpenInput F)
+  pub works : All (λ file. failed file.file ≡ false) rest
   pub parts : all ≡ before ++ rest
   pub named : map (λ known. known.input) texts ≡ map (λ file. file.input) before
   pub worked : All MayWork (map (λ file. (file.input, reads file.file)) before)
   pub reported : (want : InputFile → List ℕ) → All (λ file. text file.file ≡ Some (want file.input)) all
       → All (λ file. text file.file ≡ Some (want file.input)) rest × All (λ known. known.text.items ≡ want known.input) texts
 
-module _ {F : Type 0} (text : F → Option (List ℕ)) (reads : F → Option Bool) where
+module _ {F : Type 0} (failed : F → Bool) (text : F → Option (List ℕ)) (reads : F → Option Bool) where
   abbrev mark : OpenInput F → Mark
   mark file = (file.input, reads file.file)
 
   -- nothing is open at the start
-  pub none_open : (inputs : List InputPath) (files : Files) (ready : List (OpenInput F)) → ready ≡ [] → FirstAreOpen text reads inputs files files ready 0
+  pub none_open : (inputs : List InputPath) (files : Files) (ready : List (OpenInput F)) → ready ≡ [] → FirstAreOpen failed text reads inputs files files ready 0
   none_open inputs files ready none = rw none (record {
     same = refl;
+    works = All-nil (λ (file : OpenInput F). failed file.file ≡ false);
     opened = All-nil MayWork;
     named = refl;
     marked = refl;
@@ -53,10 +57,10 @@ module _ {F : Type 0} (text : F → Option (List ℕ)) (reads : F → Option Boo
 
   -- one file more
   pub one_open : (inputs : List InputPath) (files mid new : Files) (ready more : List (OpenInput F)) (file : OpenInput F) (i : ℕ) (d : InputPath) → i < length inputs
-      → FirstAreOpen text reads inputs files mid ready i → file.input ≡ (get_or inputs i d).input → text file.file ≡ mid.text (get_or inputs i d).path.now
+      → FirstAreOpen failed text reads inputs files mid ready i → failed file.file ≡ false → file.input ≡ (get_or inputs i d).input → text file.file ≡ mid.text (get_or inputs i d).path.now
       → reads file.file ≡ mid.reads (get_or inputs i d).path.now → mid.opens (get_or inputs i d).path.now ≢ Some false → new ≡ mid → more ≡ ready ++ file ∷ []
-      → FirstAreOpen text reads inputs files new more (i + 1)
-  one_open inputs files mid new ready more file i d within so_far input holds can may same grown =
+      → FirstAreOpen failed text reads inputs files new more (i + 1)
+  one_open inputs files mid new ready more file i d within so_far fine input holds can may same grown =
       let known : InputPath = get_or inputs i d in
       let at : List ℕ = known.path.now in
       let named_all : map (λ (f : OpenInput F). f.input) (ready ++ file ∷ []) ≡ map (λ (k : InputPath). k.input) (take (i + 1) inputs) =
@@ -72,6 +76,7 @@ module _ {F : Type 0} (text : F → Option (List ℕ)) (reads : F → Option Boo
       ∙ ap (λ (m : Mark). marks files.reads (take i inputs) ++ m ∷ []) mark_here ∙ marks_more files.reads inputs i d within in
       rw grown (record {
         same = same ∙ so_far.same;
+        works = All-push (λ (f : OpenInput F). failed f.file ≡ false) ready file so_far.works fine;
         opened = subst (All MayWork) (marks_more files.opens inputs i d within) (All-push MayWork (marks files.opens (take i inputs)) (known.input, files.opens at)
             so_far.opened (λ is. may (ap (λ (f : Files). f.opens at) so_far.same ∙ is)));
         named = named_all;
@@ -82,21 +87,21 @@ module _ {F : Type 0} (text : F → Option (List ℕ)) (reads : F → Option Boo
 
   -- all files are open
   pub all_named : (inputs : List InputPath) (files now : Files) (ready : List (OpenInput F)) (i : ℕ)
-      → FirstAreOpen text reads inputs files now ready i → i ≡ length inputs → map (λ file. file.input) ready ≡ map (λ known. known.input) inputs
+      → FirstAreOpen failed text reads inputs files now ready i → i ≡ length inputs → map (λ file. file.input) ready ≡ map (λ known. known.input) inputs
   all_named inputs files now ready i so_far end = so_far.named ∙ ap (map (λ (k : InputPath). k.input)) (ap (λ n. take n inputs) end ∙ take-length inputs)
 
   pub all_marked : (inputs : List InputPath) (files now : Files) (ready : List (OpenInput F)) (i : ℕ)
-      → FirstAreOpen text reads inputs files now ready i → i ≡ length inputs → map (λ file. (file.input, reads file.file)) ready ≡ marks files.reads inputs
+      → FirstAreOpen failed text reads inputs files now ready i → i ≡ length inputs → map (λ file. (file.input, reads file.file)) ready ≡ marks files.reads inputs
   all_marked inputs files now ready i so_far end = so_far.marked ∙ ap (marks files.reads) (ap (λ n. take n inputs) end ∙ take-length inputs)
 
   pub all_opened : (inputs : List InputPath) (files now : Files) (ready : List (OpenInput F)) (i : ℕ)
-      → FirstAreOpen text reads inputs files now ready i → i ≡ length inputs → All MayWork (marks files.opens inputs)
+      → FirstAreOpen failed text reads inputs files now ready i → i ≡ length inputs → All MayWork (marks files.opens inputs)
   all_opened inputs files now ready i so_far end =
       subst (λ (l : List InputPath). All MayWork (marks files.opens l)) (ap (λ n. take n inputs) end ∙ take-length inputs) so_far.opened
 
   -- the input at this place is the first that cannot be opened
   pub shut_first : (inputs : List InputPath) (files now : Files) (ready : List (OpenInput F)) (i : ℕ) (d : InputPath) → i < length inputs
-      → FirstAreOpen text reads inputs files now ready i → now.opens (get_or inputs i d).path.now ≢ Some true
+      → FirstAreOpen failed text reads inputs files now ready i → now.opens (get_or inputs i d).path.now ≢ Some true
       → IsFirstToFail (marks files.opens inputs) (get_or inputs i d).input
   shut_first inputs files now ready i d within so_far shut =
       let known : InputPath = get_or inputs i d in record {
@@ -110,9 +115,11 @@ module _ {F : Type 0} (text : F → Option (List ℕ)) (reads : F → Option Boo
       }
 
   -- nothing is read at the start
-  pub none_read : (all rest : List (OpenInput F)) (texts : List InputText) → rest ≡ all → texts ≡ [] → AreReadSoFar text reads all rest texts
-  none_read all rest texts whole none = rw (whole, none) (record {
+  pub none_read : (all rest : List (OpenInput F)) (texts : List InputText) → All (λ file. failed file.file ≡ false) all → rest ≡ all → texts ≡ []
+      → AreReadSoFar failed text reads all rest texts
+  none_read all rest texts works whole none = rw (whole, none) (record {
     before = [];
+    works = works;
     parts = refl;
     named = refl;
     worked = All-nil MayWork;
@@ -120,11 +127,11 @@ module _ {F : Type 0} (text : F → Option (List ℕ)) (reads : F → Option Boo
   })
 
   -- one file more
-  pub one_read : (all left rest : List (OpenInput F)) (texts more : List InputText) (file : OpenInput F) (one : InputText) → AreReadSoFar text reads all left texts
+  pub one_read : (all left rest : List (OpenInput F)) (texts more : List InputText) (file : OpenInput F) (one : InputText) → AreReadSoFar failed text reads all left texts
       → left ≡ file ∷ rest → one.input ≡ file.input → IfSome (text file.file) (λ bytes. one.text.items ≡ bytes) → reads file.file ≢ Some false → more ≡ texts ++ one ∷ []
-      → AreReadSoFar text reads all rest more
+      → AreReadSoFar failed text reads all rest more
   one_read all left rest texts more file one so_far next input read can grown =
-      let first : AreReadSoFar text reads all (file ∷ rest) texts = subst (λ (b : List (OpenInput F)). AreReadSoFar text reads all b texts) next so_far in
+      let first : AreReadSoFar failed text reads all (file ∷ rest) texts = subst (λ (b : List (OpenInput F)). AreReadSoFar failed text reads all b texts) next so_far in
       let named_all : map (λ (t : InputText). t.input) (texts ++ one ∷ []) ≡ map (λ (f : OpenInput F). f.input) (first.before ++ file ∷ []) =
       map-append (λ (t : InputText). t.input) texts (one ∷ [])
       ∙ ap (λ (l : List InputFile). l ++ one.input ∷ []) first.named
@@ -132,6 +139,7 @@ module _ {F : Type 0} (text : F → Option (List ℕ)) (reads : F → Option Boo
       ∙ sym (map-append (λ (f : OpenInput F). f.input) first.before (file ∷ [])) in
       rw grown (record {
         before = first.before ++ file ∷ [];
+        works = All-tail (λ (f : OpenInput F). failed f.file ≡ false) file rest first.works;
         parts = first.parts ∙ sym (append_assoc first.before (file ∷ []) rest);
         named = named_all;
         worked = subst (All MayWork) (sym (map-append mark first.before (file ∷ []))) (All-push MayWork (map mark first.before) (mark file) first.worked can);
@@ -144,8 +152,15 @@ module _ {F : Type 0} (text : F → Option (List ℕ)) (reads : F → Option Boo
             );
       })
 
-  -- the next file is the first that cannot be read
-  pub unread_first : (all left rest : List (OpenInput F)) (texts : List InputText) (file : OpenInput F) → AreReadSoFar text reads all left texts → left ≡ file ∷ rest
+  -- the next file has not failed
+  pub next_works : (all left rest : List (OpenInput F)) (texts : List InputText) (file : OpenInput F) → AreReadSoFar failed text reads all left texts
+      → left ≡ file ∷ rest → failed file.file ≡ false
+  next_works all left rest texts file so_far next =
+      let works : All (λ (f : OpenInput F). failed f.file ≡ false) (file ∷ rest) = subst (All (λ (f : OpenInput F). failed f.file ≡ false)) next so_far.works in
+      All-head (λ (f : OpenInput F). failed f.file ≡ false) file rest works
+
+  -- it is the first that cannot be read
+  pub unread_first : (all left rest : List (OpenInput F)) (texts : List InputText) (file : OpenInput F) → AreReadSoFar failed text reads all left texts → left ≡ file ∷ rest
       → reads file.file ≢ Some true → IsFirstToFail (map (λ file. (file.input, reads file.file)) all) file.input
   unread_first all left rest texts file so_far next fails = record {
     before = map mark so_far.before;
@@ -157,14 +172,14 @@ module _ {F : Type 0} (text : F → Option (List ℕ)) (reads : F → Option Boo
   }
 
   -- all are read
-  all_before : (all rest : List (OpenInput F)) (texts : List InputText) (so_far : AreReadSoFar text reads all rest texts) → rest ≡ [] → so_far.before ≡ all
+  all_before : (all rest : List (OpenInput F)) (texts : List InputText) (so_far : AreReadSoFar failed text reads all rest texts) → rest ≡ [] → so_far.before ≡ all
   all_before all rest texts so_far none = sym (so_far.parts ∙ ap (λ (l : List (OpenInput F)). so_far.before ++ l) none ∙ append-nil so_far.before)
 
-  pub all_read : (all rest : List (OpenInput F)) (texts : List InputText) → AreReadSoFar text reads all rest texts → rest ≡ []
+  pub all_read : (all rest : List (OpenInput F)) (texts : List InputText) → AreReadSoFar failed text reads all rest texts → rest ≡ []
       → map (λ known. known.input) texts ≡ map (λ file. file.input) all
   all_read all rest texts so_far none = so_far.named ∙ ap (map (λ (f : OpenInput F). f.input)) (all_before all rest texts so_far none)
 
-  pub all_worked : (all rest : List (OpenInput F)) (texts : List InputText) → AreReadSoFar text reads all rest texts → rest ≡ []
+  pub all_worked : (all rest : List (OpenInput F)) (texts : List InputText) → AreReadSoFar failed text reads all rest texts → rest ≡ []
       → All MayWork (map (λ file. (file.input, reads file.file)) all)
   all_worked all rest texts so_far none = subst (λ (l : List (OpenInput F)). All MayWork (map mark l)) (all_before all rest texts so_far none) so_far.worked
 

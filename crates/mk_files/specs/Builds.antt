@@ -1,12 +1,13 @@
 -- What is opened and read of a build that is asked about, whose listing and footprints are read in pieces.
-use Rattle.std.specs.Prelude.{◌≡◌, ℕ, Bool, List, [], ◌∷◌, ◌++◌, Option, None, Some, IfSome, Result, option_map}
+use Rattle.std.specs.Prelude.{◌≡◌, ℕ, Bool, false, List, [], ◌∷◌, ◌++◌, Option, None, Some, IfSome, Result, option_map}
 use Rattle.std.specs.Borrow.{Bor}
 use Rattle.std.specs.Option.{option_to_list}
-use Rattle.mk_foot.specs.Footprints.{Footprints, IsRead}
+use Rattle.mk_foot.specs.Footprints.{Footprints}
 use Rattle.mk_name.specs.Names.{Name}
 use Rattle.mk_name.specs.Reported.{Reported}
-use Rattle.mk_read.specs.Read.{IsReadBelow}
-use Rattle.mk_text.specs.Listing.{listing_of}
+use Rattle.mk_device.specs.Device.{has_failed_if}
+use Rattle.mk_read.specs.Builds.{IsFootprinted, IsListed}
+use Rattle.mk_read.specs.declared.builds.ReadPlan.{ReadPlan}
 use Rattle.mk_request.specs.declared.inputs.InputFile.{InputFile}
 use Rattle.mk_request.specs.declared.inputs.InputFile.TheVariants as inputs
 use Rattle.mk_request.specs.declared.inputs.InputPath.{InputPath}
@@ -14,8 +15,7 @@ use Rattle.mk_request.specs.declared.requests.BuildArgs.{BuildArgs}
 use Rattle.mk_files.specs.Inputs.{Mark}
 use Rattle.mk_files.specs.declared.builds.OpenBuild.{OpenBuild}
 use Rattle.mk_files.specs.declared.builds.OpenPlan.{OpenPlan}
-use Rattle.mk_files.specs.declared.builds.ReadBuild.{ReadBuild}
-use Rattle.mk_files.specs.declared.builds.ReadPlan.{ReadPlan}
+use Rattle.mk_files.specs.declared.builds.ReadJob.{ReadJob}
 use Rattle.mk_files.specs.declared.inputs.OpenInput.{OpenInput}
 
 -- the marks of what a build is planned from: of the base, if it has one, of the makefile and of the listing
@@ -34,17 +34,32 @@ mark_of reads file = (file.input, reads file.file)
 abbrev pub path_mark : (List ℕ → Option Bool) → InputPath → Mark
 path_mark works known = (known.input, works known.path.now)
 
+-- the base, with what is stated of its file
+abbrev pub base_mark : {X : Type 0} → (X → Option Bool) → X → Mark
+base_mark works file = (inputs.Base, works file)
+
 -- the marks of open files
 abbrev pub open_plan_marks : {F : Type 0} → (F → Option Bool) → OpenPlan F → List Mark
-open_plan_marks reads files = plan_marks (option_map (mark_of reads) files.base) (mark_of reads files.makefile) (mark_of reads files.listing)
+open_plan_marks reads files =
+    plan_marks (option_map (base_mark reads) files.base) (inputs.Makefile, reads files.makefile) (inputs.Listing, reads files.listing)
 
 abbrev pub open_marks : {F : Type 0} → (F → Option Bool) → OpenBuild F → List Mark
-open_marks reads files = all_marks (open_plan_marks reads files.plan) (mark_of reads files.footprints) (option_map (mark_of reads) files.other)
+open_marks reads files =
+    all_marks (open_plan_marks reads files.plan) (inputs.Footprints, reads files.footprints) (option_map (mark_of reads) files.other)
+
+-- open files have not failed
+abbrev pub PlanWorks : {F : Type 0} → (F → Bool) → OpenPlan F → Type 0
+PlanWorks has_failed files =
+    (has_failed_if has_failed files.base ≡ false) × (has_failed files.makefile ≡ false) × (has_failed files.listing ≡ false)
+
+abbrev pub AllWork : {F : Type 0} → (F → Bool) → OpenBuild F → Type 0
+AllWork has_failed files =
+    PlanWorks has_failed files.plan × (has_failed files.footprints ≡ false) × IfSome files.other (λ file. has_failed file.file ≡ false)
 
 -- the marks of the files that are to be opened
 abbrev pub plan_path_marks : (List ℕ → Option Bool) → BuildArgs → List Mark
 plan_path_marks works build =
-    plan_marks (option_map (λ path. (inputs.Base, works path.now)) build.base) (inputs.Makefile, works build.makefile.now)
+    plan_marks (option_map (λ path. base_mark works path.now) build.base) (inputs.Makefile, works build.makefile.now)
     (inputs.Listing, works build.listing.now)
 
 abbrev pub path_marks : (List ℕ → Option Bool) → BuildArgs → Bor (List ℕ) → Option InputPath → List Mark
@@ -81,15 +96,15 @@ stated_at files build footprints other = record {
 -- those of open files
 abbrev pub plan_stated_in : {F : Type 0} → (F → Option (List ℕ)) → OpenPlan F → PlanStated
 plan_stated_in text files = record {
-  base = option_map (λ file. text file.file) files.base;
-  makefile = text files.makefile.file;
-  listing = text files.listing.file;
+  base = option_map text files.base;
+  makefile = text files.makefile;
+  listing = text files.listing;
 }
 
 abbrev pub stated_in : {F : Type 0} → (F → Option (List ℕ)) → OpenBuild F → Stated
 stated_in text files = record {
   plan = plan_stated_in text files.plan;
-  footprints = text files.footprints.file;
+  footprints = text files.footprints;
   other = option_map (λ file. text file.file) files.other;
 }
 
@@ -102,13 +117,12 @@ IsGiven (Some file) text = IfSome file (λ bytes. text ≡ bytes)
 pub record IsPlanRead (stated : PlanStated) (root : List ℕ) (read : ReadPlan) : Type 0 where
   pub base : IsGiven stated.base read.base.items
   pub makefile : IsGiven (Some stated.makefile) read.makefile.items
-  pub listing : (text : List ℕ) → stated.listing ≡ Some text
-      → IsReadBelow (λ below lines listed. listing_of below lines ≡ listed) root text read.listing
+  pub listing : (text : List ℕ) → stated.listing ≡ Some text → IsListed root text read.listing
 
 -- what was read of a build's files: what footprints say below the root too, and one more text
-pub record AreRead (stated : Stated) (root : List ℕ) (read : ReadBuild) : Type 0 where
-  pub plan : IsPlanRead stated.plan root read.plan
-  pub footprints : (text : List ℕ) → stated.footprints ≡ Some text → IsReadBelow IsRead root text read.footprints
+pub record AreRead (stated : Stated) (root : List ℕ) (read : ReadJob) : Type 0 where
+  pub plan : IsPlanRead stated.plan root read.build.plan
+  pub footprints : (text : List ℕ) → stated.footprints ≡ Some text → IsFootprinted root text read.build.footprints
   pub other : IsGiven stated.other read.other.items
 
 -- the text of one more input, which is empty where there is none
@@ -118,11 +132,11 @@ other_text (Some known) text = text known.input
 
 -- a listing is what its text says below the root, if that is good
 abbrev pub IsListedBelow : List ℕ → (InputFile → List ℕ) → Result (List Name) Reported → Type 0
-IsListedBelow root text listed = IsReadBelow (λ below lines listed. listing_of below lines ≡ listed) root (text inputs.Listing) listed
+IsListedBelow root text listed = IsListed root (text inputs.Listing) listed
 
 -- and so are footprints
 abbrev pub AreFoundBelow : List ℕ → (InputFile → List ℕ) → Result Footprints Reported → Type 0
-AreFoundBelow root text found = IsReadBelow IsRead root (text inputs.Footprints) found
+AreFoundBelow root text found = IsFootprinted root (text inputs.Footprints) found
 
 -- what was read to plan a build is what these texts say
 pub record IsPlanReadAs (root : List ℕ) (text : InputFile → List ℕ) (read : ReadPlan) : Type 0 where
@@ -131,7 +145,7 @@ pub record IsPlanReadAs (root : List ℕ) (text : InputFile → List ℕ) (read 
   pub listing : IsListedBelow root text read.listing
 
 -- what was read of a build is what these texts say
-pub record IsReadAs (root : List ℕ) (known : Option InputPath) (text : InputFile → List ℕ) (read : ReadBuild) : Type 0 where
-  pub plan : IsPlanReadAs root text read.plan
-  pub footprints : AreFoundBelow root text read.footprints
+pub record IsReadAs (root : List ℕ) (known : Option InputPath) (text : InputFile → List ℕ) (read : ReadJob) : Type 0 where
+  pub plan : IsPlanReadAs root text read.build.plan
+  pub footprints : AreFoundBelow root text read.build.footprints
   pub other : read.other.items ≡ other_text known text

@@ -2,10 +2,26 @@
 use Rattle.std.specs.Prelude.{ℕ, List, ◌++◌, Option, codes, string_bytes}
 use Rattle.std.specs.Io.KnownBytes.{Appends}
 use Rattle.mk_name.specs.Shown.{line}
+use Rattle.mk_read.specs.declared.builds.BuildStop.{BuildStop}
+use Rattle.mk_read.specs.declared.builds.BuildStop.TheVariants as builds
+use Rattle.mk_read.specs.declared.builds.BuildText.{BuildText}
+use Rattle.mk_read.specs.declared.builds.BuildText.TheVariants as texts
 use Rattle.mk_files.specs.declared.failures.Failure.{Failure}
 use Rattle.mk_files.specs.declared.failures.Failure.TheVariants as failures
 use Rattle.mk_request.specs.declared.inputs.InputFile.{InputFile}
 use Rattle.mk_request.specs.declared.inputs.InputFile.TheVariants as inputs
+
+-- the input that is a text of a build
+abbrev pub input_of : BuildText → InputFile
+input_of texts.Base = inputs.Base
+input_of texts.Makefile = inputs.Makefile
+input_of texts.Listing = inputs.Listing
+input_of texts.Footprints = inputs.Footprints
+
+-- why a build was not read
+abbrev pub unread : BuildStop → Failure
+unread (builds.Broken text) = failures.Read (input_of text)
+unread builds.Memory = failures.Memory
 
 -- how an input is reported
 abbrev pub word_of : InputFile → List ℕ

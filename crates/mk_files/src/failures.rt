@@ -1,7 +1,9 @@
 //! Failures: why the program gives no answer.
 ghost use Rattle.std.specs.Prelude.{◌≡◌, Some};
+ghost use Rattle.mk_files.specs.Failures as spec;
 ghost use Rattle.mk_files.specs.Failures.{failure_text, unread_text};
 
+use mk_read::builds::{BuildStop, BuildText};
 use mk_request::inputs::InputFile;
 use std::alloc::{AllocError, AllocFailed};
 use std::fmt;
@@ -59,6 +61,31 @@ fn unread_text(input: InputFile) -> &'static str
         InputFile::Proof => "race: read failed: proof",
         InputFile::Log => "race: read failed: log",
         InputFile::Tasks => "race: read failed: tasks",
+    }
+}
+
+impl From<BuildStop> for Failure {
+    ghost use Rattle.mk_files.specs.Failures.{unread};
+
+    ghost from_gives = { λ stop failure. failure ≡ unread stop };
+
+    fn from(stop: BuildStop) -> Failure {
+        match stop {
+            BuildStop::Broken(text) => Failure::Read(input_of(text)),
+            BuildStop::Memory => Failure::Memory,
+        }
+    }
+}
+
+/// The input that is a text of a build.
+fn input_of(text: BuildText) -> InputFile
+    ensures { result ≡ spec.input_of text }
+{
+    match text {
+        BuildText::Base => InputFile::Base,
+        BuildText::Makefile => InputFile::Makefile,
+        BuildText::Listing => InputFile::Listing,
+        BuildText::Footprints => InputFile::Footprints,
     }
 }
 

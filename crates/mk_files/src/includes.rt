@@ -7,7 +7,7 @@ ghost use Rattle.mk_files.specs.Includes as spec;
 use crate::failures::Failure;
 use crate::inputs::{opened, text_in};
 use crate::openers::Opener;
-use mk_request::inputs::{InputFile, InputPath};
+use mk_request::inputs::InputFile;
 use mk_text::lexical::split_line;
 use std::alloc::{AllocError, Global};
 use std::str;
@@ -119,11 +119,6 @@ fn read_file<P: Opener>(alloc: Global, opener: &mut P, path: &str) -> Result<Vec
     ensures failure { IfErr result (spec.IsFailure (spec.MayFail (P.files opener.old) path.now)) }
     ensures same { P.files opener.new ≡ P.files opener.old }
 {
-    let known = InputPath {
-        input: InputFile::Include,
-        path,
-    };
-    let file = opened(opener, &known)?;
-    let read = text_in::<P>(alloc, file)?;
-    Ok(read.text)
+    let file = opened(opener, InputFile::Include, path)?;
+    text_in(alloc, InputFile::Include, file)
 }

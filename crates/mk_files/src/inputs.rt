@@ -5,7 +5,7 @@ ghost use Rattle.mk_files.specs.Inputs as spec;
 
 use crate::failures::Failure;
 use crate::openers::Opener;
-use mk_device::device::ReadStop;
+use mk_device::device::{Intake, ReadStop, read_all};
 use mk_request::inputs::{InputFile, InputPath};
 use std::alloc::Global;
 
@@ -37,7 +37,7 @@ pub fn read_inputs<P: Opener>(
     ensures failure { IfErr result (spec.IsShortOr (spec.IsUnread (P.files opener.old) inputs.now)) }
 {
     let files = open_all(alloc, opener, inputs)?;
-    read_files::<P>(alloc, files)
+    read_files(alloc, files)
 }
 
 /// The text of an input, which is empty where it is not among these.
@@ -58,12 +58,13 @@ fn open_all<P: Opener>(
     opener: &mut P,
     inputs: &[InputPath<'_>],
 ) -> Result<Vec<OpenInput<P::File>>, Failure>
+    ensures works { IfOk result (λ files. All (λ file. P.File.has_failed file.file ≡ false) files.items) }
     ensures named { IfOk result (λ files.
         map (λ file. file.input) files.items ≡ map (λ known. known.input) inputs.now) }
     ensures reported { IfOk result (λ files. (text : InputFile → List ℕ)
         → spec.HoldEach (P.files opener.old).text inputs.now text
-        → All (λ file. P.text file.file ≡ Some (text file.input)) files.items) }
-    ensures reads { IfOk result (λ files. map (λ file. (file.input, P.reads file.file)) files.items
+        → All (λ file. P.File.left file.file ≡ Some (text file.input)) files.items) }
+    ensures reads { IfOk result (λ files. map (λ file. (file.input, P.File.readable file.file)) files.items
         ≡ spec.marks (P.files opener.old).reads inputs.now) }
     ensures opened { OnOk result (All spec.MayWork (spec.marks (P.files opener.old).opens inputs.now)) }
     ensures failure { IfErr result (spec.IsShortOr
@@ -71,72 +72,107 @@ fn open_all<P: Opener>(
 {
     let mut files = Vec::new(alloc);
     for known in inputs {
-        let file = opened(opener, known)?;
+        let file = opened_input(opener, known)?;
         files.push(file)?;
     }
     Ok(files)
 }
 
 /// Opens the file of an input. The error is `Failure::Read` of that input.
-pub(crate) fn opened<P: Opener>(
+pub(crate) fn opened_input<P: Opener>(
     opener: &mut P,
     known: &InputPath<'_>,
 ) -> Result<OpenInput<P::File>, Failure>
     ensures input { IfOk result (λ file. file.input ≡ known.now.input) }
-    ensures text { IfOk result (λ file. P.text file.file ≡ (P.files opener.old).text known.now.path.now) }
+    ensures works { IfOk result (λ file. P.File.has_failed file.file ≡ false) }
+    ensures text { IfOk result (λ file.
+        P.File.left file.file ≡ (P.files opener.old).text known.now.path.now) }
     ensures reads { IfOk result (λ file.
-        P.reads file.file ≡ (P.files opener.old).reads known.now.path.now) }
+        P.File.readable file.file ≡ (P.files opener.old).reads known.now.path.now) }
     ensures can { OnOk result ((P.files opener.old).opens known.now.path.now ≢ Some false) }
     ensures cannot { IfErr result (λ failure. (failure ≡ Failure.Read known.now.input)
         × ((P.files opener.old).opens known.now.path.now ≢ Some true)) }
     ensures same { P.files opener.new ≡ P.files opener.old }
 {
-    match opener.open(known.path) {
-        Ok(file) => Ok(OpenInput {
-            input: known.input,
-            file,
-        }),
-        Err(_) => Err(Failure::Read(known.input)),
+    let input = known.input;
+    let file = opened(opener, input, known.path)?;
+    Ok(OpenInput { input, file })
+}
+
+/// Opens the file of this path, which is that of an input. The error is `Failure::Read` of that input.
+pub(crate) fn opened<P: Opener>(
+    opener: &mut P,
+    input: InputFile,
+    path: &str,
+) -> Result<P::File, Failure>
+    ensures works { IfOk result (λ file. P.File.has_failed file ≡ false) }
+    ensures text { IfOk result (λ file. P.File.left file ≡ (P.files opener.old).text path.now) }
+    ensures reads { IfOk result (λ file. P.File.readable file ≡ (P.files opener.old).reads path.now) }
+    ensures can { OnOk result ((P.files opener.old).opens path.now ≢ Some false) }
+    ensures cannot { IfErr result (λ failure. (failure ≡ Failure.Read input)
+        × ((P.files opener.old).opens path.now ≢ Some true)) }
+    ensures same { P.files opener.new ≡ P.files opener.old }
+{
+    match opener.open(path) {
+        Ok(file) => Ok(file),
+        Err(_) => Err(Failure::Read(input)),
     }
 }
 
 /// Reads files to their ends, in their order.
-fn read_files<P: Opener>(
+fn read_files<F: Intake + Drop>(
     alloc: Global,
-    files: Vec<OpenInput<P::File>>,
+    files: Vec<OpenInput<F>>,
 ) -> Result<Vec<InputText>, Failure>
+    requires { All (λ file. F.has_failed file.file ≡ false) files.items }
     ensures named { IfOk result (λ texts.
         map (λ known. known.input) texts.items ≡ map (λ file. file.input) files.items) }
     ensures reported { IfOk result (λ texts. (text : InputFile → List ℕ)
-        → All (λ file. P.text file.file ≡ Some (text file.input)) files.items
+        → All (λ file. F.left file.file ≡ Some (text file.input)) files.items
         → All (λ known. known.text.items ≡ text known.input) texts.items) }
     ensures read { OnOk result (All spec.MayWork
-        (map (λ file. (file.input, P.reads file.file)) files.items)) }
+        (map (λ file. (file.input, F.readable file.file)) files.items)) }
     ensures failure { IfErr result (spec.IsShortOr (spec.IsFirstToFail
-        (map (λ file. (file.input, P.reads file.file)) files.items))) }
+        (map (λ file. (file.input, F.readable file.file)) files.items))) }
 {
     let mut texts = Vec::new(alloc);
     for file in files {
-        let text = text_in::<P>(alloc, file)?;
+        let text = input_text(alloc, file)?;
         texts.push(text)?;
     }
     Ok(texts)
 }
 
 /// The text of an open input, read to its end. The errors are `Failure::Read` of that input and `Failure::Memory`.
-pub(crate) fn text_in<P: Opener>(
-    alloc: Global,
-    given: OpenInput<P::File>,
-) -> Result<InputText, Failure>
+fn input_text<F: Intake + Drop>(alloc: Global, given: OpenInput<F>) -> Result<InputText, Failure>
+    requires { F.has_failed given.file ≡ false }
     ensures input { IfOk result (λ known. known.input ≡ given.input) }
-    ensures text { IfOk result (λ known. IfSome (P.text given.file) (λ bytes. known.text.items ≡ bytes)) }
-    ensures can { OnOk result (P.reads given.file ≢ Some false) }
+    ensures text { IfOk result (λ known. IfSome (F.left given.file) (λ bytes. known.text.items ≡ bytes)) }
+    ensures can { OnOk result (F.readable given.file ≢ Some false) }
     ensures cannot { IfErr result (λ failure. (failure ≡ Failure.Memory)
-        ⊎ ((failure ≡ Failure.Read given.input) × (P.reads given.file ≢ Some true))) }
+        ⊎ ((failure ≡ Failure.Read given.input) × (F.readable given.file ≢ Some true))) }
 {
     let OpenInput { input, file } = given;
-    match P::read(alloc, file) {
-        Ok(text) => Ok(InputText { input, text }),
+    let text = text_in(alloc, input, file)?;
+    Ok(InputText { input, text })
+}
+
+/// The text of an open file, which is that of an input, read to its end. The errors are `Failure::Read` of that input and
+/// `Failure::Memory`.
+pub(crate) fn text_in<F: Intake + Drop>(
+    alloc: Global,
+    input: InputFile,
+    file: F,
+) -> Result<Vec<u8>, Failure>
+    requires { F.has_failed file ≡ false }
+    ensures text { IfOk result (λ text. IfSome (F.left file) (λ bytes. text.items ≡ bytes)) }
+    ensures can { OnOk result (F.readable file ≢ Some false) }
+    ensures cannot { IfErr result (λ failure. (failure ≡ Failure.Memory)
+        ⊎ ((failure ≡ Failure.Read input) × (F.readable file ≢ Some true))) }
+{
+    let mut file = file;
+    match read_all(alloc, &mut file) {
+        Ok(text) => Ok(text),
         Err(ReadStop::Memory) => Err(Failure::Memory),
         Err(ReadStop::Broken) => Err(Failure::Read(input)),
     }

@@ -17,7 +17,7 @@ ghost use Rattle.mk_program.specs.declared.statuses.Status.{Status as Ending};
 
 use crate::answers::{Answer, base_of, bytes_of, refused};
 use crate::statuses::Status;
-use mk_files::builds::{ReadBuild, ReadPlan, read_build};
+use mk_files::builds::{ReadJob, read_build};
 use mk_files::failures::Failure;
 use mk_files::openers::Opener;
 use mk_foot::footprints::Footprints;
@@ -26,6 +26,7 @@ use mk_name::report::push_shown;
 use mk_race::input::Settings;
 use mk_race::preparing::Prepared;
 use mk_race::unused::{Noted, Unused, note_parts};
+use mk_read::builds::{ReadBuild, ReadPlan};
 use mk_request::inputs::InputFile;
 use mk_request::requests::{BuildArgs, JobArgs, Request, other_input};
 use mk_text::listing::Listing;
@@ -121,7 +122,7 @@ fn reply_over<Q: Question>(
     alloc: Global,
     build: &BuildArgs<'_>,
     includes: &[(&[u8], &[u8])],
-    read: ReadBuild,
+    read: ReadJob,
     question: &Q,
     strict: bool,
 ) -> Result<Reply, Failure>
@@ -138,11 +139,11 @@ fn reply_over<Q: Question>(
         → Q.has_no_text question.now (texts_for build.now
         (map (λ pair. (pair.0.now, pair.1.now)) includes.now) text) (text InputFile.Footprints) (other_text other text))) }
 {
-    let ReadBuild {
-        plan,
-        footprints,
+    let ReadJob {
+        build: found,
         other,
     } = read;
+    let ReadBuild { plan, footprints } = found;
     let ReadPlan {
         base,
         makefile,

@@ -1,5 +1,5 @@
 //! Devices that are read to their ends, piece by piece.
-ghost use Rattle.std.specs.Prelude.{◌≡◌, ◌++◌, ◌↔◌, IfOk, IsErrOf, List, OnOk, false, is_err, true, ℕ};
+ghost use Rattle.std.specs.Prelude.{◌≡◌, ◌≢◌, ◌++◌, ◌↔◌, IfOk, IsErrOf, List, OnErr, OnOk, Some, false, is_err, true, ℕ};
 ghost use Rattle.mk_read.specs.Read.{GaveAll, IsReadBelow};
 
 use crate::line_reader::{LineReader, finished};
@@ -18,6 +18,8 @@ pub fn read_below<R: LineReader, I: Intake>(
     requires { I.has_failed device.old ≡ false }
     ensures read { IfOk result (λ read. (text : List ℕ)
         × GaveAll (I.left device.old) (I.left device.new) text × IsReadBelow R.says root.now text read) }
+    ensures can { OnOk result (I.readable device.old ≢ Some false) }
+    ensures cannot { IsErrOf result ReadStop.Broken → I.readable device.old ≢ Some true }
     ensures broken { IsErrOf result ReadStop.Broken ↔ (I.has_failed device.new ≡ true) }
 {
     match Root::read(alloc, root) {
@@ -39,6 +41,8 @@ fn read_under<R: LineReader, I: Intake>(
     requires { I.has_failed device.old ≡ false }
     ensures read { IfOk result (λ read. (text : List ℕ)
         × GaveAll (I.left device.old) (I.left device.new) text × R.says root text read) }
+    ensures can { OnOk result (I.readable device.old ≢ Some false) }
+    ensures cannot { IsErrOf result ReadStop.Broken → I.readable device.old ≢ Some true }
     ensures broken { IsErrOf result ReadStop.Broken ↔ (I.has_failed device.new ≡ true) }
 {
     let mut reader = R::begin(alloc, root);
@@ -53,6 +57,8 @@ pub fn feed_all<R: LineReader, I: Intake>(reader: &mut R, device: &mut I) -> Res
     requires { I.has_failed device.old ≡ false }
     ensures fed { OnOk result ((bytes : List ℕ) × GaveAll (I.left device.old) (I.left device.new) bytes
         × ((root text : List ℕ) → R.has_read reader.old root text → R.has_read reader.new root (text ++ bytes))) }
+    ensures can { OnOk result (I.readable device.old ≢ Some false) }
+    ensures cannot { OnErr result (I.readable device.old ≢ Some true) }
     ensures failed { I.has_failed device.new ≡ is_err result }
 {
     let mut piece = [0u8; 65_536];
@@ -69,6 +75,8 @@ pub fn feed_all<R: LineReader, I: Intake>(reader: &mut R, device: &mut I) -> Res
 pub fn read_past<I: Intake>(device: &mut I) -> Result<(), Broken>
     requires { I.has_failed device.old ≡ false }
     ensures read { OnOk result ((bytes : List ℕ) × GaveAll (I.left device.old) (I.left device.new) bytes) }
+    ensures can { OnOk result (I.readable device.old ≢ Some false) }
+    ensures cannot { OnErr result (I.readable device.old ≢ Some true) }
     ensures failed { I.has_failed device.new ≡ is_err result }
 {
     let mut piece = [0u8; 65_536];

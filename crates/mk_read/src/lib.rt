@@ -1,10 +1,12 @@
-//! The way in: a listing and footprints that devices give, read in pieces.
+//! The way in: what devices give of a build, of which the listing and the footprints are read in pieces.
 //!
-//! [`devices::read_below`] reads a device to its end, and gives what its bytes say below a root; of the text it keeps the
+//! [`builds::build_below`] reads the four devices of a build, or [`builds::plan_below`] those that it is planned from, and says which
+//! failed. [`devices::read_below`] reads a device to its end, and gives what its bytes say below a root; of the text it keeps the
 //! line that is open. [`texts::text_below`] does the same with a text in memory. What reads such a text is a
-//! [`line_reader::LineReader`]. Read `specs/Read.antt` first.
+//! [`line_reader::LineReader`]. Read `specs/Read.antt` first, and then `specs/Builds.antt`.
 #![tactic(auto)]
 
+pub mod builds;
 pub mod devices;
 pub mod line_reader;
 pub mod texts;

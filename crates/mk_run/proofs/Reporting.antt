@@ -1,6 +1,5 @@
 -- What is reported of an answer to texts that were read in pieces.
-use Rattle.std.proofs.Common.{◌≡◌, ◌∙◌, ◌++◌, ℕ, IfOk, List, None, Ok, Err, Option, Result, Some, ap, subst, sym}
-use Rattle.std.proofs.lemmas.List.{append-nil}
+use Rattle.std.proofs.Common.{◌≡◌, ◌≢◌, ◌∙◌, ℕ, IfOk, List, Ok, Err, Result, ap, subst, sym}
 use Rattle.mk_name.specs.Names.{Name}
 use Rattle.mk_name.specs.Reported.{Reported}
 use Rattle.mk_foot.specs.Footprints.{Footprints}
@@ -10,8 +9,15 @@ use Rattle.mk_report.specs.declared.answer.Answer.TheVariants as answers
 use Rattle.mk_race.specs.Judged.{HoldsOfRace, HoldsOfSafe, IsAnswered, IsSafe, NoScheduleShows}
 use Rattle.mk_race.specs.Parts.{AreReadFrom, texts_with}
 use Rattle.mk_race.specs.declared.input.Settings.{Settings}
-use Rattle.mk_read.specs.Read.{GaveAll}
-use Rattle.mk_run.specs.Run.{Given, IsFootprinted, IsListed, IsReported, outcome_of, texts_given}
+use Rattle.mk_read.specs.Builds.{IsFootprinted, IsListed}
+use Rattle.mk_read.specs.Builds as reading
+use Rattle.mk_read.specs.declared.builds.BuildStop.{BuildStop}
+use Rattle.mk_read.specs.declared.builds.BuildStop.TheVariants.{Broken, Memory}
+use Rattle.mk_read.specs.declared.builds.BuildText.TheVariants as texts
+use Rattle.mk_run.specs.Run.{Failed, Given, HasStopped, IsReported, none_failed, outcome_of, stopped, texts_given}
+use Rattle.mk_run.specs.declared.outcome.IoStop.{IoStop}
+use Rattle.mk_run.specs.declared.outcome.IoStop.TheVariants as stops
+use Rattle.mk_run.specs.declared.outcome.IoStop.TheVariants.{Write}
 use Rattle.mk_run.specs.declared.outcome.Outcome.{Outcome}
 use Rattle.mk_run.specs.declared.outcome.Outcome.TheVariants.{Safe, Race, Refused}
 
@@ -44,15 +50,6 @@ module _ (settings : Settings) (base makefile : List ℕ) (listed : Result (List
       }
   reports (Err error) outcome text answered headline determinate holds said = tt
 
--- what a device gave is all that it held
-pub all_given : (old new : Option (List ℕ)) (bytes held : List ℕ) → GaveAll old new bytes → old ≡ Some held → bytes ≡ held
-all_given None new bytes held all is = absurd (let e : ◌≡◌ {A = Option (List ℕ)} None (Some held) = is in cc)
-all_given (Some x) None bytes held all is = absurd all.gave
-all_given (Some x) (Some y) bytes held all is =
-    let e : ◌≡◌ {A = Option (List ℕ)} (Some x) (Some held) = is in
-    let same : x ≡ held = cc in
-    sym (append-nil bytes) ∙ ap (λ l. bytes ++ l) (sym all.end) ∙ sym all.gave ∙ same
-
 -- the headline of what devices gave is that of what they held
 pub headline_held : (settings : Settings) (given held : Given) (outcome : Outcome) (text : List ℕ) → IsReported settings given outcome text → outcome ≡ Safe
     → given.base ≡ held.base → given.makefile ≡ held.makefile → given.listing ≡ held.listing → given.footprints ≡ held.footprints
@@ -66,3 +63,24 @@ headline_held settings given held outcome text reported safe base makefile listi
 -- values of one answer
 pub ok_same : {E : Type 0} (a b : Outcome) → ◌≡◌ {A = Result Outcome E} (Ok a) (Ok b) → a ≡ b
 ok_same a b same = cc
+
+-- what has failed of the devices that are read, and nothing else
+abbrev pub failed_reading : reading.Failed → Failed
+failed_reading failed =
+    record none_failed { base = failed.base; makefile = failed.makefile; listing = failed.listing; footprints = failed.footprints }
+
+-- a stop of the reading names the device that failed
+pub reading_stopped : (stop : BuildStop) (failed : reading.Failed) → reading.HasStopped stop failed
+    → (stopped stop ≢ Write) × HasStopped (stopped stop) (failed_reading failed)
+reading_stopped (Broken texts.Base) failed is = (λ e. cc, ap failed_reading is)
+reading_stopped (Broken texts.Makefile) failed is = (λ e. cc, ap failed_reading is)
+reading_stopped (Broken texts.Listing) failed is = (λ e. cc, ap failed_reading is)
+reading_stopped (Broken texts.Footprints) failed is = (λ e. cc, ap failed_reading is)
+reading_stopped Memory failed is = (λ e. cc, ap failed_reading is)
+
+-- where memory runs out behind the reading none has failed
+pub memory_stopped : (failed : reading.Failed) → reading.none_failed ≡ failed → (stops.Memory ≢ Write) × HasStopped stops.Memory (failed_reading failed)
+memory_stopped failed none = (λ e. cc, sym (ap failed_reading none))
+
+pub none_stopped : (failed : reading.Failed) → reading.none_failed ≡ failed → none_failed ≡ failed_reading failed
+none_stopped failed none = ap failed_reading none

@@ -1,14 +1,11 @@
 -- What a run reads from its devices, and what it reports.
-use Rattle.std.specs.Prelude.{◌≡◌, ◌⊎◌, ℕ, Bool, true, false, List, Result}
-use Rattle.mk_name.specs.Names.{Name}
-use Rattle.mk_name.specs.Reported.{Reported}
+use Rattle.std.specs.Prelude.{◌≡◌, ℕ, Bool, true, false, List}
 use Rattle.mk_name.specs.declared.fault.Source.{Source}
 use Rattle.mk_name.specs.declared.fault.Source.TheVariants as sources
-use Rattle.mk_text.specs.Listing.{listing_of}
-use Rattle.mk_device.specs.declared.device.ReadStop.{ReadStop}
-use Rattle.mk_device.specs.declared.device.ReadStop.TheVariants as stops
-use Rattle.mk_foot.specs.Footprints.{Footprints, IsRead}
-use Rattle.mk_read.specs.Read.{IsReadBelow}
+use Rattle.mk_read.specs.declared.builds.BuildStop.{BuildStop}
+use Rattle.mk_read.specs.declared.builds.BuildStop.TheVariants as builds
+use Rattle.mk_read.specs.declared.builds.BuildText.{BuildText}
+use Rattle.mk_read.specs.declared.builds.BuildText.TheVariants as texts
 use Rattle.mk_report.specs.Reports.{IsReport}
 use Rattle.mk_report.specs.declared.answer.Answer.{Answer}
 use Rattle.mk_report.specs.declared.answer.Answer.TheVariants as answers
@@ -21,14 +18,17 @@ use Rattle.mk_run.specs.declared.outcome.IoStop.TheVariants.{Read, Write, Memory
 use Rattle.mk_run.specs.declared.outcome.Outcome.{Outcome}
 use Rattle.mk_run.specs.declared.outcome.Outcome.TheVariants.{Safe, Race, Refused}
 
--- why a text was not read
-abbrev pub unread : Source → ReadStop → IoStop
-unread source stops.Broken = Read source
-unread source stops.Memory = Memory
+-- the text whose device failed, as a source
+abbrev pub source_of : BuildText → Source
+source_of texts.Base = sources.Base
+source_of texts.Makefile = sources.Makefile
+source_of texts.Listing = sources.Listing
+source_of texts.Footprints = sources.Footprints
 
--- a text was not read: its device failed and that is reported, or memory ran out
-abbrev pub IsUnread : Source → IoStop → Bool → Type 0
-IsUnread source stop failed = ((stop ≡ Read source) × (failed ≡ true)) ⊎ ((stop ≡ Memory) × (failed ≡ false))
+-- why the devices were not all read
+abbrev pub stopped : BuildStop → IoStop
+stopped (builds.Broken text) = Read (source_of text)
+stopped builds.Memory = Memory
 
 -- which devices have failed
 pub record Failed : Type 0 where
@@ -63,13 +63,6 @@ abbrev pub outcome_of : Answer → Outcome
 outcome_of (answers.Safe jobs chains) = Safe
 outcome_of (answers.Race jobs trace) = Race
 outcome_of (answers.Refused reported) = Refused
-
--- what was read of the listing and of the footprints, if the root is good
-abbrev pub IsListed : List ℕ → List ℕ → Result (List Name) Reported → Type 0
-IsListed = IsReadBelow (λ below text listed. listing_of below text ≡ listed)
-
-abbrev pub IsFootprinted : List ℕ → List ℕ → Result Footprints Reported → Type 0
-IsFootprinted = IsReadBelow IsRead
 
 -- the bytes that the devices gave
 pub record Given : Type 0 where

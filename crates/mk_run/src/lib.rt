@@ -4,7 +4,6 @@
 //! report once; or it says which device failed, or that memory ran out. Read `specs/Run.antt` first.
 #![tactic(auto)]
 
-mod inputs;
 pub mod outcome;
 pub mod running;
 

@@ -2,9 +2,10 @@
 ghost use Rattle.std.specs.Prelude.{◌≡◌};
 ghost use Rattle.mk_run.specs.Run as spec;
 
-use mk_device::device::ReadStop;
 use mk_name::fault::Source;
+use mk_read::builds::{BuildStop, BuildText};
 use mk_report::answer::Answer;
+use std::alloc::AllocError;
 
 /// What kind of answer was reported.
 #[derive(Clone, Copy, Debug, PartialEq, Eq)]
@@ -39,12 +40,37 @@ pub(crate) fn outcome_of(answer: &Answer) -> Outcome
     }
 }
 
-/// Why a text was not read.
-pub(crate) fn unread(source: Source, stop: ReadStop) -> IoStop
-    ensures { result ≡ spec.unread source stop }
+/// The text whose device failed, as a source.
+fn source_of(text: BuildText) -> Source
+    ensures { result ≡ spec.source_of text }
 {
-    match stop {
-        ReadStop::Broken => IoStop::Read(source),
-        ReadStop::Memory => IoStop::Memory,
+    match text {
+        BuildText::Base => Source::Base,
+        BuildText::Makefile => Source::Makefile,
+        BuildText::Listing => Source::Listing,
+        BuildText::Footprints => Source::Footprints,
+    }
+}
+
+impl From<BuildStop> for IoStop {
+    ghost use Rattle.mk_run.specs.Run.{stopped};
+
+    ghost from_gives = { λ stop given. given ≡ stopped stop };
+
+    fn from(stop: BuildStop) -> IoStop {
+        match stop {
+            BuildStop::Broken(text) => IoStop::Read(source_of(text)),
+            BuildStop::Memory => IoStop::Memory,
+        }
+    }
+}
+
+impl From<AllocError> for IoStop {
+    ghost use Rattle.mk_run.specs.declared.outcome.IoStop.TheVariants as stops;
+
+    ghost from_gives = { λ _ stop. stop ≡ stops.Memory };
+
+    fn from(_error: AllocError) -> IoStop {
+        IoStop::Memory
     }
 }

@@ -4,15 +4,16 @@ ghost use Rattle.std.specs.Io.KnownBytes.{Appends};
 ghost use Rattle.mk_device.specs.Device.{AppendsBeginning};
 ghost use Rattle.mk_race.specs.Judged.{NoScheduleShows};
 ghost use Rattle.mk_report.specs.Reports.{IsReport};
+ghost use Rattle.mk_read.specs.Builds.{IsFootprinted, IsListed};
 ghost use Rattle.mk_read.specs.Read.{GaveAll};
 ghost use Rattle.mk_run.specs.Run as spec;
 ghost use Rattle.mk_run.specs.Run.{Given, HasStopped, none_failed};
 
-use crate::inputs::{Lists, Makefiles, read_lists, read_makefiles};
 use crate::outcome::{IoStop, Outcome, outcome_of};
 use mk_device::device::{Intake, Outlet, write_all};
 use mk_race::input::Settings;
 use mk_race::parts::judge_parts;
+use mk_read::builds::{ReadBuild, ReadPlan, build_below};
 use mk_report::answer::{Answer, report};
 use std::alloc::{AllocError, Global};
 
@@ -136,71 +137,32 @@ fn reported_of<B: Intake, M: Intake, L: Intake, F: Intake>(
         × (footprints.new ≡ footprints.old) }
     ensures listing_next { L.has_failed listing.new ≡ true → footprints.new ≡ footprints.old }
 {
-    let makefiles = read_makefiles(alloc, base, makefile)?;
-    reported_with(alloc, &makefiles, listing, footprints, settings)
+    let read = build_below(alloc, settings.root, base, makefile, listing, footprints)?;
+    let reported = judged(alloc, read, settings)?;
+    Ok(reported)
 }
 
-/// What is reported of the build of these makefiles, and of what two devices give.
-fn reported_with<L: Intake, F: Intake>(
-    alloc: Global,
-    makefiles: &Makefiles,
-    listing: &mut L,
-    footprints: &mut F,
-    settings: &Settings<'_>,
-) -> Result<Reported, IoStop>
-    requires listing_works { L.has_failed listing.old ≡ false }
-    requires footprints_work { F.has_failed footprints.old ≡ false }
-    ensures reported { IfOk result (λ reported. (listed lines : List ℕ)
-        × GaveAll (L.left listing.old) (L.left listing.new) listed
-        × GaveAll (F.left footprints.old) (F.left footprints.new) lines
-        × spec.IsReported settings.now (record {
-          base = makefiles.now.base.items;
-          makefile = makefiles.now.makefile.items;
-          listing = listed;
-          footprints = lines;
-        })
-        reported.outcome reported.text.items) }
-    ensures works { OnOk result (none_failed ≡ record none_failed {
-      listing = L.has_failed listing.new;
-      footprints = F.has_failed footprints.new;
-    }) }
-    ensures stop { IfErr result (λ stop. (stop ≢ IoStop.Write) × HasStopped stop (record none_failed {
-      listing = L.has_failed listing.new;
-      footprints = F.has_failed footprints.new;
-    })) }
-    ensures listing_first { L.has_failed listing.new ≡ true → footprints.new ≡ footprints.old }
-{
-    let lists = read_lists(alloc, settings.root, listing, footprints)?;
-    match judged(alloc, makefiles, lists, settings) {
-        Ok(reported) => Ok(reported),
-        Err(_) => Err(IoStop::Memory),
-    }
-}
-
-/// What is reported of the build of these makefiles and lists.
-fn judged(
-    alloc: Global,
-    makefiles: &Makefiles,
-    lists: Lists,
-    settings: &Settings<'_>,
-) -> Result<Reported, AllocError>
+/// What is reported of the build that was read.
+fn judged(alloc: Global, read: ReadBuild, settings: &Settings<'_>) -> Result<Reported, AllocError>
     ensures { IfOk result (λ reported. (listed lines : List ℕ)
-        → spec.IsListed settings.now.root.now listed lists.listing
-        → spec.IsFootprinted settings.now.root.now lines lists.footprints
+        → IsListed settings.now.root.now listed read.plan.listing
+        → IsFootprinted settings.now.root.now lines read.footprints
         → spec.IsReported settings.now (record {
-          base = makefiles.now.base.items;
-          makefile = makefiles.now.makefile.items;
+          base = read.plan.base.items;
+          makefile = read.plan.makefile.items;
           listing = listed;
           footprints = lines;
         })
         reported.outcome reported.text.items) }
 {
-    let Lists {
+    let ReadBuild { plan, footprints } = read;
+    let ReadPlan {
+        base,
+        makefile,
         listing,
-        footprints,
-    } = lists;
-    let base = makefiles.base.as_slice();
-    let makefile = makefiles.makefile.as_slice();
+    } = plan;
+    let base = base.as_slice();
+    let makefile = makefile.as_slice();
     let answer = judge_parts(alloc, settings, base, makefile, listing, footprints)?;
     reports(alloc, &answer, settings.proof)
 }

@@ -1,5 +1,5 @@
 -- What files in memory hold.
-use Rattle.std.specs.Prelude.{ℕ, Bool, true, false, List, [], ◌∷◌, Option, Some, None, if◌then◌else◌, is_some, option_and_then, option_map}
+use Rattle.std.specs.Prelude.{ℕ, Bool, true, false, List, [], ◌∷◌, Option, Some, None, if◌then◌else◌, is_some, length, option_and_then, option_map}
 use Rattle.std.specs.Borrow.{Bor}
 use Rattle.std.specs.Str.{bytes_eq}
 use Rattle.mk_program.specs.Answers.{IsAnswerTo}
@@ -13,6 +13,11 @@ use Rattle.program_tests.specs.declared.shelf.Page.TheVariants as pages
 abbrev pub page_text : Page → Option (List ℕ)
 page_text (pages.Text text) = Some text.now
 page_text pages.Unreadable = None
+
+-- how many bytes it gives
+abbrev pub page_length : Page → ℕ
+page_length (pages.Text text) = length text.now
+page_length pages.Unreadable = 0
 
 -- the page of the first file with this path
 abbrev pub page_at : List Book → List ℕ → Option Page

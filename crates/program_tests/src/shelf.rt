@@ -2,10 +2,8 @@
 ghost use Rattle.std.specs.Prelude.{◌≡◌, Some};
 ghost use Rattle.program_tests.specs.Shelf as spec;
 
-use mk_device::device::{Broken, ReadStop};
+use mk_device::device::{Broken, Intake};
 use mk_files::openers::Opener;
-use mk_read::line_reader::LineReader;
-use std::alloc::Global;
 
 /// What reading a file gives: a text, or nothing but a failure.
 #[derive(Clone, Copy)]
@@ -28,35 +26,49 @@ pub struct Shelf<'a> {
 }
 
 impl<'a> Opener for Shelf<'a> {
-    type File = Page<'a>;
+    type File = OpenPage<'a>;
 
     ghost files = { λ shelf. spec.files_of shelf.books.now };
 
-    ghost text = { spec.page_text };
-
-    ghost reads = { λ page. Some (spec.is_readable page) };
-
-    fn open(&mut self, path: &str) -> Result<Page<'a>, Broken> {
+    fn open(&mut self, path: &str) -> Result<OpenPage<'a>, Broken> {
         match page_at(self.books, path) {
-            Some(page) => Ok(page),
+            Some(page) => Ok(OpenPage {
+                page,
+                failed: false,
+            }),
             None => Err(Broken),
         }
     }
+}
 
-    fn read(alloc: Global, page: Page<'a>) -> Result<Vec<u8>, ReadStop> {
-        match page {
-            Page::Text(text) => Ok(Vec::from_slice(alloc, text)?),
-            Page::Unreadable => Err(ReadStop::Broken),
-        }
-    }
+/// An open file, of whose page what is read is taken away.
+#[derive(Drop)]
+pub struct OpenPage<'a> {
+    pub page: Page<'a>,
+    pub failed: bool,
+}
 
-    fn pour<R: LineReader>(page: Page<'a>, reader: &mut R) -> Result<(), Broken> {
-        match page {
+impl Intake for OpenPage<'_> {
+    ghost left = { λ opened. spec.page_text opened.page };
+
+    ghost has_failed = { λ opened. opened.failed };
+
+    ghost readable = { λ opened. Some (spec.is_readable opened.page) };
+
+    ghost reads_left = { λ opened. spec.page_length opened.page };
+
+    fn read(&mut self, buffer: &mut [u8]) -> Result<usize, Broken> {
+        match self.page {
             Page::Text(text) => {
-                reader.take(text);
-                Ok(())
+                let (some, rest) = text.split_at(text.len().min(buffer.len()));
+                buffer[..some.len()].copy_from_slice(some);
+                self.page = Page::Text(rest);
+                Ok(some.len())
             }
-            Page::Unreadable => Err(Broken),
+            Page::Unreadable => {
+                self.failed = true;
+                Err(Broken)
+            }
         }
     }
 }

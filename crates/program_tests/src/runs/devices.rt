@@ -1,4 +1,5 @@
 //! Devices over memory that give or take one byte a call, and fail after some.
+ghost use Rattle.mk_device.specs.Device.{not_stated};
 ghost use Rattle.std.specs.Prelude.{◌≡◌, Some, false, length};
 
 use mk_device::device::{Broken, Intake, Outlet};
@@ -27,6 +28,8 @@ impl Intake for Trickle<'_> {
     ghost left = { λ d. Some d.rest.now };
 
     ghost has_failed = { λ d. d.failed };
+
+    ghost readable = { not_stated };
 
     ghost reads_left = { λ d. length d.rest.now };
 

@@ -41,5 +41,5 @@ returns-clause-reported g c =
     IfOk-weaker c.build_in.result _ _ (λ read are text none hold.
     read_as files text build c.args.footprints c.args.other build.root.now read none hold
     (subst (λ (stated : Stated). AreRead stated build.root.now read) c.in_ok-files.ensures.reported
-    (subst (λ (root : List ℕ). AreRead (stated_in g.P.Opener.text c.in_ok-files.files) root read) c.as_bytes.ensures.value are)))
+    (subst (λ (root : List ℕ). AreRead (stated_in g.P.File.Intake.left c.in_ok-files.files) root read) c.as_bytes.ensures.value are)))
     c.build_in.ensures.reported

@@ -41,5 +41,5 @@ returns-clause-reported g c =
     IfOk-weaker c.plan_in.result _ _ (λ read are text hold.
     plan_read_as files text build build.root.now read hold
     (subst (λ (stated : PlanStated). IsPlanRead stated build.root.now read) c.in_ok-files.ensures.reported
-    (subst (λ (root : List ℕ). IsPlanRead (plan_stated_in g.P.Opener.text c.in_ok-files.files) root read) c.as_bytes.ensures.value are)))
+    (subst (λ (root : List ℕ). IsPlanRead (plan_stated_in g.P.File.Intake.left c.in_ok-files.files) root read) c.as_bytes.ensures.value are)))
     c.plan_in.ensures.reported

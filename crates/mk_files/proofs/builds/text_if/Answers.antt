@@ -1,8 +1,7 @@
-use Rattle.std.proofs.lemmas.Result.{err_from_is_err_and}
 use Rattle.mk_files.proofs.Building.{short_or_alone}
+use Rattle.mk_files.proofs.Reported.{err_more}
 use Rattle.mk_files.proofs.builds.text_if.Goals as goal
 
-pub returns-in_err-known-in-Some-clause-cannot : goal.returns-in_err-known-in-Some-clause-cannot
-returns-in_err-known-in-Some-clause-cannot g c =
-    let p = err_from_is_err_and c.from_residual.result c.from_residual.ensures.1 in
-    rw (p.1, p.2, c.in-Some.is) (short_or_alone _ _ _ c.in_err-known-in-Some.ensures.cannot)
+pub returns-in-Some-clause-cannot : goal.returns-in-Some-clause-cannot
+returns-in-Some-clause-cannot g c =
+    rw c.in-Some.is (err_more _ _ c.text_in.result (λ failure. short_or_alone _ _ failure) c.text_in.ensures.cannot)

@@ -8,13 +8,13 @@ use Rattle.mk_request.specs.declared.inputs.InputPath.{InputPath}
 use Rattle.mk_request.specs.declared.requests.JobArgs.{JobArgs}
 use Rattle.mk_files.specs.Builds.{IsReadAs}
 use Rattle.mk_files.specs.Inputs.{Hold, IsShortOr, IsUnread}
-use Rattle.mk_files.specs.declared.builds.ReadBuild.{ReadBuild}
+use Rattle.mk_files.specs.declared.builds.ReadJob.{ReadJob}
 use Rattle.mk_files.proofs.Reported.{err_more}
 use Rattle.mk_program.proofs.Replies.{no_base}
 use Rattle.mk_program.proofs.noting.noted_reply.Goals as goal
 
 -- what was read of the inputs of these jobs is what their files hold
-read_is : (args : JobArgs) (files : List ℕ → Option (List ℕ)) (other : Option InputPath) → other ≡ other_input args.question → (read : ReadBuild)
+read_is : (args : JobArgs) (files : List ℕ → Option (List ℕ)) (other : Option InputPath) → other ≡ other_input args.question → (read : ReadJob)
     → ((text : InputFile → List ℕ) → IfSome other (λ (known : InputPath). known.input ≢ Base)
     → Hold files (job_inputs args.build args.footprints other) text → IsReadAs args.build.root.now other text read)
     → (text : InputFile → List ℕ) → Hold files (job_inputs args.build args.footprints (other_input args.question)) text

@@ -1,4 +1,4 @@
-use Rattle.std.proofs.Common.{◌++◌, List, ℕ, append_assoc, subst}
+use Rattle.std.proofs.Common.{◌∙◌, ◌++◌, List, ℕ, append_assoc, subst}
 use Rattle.std.proofs.KnownBytes.{Consumes-trans}
 use Rattle.mk_read.proofs.devices.feed_all.Goals as goal
 
@@ -7,6 +7,7 @@ reads-preserved g c =
     let before = c.reads.invariant.fed in
     record {
       works = c.in_ok-n.ensures.failed;
+      same = c.in_ok-n.ensures.same ∙ c.reads.invariant.same;
       fed = (
         before.0 ++ _,
         Consumes-trans _ _ _ _ _ before.1 c.in_ok-n.ensures.bytes,

@@ -3,7 +3,7 @@ use Rattle.mk_run.proofs.running.judged.Goals as goal
 
 pub returns : goal.returns
 returns c =
-    reports c.args.settings.now c.args.makefiles.now.base.items c.args.makefiles.now.makefile.items c.args.lists.listing c.args.lists.footprints c.in_ok-answer.answer
+    reports c.args.settings.now c.args.read.plan.base.items c.args.read.plan.makefile.items c.args.read.plan.listing c.args.read.footprints c.in_ok-answer.answer
     c.reports.result (λ reported. reported.outcome) (λ reported. reported.text.items)
     (rw (c.as_slice-base.ensures.value, c.as_slice-makefile.ensures.value) at c.in_ok-answer.ensures.answer)
     (rw (c.as_slice-base.ensures.value, c.as_slice-makefile.ensures.value) at c.in_ok-answer.ensures.headline)

@@ -1,4 +1,5 @@
-use Rattle.mk_run.proofs.Reporting.{all_given, headline_held, ok_same}
+use Rattle.mk_read.proofs.Gave.{all_given}
+use Rattle.mk_run.proofs.Reporting.{headline_held, ok_same}
 use Rattle.mk_run.proofs.running.run.Goals as goal
 
 pub returns-in-Ok-clause-headline : goal.returns-in-Ok-clause-headline
