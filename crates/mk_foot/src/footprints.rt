@@ -31,6 +31,18 @@ impl Model for Footprint {
     ghost invariant = { λ a. AreNamed a.reads.keys × AreNamed a.writes.keys };
 }
 
+impl Footprint {
+    /// An equal footprint. The only error is out of memory.
+    fn copy(&self, alloc: Global) -> Result<Footprint, AllocError>
+        ensures { IfOk result (λ copy. copy ≡ self.now) }
+    {
+        Ok(Footprint {
+            reads: copied(alloc, &self.reads)?,
+            writes: copied(alloc, &self.writes)?,
+        })
+    }
+}
+
 /// What the recipe of each target reads and writes, below one root. A target has a footprint where some line names it.
 #[derive(Debug)]
 pub struct Footprints {
@@ -74,6 +86,16 @@ impl Footprints {
         &self.root
     }
 
+    /// Equal footprints. The only error is out of memory.
+    pub fn copy(&self, alloc: Global) -> Result<Footprints, AllocError>
+        ensures { IfOk result (λ copy. copy ≡ self.now) }
+    {
+        Ok(Footprints {
+            root: self.root.copy(alloc)?,
+            by_target: copied_by_target(alloc, &self.by_target)?,
+        })
+    }
+
     /// That root, where nothing else of them is needed.
     pub(crate) fn into_root(self) -> Root
         ensures { result ≡ self.root }
@@ -113,6 +135,31 @@ impl Footprints {
         self.by_target.insert(line.target, footprint)?;
         Ok(())
     }
+}
+
+/// An equal map. The only error is out of memory.
+fn copied_by_target(
+    alloc: Global,
+    footprints: &BTreeMap<Name, Footprint>,
+) -> Result<BTreeMap<Name, Footprint>, AllocError>
+    ensures { IfOk result (λ copy. copy.entries ≡ footprints.now.entries) }
+{
+    let mut copy = BTreeMap::new(alloc);
+    for (target, footprint) in footprints {
+        copy.insert(target.copy(alloc)?, footprint.copy(alloc)?)?;
+    }
+    Ok(copy)
+}
+
+/// An equal set. The only error is out of memory.
+fn copied(alloc: Global, paths: &BTreeSet<Path>) -> Result<BTreeSet<Path>, AllocError>
+    ensures { IfOk result (λ copy. copy.keys ≡ paths.now.keys) }
+{
+    let mut copy = BTreeSet::new(alloc);
+    for path in paths {
+        copy.insert(path.copy(alloc)?)?;
+    }
+    Ok(copy)
 }
 
 /// Adds the paths that are not there yet. The only error is out of memory.

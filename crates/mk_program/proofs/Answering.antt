@@ -9,14 +9,15 @@ use Rattle.mk_name.specs.declared.fault.Halt.{Halt}
 use Rattle.mk_name.specs.declared.fault.Halt.TheVariants.{Fault}
 use Rattle.mk_text.specs.Listing.{listing_of}
 use Rattle.mk_text.specs.Spelling.{root_of}
-use Rattle.mk_race.specs.Parts.{IsListedFrom}
+use Rattle.mk_foot.specs.Footprints.{Footprints}
+use Rattle.mk_race.specs.Parts.{AreReadFrom, IsListedFrom}
 use Rattle.mk_race.specs.Played.{IsPlayed}
 use Rattle.mk_race.specs.Stages.{IsPlanned, Texts}
 use Rattle.mk_race.specs.declared.planning.Planned.{Planned}
 use Rattle.mk_race.specs.declared.replaying.Played.{Played}
 use Rattle.mk_race.specs.declared.replaying.Played.TheVariants.{Allowed, NotAllowed}
 use Rattle.mk_program.specs.Answers.{IsOrderAnswer, IsReplayAnswer, SaysVerdict, status_of, verdict_status, verdict_text}
-use Rattle.mk_files.specs.Builds.{IsListedBelow}
+use Rattle.mk_files.specs.Builds.{AreFoundBelow, IsListedBelow}
 use Rattle.mk_files.specs.Includes.{Pair}
 use Rattle.mk_request.specs.declared.inputs.InputFile.{InputFile}
 use Rattle.mk_request.specs.declared.inputs.InputFile.TheVariants as inputs
@@ -94,3 +95,12 @@ pub verdict_is : (Is : Result Bool Reported → Type 0) (Shown : Type 0) (accept
     → SaysVerdict Is Shown status text
 verdict_is Is Shown true status text verified shows ends reported = rw ends (verified, shows refl, reported)
 verdict_is Is Shown false status text verified shows ends reported = rw ends (verified, reported)
+
+-- what was read below the root was read from these texts
+pub read_from : (root same : List ℕ) (text : InputFile → List ℕ) (listing : Result (List Name) Reported) (footprints : Result Footprints Reported)
+    → IsListedBelow root text listing → AreFoundBelow root text footprints → same ≡ root → (texts : Texts) → texts.root ≡ same → texts.listing ≡ text inputs.Listing
+    → AreReadFrom texts (text inputs.Footprints) listing footprints
+read_from root same text listing footprints below found is texts at listed = record {
+  listing = listed_from root same text listing below is texts at listed;
+  footprints = λ r good. found r (ap root_of (sym is ∙ sym at) ∙ good);
+}

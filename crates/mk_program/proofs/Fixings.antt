@@ -16,14 +16,6 @@ use Rattle.mk_program.specs.Answers.{IsFixAnswer, IsFixReported, IsTaskFixAnswer
 use Rattle.mk_program.specs.declared.statuses.Status.{Status}
 use Rattle.mk_program.specs.declared.statuses.Status.TheVariants.{Done, No, Failed, Refused}
 
--- what is reported of a build ends as done or as no
-pub fixing_not_failed : (texts : Texts) (footprints : List ℕ) (proof : Bool) (fixing : Fixing) (status : Status) (text : List ℕ)
-    → IsFixReported texts footprints proof fixing status text → status ≢ Failed
-fixing_not_failed texts footprints proof (Fixed lines jobs chains) status text reported failed =
-    let e : ◌≡◌ {A = Status} Done Failed = sym reported.0 ∙ failed in cc
-fixing_not_failed texts footprints proof (NotFixed jobs edges refusal) status text reported failed =
-    let e : ◌≡◌ {A = Status} No Failed = sym reported.0 ∙ failed in cc
-
 -- the report of the fault that keeps a fix back is its answer
 pub unfixed_is : {F : Type 0} (Is : Result F Reported → Type 0) (Says : F → Status → List ℕ → Type 0) (halt : Halt) (fault : Reported) (status : Status)
     (text : List ℕ) → HaltsAmong halt Is → halt ≡ Fault fault → status ≡ Refused → text ≡ refused_text fault → SaysFixing Is Says status text

@@ -11,14 +11,15 @@ use Rattle.mk_program.specs.declared.noting.Reply.{Reply}
 use Rattle.mk_program.specs.declared.statuses.Status.{Status}
 use Rattle.mk_program.specs.declared.statuses.Status.TheVariants.{Refused}
 use Rattle.mk_program.proofs.Noted.{quiet_is, with_note}
-use Rattle.mk_files.specs.Builds.{other_text}
+use Rattle.mk_files.specs.Builds.{IsReadAs, other_text}
 use Rattle.mk_files.specs.Files.{Files}
 use Rattle.mk_files.specs.Includes.{Pair}
 use Rattle.mk_files.specs.Inputs.{AreTexts, Hold, IsShortOr, IsUnread}
 use Rattle.mk_files.specs.declared.failures.Failure.{Failure}
+use Rattle.mk_files.specs.declared.builds.ReadJob.{ReadJob}
 use Rattle.mk_files.specs.declared.inputs.InputText.{InputText}
 use Rattle.mk_files.proofs.Reported.{err_more}
-use Rattle.mk_request.specs.Requests.{inputs_of, other_input}
+use Rattle.mk_request.specs.Requests.{inputs_of, job_inputs, other_input}
 use Rattle.mk_request.specs.declared.inputs.InputFile.{InputFile}
 use Rattle.mk_request.specs.declared.inputs.InputFile.TheVariants as inputs
 use Rattle.mk_request.specs.declared.inputs.InputPath.{InputPath}
@@ -37,6 +38,17 @@ no_base (jobs.Serialise args) = λ (is : ◌≡◌ {A = InputFile} inputs.Log in
 no_base jobs.List = tt
 no_base (jobs.Fix print_proof) = tt
 no_base jobs.Missing = tt
+
+-- what was read of the inputs of these jobs is what their files hold
+pub read_is : (args : JobArgs) (files : List ℕ → Option (List ℕ)) (other : Option InputPath) → other ≡ other_input args.question → (read : ReadJob)
+    → ((text : InputFile → List ℕ) → IfSome other (λ (known : InputPath). known.input ≢ inputs.Base)
+    → Hold files (job_inputs args.build args.footprints other) text → IsReadAs args.build.root.now other text read)
+    → (text : InputFile → List ℕ) → Hold files (job_inputs args.build args.footprints (other_input args.question)) text
+    → IsReadAs args.build.root.now (other_input args.question) text read
+read_is args files other is read reads text hold =
+    subst (λ (o : Option InputPath). IsReadAs args.build.root.now o text read) is
+    (reads text (subst (λ (o : Option InputPath). IfSome o (λ (known : InputPath). known.input ≢ inputs.Base)) (sym is) (no_base args.question))
+    (subst (λ (o : Option InputPath). Hold files (job_inputs args.build args.footprints o) text) (sym is) hold))
 
 -- a failure to read inputs is one of an answer over them
 pub unread_is : {X : Type 0} (files : Files) (paths all : List InputPath) (No : (InputFile → List ℕ) → Type 0) (result : Result X Failure) → paths ≡ all
@@ -115,14 +127,14 @@ module _ (files : Files) (args : JobArgs) (includes : List Pair) (result : Resul
         empty,
       ))) said none
 
-  -- and over whole texts
-  pub text_answer : (Says : (InputFile → List ℕ) → Status → List ℕ → Type 0)
+  -- and of a question over the build that was read
+  pub build_answer : (Says : (InputFile → List ℕ) → Status → List ℕ → Type 0)
       → ((text : InputFile → List ℕ) (status : Status) (answer note : List ℕ) → Says text status answer × (note ≡ [])
       → IsJobAnswer asked args.strict (texts text) text status answer note)
       → IfOk result (λ reply. (text : InputFile → List ℕ) → Held text → Says text reply.answer.status reply.answer.text.items × (reply.note.items ≡ []))
       → IfOk result (λ reply. (text : InputFile → List ℕ) → Held text
       → IsAnswerOver (requests.Jobs args) includes text reply.answer.status reply.answer.text.items reply.note.items)
-  text_answer Says more said = IfOk-weaker result _ _ (λ reply over text hold.
+  build_answer Says more said = IfOk-weaker result _ _ (λ reply over text hold.
       subst (λ (q : JobQuestion). IsJobAnswer q args.strict (texts text) text reply.answer.status reply.answer.text.items reply.note.items) (sym is)
       (more text reply.answer.status reply.answer.text.items reply.note.items (over text hold))) said
 

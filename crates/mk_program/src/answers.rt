@@ -3,12 +3,11 @@ ghost use Rattle.std.specs.Prelude.{◌≡◌, ◌≢◌, [], IfErr, IfOk, List,
 ghost use Rattle.mk_name.specs.Shown.{refused_text};
 ghost use Rattle.mk_name.specs.Reported.{Reported};
 ghost use Rattle.mk_name.specs.declared.fault.Halt.TheVariants as halts;
-ghost use Rattle.mk_race.specs.Stages.{texts_of};
 ghost use Rattle.mk_request.specs.Requests.{inputs_of};
 ghost use Rattle.mk_program.specs.Answers as spec;
-ghost use Rattle.mk_program.specs.Answers.{texts_for};
-ghost use Rattle.mk_files.specs.Inputs.{AreTexts, Hold, InputsMayBeRead, IsShortOr, IsUnread};
+ghost use Rattle.mk_files.specs.Inputs.{Hold, InputsMayBeRead};
 
+use crate::build_questions::build_reply;
 use crate::checking::Checking;
 use crate::fixing::FixQuestion;
 use crate::listing::AllRaces;
@@ -20,17 +19,14 @@ use crate::replaying::Replaying;
 use crate::serialising::SerialOrder;
 use crate::statuses::Status;
 use crate::tasks::tasks_reply;
-use crate::text_questions::{TextQuestion, text_reply};
 use crate::verifying::Verifying;
 use mk_files::failures::Failure;
 use mk_files::includes::{pairs_of, read_includes};
-use mk_files::inputs::{InputText, text_of};
 use mk_files::openers::Opener;
 use mk_name::fault::{Fault, Halt};
 use mk_name::report::refused_report;
-use mk_race::input::Input;
 use mk_request::inputs::InputFile;
-use mk_request::requests::{BuildArgs, JobArgs, JobQuestion, Request, includes_path, job_inputs};
+use mk_request::requests::{BuildArgs, JobArgs, JobQuestion, Request, includes_path};
 use std::alloc::{AllocError, Global};
 
 /// What the program says, and how it ends where that is written.
@@ -81,8 +77,8 @@ fn answer_with<P: Opener>(
     }
 }
 
-/// The answer to a question about the jobs of a build, and its note. Most questions are answered by a listing and footprints that are
-/// read in pieces. A fix and a list of what is missing plan the build twice, the second time with other texts, so these are read whole.
+/// The answer to a question about the jobs of a build, and its note. A fix and a list of what is missing plan the build twice, so
+/// they are asked of what was read, and all others of its jobs.
 fn job_reply<P: Opener>(
     alloc: Global,
     opener: &mut P,
@@ -121,61 +117,9 @@ fn job_reply<P: Opener>(
         }
         JobQuestion::List => quiet_reply(alloc, opener, args, includes, &AllRaces),
         JobQuestion::Fix { print_proof } => {
-            whole_reply(alloc, opener, args, includes, &FixQuestion { print_proof })
+            build_reply(alloc, opener, args, includes, &FixQuestion { print_proof })
         }
-        JobQuestion::Missing => whole_reply(alloc, opener, args, includes, &MissingQuestion),
-    }
-}
-
-/// The answer to a question about a build and its footprints over their whole texts, without a note.
-fn whole_reply<P: Opener, Q: TextQuestion>(
-    alloc: Global,
-    opener: &mut P,
-    args: &JobArgs<'_>,
-    includes: &[(&[u8], &[u8])],
-    question: &Q,
-) -> Result<Reply, Failure>
-    ensures status { IfOk result (λ reply. reply.answer.status ≢ Status.Failed) }
-    ensures read { OnOk result (InputsMayBeRead (P.files opener.old) (inputs_of (Request.Jobs args.now))) }
-    ensures failure { IfErr result (IsShortOr (IsUnread (P.files opener.old) (inputs_of (Request.Jobs args.now)))) }
-    ensures answer { IfOk result (λ reply. (text : InputFile → List ℕ)
-        → Hold (P.files opener.old).text (inputs_of (Request.Jobs args.now)) text
-        → Q.says question.now (texts_for args.now.build (map (λ pair. (pair.0.now, pair.1.now)) includes.now) text)
-        (text InputFile.Footprints) reply.answer.status reply.answer.text.items × (reply.note.items ≡ [])) }
-{
-    let inputs = job_inputs(alloc, args)?;
-    text_reply(
-        alloc,
-        opener,
-        inputs.as_slice(),
-        &args.build,
-        includes,
-        question,
-    )
-}
-
-/// What a build is judged by: its root and operands as they were given, and the texts that were read.
-pub(crate) fn input_of<'a>(
-    build: &BuildArgs<'a>,
-    operands: &'a [&'a [u8]],
-    includes: &'a [(&'a [u8], &'a [u8])],
-    texts: &'a [InputText],
-) -> Input<'a>
-    ensures texts { (text : InputFile → List ℕ) → AreTexts texts.entry.now text
-        → map (λ operand. operand.now) operands.entry.now ≡ map (λ operand. operand.now) build.now.operands.items
-        → texts_of result ≡ texts_for build.now
-        (map (λ pair. (pair.0.now, pair.1.now)) includes.entry.now) text }
-    ensures footprints { (text : InputFile → List ℕ) → AreTexts texts.entry.now text
-        → result.footprints.now ≡ text InputFile.Footprints }
-{
-    Input {
-        base: base_of(build, text_of(texts, InputFile::Base)),
-        makefile: text_of(texts, InputFile::Makefile),
-        includes,
-        listing: text_of(texts, InputFile::Listing),
-        footprints: text_of(texts, InputFile::Footprints),
-        root: build.root.as_bytes(),
-        operands,
+        JobQuestion::Missing => build_reply(alloc, opener, args, includes, &MissingQuestion),
     }
 }
 

@@ -1,18 +1,21 @@
 //! The answers to `race fix`.
-ghost use Rattle.std.specs.Prelude.{◌≡◌, IfOk, List, if◌then◌else◌, ℕ};
+ghost use Rattle.std.specs.Prelude.{◌≡◌, ◌≢◌, IfOk, List, if◌then◌else◌, ℕ};
 ghost use Rattle.mk_proof.specs.ProofText.{certificate_text};
 ghost use Rattle.mk_race.specs.Fixed.{HoldsOfFixed};
 ghost use Rattle.mk_race.specs.Stages.{Texts};
 ghost use Rattle.mk_program.specs.Answers as spec;
 
 use crate::answers::{Answer, refused};
+use crate::build_questions::BuildQuestion;
 use crate::statuses::Status;
-use crate::text_questions::TextQuestion;
+use mk_foot::footprints::Footprints;
+use mk_name::fault::Fault;
 use mk_proof::certificate::Certificate;
 use mk_proof::writing::write_certificate;
-use mk_race::fixing::{Fixing, fix_build};
-use mk_race::input::Input;
+use mk_race::fixing::{Fixing, fix_parts};
+use mk_race::input::Settings;
 use mk_report::not_fixed::not_fixed_report;
+use mk_text::listing::Listing;
 use std::alloc::{AllocError, Global};
 
 /// The lines that fix a build or the proof with them, or the edges that no lines give it.
@@ -21,11 +24,19 @@ pub(crate) struct FixQuestion {
     pub(crate) print_proof: bool,
 }
 
-impl TextQuestion for FixQuestion {
+impl BuildQuestion for FixQuestion {
     ghost says = { λ asked texts footprints. spec.IsFixAnswer texts footprints asked.print_proof };
 
-    fn answer(&self, alloc: Global, input: &Input<'_>) -> Result<Answer, AllocError> {
-        match fix_build(alloc, input) {
+    fn answer(
+        &self,
+        alloc: Global,
+        settings: &Settings<'_>,
+        base: &[u8],
+        makefile: &[u8],
+        listing: Result<Listing, Fault>,
+        footprints: Result<Footprints, Fault>,
+    ) -> Result<Answer, AllocError> {
+        match fix_parts(alloc, settings, base, makefile, listing, footprints) {
             Ok(fixing) => fixing_answer(alloc, &fixing, self.print_proof),
             Err(halt) => refused(alloc, halt),
         }
@@ -34,7 +45,8 @@ impl TextQuestion for FixQuestion {
 
 /// What comes of a build that was to be fixed, reported. The only error is out of memory.
 fn fixing_answer(alloc: Global, fixing: &Fixing, proof: bool) -> Result<Answer, AllocError>
-    ensures { IfOk result (λ answer. (texts : Texts) (footprints : List ℕ) → HoldsOfFixed texts footprints fixing.now
+    ensures status { IfOk result (λ answer. answer.status ≢ Status.Failed) }
+    ensures answer { IfOk result (λ answer. (texts : Texts) (footprints : List ℕ) → HoldsOfFixed texts footprints fixing.now
         → spec.IsFixReported texts footprints proof fixing.now answer.status answer.text.items) }
 {
     match fixing {

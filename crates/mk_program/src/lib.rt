@@ -6,6 +6,7 @@
 #![tactic(auto)]
 
 mod answers;
+mod build_questions;
 mod change_lines;
 mod checking;
 mod fixing;
@@ -22,7 +23,6 @@ mod running;
 mod serialising;
 mod statuses;
 mod tasks;
-mod text_questions;
 mod verifying;
 
 pub use running::{fail, race_words};

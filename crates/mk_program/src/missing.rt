@@ -4,25 +4,36 @@ ghost use Rattle.mk_missing.specs.Violations.{HasNone};
 ghost use Rattle.mk_program.specs.Answers as spec;
 
 use crate::answers::{Answer, refused};
+use crate::build_questions::BuildQuestion;
 use crate::change_lines::push_change;
 use crate::statuses::Status;
-use crate::text_questions::TextQuestion;
+use mk_foot::footprints::Footprints;
 use mk_missing::violations::Violations;
+use mk_name::fault::Fault;
 use mk_race::again::Change;
-use mk_race::input::Input;
-use mk_race::missing::{MissingList, list_missing};
+use mk_race::input::Settings;
+use mk_race::missing::{MissingList, missing_parts};
 use mk_report::missing::missing_report;
+use mk_text::listing::Listing;
 use std::alloc::{AllocError, Global};
 
 /// All races and violations of a build.
 #[derive(Clone, Copy)]
 pub(crate) struct MissingQuestion;
 
-impl TextQuestion for MissingQuestion {
+impl BuildQuestion for MissingQuestion {
     ghost says = { λ _ texts footprints. spec.IsMissingAnswer texts footprints };
 
-    fn answer(&self, alloc: Global, input: &Input<'_>) -> Result<Answer, AllocError> {
-        match list_missing(alloc, input) {
+    fn answer(
+        &self,
+        alloc: Global,
+        settings: &Settings<'_>,
+        base: &[u8],
+        makefile: &[u8],
+        listing: Result<Listing, Fault>,
+        footprints: Result<Footprints, Fault>,
+    ) -> Result<Answer, AllocError> {
+        match missing_parts(alloc, settings, base, makefile, listing, footprints) {
             Ok(listed) => listed_answer(alloc, &listed),
             Err(halt) => refused(alloc, halt),
         }

@@ -33,7 +33,7 @@ module _ (texts : Texts) (listed : Result (List Name) Reported)
   answers_planned (Err halts.Memory) is = tt
   answers_planned (Err (halts.Fault reported)) is = planned_there (Err reported) is
 
--- the root of a plan is that of the texts
+-- the root of a plan is that of the texts, and its listing the one that was read
 ok_same : {X : Type 0} (x y : X) → ◌≡◌ {A = Result X Reported} (Ok x) (Ok y) → x ≡ y
 ok_same x y e = cc
 
@@ -47,13 +47,14 @@ any_ok : {X Y : Type 0} (stage : Result X Reported → Type 0) (next : X → Res
 any_ok stage next y (Ok x, s, h) = (x, h)
 any_ok stage next y (Err reported, s, h) = absurd (cc h)
 
-pub rooted : (texts : Texts) (listed : Result (List Name) Reported) (planned : Planned) → IsPlannedWith texts listed (Ok planned)
-    → root_of texts.root ≡ Ok planned.root
-rooted texts listed planned is =
+pub planned_from : (texts : Texts) (listed : Result (List Name) Reported) (planned : Planned) → IsPlannedWith texts listed (Ok planned)
+    → (root_of texts.root ≡ Ok planned.root) × (listed ≡ Ok planned.listing)
+planned_from texts listed planned is =
     let root = then_ok (root_of texts.root) _ planned is in
     let goals = then_ok (goals_of root.0 texts.operands) _ planned root.2 in
     let macros = then_ok (operand_macros texts.operands) _ planned goals.2 in
     let included = then_ok (includes_of root.0 texts.includes) _ planned macros.2 in
     let names = then_ok listed _ planned included.2 in
     let graphed = any_ok _ _ planned names.2 in
-    root.1 ∙ ap (λ (p : Planned). Ok p.root) (sym (ok_same _ _ graphed.1))
+    let same = sym (ok_same _ _ graphed.1) in
+    (root.1 ∙ ap (λ (p : Planned). Ok p.root) same, names.1 ∙ ap (λ (p : Planned). Ok p.listing) same)

@@ -3,6 +3,7 @@ use Rattle.std.proofs.Common.{ℕ, zero, suc, ◌≡◌, ◌<◌, ◌+◌, ◌�
 use Rattle.std.proofs.lemmas.Bool.{cases_order}
 use Rattle.mk_name.specs.Names.{Name}
 use Rattle.mk_name.specs.Gives.{Answers}
+use Rattle.mk_name.specs.Reported.{Reported}
 use Rattle.mk_name.specs.declared.fault.Halt.{Halt}
 use Rattle.mk_name.specs.declared.fault.Halt.TheVariants as halts
 use Rattle.mk_jobs.specs.Jobs.{Jobs, Before, edge, further, Clash, IsPrerequisite, IsRaceFree, IsValid, prerequisites_of}
@@ -17,6 +18,8 @@ use Rattle.mk_fix.proofs.Adding.{cons_cases, here, none_in, there}
 use Rattle.mk_missing.specs.Unlisted.{unlisted_names}
 use Rattle.mk_race.specs.Again.{IsChange}
 use Rattle.mk_race.specs.Missing.{BuildsAsClean, IsEmpty, IsMissingList, IsMissingListOf, LeavesAsClean}
+use Rattle.mk_foot.specs.Footprints.{Footprints}
+use Rattle.mk_race.specs.Parts.{ForTextsRead, listed_as}
 use Rattle.mk_race.specs.Stages.{IsPrepared, Texts}
 use Rattle.mk_race.specs.declared.again.Change.{Change}
 use Rattle.mk_race.specs.declared.missing.MissingList.{MissingList}
@@ -86,28 +89,28 @@ leaves_as_clean jobs listing races shape are none declared = λ programs opening
 
 -- and so it is of the build that texts mean
 pub builds_as_clean : (texts : Texts) (footprints : List ℕ) (prepared : Prepared) (change : Option Change) → IsPrepared texts footprints (Ok prepared)
-    → IsChange texts prepared.jobs change → change ≡ None → LeavesAsClean prepared.jobs prepared.listing → BuildsAsClean texts footprints
+    → IsChange texts prepared change → change ≡ None → LeavesAsClean prepared.jobs prepared.listing → BuildsAsClean texts footprints
 builds_as_clean texts footprints prepared change build is none as_clean = record {
   prepared = prepared;
   build = build;
   only = λ other is. build_is_one texts footprints prepared other build is;
-  again = subst (IsChange texts prepared.jobs) none is;
+  again = subst (IsChange texts prepared) none is;
   as_clean = as_clean;
 }
 
 -- what is listed of what was prepared, beside the change of a second build, is what is listed of the build
 pub changed_list : (texts : Texts) (footprints : List ℕ) (prepared : Prepared) (change : Option Change) (result : Result MissingList Halt)
-    → IsPrepared texts footprints (Ok prepared) → IsChange texts prepared.jobs change → Answers result (IsMissingListOf prepared change)
+    → IsPrepared texts footprints (Ok prepared) → IsChange texts prepared change → Answers result (IsMissingListOf prepared change)
     → Answers result (IsMissingList texts footprints)
 changed_list texts footprints prepared change (Ok listed) build is h = (Ok prepared, build, (change, is, h))
 changed_list texts footprints prepared change (Err halts.Memory) build is h = tt
 changed_list texts footprints prepared change (Err (halts.Fault reported)) build is h = (Ok prepared, build, (change, is, h))
 
 -- and where that is empty, builds of old trees leave what those of clean ones leave
-pub headline_of : (texts : Texts) (footprints : List ℕ) (prepared : Prepared) (change : Option Change) (result : Result MissingList Halt)
-    → IsPrepared texts footprints (Ok prepared) → IsChange texts prepared.jobs change → Answers result (IsMissingListOf prepared change)
-    → IfOk result (λ listed. IsEmpty listed → LeavesAsClean prepared.jobs prepared.listing)
-    → IfOk result (λ listed. IsEmpty listed → BuildsAsClean texts footprints)
-headline_of texts footprints prepared change (Ok listed) build is h leaves = λ empty.
-    builds_as_clean texts footprints prepared change build is (sym h.3 ∙ empty.change) (leaves empty)
-headline_of texts footprints prepared change (Err halt) build is h leaves = tt
+pub builds_headline : (texts : Texts) (listed : Result (List Name) Reported) (read : Result Footprints Reported) (prepared : Prepared) (change : Option Change)
+    (result : Result MissingList Halt) → ForTextsRead texts listed read (λ texts lines. IsPrepared texts lines (Ok prepared)) → IsChange texts prepared change
+    → Answers result (IsMissingListOf prepared change) → IfOk result (λ given. IsEmpty given → LeavesAsClean prepared.jobs prepared.listing)
+    → IfOk result (λ given. IsEmpty given → ForTextsRead texts listed read BuildsAsClean)
+builds_headline texts listed read prepared change (Ok given) build is h leaves = λ empty listing lines from.
+    builds_as_clean (listed_as texts listing) lines prepared change (build listing lines from) is (sym h.3 ∙ empty.change) (leaves empty)
+builds_headline texts listed read prepared change (Err halt) build is h leaves = tt

@@ -1,6 +1,6 @@
 -- A lemma on a call behind a stage that may have several answers.
-use Rattle.std.proofs.Common.{Result, Ok, Err}
-use Rattle.mk_name.specs.Gives.{Answers}
+use Rattle.std.proofs.Common.{Result, Ok, Err, refl}
+use Rattle.mk_name.specs.Gives.{Answers, HaltsAmong}
 use Rattle.mk_name.specs.Reported.{Reported}
 use Rattle.mk_name.specs.declared.fault.Halt.{Halt}
 use Rattle.mk_name.specs.declared.fault.Halt.TheVariants as halts
@@ -12,3 +12,9 @@ pub answers_behind : {X Y : Type 0} (stage : Result X Reported → Type 0) (next
 answers_behind stage next value (Ok answer) is answers = (Ok value, is, answers)
 answers_behind stage next value (Err halts.Memory) is answers = tt
 answers_behind stage next value (Err (halts.Fault reported)) is answers = (Ok value, is, answers)
+
+-- and a halt of the first stage is one of both
+pub halts_behind : {X Y : Type 0} (stage : Result X Reported → Type 0) (next : X → Result Y Reported → Type 0) (halt : Halt)
+    → HaltsAmong halt stage → HaltsAmong halt (ThenAny stage next)
+halts_behind stage next halts.Memory is = tt
+halts_behind stage next (halts.Fault reported) is = (Err reported, is, refl)

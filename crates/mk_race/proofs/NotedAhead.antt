@@ -1,5 +1,5 @@
 -- The jobs of a build whose listing and footprints were read ahead, with its footprints that lie unused.
-use Rattle.std.proofs.Common.{◌≡◌, ℕ, Bool, IfOk, List, [], Ok, Err, Option, Result, refl, subst, sym}
+use Rattle.std.proofs.Common.{◌≡◌, ◌∙◌, ℕ, Bool, IfOk, List, [], Ok, Err, Option, Some, Result, ap, refl, subst, sym}
 use Rattle.mk_name.specs.Gives.{Answers, HaltsAmong}
 use Rattle.mk_name.specs.Names.{Name}
 use Rattle.mk_name.specs.Reported.{Reported}
@@ -14,7 +14,7 @@ use Rattle.mk_race.specs.declared.input.Settings.{Settings}
 use Rattle.mk_race.specs.declared.planning.Planned.{Planned}
 use Rattle.mk_race.specs.declared.unused.Noted.{Noted}
 use Rattle.mk_race.specs.declared.unused.Unused.{Unused}
-use Rattle.mk_race.proofs.Ahead.{planned_there, rooted}
+use Rattle.mk_race.proofs.Ahead.{planned_from, planned_there}
 use Rattle.mk_race.proofs.Noting.{prepared_by}
 
 module _ (texts : Texts) (lines : List ℕ) (planned : Planned) (answer : Result Noted Reported) where
@@ -37,7 +37,7 @@ module _ (texts : Texts) (lines : List ℕ) (listed : Result (List Name) Reporte
   noted_there : (answer : Result Noted Reported) → IsNotedWith texts listed read answer → IsNoted texts lines answer
   noted_there answer (Ok planned, is, more) =
       found_there texts lines planned answer read more.0 (planned_there texts listed from.listing (Ok planned) is)
-      (from.footprints planned.root (rooted texts listed planned is)) more.1 more.2
+      (from.footprints planned.root (planned_from texts listed planned is).0) more.1 more.2
   noted_there answer (Err reported, is, so) =
       subst (λ (a : Result Noted Reported). IsNoted texts lines a) (sym so) (Err reported, planned_there texts listed from.listing (Err reported) is, refl)
 
@@ -93,3 +93,37 @@ pub not_found : (planned : Planned) (read : Result Footprints Reported) (halt : 
     → HaltsAmong halt (Then read (AreNotedOf planned.book planned.plan)) → HaltsAmong halt (AreNotedOn planned read)
 not_found planned read halts.Memory h = tt
 not_found planned read (halts.Fault reported) h = (Err reported, h, refl)
+
+-- what was read of a build whose jobs are noted: its listing, and footprints
+was_read : (texts : Texts) (listed : Result (List Name) Reported) (read : Result Footprints Reported) (noted : Noted)
+    → IsNotedWith texts listed read (Ok noted) → (listed ≡ Ok noted.prepared.listing) × ((found : Footprints) × (read ≡ Ok found))
+was_read texts listed (Ok found) noted (Ok planned, is, (Ok jobs, on, so)) =
+    ((planned_from texts listed planned is).1 ∙ ap (λ (n : Noted). Ok n.prepared.listing) (sym (same so)), (found, refl))
+  where
+    same : {x y : Noted} → ◌≡◌ {A = Result Noted Reported} (Ok x) (Ok y) → x ≡ y
+    same e = cc
+was_read texts listed (Err fault) noted (Ok planned, is, (Ok jobs, on, so)) = absurd (cc on)
+was_read texts listed read noted (Ok planned, is, (Err reported, on, so)) = absurd (cc so)
+was_read texts listed read noted (Err reported, is, so) = absurd (cc so)
+
+-- so a copy of the footprints was read, and from the same texts
+pub copy_is : (texts : Texts) (listed : Result (List Name) Reported) (read : Result Footprints Reported) (noted : Noted) (copy : Option Footprints)
+    → IsNotedWith texts listed read (Ok noted) → IfOk read (λ found. copy ≡ Some found) → (found : Footprints) × (read ≡ Ok found) × (copy ≡ Some found)
+copy_is texts listed read noted copy is same =
+    let found = (was_read texts listed read noted is).1 in
+    (found.0, found.1, subst (λ (r : Result Footprints Reported). IfOk r (λ f. copy ≡ Some f)) found.1 same)
+
+pub read_again : (texts : Texts) (listed : Result (List Name) Reported) (read : Result Footprints Reported) (noted : Noted) (copy : Option Footprints)
+    (again : Footprints) (lines : List ℕ) → IsNotedWith texts listed read (Ok noted) → IfOk read (λ found. copy ≡ Some found) → copy ≡ Some again
+    → AreReadFrom texts lines listed read → AreReadFrom texts lines (Ok noted.prepared.listing) (Ok again)
+read_again texts listed read noted copy again lines is same some from =
+    let found = copy_is texts listed read noted copy is same in
+    let alike : found.0 ≡ again = inside (sym found.2 ∙ some) in
+    let read_is : read ≡ Ok again = found.1 ∙ ap (λ (f : Footprints). Ok f) alike in
+    record {
+      listing = λ root rooted. from.listing root rooted ∙ (was_read texts listed read noted is).0;
+      footprints = λ root rooted. subst (λ (r : Result Footprints Reported). IsRead root lines r) read_is (from.footprints root rooted);
+    }
+  where
+    inside : {x y : Footprints} → Some x ≡ Some y → x ≡ y
+    inside e = cc

@@ -1,7 +1,11 @@
 -- Whether a plan keeps the nodes of jobs.
-use Rattle.std.proofs.Common.{ℕ, zero, suc, ◌≡◌, ◌<◌, ◌≤◌, ◌↔◌, Bool, List, [], ◌∷◌, Option, Some, None, Err, map, length, get_or, refl, sym, ap, subst, ◌∙◌, arith}
+use Rattle.std.proofs.Common.{ℕ, zero, suc, ◌≡◌, ◌<◌, ◌≤◌, ◌↔◌, ◌+◌, Bool, List, [], ◌∷◌, Option, Some, None, Ok, Err, map, length, get_or, refl, sym, ap, subst, ◌∙◌, add-one, arith}
 use Rattle.std.specs.Prelude.{IsTrue}
+use Rattle.std.proofs.lemmas.List.Sums.{fold-append}
 use Rattle.std.proofs.lemmas.Option.{slice_get_past}
+use Rattle.std.specs.BTreeSet.{insert_key}
+use Rattle.std.specs.Cmp.Lexicographic.{slice_cmp}
+use Rattle.std.specs.Ordering.{nat_cmp}
 use Rattle.mk_name.specs.Names.{Name}
 use Rattle.mk_name.specs.Gives.{HaltsAmong}
 use Rattle.mk_name.specs.Reported.{Reported}
@@ -11,8 +15,10 @@ use Rattle.mk_jobs.specs.Jobs.{Jobs, name_of, node_count}
 use Rattle.mk_jobs.specs.Numbered.{number_of}
 use Rattle.mk_jobs.specs.Plan.{Node, names_of}
 use Rattle.mk_jobs.proofs.Numberings.{number_some}
-use Rattle.mk_race.specs.Again.{IsAlike, IsAlikeIfAny, IsChangeWith, IsKept}
-use Rattle.mk_race.specs.Stages.{IsPlanned, Texts}
+use Rattle.mk_text.specs.Listing.{put_among}
+use Rattle.mk_race.specs.Again.{IsAlike, IsAlikeIfAny, IsChangeWith, IsKept, product_name, product_names}
+use Rattle.mk_race.specs.Parts.{IsPlannedWith}
+use Rattle.mk_race.specs.Stages.{Texts}
 use Rattle.mk_race.specs.declared.again.Change.{Change}
 use Rattle.mk_race.specs.declared.again.Change.TheVariants as changes
 
@@ -85,6 +91,14 @@ kept_if jobs nodes n m x o result is named some alike =
     )
 
 -- a build whose texts are refused is a change
-pub refused_is : (texts : Texts) (jobs : Jobs) (halt : Halt) (fault : Reported) (change : Option Change) → HaltsAmong halt (IsPlanned texts) → halt ≡ Fault fault
-    → change ≡ Some changes.Refused → IsChangeWith texts jobs change
-refused_is texts jobs halt fault change h is refused = (Err fault, subst (λ (x : Halt). HaltsAmong x (IsPlanned texts)) is h, refused)
+pub refused_is : (texts : Texts) (listed : List Name) (jobs : Jobs) (halt : Halt) (fault : Reported) (change : Option Change)
+    → HaltsAmong halt (IsPlannedWith texts (Ok listed)) → halt ≡ Fault fault → change ≡ Some changes.Refused → IsChangeWith texts listed jobs change
+refused_is texts listed jobs halt fault change h is refused =
+    (Err fault, subst (λ (x : Halt). HaltsAmong x (IsPlannedWith texts (Ok listed))) is h, refused)
+
+-- the names of one node more are put among those that are there
+pub product_more : (listed so_far new : List Name) (jobs : Jobs) (n : ℕ) → so_far ≡ put_among listed (product_names jobs n)
+    → new ≡ put_among so_far (product_name jobs n) → new ≡ put_among listed (product_names jobs (n + 1))
+product_more listed so_far new jobs n is put =
+    rw add-one (put ∙ ap (λ (names : List Name). put_among names (product_name jobs n)) is
+    ∙ sym (fold-append (insert_key (slice_cmp nat_cmp)) listed (product_names jobs n) (product_name jobs n)))

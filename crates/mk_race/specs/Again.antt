@@ -6,27 +6,30 @@ use Rattle.mk_jobs.specs.Jobs.{Jobs, is_phony, maker_of, name_of, node_count, pr
 use Rattle.mk_jobs.specs.Numbered.{number_of}
 use Rattle.mk_jobs.specs.Plan.{Node, names_of, node_at}
 use Rattle.mk_stale.specs.Watching.{makes_own}
-use Rattle.mk_race.specs.Stages.{IsPlanned, Texts}
+use Rattle.mk_text.specs.Listing.{put_among}
+use Rattle.mk_race.specs.Parts.{IsPlannedWith}
+use Rattle.mk_race.specs.Stages.{Texts}
 use Rattle.mk_race.specs.declared.again.Change.{Change}
 use Rattle.mk_race.specs.declared.again.Change.TheVariants as changes
 use Rattle.mk_race.specs.declared.planning.Planned.{Planned}
+use Rattle.mk_race.specs.declared.preparing.Prepared.{Prepared}
 
 -- a node is a product: it makes its own file, and is not phony
 abbrev pub is_product : Jobs → ℕ → Bool
 is_product jobs n = makes_own jobs n && not (is_phony jobs n)
 
--- a newline and its name, if it is one
-abbrev pub product_line : Jobs → ℕ → List ℕ
-product_line jobs n = if is_product jobs n then 10 ∷ name_of jobs n else []
+-- its name, if it is one
+abbrev pub product_name : Jobs → ℕ → List Name
+product_name jobs n = if is_product jobs n then name_of jobs n ∷ [] else []
 
 -- those of all products below a number
-abbrev pub product_lines : Jobs → ℕ → List ℕ
-product_lines jobs ℕ.zero = []
-product_lines jobs (ℕ.suc n) = product_lines jobs n ++ product_line jobs n
+abbrev pub product_names : Jobs → ℕ → List Name
+product_names jobs ℕ.zero = []
+product_names jobs (ℕ.suc n) = product_names jobs n ++ product_name jobs n
 
--- the texts of a second build: the products are listed too
-abbrev pub texts_again : Texts → Jobs → Texts
-texts_again texts jobs = record texts { listing = texts.listing ++ product_lines jobs (node_count jobs) }
+-- the listing of a second build: the files that were listed, and the products
+abbrev pub listed_again : List Name → Jobs → List Name
+listed_again listed jobs = put_among listed (product_names jobs (node_count jobs))
 
 -- the name of a node of a plan
 abbrev pub name_in : List Node → ℕ → Name
@@ -62,10 +65,10 @@ abbrev pub IsChangeBy : Jobs → Result Planned Reported → Option Change → T
 IsChangeBy jobs (Ok planned) change = IsChangeTo jobs planned.plan.nodes change
 IsChangeBy jobs (Err reported) change = change ≡ Some changes.Refused
 
--- that of the build that these texts mean
-abbrev pub IsChangeWith : Texts → Jobs → Option Change → Type 0
-IsChangeWith texts jobs change = (given : Result Planned Reported) × IsPlanned texts given × IsChangeBy jobs given change
+-- that of the build that these texts mean, where these files are listed
+abbrev pub IsChangeWith : Texts → List Name → Jobs → Option Change → Type 0
+IsChangeWith texts listed jobs change = (given : Result Planned Reported) × IsPlannedWith texts (Ok listed) given × IsChangeBy jobs given change
 
 -- that of a second build
-abbrev pub IsChange : Texts → Jobs → Option Change → Type 0
-IsChange texts jobs change = IsChangeWith (texts_again texts jobs) jobs change
+abbrev pub IsChange : Texts → Prepared → Option Change → Type 0
+IsChange texts prepared change = IsChangeWith texts (listed_again prepared.listing prepared.jobs) prepared.jobs change

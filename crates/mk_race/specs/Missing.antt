@@ -26,7 +26,7 @@ IsMissingListOf prepared change (Err reported) = AreFound prepared.jobs (Err rep
 
 -- the same, with the change of a second build
 abbrev pub IsMissingListBy : Texts → Prepared → Result MissingList Reported → Type 0
-IsMissingListBy texts prepared answer = (change : Option Change) × IsChange texts prepared.jobs change × IsMissingListOf prepared change answer
+IsMissingListBy texts prepared answer = (change : Option Change) × IsChange texts prepared change × IsMissingListOf prepared change answer
 
 -- the races and violations of a build: the stages give its jobs or their first fault, and then all are listed
 abbrev pub IsMissingList : Texts → List ℕ → Result MissingList Reported → Type 0
@@ -53,5 +53,5 @@ pub record BuildsAsClean (texts : Texts) (footprints : List ℕ) : Type 0 where
   pub prepared : Prepared
   pub build : IsPrepared texts footprints (Ok prepared)
   pub only : (other : Prepared) → IsPrepared texts footprints (Ok other) → prepared ≡ other
-  pub again : IsChange texts prepared.jobs None
+  pub again : IsChange texts prepared None
   pub as_clean : LeavesAsClean prepared.jobs prepared.listing

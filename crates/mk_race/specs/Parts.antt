@@ -29,6 +29,15 @@ pub record AreReadFrom (texts : Texts) (lines : List ℕ) (listed : Result (List
   pub listing : IsListedFrom texts listed
   pub footprints : (root : List ℕ) → root_of texts.root ≡ Ok root → IsRead root lines read
 
+-- these texts with another listing
+abbrev pub listed_as : Texts → List ℕ → Texts
+listed_as texts listed = record texts { listing = listed }
+
+-- what is so of these texts with each listing, and of each footprints, from which these were read ahead
+abbrev pub ForTextsRead : Texts → Result (List Name) Reported → Result Footprints Reported → (Texts → List ℕ → Type 0) → Type 0
+ForTextsRead texts listing footprints Holds =
+    (listed lines : List ℕ) → AreReadFrom (listed_as texts listed) lines listing footprints → Holds (listed_as texts listed) lines
+
 -- the root, and then what is planned below it with the listing that was read
 abbrev pub IsPlannedWith : Texts → Result (List Name) Reported → Result Planned Reported → Type 0
 IsPlannedWith texts listed = Then (root_of texts.root) (λ root. IsPlannedBelow texts root listed)

@@ -1,16 +1,19 @@
 //! Whether a second build, which finds what the first one made, is planned as the first.
-ghost use Rattle.std.specs.Prelude.{◌≡◌, ◌++◌, ◌<◌, ◌↔◌, IfOk, IsTrue, OnOk, Some, length, map};
+ghost use Rattle.std.specs.Prelude.{◌≡◌, ◌<◌, ◌↔◌, IfOk, IsTrue, OnOk, Some, length, map};
 ghost use Rattle.mk_name.specs.Reported.{Reported};
 ghost use Rattle.mk_name.specs.declared.fault.Halt.TheVariants as halts;
 ghost use Rattle.mk_jobs.specs.Jobs as nodes;
+ghost use Rattle.mk_text.specs.Listing.{put_among};
 ghost use Rattle.mk_race.specs.Again as spec;
 ghost use Rattle.mk_race.specs.Stages.{texts_of};
 
 use crate::input::Input;
-use crate::planning::plan_of;
+use crate::planning::plan_ahead;
+use crate::preparing::Prepared;
 use mk_jobs::jobs::Jobs;
 use mk_jobs::plan::Plan;
 use mk_name::fault::Halt;
+use mk_text::listing::Listing;
 use std::alloc::{AllocError, Global};
 
 /// What a second build does otherwise than the first.
@@ -22,32 +25,30 @@ pub enum Change {
     Refused,
 }
 
-/// The first change of a second build, if it has one: with the names of the products of these jobs at the end of its listing the
-/// build is planned again. A product is a node that is not phony, and whose recipe may write its own file. The only error is out
-/// of memory.
-pub fn change_of(
+/// The first change of a second build, if it has one: the build is planned again with the names of the products of these jobs among
+/// those that were listed. A product is a node that is not phony, and whose recipe may write its own file. The listing of the input
+/// counts for nothing. The only error is out of memory.
+pub(crate) fn change_of(
     alloc: Global,
     input: &Input<'_>,
-    jobs: &Jobs,
+    prepared: &Prepared,
 ) -> Result<Option<Change>, AllocError>
-    ensures { IfOk result (spec.IsChange (texts_of input.now) jobs.now) }
+    ensures { IfOk result (spec.IsChange (texts_of input.now) prepared.now) }
 {
-    let mut listing = Vec::from_slice(alloc, input.listing)?;
-    push_products(&mut listing, jobs)?;
-    change_with(alloc, input, &listing, jobs)
+    let listing = listing_again(alloc, &prepared.listing, &prepared.jobs)?;
+    change_with(alloc, input, listing, &prepared.jobs)
 }
 
 /// The first change of a build with this listing in place of its own, if it has one. The only error is out of memory.
 fn change_with(
     alloc: Global,
     input: &Input<'_>,
-    listing: &[u8],
+    listing: Listing,
     jobs: &Jobs,
 ) -> Result<Option<Change>, AllocError>
-    ensures { IfOk result (spec.IsChangeWith (record (texts_of input.now) { listing = listing.now }) jobs.now) }
+    ensures { IfOk result (spec.IsChangeWith (texts_of input.now) listing jobs.now) }
 {
-    let again = Input { listing, ..*input };
-    match plan_of(alloc, &again) {
+    match plan_ahead(alloc, input, Ok(listing)) {
         Ok(planned) => Ok(first_change(jobs, &planned.plan)),
         Err(halt) => refusal_of(halt),
     }
@@ -64,26 +65,27 @@ fn refusal_of(halt: Halt) -> Result<Option<Change>, AllocError>
     }
 }
 
-/// Puts the names of all products at the end, each behind a newline. The only error is out of memory.
-fn push_products(text: &mut Vec<u8>, jobs: &Jobs) -> Result<(), AllocError>
-    ensures { OnOk result (text.new.items ≡ text.old.items ++ spec.product_lines jobs.now (nodes.node_count jobs.now)) }
+/// The names that were listed, with those of all products among them. The only error is out of memory.
+fn listing_again(alloc: Global, listing: &Listing, jobs: &Jobs) -> Result<Listing, AllocError>
+    ensures { IfOk result (λ again. again ≡ spec.listed_again listing.now jobs.now) }
 {
+    let mut again = listing.copy(alloc)?;
     for n in 0..jobs.count() {
-        push_product(text, jobs, n)?;
+        add_product(&mut again, alloc, jobs, n)?;
     }
-    Ok(())
+    Ok(again)
 }
 
-/// Puts a newline and the name of a node at the end, if it is a product. The only error is out of memory.
-fn push_product(text: &mut Vec<u8>, jobs: &Jobs, n: u32) -> Result<(), AllocError>
+/// Adds the name of a node, if it is a product. The only error is out of memory.
+fn add_product(listing: &mut Listing, alloc: Global, jobs: &Jobs, n: u32) -> Result<(), AllocError>
     requires { n < nodes.node_count jobs.now }
-    ensures { OnOk result (text.new.items ≡ text.old.items ++ spec.product_line jobs.now n) }
+    ensures { OnOk result (listing.new ≡ put_among listing.old (spec.product_name jobs.now n)) }
 {
     if !is_product(jobs, n) {
         return Ok(());
     }
-    text.push(b'\n')?;
-    text.extend_from_slice(jobs.name(n).as_bytes())
+    let name = jobs.name(n).copy(alloc)?;
+    listing.add(name)
 }
 
 /// Whether a node is a product.

@@ -1,16 +1,23 @@
 //! All that keeps a build of an old tree from leaving what a build of a clean tree leaves.
-ghost use Rattle.std.specs.Prelude.{IfOk};
+ghost use Rattle.std.specs.Prelude.{IfOk, List, ℕ};
 ghost use Rattle.mk_name.specs.Gives.{Answers};
 ghost use Rattle.mk_race.specs.Missing.{BuildsAsClean, IsEmpty, IsMissingList, IsMissingListOf, LeavesAsClean};
+ghost use Rattle.mk_race.specs.Parts.{AreReadFrom, ForTextsRead, texts_with};
 ghost use Rattle.mk_race.specs.Stages.{texts_of};
 
 use crate::again::{Change, change_of};
-use crate::input::Input;
+use crate::input::{Input, Settings};
 use crate::listing::races_of;
-use crate::preparing::{Prepared, prepare};
+use crate::parts::input_without;
+use crate::preparing::{Prepared, prepared_ahead};
 use mk_fix::races::Races;
+use mk_foot::foot_reader::FootReader;
+use mk_foot::footprints::Footprints;
 use mk_missing::violations::{Violations, find_violations};
-use mk_name::fault::Halt;
+use mk_name::fault::{Fault, Halt};
+use mk_read::texts::text_below;
+use mk_text::list_reader::ListReader;
+use mk_text::listing::Listing;
 use std::alloc::Global;
 
 /// What was prepared of a build, the races of its jobs, what keeps these from being declared, and the first change that a second
@@ -24,7 +31,7 @@ pub struct MissingList {
 }
 
 /// All races and all violations of a build, each once, with its jobs; and the first change that a second build makes in its plan,
-/// which finds what the first one made (see [`change_of`]).
+/// which finds what the first one made: the build is planned again with the names of its products listed too.
 ///
 /// The first fault is that of the jobs (see [`prepare`](crate::preparing::prepare)), and then `TooManyPairs` in the jobs at place 0,
 /// where more than 1,000,000 pairs of recipes clash. The only other error is out of memory.
@@ -34,8 +41,52 @@ pub fn list_missing(alloc: Global, input: &Input<'_>) -> Result<MissingList, Hal
     ensures headline { IfOk result (λ listed. IsEmpty listed
         → BuildsAsClean (texts_of input.now) input.now.footprints.now) }
 {
-    let prepared = prepare(alloc, input)?;
-    let change = change_of(alloc, input, &prepared.jobs)?;
+    let listing = text_below::<ListReader>(alloc, input.root, input.listing)?;
+    let footprints = text_below::<FootReader>(alloc, input.root, input.footprints)?;
+    missing_ahead(alloc, input, listing, footprints)
+}
+
+/// All races and all violations of a build whose listing and footprints were read ahead, each into what it says or its first fault;
+/// and the first change that a second build makes in its plan.
+///
+/// Where these are the results of two texts below the root of the settings, they are those that [`list_missing`] gives for those
+/// texts, with the same first fault: so a text may come in pieces, and need not be kept. Where the root is refused they count for
+/// nothing. The only other error is out of memory.
+pub fn missing_parts(
+    alloc: Global,
+    settings: &Settings<'_>,
+    base: &[u8],
+    makefile: &[u8],
+    listing: Result<Listing, Fault>,
+    footprints: Result<Footprints, Fault>,
+) -> Result<MissingList, Halt>
+    ensures missing { (listed lines : List ℕ)
+        → AreReadFrom (texts_with settings.now base.now makefile.now listed) lines listing footprints
+        → Answers result (IsMissingList (texts_with settings.now base.now makefile.now listed) lines) }
+    // The headline: where there is none of these, a build of an old tree leaves what a build of a clean tree leaves.
+    ensures headline { IfOk result (λ given. IsEmpty given → (listed lines : List ℕ)
+        → AreReadFrom (texts_with settings.now base.now makefile.now listed) lines listing footprints
+        → BuildsAsClean (texts_with settings.now base.now makefile.now listed) lines) }
+{
+    let input = input_without(settings, base, makefile);
+    missing_ahead(alloc, &input, listing, footprints)
+}
+
+/// All races and all violations of a build whose listing and footprints were read ahead, and its change; those of the input count
+/// for nothing.
+fn missing_ahead(
+    alloc: Global,
+    input: &Input<'_>,
+    listing: Result<Listing, Fault>,
+    footprints: Result<Footprints, Fault>,
+) -> Result<MissingList, Halt>
+    ensures missing { ForTextsRead (texts_of input.now) listing footprints
+        (λ texts lines. Answers result (IsMissingList texts lines)) }
+    ensures headline { IfOk result (λ given. IsEmpty given
+        → ForTextsRead (texts_of input.now) listing footprints BuildsAsClean) }
+{
+    let prepared = prepared_ahead(alloc, input, listing, footprints)?;
+    let change = change_of(alloc, input, &prepared)?;
     missing_of(alloc, prepared, change)
 }
 

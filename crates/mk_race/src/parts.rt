@@ -7,7 +7,7 @@ ghost use Rattle.mk_race.specs.Stages.{AreListed, IsPlanned, texts_of};
 ghost use Rattle.mk_race.specs.Unused.{IsNoted};
 
 use crate::input::{Input, Settings};
-use crate::judging::{judge_prepared, refused};
+use crate::judging::judge_ahead;
 use crate::planning::{Planned, plan_ahead};
 use crate::unused::{Noted, noted_ahead};
 use mk_foot::footprints::Footprints;
@@ -60,10 +60,8 @@ pub fn judge_parts(
     // Where it is a race, a run from any store that fits can follow the trace, and then both recipes run.
     ensures holds { IfOk result HoldsOfRace }
 {
-    match noted_parts(alloc, settings, base, makefile, listing, footprints) {
-        Ok(noted) => judge_prepared(alloc, noted.prepared),
-        Err(halt) => refused(halt),
-    }
+    let input = input_without(settings, base, makefile);
+    judge_ahead(alloc, &input, listing, footprints)
 }
 
 /// The jobs of a build whose listing and footprints were read ahead, with its footprints that lie unused.
@@ -85,7 +83,11 @@ pub(crate) fn noted_parts(
 }
 
 /// The input of these settings and makefiles, with no listing and no footprints.
-fn input_without<'a>(settings: &Settings<'a>, base: &'a [u8], makefile: &'a [u8]) -> Input<'a>
+pub(crate) fn input_without<'a>(
+    settings: &Settings<'a>,
+    base: &'a [u8],
+    makefile: &'a [u8],
+) -> Input<'a>
     ensures { texts_of result ≡ texts_with settings.now base.entry.now makefile.entry.now [] }
 {
     Input {

@@ -1,5 +1,6 @@
 //! From the texts of a build to its jobs.
 ghost use Rattle.mk_name.specs.Gives.{Answers};
+ghost use Rattle.mk_race.specs.Parts.{ForTextsRead};
 ghost use Rattle.mk_race.specs.Stages.{AreJobs, IsPrepared, texts_of};
 
 use crate::input::Input;
@@ -9,7 +10,7 @@ use mk_foot::foot_reader::FootReader;
 use mk_foot::footprints::Footprints;
 use mk_jobs::jobs::Jobs;
 use mk_jobs::plan::Plan;
-use mk_name::fault::Halt;
+use mk_name::fault::{Fault, Halt};
 use mk_read::texts::text_below;
 use mk_rules::rulebook::Rulebook;
 use mk_text::list_reader::ListReader;
@@ -37,6 +38,19 @@ pub fn prepare(alloc: Global, input: &Input<'_>) -> Result<Prepared, Halt>
 {
     let listing = text_below::<ListReader>(alloc, input.root, input.listing)?;
     let footprints = text_below::<FootReader>(alloc, input.root, input.footprints)?;
+    prepared_ahead(alloc, input, listing, footprints)
+}
+
+/// The jobs of a build whose listing and footprints were read ahead; those of the input count for nothing.
+pub(crate) fn prepared_ahead(
+    alloc: Global,
+    input: &Input<'_>,
+    listing: Result<Listing, Fault>,
+    footprints: Result<Footprints, Fault>,
+) -> Result<Prepared, Halt>
+    ensures { ForTextsRead (texts_of input.now) listing footprints
+        (λ texts lines. Answers result (IsPrepared texts lines)) }
+{
     match noted_ahead(alloc, input, listing, footprints) {
         Ok(noted) => Ok(noted.prepared),
         Err(halt) => Err(halt),

@@ -1,3 +1,4 @@
+pub mod Copies
 pub mod FedLines
 pub mod Feeding
 pub mod Joins

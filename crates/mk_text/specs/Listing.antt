@@ -16,9 +16,13 @@ lines text = physical_lines text
 abbrev pub next_place : ℕ → ℕ
 next_place place = min (place + 1) (2 ^ 64 - 1)
 
--- names in their order, byte by byte, each once
+-- names put among others, which stand in their order, byte by byte, each once
+abbrev pub put_among : List (List ℕ) → List (List ℕ) → List (List ℕ)
+put_among others names = fold (insert_key (slice_cmp nat_cmp)) others names
+
+-- names in this order
 abbrev pub in_order : List (List ℕ) → List (List ℕ)
-in_order names = fold (insert_key (slice_cmp nat_cmp)) [] names
+in_order names = put_among [] names
 
 -- a fault of the listing at this line
 abbrev pub at_line : ℕ → Result (List ℕ) Reported → Result (List (List ℕ)) Reported
@@ -43,7 +47,7 @@ names_from root place (line ∷ more) = both (line_names root place line) (names
 -- these names put among others
 abbrev pub with_names : List (List ℕ) → Result (List (List ℕ)) Reported → Result (List (List ℕ)) Reported
 with_names others (Err fault) = Err fault
-with_names others (Ok names) = Ok (fold (insert_key (slice_cmp nat_cmp)) others names)
+with_names others (Ok names) = Ok (put_among others names)
 
 -- what `Listing::read` answers: the names of its lines in order, each once, or the first fault
 abbrev pub listing_of : List ℕ → List ℕ → Result (List (List ℕ)) Reported

@@ -1,11 +1,11 @@
 //! The listing: the files that exist, one path a line.
-ghost use Rattle.std.specs.Prelude.{◌≡◌, ◌↔◌, List, ℕ, Ok, OnOk, IfErr, IsSome, IsTrue};
+ghost use Rattle.std.specs.Prelude.{◌≡◌, ◌↔◌, ◌∷◌, [], List, ℕ, Ok, OnErr, OnOk, IfErr, IfOk, IsSome, IsTrue};
 ghost use Rattle.std.specs.BTreeMap.{get};
 ghost use Rattle.std.specs.List.{All};
 ghost use Rattle.std.specs.Cmp.Lexicographic.{slice_cmp};
 ghost use Rattle.std.specs.Ordering.{nat_cmp};
 ghost use Rattle.mk_name.specs.Gives.{Gives, Halts};
-ghost use Rattle.mk_text.specs.Listing.{in_order, listing_of, line_names, with_names};
+ghost use Rattle.mk_text.specs.Listing.{in_order, listing_of, line_names, put_among, with_names};
 ghost use Rattle.mk_name.specs.Names.{has, same_name};
 
 use crate::list_reader::ListReader;
@@ -13,7 +13,7 @@ use crate::root::Root;
 use crate::spelling::plain_path;
 use mk_name::fault::{Halt, Source};
 use mk_name::name::Name;
-use std::alloc::Global;
+use std::alloc::{AllocError, Global};
 use std::collections::{BTreeMap, BTreeSet};
 use std::marker::Model;
 
@@ -56,6 +56,26 @@ impl Listing {
         ensures { result ≡ names.keys }
     {
         Listing { names }
+    }
+
+    /// An equal listing. The only error is out of memory.
+    pub fn copy(&self, alloc: Global) -> Result<Listing, AllocError>
+        ensures { IfOk result (λ copy. copy ≡ self.now) }
+    {
+        let mut names = BTreeSet::new(alloc);
+        for name in &self.names {
+            names.insert(name.copy(alloc)?)?;
+        }
+        Ok(Listing { names })
+    }
+
+    /// Adds the name of a file, where it is not there yet. The only error is out of memory, and then the listing stays as it was.
+    pub fn add(&mut self, name: Name) -> Result<(), AllocError>
+        ensures added { OnOk result (self.new ≡ put_among self.old (name ∷ [])) }
+        ensures same { OnErr result (self.new ≡ self.old) }
+    {
+        self.names.insert(name)?;
+        Ok(())
     }
 
     /// Whether the file exists.

@@ -2,7 +2,7 @@ use Rattle.std.proofs.Common.{List, Err, map, refl, ℕ}
 use Rattle.std.specs.Borrow.{Bor}
 use Rattle.mk_files.specs.Includes.{Pair}
 use Rattle.mk_program.specs.Answers.{HasNoText, IsCheckAnswer, IsFixAnswer, IsListAnswer, IsMissingAnswer, IsReplayAnswer, IsSerialiseAnswer, IsVerifyAnswer, texts_for}
-use Rattle.mk_program.proofs.Replies.{job_failure, noted_answer, quiet_answer, text_answer}
+use Rattle.mk_program.proofs.Replies.{job_failure, noted_answer, quiet_answer, build_answer}
 use Rattle.mk_request.specs.declared.inputs.InputFile.TheVariants as inputs
 use Rattle.mk_program.proofs.answers.job_reply.Goals as goal
 
@@ -63,10 +63,10 @@ returns-in-List-clause-answer g c =
 
 pub returns-in-Fix-clause-answer : goal.returns-in-Fix-clause-answer
 returns-in-Fix-clause-answer g c =
-    text_answer (g.P.Opener.files c.args.opener.now) c.args.args.now (pairs c.args.includes.now) c.whole_reply.result _ c.in-Fix.is
-    (λ text. IsFixAnswer (texts_for c.args.args.now.build (pairs c.args.includes.now) text) (text inputs.Footprints) c.in-Fix.print_proof) (λ text status answer note said. said) c.whole_reply.ensures.answer
+    build_answer (g.P.Opener.files c.args.opener.now) c.args.args.now (pairs c.args.includes.now) c.build_reply.result _ c.in-Fix.is
+    (λ text. IsFixAnswer (texts_for c.args.args.now.build (pairs c.args.includes.now) text) (text inputs.Footprints) c.in-Fix.print_proof) (λ text status answer note said. said) c.build_reply.ensures.answer
 
 pub returns-in-Missing-clause-answer : goal.returns-in-Missing-clause-answer
 returns-in-Missing-clause-answer g c =
-    text_answer (g.P.Opener.files c.args.opener.now) c.args.args.now (pairs c.args.includes.now) c.whole_reply-in-Missing.result _ c.in-Missing.is
-    (λ text. IsMissingAnswer (texts_for c.args.args.now.build (pairs c.args.includes.now) text) (text inputs.Footprints)) (λ text status answer note said. said) c.whole_reply-in-Missing.ensures.answer
+    build_answer (g.P.Opener.files c.args.opener.now) c.args.args.now (pairs c.args.includes.now) c.build_reply-in-Missing.result _ c.in-Missing.is
+    (λ text. IsMissingAnswer (texts_for c.args.args.now.build (pairs c.args.includes.now) text) (text inputs.Footprints)) (λ text status answer note said. said) c.build_reply-in-Missing.ensures.answer

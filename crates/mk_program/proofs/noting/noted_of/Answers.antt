@@ -1,27 +1,11 @@
-use Rattle.std.proofs.Common.{◌≡◌, ◌∙◌, List, Result, Ok, ap, refl, subst, sym, ℕ}
+use Rattle.std.proofs.Common.{◌∙◌, Ok, ap, refl, subst}
 use Rattle.std.proofs.lemmas.Result.{IfOk-weaker}
 use Rattle.mk_name.specs.Gives.{Answers}
-use Rattle.mk_name.specs.Names.{Name}
-use Rattle.mk_name.specs.Reported.{Reported}
-use Rattle.mk_foot.specs.Footprints.{Footprints}
-use Rattle.mk_text.specs.Spelling.{root_of}
-use Rattle.mk_race.specs.Parts.{AreReadFrom}
 use Rattle.mk_race.specs.Stages.{IsPrepared, Texts}
 use Rattle.mk_race.specs.Unused.{IsNotedBy}
-use Rattle.mk_request.specs.declared.inputs.InputFile.{InputFile}
 use Rattle.mk_request.specs.declared.inputs.InputFile.TheVariants as inputs
-use Rattle.mk_files.specs.Builds.{AreFoundBelow, IsListedBelow}
-use Rattle.mk_program.proofs.Answering.{listed_from, pairs, texts_are, words}
+use Rattle.mk_program.proofs.Answering.{pairs, read_from, texts_are, words}
 use Rattle.mk_program.proofs.noting.noted_of.Goals as goal
-
--- what was read below the root was read from these texts
-read_from : (root same : List ℕ) (text : InputFile → List ℕ) (listing : Result (List Name) Reported) (footprints : Result Footprints Reported)
-    → IsListedBelow root text listing → AreFoundBelow root text footprints → same ≡ root → (texts : Texts) → texts.root ≡ same → texts.listing ≡ text inputs.Listing
-    → AreReadFrom texts (text inputs.Footprints) listing footprints
-read_from root same text listing footprints below found is texts at listed = record {
-  listing = listed_from root same text listing below is texts at listed;
-  footprints = λ r good. found r (ap root_of (sym is ∙ sym at) ∙ good);
-}
 
 pub returns-clause-answer : goal.returns-clause-answer
 returns-clause-answer c =

@@ -1,28 +1,11 @@
-use Rattle.std.proofs.Common.{◌≡◌, ◌≢◌, List, Option, ℕ, inl, inr, subst, sym}
+use Rattle.std.proofs.Common.{Option, inl, inr, subst}
 use Rattle.std.proofs.lemmas.Result.{IfOk-weaker, err_from_is_err_and}
-use Rattle.std.specs.Prelude.{IfSome}
 use Rattle.mk_request.specs.Requests.{job_inputs, other_input}
-use Rattle.mk_request.specs.declared.inputs.InputFile.{InputFile}
-use Rattle.mk_request.specs.declared.inputs.InputFile.TheVariants.{Base}
 use Rattle.mk_request.specs.declared.inputs.InputPath.{InputPath}
-use Rattle.mk_request.specs.declared.requests.JobArgs.{JobArgs}
-use Rattle.mk_files.specs.Builds.{IsReadAs}
-use Rattle.mk_files.specs.Inputs.{Hold, IsShortOr, IsUnread}
-use Rattle.mk_files.specs.declared.builds.ReadJob.{ReadJob}
+use Rattle.mk_files.specs.Inputs.{IsShortOr, IsUnread}
 use Rattle.mk_files.proofs.Reported.{err_more}
-use Rattle.mk_program.proofs.Replies.{no_base}
+use Rattle.mk_program.proofs.Replies.{read_is}
 use Rattle.mk_program.proofs.noting.noted_reply.Goals as goal
-
--- what was read of the inputs of these jobs is what their files hold
-read_is : (args : JobArgs) (files : List ℕ → Option (List ℕ)) (other : Option InputPath) → other ≡ other_input args.question → (read : ReadJob)
-    → ((text : InputFile → List ℕ) → IfSome other (λ (known : InputPath). known.input ≢ Base)
-    → Hold files (job_inputs args.build args.footprints other) text → IsReadAs args.build.root.now other text read)
-    → (text : InputFile → List ℕ) → Hold files (job_inputs args.build args.footprints (other_input args.question)) text
-    → IsReadAs args.build.root.now (other_input args.question) text read
-read_is args files other is read reads text hold =
-    subst (λ (o : Option InputPath). IsReadAs args.build.root.now o text read) is
-    (reads text (subst (λ (o : Option InputPath). IfSome o (λ (known : InputPath). known.input ≢ Base)) (sym is) (no_base args.question))
-    (subst (λ (o : Option InputPath). Hold files (job_inputs args.build args.footprints o) text) (sym is) hold))
 
 pub returns-in_err-read-clause-failure : goal.returns-in_err-read-clause-failure
 returns-in_err-read-clause-failure g c =

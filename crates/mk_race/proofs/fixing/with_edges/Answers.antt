@@ -5,7 +5,7 @@ use Rattle.mk_race.proofs.Fixings.{lines_with}
 use Rattle.mk_race.proofs.fixing.with_edges.Goals as goal
 
 pub returns-in-Ok-NoWord-clause-answer : goal.returns-in-Ok-NoWord-clause-answer
-returns-in-Ok-NoWord-clause-answer c = (
+returns-in-Ok-NoWord-clause-answer c = λ listed lines from. (
   refl,
   c.requires,
   no_word (lines_with c.args.input.now.makefile.now c.args.jobs c.deref.result.now c.args.edges.items c.in-Ok-NoWord.field-0 found.NoWord c.deref.ensures.value c.in-Ok-NoWord.field-0-is
@@ -13,7 +13,7 @@ returns-in-Ok-NoWord-clause-answer c = (
 )
 
 pub returns-in-Ok-NoRoom-clause-answer : goal.returns-in-Ok-NoRoom-clause-answer
-returns-in-Ok-NoRoom-clause-answer c = (
+returns-in-Ok-NoRoom-clause-answer c = λ listed lines from. (
   refl,
   c.requires,
   no_room (lines_with c.args.input.now.makefile.now c.args.jobs c.deref.result.now c.args.edges.items c.in-Ok-NoRoom.field-0 found.NoRoom c.deref.ensures.value c.in-Ok-NoRoom.field-0-is

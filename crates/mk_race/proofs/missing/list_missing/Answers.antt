@@ -1,13 +1,14 @@
-use Rattle.mk_race.specs.Stages.{texts_of}
-use Rattle.mk_race.proofs.AsClean.{changed_list, headline_of}
+use Rattle.std.proofs.lemmas.Result.{IfOk-weaker}
 use Rattle.mk_race.proofs.missing.list_missing.Goals as goal
 
 pub returns-clause-missing : goal.returns-clause-missing
 returns-clause-missing c =
-    changed_list (texts_of c.args.input.now) c.args.input.now.footprints.now c.in_ok-prepared.prepared c.in_ok-change.change c.missing_of.result
-    c.in_ok-prepared.ensures c.in_ok-change.ensures c.missing_of.ensures.missing
+    let a = c.args.input.now in
+    c.missing_ahead.ensures.missing a.listing.now a.footprints.now
+    (record { listing = c.in_ok-listing.ensures; footprints = c.in_ok-footprints.ensures })
 
 pub returns-clause-headline : goal.returns-clause-headline
 returns-clause-headline c =
-    headline_of (texts_of c.args.input.now) c.args.input.now.footprints.now c.in_ok-prepared.prepared c.in_ok-change.change c.missing_of.result
-    c.in_ok-prepared.ensures c.in_ok-change.ensures c.missing_of.ensures.missing c.missing_of.ensures.headline
+    let a = c.args.input.now in
+    IfOk-weaker c.missing_ahead.result _ _ (λ given builds empty. builds empty a.listing.now a.footprints.now
+    (record { listing = c.in_ok-listing.ensures; footprints = c.in_ok-footprints.ensures })) c.missing_ahead.ensures.headline

@@ -1,27 +1,18 @@
-use Rattle.std.proofs.Common.{Err, Ok, subst}
+use Rattle.std.proofs.Common.{subst}
 use Rattle.std.proofs.lemmas.Result.{IfOk-weaker}
-use Rattle.mk_name.specs.Gives.{HaltsAmong}
-use Rattle.mk_name.specs.declared.fault.Halt.{Halt}
-use Rattle.mk_race.specs.Parts.{texts_with}
-use Rattle.mk_race.specs.Unused.{IsNoted}
+use Rattle.mk_race.specs.Judged.{IsAnswered, NoScheduleShows}
+use Rattle.mk_race.specs.Parts.{ForTextsRead}
+use Rattle.mk_race.specs.Stages.{Texts}
 use Rattle.mk_race.proofs.parts.judge_parts.Goals as goal
 
-pub returns-in-Ok-clause-answer : goal.returns-in-Ok-clause-answer
-returns-in-Ok-clause-answer c =
-    IfOk-weaker c.judge_prepared.result _ _ (λ answer decided listed lines from.
-    (Ok c.in-Ok.noted.prepared, (c.in-Ok.ensures.answer listed lines from).0, decided)) c.judge_prepared.ensures.answer
+pub returns-clause-answer : goal.returns-clause-answer
+returns-clause-answer c =
+    IfOk-weaker c.judge_ahead.result _ _ (λ answer is.
+    subst (λ (texts : Texts). ForTextsRead texts c.args.listing c.args.footprints (λ texts lines. IsAnswered texts lines answer))
+    c.input_without-input.ensures is) c.judge_ahead.ensures.answer
 
-pub returns-in-Ok-clause-headline : goal.returns-in-Ok-clause-headline
-returns-in-Ok-clause-headline c =
-    IfOk-weaker c.judge_prepared.result _ _ (λ answer shows safe listed lines from.
-    shows (texts_with c.args.settings.now c.args.base.now c.args.makefile.now listed) lines (c.in-Ok.ensures.answer listed lines from).0 safe)
-    c.judge_prepared.ensures.headline
-
-pub returns-in-Err-clause-answer : goal.returns-in-Err-clause-answer
-returns-in-Err-clause-answer c =
-    IfOk-weaker c.refused.result _ _ (λ answer h listed lines from. (
-      Err h.0,
-      subst (λ (halt : Halt). HaltsAmong halt (IsNoted (texts_with c.args.settings.now c.args.base.now c.args.makefile.now listed) lines)) h.1
-          (c.in-Err.ensures.answer listed lines from),
-      h.2,
-    )) c.refused.ensures
+pub returns-clause-headline : goal.returns-clause-headline
+returns-clause-headline c =
+    IfOk-weaker c.judge_ahead.result _ _ (λ answer shows safe.
+    subst (λ (texts : Texts). ForTextsRead texts c.args.listing c.args.footprints NoScheduleShows) c.input_without-input.ensures (shows safe))
+    c.judge_ahead.ensures.headline
