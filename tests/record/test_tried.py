@@ -5,6 +5,7 @@ import unittest
 from typing import Dict
 
 import support
+from record.clock import clock
 from record.tools.computed import tests_unseen
 from record.tools.shellages import may_show_ages
 from record.tools.shelltext import glob_words
@@ -16,6 +17,8 @@ LISTS = "all: b a\na: ; touch z.i a\nb: ; %s > b\n"
 FOLDER = "all: a b\na: ; %s\nb: ; mkdir -p d; touch b\n"
 # Two recipes that nothing orders make x and y, and a third one looks at both.
 SIDE = "all: c\nx: ; echo 1 > x\ny: ; echo 2 > y\nc: x y ; { %s; } > c || true\n"
+# Two recipes with a file of their own, whose name has the time in thousandths of a second.
+TIMED = "a b: ; t=t.$$(date +%s%N | cut -c1-13); echo $@ > $$t; mv $$t $@\n"
 UNKNOWN = "programs that nobody knows look at two files"
 
 TRIED: Dict[str, Small] = {
@@ -30,6 +33,9 @@ TRIED: Dict[str, Small] = {
     "folder_by_a_function_of_that_name": Small("race", FOLDER % 'mkdir() { /bin/mkdir "$$@" && echo made > a; }; test -d d || mkdir -p d; touch a'),
     "folder_beside_a_function": Small("safe", FOLDER % "f() { touch a; }; test -d d || mkdir -p d; f"),
     "folder_and_a_list_of_the_programs_that_ran": Small("race", FOLDER % "test -d d || mkdir -p d; hash > a"),
+    # names
+    "names_with_the_time": Small("safe", "all: a b\n" + TIMED, says="recipes that put the time into the name"),
+    "names_with_the_time_in_order": Small("safe", "all: a b\nb: a\n" + TIMED, lacks="recipes that put the time into the name"),
     # ages
     "test_with_an_operator_of_a_macro": Small("safe", SIDE % "t=t; test x -n$$t y && echo yes", says=UNKNOWN),
     "test_with_words_of_a_program": Small("safe", SIDE % "test $$(cat how) && echo yes", {"how": "x -nt y\n"}, says=UNKNOWN),
@@ -56,6 +62,12 @@ class Texts(unittest.TestCase):
     def test_brackets_that_a_quote_cuts(self) -> None:
         for text, wanted in (("echo [a'b']*", True), ("echo [a\\ b]*", True), ("echo ['ab']*", True), ("echo [a\\;b]*", True), ("echo [ab]'c'*", False), ("echo [ab]*", False), ("[ -e 'a'*.c ]", False)):
             self.assertEqual(wanted, "*" in glob_words(text), text)
+
+    def test_names_that_have_the_time(self) -> None:
+        found = clock(1795793502)
+        for name, wanted in (("t.1795793502", "t.@"), ("1795793502123.c", "@.c"), ("20261127-153142", "@"), ("d/2026-11-27T15:31:42x", "d/@x"), ("20261126.153142", "@"), ("20261128153142", "@"),
+                             ("t.1795793502123456", ""), ("t.1700000000", ""), ("20261127", ""), ("a-20250101-153142", ""), ("t.21795793502", "")):
+            self.assertEqual(wanted or name, found.sub("@", name), name)
 
     def test_tests_of_which_a_word_is_computed(self) -> None:
         for text in ("test x -n$t y", '[ x -n"$o" y ]', "[ $o y ]", "[ $o ]", "test `cat how`", "test x `cat how` y", "test \\( x $o y \\)", "test -f x -a x $o y", 'test "$a" = "" -a x "$o" y',
