@@ -15,7 +15,7 @@ TEXTS = {
     "sockets": "servers that processes talk to keep no files of the build; ports that they open are free; memory is shared by processes of one recipe alone",
     "processes": "who lists the processes that run (ps, pgrep), signals or looks at one of another recipe, sets its limits (prlimit, renice, taskset), or waits for changes of files (inotify, leases), does the same whatever else runs",
     "read-times": "who asks when a file was read last (test -N, find -anewer, st_atime) does the same whoever has read it",
-    "locks": "who asks for a lock of a file, and does not wait for it, does the same where another one has it",
+    "locks": "who asks for a lock of a file, and does not wait for it, does the same where another one has it; recipes that take two locks take them in one order",
     "clock": "recipes that put the time into the name of a file have each another time there",
     "queries": "what a make that only asks (-n, -q, -t) runs by `+` or $(MAKE) does the same in any order",
     "hard-links": "files that got or lost a second name, or have one and were written, have none outside of the project; interpreters and programs that nobody knows do not count the names of a file",
