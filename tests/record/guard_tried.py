@@ -31,6 +31,8 @@ TRIED_GUARDS: List[Guard] = [
     Guard("tried: names with the time", "clock.py", "if any(one != other and build", "if False and any(one != other and build", tried("names_with_the_time"), UNSAID),
     Guard("tried: names with the time in order", "clock.py", " and build.unordered(one, other) for", " for", tried("names_with_the_time_in_order")),
     Guard("tried: names with a time that is long ago", "clock.py", "(?<!\\d)(?:(?:%s)", "(?<!\\d)(?:(?:1\\d{4}%.0s)", text("names_that_have_the_time")),
+    Guard("tried: two locks of one recipe", "trace/opened.py", "if any(other != path for other in taken):", "if False:", "test_classes.Recorded.test_two_locks_of_one_recipe"),
+    Guard("tried: one lock of one recipe", "trace/opened.py", "if any(other != path for other in taken):", "if taken:", "test_classes.Recorded.test_two_locks_of_one_recipe"),
     Guard("tried: computed operators", COMPUTED, " or tests_unseen(text):", ":", tried("test_with_an_operator_of_a_macro"), UNSAID),
     Guard("tried: parts of operators", COMPUTED, '"-?[no]?[$`]"', '"[$`]"', tried("test_with_an_operator_of_a_macro"), UNSAID),
     Guard("tried: tests that other words make", COMPUTED, "        if is_several and", "        if False and", tried("test_with_words_of_a_file"), UNSAID),
