@@ -14,6 +14,7 @@ from typing import List, Set
 
 from record.assumptions import Assumptions
 from record.cleaned import Cleaned
+from record.clock import named_by_time
 from record.configured import find_configured
 from record.failed import explained, failures
 from record.folder import Record, write_record
@@ -164,6 +165,8 @@ def import_record(spool: Path, names: Names, kept: Kept, real: str, folder: str,
     for path in made_unseen(owners.makes, ninjas, names, past.until(sys.maxsize)):
         record.holes.append("%s was absent, and something else made it while the build ran, so its recipe did not run: let nothing else build here, and record again" % path)
     builds = sorted(builds + of_ninja, key=lambda build: build.make.life.born)
+    for name in named_by_time(builds):
+        assumed.add("clock", name)
     if (owners.makes or ninjas) and record.status == 0 and did_nothing(builds):
         record.holes.append(IDLE)
     cleaned = Cleaned(names, replay.changes, [one.life for one in (*owners.makes, *ninjas)], replay.all)

@@ -1,4 +1,4 @@
-"""Whether a shell runs commands that do not stand in its text: then nobody knows whether it compares ages."""
+"""Whether a shell runs commands that do not stand in its text, or tests of which it computes the operator: then nobody knows whether it compares ages."""
 
 import os
 import re
@@ -14,6 +14,16 @@ OF_AUTOMAKE = ("install-sh", "mkinstalldirs", "missing", "depcomp", "compile", "
 VERSION = "scriptversion="
 DEPTH = 3  # how many scripts may take in one another
 
+TEST = re.compile(r"(?<![^\s;&|({!`])[\"'\\]?(?:test|\[)[\"']?(?=[ \t])")  # where a test begins
+# A word of a test, which ends at a blank: quotes, what macros and other programs give, and other signs.
+TESTED = re.compile(r"""[ \t]+((?:"(?:\\.|[^"\\])*"|'[^']*'|\$\((?:[^()]|\([^()]*\))*\)|\$\{[^}]*\}|`[^`]*`|\\.|[^\s;&|"'`])+)""")
+SINGLE = re.compile(r"'[^']*'")
+DOUBLE = re.compile(r'"(?:\\.|[^"\\])*"')
+OPERATOR = re.compile(r"-\w+|[!=<>]=?|==|\\?[()<>]")  # of a test: what stands behind it is no operator
+BEGINS = ("!", "(", "\\(", "-a", "-o")  # words behind which an expression begins
+HIDES = re.compile(r"-?[no]?[$`]")  # a word that may be `-nt`: `$o`, `-n$t`
+SEVERAL = re.compile(r"\$(?:@|\{\w*\[?@)")  # `"$@"`: several words in quotes
+
 
 def runs_unseen(argv: List[str], folder: str) -> bool:
     """The same of a shell's words; of a text that comes from elsewhere it is known that nobody reads it."""
@@ -27,6 +37,34 @@ def runs_unseen(argv: List[str], folder: str) -> bool:
 
 def is_open(text: str, folder: str, depth: int) -> bool:
     """Whether a text runs such commands, or one that it takes in."""
-    if COMMAND.search(text) or TAKES.search(text):
+    if COMMAND.search(text) or TAKES.search(text) or tests_unseen(text):
         return True
     return depth < DEPTH and any(is_open(contents(os.path.join(folder, name)), folder, depth + 1) for name in sourced(text) if "$" not in name)
+
+
+def tests_unseen(text: str) -> bool:
+    """Whether a test may compare what does not stand in a text: `[ x $o y ]`, `test x -n$t y`, `test "$@"`, `[ $(cat how) ]`."""
+    return any(is_hidden(words_of(text, mark.end())) for mark in TEST.finditer(text))
+
+
+def words_of(text: str, at: int) -> List[str]:
+    """The words of a test, up to its end."""
+    found: List[str] = []
+    word = TESTED.match(text, at)
+    while word is not None and word.group(1) != "]":
+        found.append(word.group(1))
+        word = TESTED.match(text, word.end())
+    return found
+
+
+def is_hidden(words: List[str]) -> bool:
+    """Whether one of the words of a test may be its operator, or all of it: a macro behind an operand, or several words where an operand stands."""
+    for at, word in enumerate(words):
+        before, behind = words[at - 1] if at else "!", words[at + 1] if at + 1 < len(words) else ""
+        if OPERATOR.fullmatch(before) is None and behind and HIDES.match(re.sub("[\"']", "", word)):
+            return True
+        bare = DOUBLE.sub("", SINGLE.sub("", word))
+        is_several = "$" in bare or "`" in bare or SEVERAL.search(SINGLE.sub("", word)) is not None
+        if is_several and before in BEGINS and OPERATOR.fullmatch(behind) is None:
+            return True
+    return False

@@ -30,15 +30,18 @@ AGE_WORDS = re.compile(r"""
     """, re.VERBOSE)
 # The same of one program, by its name: these words would be others elsewhere.
 SHOWS_AGES = {
-    "ls": re.compile(r"\s(-\w*[tlcugon]|--(fu|fo|so|ti))"),  # --full-time, --format, --sort, --time
+    "ls": re.compile(r"\s(-\w*[tlcugoni]|--(fu|fo|so|ti|in))"),  # --full-time, --format, --sort, --time, --inode
     "date": re.compile(r"\s(-\w*r|--ref)"),
     "tar": re.compile(r"^\s\w*[uN]|\s(-\w*[uN]|--(ne|af|up|keep-n))"),  # --newer, --after-date, --update, --keep-newer-files
-    "find": re.compile(r"\s-(f?ls|used)\s"),
+    "find": re.compile(r"\s-(f?ls|used|inum)\s"),
     "cp": re.compile(r"\s(-\w*u|--u)"),
     "mv": re.compile(r"\s(-\w*u|--u)"),
     "du": re.compile(r"\s--ti"),
 }
-TIME_OF_STAT = re.compile(r"%[-+ 0#'\d.]*[WXYZwxyz]|\s(-\w*t|--t)")  # words of `stat` that show a time: `-c %010Y`, `-t`
+TIME_OF_STAT = re.compile(r"%[-+ 0#'\d.]*[WXYZwxyzi]|\s(-\w*t|--t)")  # words of `stat` that show a time, or the number of a file, which goes by age: `-c %010Y`, `%i`, `-t`
+HEADED = re.compile(r"\s(?:-\w*[ucUC]|--(?:un|co))(?!.*\s(?:-L|--la))")  # words of `diff` by which its first lines show times
+LOADS = re.compile(r"@(?:load|include)\b")  # a text of awk that takes in what may ask for ages
+LOADED = re.compile(r"-[li]\S*|--(?:lo|in)\S*")  # a word of awk that does so
 QUALIFIED = re.compile(r"[\w*?\])/>]\(")  # a pattern of zsh that may ask for ages, as `*(om)` does
 DEPTH = 3  # how many scripts may take in one another
 COMPUTED = re.compile(r"\beval[ \t]+[\"']?(?:\$\(|`)")  # `eval "$(..)"`: the text that a program prints
@@ -63,6 +66,15 @@ def shows_ages(argv: List[str]) -> bool:
     if name == "stat":
         return not FORMAT_OF_STAT.search(text) or bool(TIME_OF_STAT.search(text))
     return name in SHOWS_AGES and bool(SHOWS_AGES[name].search(text))
+
+
+def may_show_ages(argv: List[str], folder: str) -> bool:
+    """Whether a known program may show ages all the same: awk by what it loads, and `diff` in front of what it finds."""
+    name = base_name(argv)
+    if name in ("awk", "gawk"):
+        texts = [contents(os.path.join(folder, word)) for before, word in zip(argv, argv[1:]) if before in ("-f", "--file")]
+        return any(LOADED.fullmatch(word) or LOADS.search(word) for word in argv[1:]) or any(map(LOADS.search, texts))
+    return name == "diff" and HEADED.search("".join(" " + word for word in argv[1:])) is not None
 
 
 def asks_reads(argv: List[str], folder: str) -> bool:

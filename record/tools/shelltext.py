@@ -56,6 +56,7 @@ SHELL_MACROS = {"BASHOPTS", "SHELLOPTS"}
 SETS_OPTIONS = re.compile(r"\b(BASHOPTS|SHELLOPTS|BASH_FUNC_)|\bexport\s+-\w*f|\b(declare|typeset)\s+-(?=\w*x)\w*f")
 WORD = re.compile(r"[^\s;|&<>()'\"`]+")  # a text without a word may be long: each sign is looked at once
 MAGIC = re.compile(r"[*?\[]")  # what makes a word a pattern
+BRACKETS = re.compile(r"\[[!^]?\]?(?:\[[:.=][^\]]*[:.=]\]|[^\]/])*\]")  # one of several characters: `[a-z]`; what is quoted in it cuts a word
 DIRECTORY = r"(?:\"[^\"]*\"|'[^']*'|[^\s;|&<>()'\"`]+)"  # a word that names a folder, perhaps in quotes
 # What is thrown away (`2>/dev/null`), and errors that are not (`2>log`, `2>&1`): a folder that is there already is reported there.
 NOWHERE = re.compile(r"(?:\b2\s*|&)?>>?\s*/dev/null(?:\s*2>&1)?")
@@ -141,7 +142,7 @@ def folders_of(pattern: str) -> str:
 
 def glob_words(text: str) -> List[str]:
     """The words of a shell's text with patterns, as loose patterns. A word that goes on behind a quote, or behind a backslash and a blank,
-    may hold any text there."""
+    may hold any text there, or any of the characters in brackets."""
     found = []
     for match in WORD.finditer(text):
         sign = MAGIC.search(match.group())
@@ -153,7 +154,7 @@ def glob_words(text: str) -> List[str]:
         begins = "*" if before[-1:] in ("'", '"', "=") or before[-2:-1] == "\\" else ""
         ends = "*" if behind[:1] in ("'", '"') or bare != word else ""
         pattern = begins + loose(bare) + ends
-        found.append("*" if re.search(r"[{}]", pattern) else pattern)
+        found.append("*" if re.search(r"[{}]", pattern) or ends and "[" in BRACKETS.sub("", bare) else pattern)
     return found
 
 
@@ -163,7 +164,7 @@ def loose(pattern: str) -> str:
     pattern, count = re.sub(r"\\.", "?", pattern), 1
     while count:
         pattern, count = re.subn(r"\{[^{}]*\}", "*", pattern)
-    return re.sub(r"\[[!^]?\]?(?:\[[:.=][^\]]*[:.=]\]|[^\]/])*\]|\[", "?", pattern)
+    return re.sub(BRACKETS.pattern + r"|\[", "?", pattern)
 
 
 def is_quiet_mkdir(argv: List[str]) -> bool:
@@ -240,12 +241,12 @@ def quiet_folders(text: str, is_kept: bool = False) -> Set[str]:
     ends, asked = r"\s*(?:;|&&|\n|$|\))", r"\s+-[de]\s+(?P<d>" + DIRECTORY + r")(?:\s+\])?" + quiet
     made = r"(?:mkdir\s+-p|install\s+-d)\s+(?P<made>" + DIRECTORY + ")" + quiet
     forms = (
-        r"mkdir\s+(?P<d>" + DIRECTORY + ")" + quiet + r"\s*\|\|\s*(?:true|:|test\s+-d\s+(?P=d)|\[\s+-d\s+(?P=d)\s+\])" + quiet + ends,
+        r"mkdir\s+(?P<d>" + DIRECTORY + ")(?P<errors>" + quiet + r")\s*\|\|\s*(?:true|:|test\s+-d\s+(?P=d)|\[\s+-d\s+(?P=d)\s+\])" + quiet + ends,
         r"(?:test|\[)" + asked + r"\s*\|\|\s*" + made + ends,
         r"if\s+(?:(?:test|\[)\s+!|!\s+(?:test|\[))" + asked + r"\s*;\s*then\s+" + made + r"\s*;\s*fi" + ends,
     )
     begin = r"(?:^|[;\n({&]|\bthen|\bdo)\s*"
-    found = [m for form in forms for m in re.finditer(begin + form, text) if "/dev/null" in m.group() or not (is_kept and "made" not in m.groupdict() or KEPT_ERRORS.search(NOWHERE.sub(" ", text)))]
+    found = [m for form in forms for m in re.finditer(begin + form, text) if throws_away(m) or not (is_kept and "made" not in m.groupdict() or KEPT_ERRORS.search(NOWHERE.sub(" ", text)))]
     return {s for m in found if makes_it(m) for s in spelled_by(m)}
 
 
@@ -256,6 +257,14 @@ def is_excused(argv: List[str], folder: str, is_kept: bool = False) -> bool:
         return False
     looks, name = re.sub(r"\binstall\s+-d\b", "install", text), re.escape(os.path.basename(folder)) + r"(?![\w./-])"
     return all(len(re.findall(begins + name, looks)) <= 1 for begins in (r"(?:-[defrwxs]\s+|\bls\s+|\bstat\s+)\S*", r"\bmkdir\s+(?!-p\b|--p)[^;&|\n]*?"))
+
+
+def throws_away(form: "re.Match[str]") -> bool:
+    """Whether a quiet form throws the errors of `mkdir` away: `2>/dev/null`, or `>/dev/null 2>&1` in this order."""
+    output = errors = False
+    for word in re.findall(r"2>&1|2?>\s*/dev/null", form.groupdict().get("errors") or ""):
+        output, errors = output or word[0] == ">", output if "&" in word else errors or word[0] == "2"
+    return errors or "made" in form.groupdict() and "/dev/null" in form.group()
 
 
 def spelled_by(form: "re.Match[str]") -> List[str]:
@@ -382,5 +391,5 @@ class Traits:
         self.asks_input = base_name(argv) == "stat" and "-" in argv[1:]
         self.is_shell = base_name(argv) in SHELLS
         self.shows_progress = shows_progress(argv)
-        self.is_open: Optional[bool] = None  # whether it is a shell that runs what does not stand in its text, as far as that was asked
+        self.is_open: Optional[bool] = None  # whether a shell runs what does not stand in its text, or another program may show ages, as far as that was asked
         self.ages: Optional[bool] = None  # whether it compares ages, as far as that was asked

@@ -84,6 +84,8 @@ class Calls(Started):
         waits = "LOCK_NB" not in call.args and not TIMED.search(" ".join(life.argv))
         if not (ok and (waits or "LOCK_UN" in call.args)):
             self.locks.append("%s locks %s" % (" ".join(life.argv)[:60], "".join(folders(call.args)[:1])))
+        elif "LOCK_UN" not in call.args:
+            self.wait_for_lock(life, call)
 
     def base_and_path(self, life: Life, call: Call) -> Tuple[str, str]:
         """The folder that the first path of an *at-call starts from, and the path."""

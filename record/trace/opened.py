@@ -18,6 +18,7 @@ READING = set("""FIOCLEX FIONCLEX FIONBIO FIOASYNC FIONREAD FIOQSIZE FIGETBSZ FI
 CHANGING = set("""FS_IOC_SETFLAGS FS_IOC32_SETFLAGS FS_IOC_SETVERSION FS_IOC32_SETVERSION FS_IOC_FSSETXATTR FS_IOC_ENABLE_VERITY FS_IOC_SET_ENCRYPTION_POLICY
     FAT_IOCTL_SET_ATTRIBUTES""".split())
 NO_WAIT = re.compile(r", F_(?:OFD_)?(?:GETLK|SETLK)(?:64)?, (?!\{l_type=F_UNLCK)")  # a lock that is asked for and not waited for
+WAITS = re.compile(r", F_(?:OFD_)?SETLKW(?:64)?, (?!\{l_type=F_UNLCK)")  # one that is waited for
 LEASE = re.compile(r", F_(?:SETLEASE|NOTIFY), ")
 LOOSE = re.compile(r"AF_(?:INET6?|UNIX), SOCK_(?:DGRAM|RAW)\b")  # a socket that may send without being connected
 OF_KERNEL = re.compile(r"/(?:dev/(?!shm/)|proc/|sys/)")  # requests to devices change no file
@@ -36,8 +37,19 @@ class Opened(Processes):
         """Locks that are not waited for, and leases, by which a process sees that another one opens a file."""
         if NO_WAIT.search(call.args):
             self.locks.append("%s locks %s" % (" ".join(life.argv)[:60], "".join(folders(call.args)[:1])))
+        elif ok and WAITS.search(call.args):
+            self.wait_for_lock(life, call)
         elif ok and LEASE.search(call.args):
             self.watchers.append(" ".join(life.argv)[:100])
+
+    def wait_for_lock(self, life: Life, call: Call) -> None:
+        """Whose recipe has taken another lock may wait for ever, where a second recipe takes the two in another order."""
+        path = "".join(folders(call.args)[:1])
+        recipe = next(one for one in life.up() if one.parent is None or one.parent.is_make or one.parent.is_ninja)
+        taken = self.taken.setdefault(id(recipe), [])
+        if any(other != path for other in taken):
+            self.locks.append("%s locks %s, and its recipe has locked %s" % (" ".join(life.argv)[:60], path, taken[0]))
+        taken.append(path)
 
     def on_socket(self, life: Life, call: Call, ok: bool) -> None:
         """Datagrams go to a server without a call that connects."""

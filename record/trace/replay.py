@@ -39,6 +39,7 @@ class Replay:
         self.past: List[str] = []
         self.sockets: List[str] = []
         self.locks: List[str] = []  # what was locked by somebody who does not wait for it, or not for long
+        self.taken: Dict[int, List[str]] = {}  # by id of the first process of a recipe: what was locked by somebody who waits for it
         self.hard_links: List[str] = []
         self.outside: Dict[str, None] = {}  # names that changed, and of which the disk alone says what they were before
         self.fresh: Set[str] = set()  # names that were surely absent when they were made

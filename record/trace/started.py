@@ -125,6 +125,6 @@ class Started(Opened):
     def is_unknown(self, life: Life) -> bool:
         """Whether nobody knows if a program compares the ages of what it looks at, or of what it has opened."""
         traits = life.traits()
-        if traits.is_shell and traits.is_open is None:
-            traits.is_open = runs_unseen(life.argv, life.folder)
+        if traits.is_open is None:
+            traits.is_open = (runs_unseen if traits.is_shell else shellages.may_show_ages)(life.argv, life.folder)
         return not life.is_make and (not traits.is_ageless or bool(traits.is_open) or self.is_inside(life.program))

@@ -32,7 +32,7 @@ CALL_GUARDS: List[Guard] = [
     Guard("requests that nobody knows: a hole", "trace/calls.py", 'self.put_unfollowed(life, "the request', 'str((life, "the request', trace("a_request_that_nobody_knows_is_a_hole"), "", ("trace/calls.py", " of ioctl, about %s,\" % (\" or \".join(sorted(asked)), path))", " of ioctl, about %s,\" % (\" or \".join(sorted(asked)), path)))")),
     Guard("requests to devices", "trace/calls.py", " or OF_KERNEL.match(path) and not self.is_inside(path)", "", trace("a_request_that_nobody_knows_is_a_hole")),
     Guard("locks of a part of a file: said", "trace/opened.py", "        if NO_WAIT.search(call.args):\n", "        if False:\n", trace("locks_of_a_part_of_a_file")),
-    Guard("locks of a part of a file: not where they are given back", "trace/opened.py", r"(?!\{l_type=F_UNLCK)", "", trace("locks_of_a_part_of_a_file")),
+    Guard("locks of a part of a file: not where they are given back", "trace/opened.py", r"GETLK|SETLK)(?:64)?, (?!\{l_type=F_UNLCK)", "GETLK|SETLK)(?:64)?, ", trace("locks_of_a_part_of_a_file")),
     Guard("leases: said", "trace/opened.py", "elif ok and LEASE.search(call.args):", "elif False:", trace("leases")),
     Guard("datagrams: said", "trace/opened.py", "if ok and LOOSE.search(call.args):", "if False:", trace("datagrams")),
     Guard("locks of a part of a file: are traced", "trace/classes.py", '"!" + ",".join(', '"!?fcntl," + ",".join(', "test_classes.Recorded.test_a_lock_that_nobody_waits_for", UNSAID),

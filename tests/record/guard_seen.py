@@ -55,7 +55,7 @@ SEEN_GUARDS: List[Guard] = [
     Guard("lines: files that are gone", "trace/strace.py", r"(?:\(deleted\))?", "", seen("file_that_had_no_name"), "0 != 2"),
     Guard("patterns: behind a word", "tools/shelltext.py", 'ends = "*" if', 'ends = "" if', words("words_that_go_on")),
     Guard("patterns: before a word", "tools/shelltext.py", 'begins = "*" if', 'begins = "" if', words("words_that_go_on")),
-    Guard("patterns: in braces with blanks", "tools/shelltext.py", 'found.append("*" if re.search(r"[{}]", pattern) else pattern)', "found.append(pattern)", words("words_that_go_on")),
+    Guard("patterns: in braces with blanks", "tools/shelltext.py", '"*" if re.search(r"[{}]", pattern) or ends', '"*" if ends', words("words_that_go_on")),
     Guard("patterns: quoted words", "tools/shelltext.py", 'ends = "*" if', 'ends = "" if', seen("pattern_of_a_quoted_word"), YES),
     Guard("patterns: behind an equals sign", "tools/shelltext.py", """("'", '"', "=")""", """("'", '"')""", seen("pattern_behind_an_equals_sign"), YES),
     Guard("patterns: scripts behind if", "tools/shelltext.py", "|elif|if|while|until|time|command|builtin)\\s+", ")\\s+", seen("pattern_of_a_script_behind_if"), YES, ("tools/shelltext.py", "    if not text or OF_SYSTEM.match(path):", "    return False\n    if not text or OF_SYSTEM.match(path):")),

@@ -165,6 +165,14 @@ class Recorded(unittest.TestCase):
             outcome = project.record()
         self.assertEqual(0 if "no flags here" in outcome.text() else 1, outcome.status, outcome.text())
 
+    def test_two_locks_of_one_recipe(self) -> None:
+        program = "import fcntl\nkept = [open(name, 'r+') for name in '%s']\nfor one in kept: fcntl.%s(one, fcntl.LOCK_EX)\nfor one in kept: fcntl.%s(one, fcntl.LOCK_UN)\n"
+        for names, call, wanted in (("xy", "flock", True), ("x", "flock", False), ("xy", "lockf", True), ("xx", "lockf", False)):
+            text = program % (names, call, call)
+            with support.Project({"Makefile": "all: ; python3 l.py; touch all\n", "l.py": text, "x": "", "y": ""}) as project:
+                outcome = project.record()
+            self.assertEqual((0, wanted), (outcome.status, "who asks for a lock of a file" in outcome.text()), text)
+
     def test_a_lock_that_nobody_waits_for(self) -> None:
         files = {"Makefile": "all: ; python3 l.py; touch all\n", "l.py": "import fcntl\nfcntl.lockf(open('lock', 'w'), fcntl.LOCK_EX | fcntl.LOCK_NB)\n"}
         with support.Project(files) as project:

@@ -1,0 +1,48 @@
+"""The guards of what a shell's text hides, and of programs that show ages by words that nobody expects: see guard_table.py, and test_tried.py for
+the tests."""
+
+from typing import List
+
+from guard_table import FALSE_RACE, UNSAID, YES, Guard
+
+
+def tried(name: str) -> str:
+    """The test of a makefile of test_tried.py."""
+    return "test_tried.Makefiles.test_" + name
+
+
+def text(name: str) -> str:
+    """A test of words there."""
+    return "test_tried.Texts.test_" + name
+
+
+TEXT, AGES, COMPUTED, TRACED = "tools/shelltext.py", "tools/shellages.py", "tools/computed.py", "tools/traced.py"
+
+TRIED_GUARDS: List[Guard] = [
+    Guard("tried: brackets that a quote cuts", TEXT, ' or ends and "[" in BRACKETS.sub("", bare) else', " else", tried("brackets_with_a_quote"), YES),
+    Guard("tried: brackets that a blank cuts", TEXT, ' or ends and "[" in BRACKETS.sub("", bare) else', " else", tried("brackets_with_a_blank"), YES),
+    Guard("tried: brackets that are whole", TEXT, ' or ends and "[" in BRACKETS.sub("", bare) else', ' or ends and "[" in bare else', text("brackets_that_a_quote_cuts")),
+    Guard("tried: errors of mkdir", TEXT, "output if \"&\" in word else errors or word[0] == \"2\"", "True", tried("folder_whose_errors_a_macro_gets"), YES),
+    Guard("tried: errors of mkdir that are thrown away", TEXT, "output if \"&\" in word else", "errors if \"&\" in word else", tried("folder_whose_errors_nobody_gets"), FALSE_RACE),
+    Guard("tried: output of mkdir", TEXT, 'errors or word[0] == "2"', "True", tried("folder_whose_errors_a_file_gets"), YES),
+    Guard("tried: functions with names of commands", TRACED, " or OTHERS.search(text) or", " or", tried("folder_by_a_function_of_that_name"), YES),
+    Guard("tried: other functions", TRACED, "(?:mkdir|install|test|true|\\[|:)(?:", "\\w+(?:", tried("folder_beside_a_function"), FALSE_RACE),
+    Guard("tried: lists of programs that ran", TRACED, "(?:alias|hash|type|", "(?:alias|type|", tried("folder_and_a_list_of_the_programs_that_ran"), YES),
+    Guard("tried: names with the time", "clock.py", "if any(one != other and build", "if False and any(one != other and build", tried("names_with_the_time"), UNSAID),
+    Guard("tried: names with the time in order", "clock.py", " and build.unordered(one, other) for", " for", tried("names_with_the_time_in_order")),
+    Guard("tried: names with a time that is long ago", "clock.py", "(?<!\\d)(?:(?:%s)", "(?<!\\d)(?:(?:1\\d{4}%.0s)", text("names_that_have_the_time")),
+    Guard("tried: two locks of one recipe", "trace/opened.py", "if any(other != path for other in taken):", "if False:", "test_classes.Recorded.test_two_locks_of_one_recipe"),
+    Guard("tried: one lock of one recipe", "trace/opened.py", "if any(other != path for other in taken):", "if taken:", "test_classes.Recorded.test_two_locks_of_one_recipe"),
+    Guard("tried: computed operators", COMPUTED, " or tests_unseen(text):", ":", tried("test_with_an_operator_of_a_macro"), UNSAID),
+    Guard("tried: parts of operators", COMPUTED, '"-?[no]?[$`]"', '"[$`]"', tried("test_with_an_operator_of_a_macro"), UNSAID),
+    Guard("tried: tests that other words make", COMPUTED, "        if is_several and", "        if False and", tried("test_with_words_of_a_file"), UNSAID),
+    Guard("tried: words in brackets of a test", COMPUTED, "|\\$\\((?:[^()]|\\([^()]*\\))*\\)|", "|", text("tests_of_which_the_operator_stands_there")),
+    Guard("tried: operators that stand there", COMPUTED, "if OPERATOR.fullmatch(before) is None and behind", "if behind", tried("tests_with_macros")),
+    Guard("tried: operands with an operator", COMPUTED, " and OPERATOR.fullmatch(behind) is None:", ":", text("tests_of_which_the_operator_stands_there")),
+    Guard("tried: numbers of files", AGES, "[tlcugoni]", "[tlcugon]", tried("numbers_of_files"), YES),
+    Guard("tried: numbers of files by stat", AGES, "[WXYZwxyzi]", "[WXYZwxyz]", tried("numbers_of_files_by_stat"), YES),
+    Guard("tried: programs that may show ages", "trace/started.py", "(runs_unseen if traits.is_shell else shellages.may_show_ages)", "(runs_unseen if traits.is_shell else lambda *_: False)", tried("times_in_front_of_what_differs"), UNSAID),
+    Guard("tried: names in front of what differs", AGES, "(?!.*\\s(?:-L|--la))", "", tried("names_in_front_of_what_differs")),
+    Guard("tried: what awk loads", AGES, "any(LOADED.fullmatch(word) or", "any(False or", text("programs_that_may_show_ages")),
+    Guard("tried: what a text of awk loads", AGES, " or any(map(LOADS.search, texts))", "", text("programs_that_may_show_ages")),
+]

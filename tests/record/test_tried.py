@@ -1,0 +1,91 @@
+"""Small makefiles about what a shell's text hides: signs of a pattern in quotes, errors of `mkdir` that are kept, commands that are other ones than
+their names say, tests with a computed operator; and about programs that show ages by words that nobody expects."""
+
+import unittest
+from typing import Dict
+
+import support
+from record.clock import clock
+from record.tools.computed import tests_unseen
+from record.tools.shellages import may_show_ages
+from record.tools.shelltext import glob_words
+from test_small import Small, test_of
+
+# A recipe that lists names, and a later one that makes another name.
+LISTS = "all: b a\na: ; touch z.i a\nb: ; %s > b\n"
+# Two recipes that make a folder, and the first may show whether it was there.
+FOLDER = "all: a b\na: ; %s\nb: ; mkdir -p d; touch b\n"
+# Two recipes that nothing orders make x and y, and a third one looks at both.
+SIDE = "all: c\nx: ; echo 1 > x\ny: ; echo 2 > y\nc: x y ; { %s; } > c || true\n"
+# Two recipes with a file of their own, whose name has the time in thousandths of a second.
+TIMED = "a b: ; t=t.$$(date +%s%N | cut -c1-13); echo $@ > $$t; mv $$t $@\n"
+UNKNOWN = "programs that nobody knows look at two files"
+
+TRIED: Dict[str, Small] = {
+    # patterns
+    "brackets_with_a_quote": Small("race", LISTS % "echo [x'yz'].i", {"y.i": ""}),
+    "brackets_with_a_blank": Small("race", LISTS % "echo y.i [x\\ z].i", {"y.i": ""}),
+    "brackets_of_another_name": Small("safe", LISTS % "echo [xy].h 'q'", {"y.i": ""}),
+    # folders
+    "folder_whose_errors_a_macro_gets": Small("race", FOLDER % "x=$$(mkdir d 2>&1 >/dev/null || true); echo \"$$x\" > a"),
+    "folder_whose_errors_a_file_gets": Small("race", FOLDER % "(mkdir d >/dev/null || true) 2> log; cp log a"),
+    "folder_whose_errors_nobody_gets": Small("safe", FOLDER % "x=$$(mkdir d >/dev/null 2>&1 || true); echo \"$$x\" > a; cat a 2> log"),
+    "folder_by_a_function_of_that_name": Small("race", FOLDER % 'mkdir() { /bin/mkdir "$$@" && echo made > a; }; test -d d || mkdir -p d; touch a'),
+    "folder_beside_a_function": Small("safe", FOLDER % "f() { touch a; }; test -d d || mkdir -p d; f"),
+    "folder_and_a_list_of_the_programs_that_ran": Small("race", FOLDER % "test -d d || mkdir -p d; hash > a"),
+    # names
+    "names_with_the_time": Small("safe", "all: a b\n" + TIMED, says="recipes that put the time into the name"),
+    "names_with_the_time_in_order": Small("safe", "all: a b\nb: a\n" + TIMED, lacks="recipes that put the time into the name"),
+    # ages
+    "test_with_an_operator_of_a_macro": Small("safe", SIDE % "t=t; test x -n$$t y && echo yes", says=UNKNOWN),
+    "test_with_words_of_a_program": Small("safe", SIDE % "test $$(cat how) && echo yes", {"how": "x -nt y\n"}, says=UNKNOWN),
+    "test_with_words_of_a_file": Small("safe", SIDE % "read o < how; [ $$o ] && echo yes", {"how": "x -nt y\n"}, says=UNKNOWN),
+    "tests_with_macros": Small("safe", SIDE % 'for f in x y; do [ -s $$f ] && [ "$$f" != z ] && echo $$f; done', lacks=UNKNOWN),
+    "numbers_of_files": Small("race", SIDE % "ls -i x y | sort -n | sed 's/.* //'"),
+    "numbers_of_files_by_stat": Small("race", SIDE % "stat -c '%i %n' x y | sort -n | sed 's/.* //'"),
+    "times_in_front_of_what_differs": Small("safe", SIDE % "diff -u x y | head -2 | sort -k3", says=UNKNOWN),
+    "names_in_front_of_what_differs": Small("safe", SIDE % "diff -u -L a -L b x y; diff x y", lacks=UNKNOWN),
+}
+
+
+class Makefiles(unittest.TestCase):
+    """A test for each makefile."""
+
+
+for key, one in TRIED.items():
+    setattr(Makefiles, "test_" + key, test_of(key, one))
+
+
+class Texts(unittest.TestCase):
+    """The words of shells and programs."""
+
+    def test_brackets_that_a_quote_cuts(self) -> None:
+        for text, wanted in (("echo [a'b']*", True), ("echo [a\\ b]*", True), ("echo ['ab']*", True), ("echo [a\\;b]*", True), ("echo [ab]'c'*", False), ("echo [ab]*", False), ("[ -e 'a'*.c ]", False)):
+            self.assertEqual(wanted, "*" in glob_words(text), text)
+
+    def test_names_that_have_the_time(self) -> None:
+        found = clock(1795793502)
+        for name, wanted in (("t.1795793502", "t.@"), ("1795793502123.c", "@.c"), ("20261127-153142", "@"), ("d/2026-11-27T15:31:42x", "d/@x"), ("20261126.153142", "@"), ("20261128153142", "@"),
+                             ("t.1795793502123456", ""), ("t.1700000000", ""), ("20261127", ""), ("a-20250101-153142", ""), ("t.21795793502", "")):
+            self.assertEqual(wanted or name, found.sub("@", name), name)
+
+    def test_tests_of_which_a_word_is_computed(self) -> None:
+        for text in ("test x -n$t y", '[ x -n"$o" y ]', "[ $o y ]", "[ $o ]", "test `cat how`", "test x `cat how` y", "test \\( x $o y \\)", "test -f x -a x $o y", 'test "$a" = "" -a x "$o" y',
+                     'test "$@"', '[ "${a[@]}" ]', "test $a''nt y", "test ! $o", "a || [ x ${o}t y ]"):
+            self.assertTrue(tests_unseen(text), text)
+
+    def test_tests_of_which_the_operator_stands_there(self) -> None:
+        for text in ("[ -f $f ]", '[ "$x" = y ]', "[ $x = y ]", "[ $# -gt 1 ]", "[ ! -d $d ]", 'test -z "$x" -a -n "$y"', '[ "$x" ]', "[ $(id -u) -eq 0 ]", "test -f x && echo $y z", "test x = '$y'",
+                     'if [ "$a" != "$b" ]; then echo $x $y; fi', "[ x$a = xyes ]", 'test "x$(cat f)" = "x"', "a.test $x", "[ \"$a\" ] && b $c", "ls [a] $x"):
+            self.assertFalse(tests_unseen(text), text)
+
+    def test_programs_that_may_show_ages(self) -> None:
+        with support.Project({"loads": "@load \"filefuncs\"\n", "plain": "{ print }\n"}) as project:
+            for words, wanted in (("gawk -lfilefuncs x", True), ("awk -l filefuncs x", True), ("gawk --load=time x", True), ("awk -f loads x", True), ("awk -f plain x", False), ("awk @load x", True),
+                                  ("awk -v a=b x", False), ("diff -u a b", True), ("diff -rc a b", True), ("diff --unified=1 a b", True), ("diff a b", False), ("diff -r a b", False),
+                                  ("diff -u -L a -L b a b", False), ("diff -u --label=a a b", False), ("cmp -u a b", False)):
+                self.assertEqual(wanted, may_show_ages(words.split(), str(project.folder)), words)
+
+
+if __name__ == "__main__":
+    unittest.main()
