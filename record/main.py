@@ -22,6 +22,7 @@ from record.entry import Stopped, end_traced, printable
 from record.folder import ROOMS, NotWhole, Record, Taken, accept_warm, alone, aside, is_record, reading, rewrite, what_stands
 from record.judge import find_race, judge, no_race
 from record.make.outputs import note_output
+from record.make.unwrapped import name_real_makes
 from record.ninja.again import JOBS, TRIES, by_hand, by_name, hints, tops_of, undo, with_jobs
 from record.ninja.fresh import CannotClean, cold_copy, fresh_folder, saved_name
 from record.ninja.log import Kept
@@ -214,6 +215,7 @@ def attempt(options: argparse.Namespace, words: List[str], tools: Dict[str, str]
             record.holes.append("the build ended with status %d" % status + (": signal %d stopped it" % -status if status < 0 else ""))
         from record.importing import complete  # it was loaded while the build ran
         found = complete(record, spool, names, kept, real, out, options)
+        record.notes += name_real_makes(found.lives, str(spool / "bin"), names.tops)
         if options.keep_trace:
             shutil.copytree(spool, out / "trace", ignore=shutil.ignore_patterns("bin", "wrapper", "real", "outputs", "again", "*.start", "stop.mk", "sifted*"))
         if status != 1 or not any(stage.jobs for ninja in found.ninjas for stage in ninja.stages):
