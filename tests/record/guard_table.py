@@ -54,6 +54,8 @@ LOOKS = ("make/build.py", "return {**self.make.looked.get(spelled, {}), **self.m
 TRACE: List[Guard] = [
     Guard("devices are no files", "trace/replay.py", "if path.startswith(KERNEL) and DEVICES.match(path) and not self.is_inside(path):", "if False:", small("devices_are_no_files"), FALSE_RACE),
     Guard("devices: no path below a top is left out", "trace/replay.py", "if path.startswith(KERNEL) and DEVICES.match(path) and not self.is_inside(path):", "if DEVICES.match(path):", "test_replay.Footprints.test_no_path_below_a_top_is_left_out"),
+    Guard("lives: what a process changed before its start is finished", "trace/replay.py", "if not child.is_heir:", "if True:", "test_replay.Lives.test_folder_of_a_process_that_changes_it_first"),
+    Guard("lives: threads wait for who starts them", "trace/replay.py", "not self.sharing.isdisjoint(self.begun) or len({", "len({", "test_replay.Lives.test_thread_that_is_seen_first"),
     Guard("system: what somebody changes is read", "trace/skips.py", "if has_change(left, skip.changes):", "if False:", "test_skips.Skips.test_look_where_somebody_changes_a_name"),
     Guard("system: a change below a top is none elsewhere", "trace/skips.py", 'if not any((t + "/").startswith("/%s/" % p) for t in tops)', "", "test_skips.Skips.test_change_below_a_top_leaves_other_folders_skipped"),
     Guard("system: opens that change something", "trace/skips.py", "|(?!, O_)[^", "|[^", "test_skips.Skips.test_look_where_somebody_changes_a_name"),
