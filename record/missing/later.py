@@ -134,7 +134,7 @@ def ask(make: Make, spool: Path) -> Base:
 
 def add_extra(base: Base) -> None:
     """Make adds what `.EXTRA_PREREQS` names to all targets, or to the one that has it for itself, when it has read its makefiles: it was stopped before."""
-    own = dict(found.groups() for found in map(OWN_EXTRA.match, base.bodies.get(EXTRA, ())) if found)
+    own = {found.group(1): found.group(2) for found in map(OWN_EXTRA.match, base.bodies.get(EXTRA, ())) if found}
     for name, words in base.prerequisites.items():
         if not name.startswith(".") and (words or name in base.recipes):
             words += [one for one in cut(own.get(name, base.values.get(EXTRA, ""))) if one != name and one not in words and "$" not in one]
