@@ -103,6 +103,7 @@ def note_holes(spool: Path, replay: Calls, owners: Owners, names: Names, record:
     """The holes of the trace itself, and of makes that ran past the recorder."""
     record.holes += ["a limit on the size of files (ulimit -f) cuts what a make says: " + one for one in cut_words(spool, replay.all)]
     record.holes += replay.holes + owners.holes + names.mounted(mount_points()) + names.too_long()
+    record.holes += ["--fresh copied %s, which has a name outside of the folder too, and the build writes it" % path for path in replay.hard_links if path in names.shared]
     record.holes += ["nobody knows who started a process: " + one for one in replay.strays()]
     record.holes += ["a make ran past the recorder: " + p for p in replay.past]
     for path in sorted(spool.glob("*.past")):

@@ -22,8 +22,9 @@ from record.entry import Stopped, end_traced, printable
 from record.folder import ROOMS, NotWhole, Record, Taken, accept_warm, alone, aside, is_record, reading, rewrite, what_stands
 from record.judge import find_race, judge, no_race
 from record.make.outputs import note_output
+from record.make.unwrapped import name_real_makes
 from record.ninja.again import JOBS, TRIES, by_hand, by_name, hints, tops_of, undo, with_jobs
-from record.ninja.fresh import CannotClean, cold_copy, fresh_folder
+from record.ninja.fresh import CannotClean, cold_copy, fresh_folder, saved_name
 from record.ninja.log import Kept
 from record.report import Judged, colours, read_json, report
 from record.trace.classes import traced
@@ -53,6 +54,10 @@ PACKAGES = {"make": "make", "ninja": "ninja-build", "cmake": "cmake", "meson": "
 ASKED = min(4, os.cpu_count() or 1)  # how many builds `race` is asked about at once
 WARM = ("WARM: what was up to date did not run; record a clean tree (make clean, or --fresh for ninja), or, if builds start from this one, "
         "say race-record --warm: it judges this record again, and builds nothing")
+
+
+WARM_COPY = ("WARM: what was up to date did not run: --fresh cleans what the ninja of the folder makes, and what another ninja or make builds in it stays: "
+             "configure an empty folder anew, and record without --fresh")
 
 
 class Missing(Exception):
@@ -146,6 +151,7 @@ def parse(args: List[str]) -> argparse.Namespace:
     parser.add_argument("--footprints", action="store_true", help="keep a listing and footprints of each build, for race check --makefile")
     parser.add_argument("--missing", action="store_true", help="report missing inputs too: files whose edit does not make a target again")
     parser.add_argument("words", nargs=argparse.REMAINDER, metavar="-- COMMAND ..", help="what builds the project")
+    parser.set_defaults(linked=[])  # files of a copy that have names outside of it, in the folder itself
     found, unknown = parser.parse_known_args(args)
     if unknown:
         parser.error("no option of race-record: %s; what belongs to the build stands behind --, such as race-record -- make -j4" % " ".join(unknown))
@@ -194,6 +200,8 @@ def attempt(options: argparse.Namespace, words: List[str], tools: Dict[str, str]
     names = Names()
     for top in tops_of(words, options.top):
         names.walk(top)
+    for path in options.linked:
+        names.share(path)
     kept = Kept.of(names)
     room = Path(tempfile.mkdtemp(prefix="race-record-", dir=ROOMS))
     spool = Path(os.path.realpath(room))
@@ -207,6 +215,7 @@ def attempt(options: argparse.Namespace, words: List[str], tools: Dict[str, str]
             record.holes.append("the build ended with status %d" % status + (": signal %d stopped it" % -status if status < 0 else ""))
         from record.importing import complete  # it was loaded while the build ran
         found = complete(record, spool, names, kept, real, out, options)
+        record.notes += name_real_makes(found.lives, str(spool / "bin"), names.tops)
         if options.keep_trace:
             shutil.copytree(spool, out / "trace", ignore=shutil.ignore_patterns("bin", "wrapper", "real", "outputs", "again", "*.start", "stop.mk", "sifted*"))
         if status != 1 or not any(stage.jobs for ninja in found.ninjas for stage in ninja.stages):
@@ -238,7 +247,7 @@ def record_fresh(options: argparse.Namespace, tools: Dict[str, str], out: Path) 
     """The record of a cold copy; the copy and what it built are gone afterwards."""
     folder = fresh_folder(options.words)
     with tempfile.TemporaryDirectory(prefix="race-record-") as room:
-        with cold_copy(folder):
+        with cold_copy(folder, saved_name(folder, tops_of(options.words, options.top))) as options.linked:
             record = record_all(options, tools, Path(room) / "record")
         shutil.copytree(Path(room) / "record", out)
     return record
@@ -276,7 +285,7 @@ def record_and_judge(options: argparse.Namespace, tools: Dict[str, str], out: Pa
     ended, judged = judge_record(out, race)
     if ended == 0 and record.warm and not (options.warm or record.stands_alone):
         ended = 2
-        record.holes.append(WARM)
+        record.holes.append(WARM_COPY if options.fresh else WARM)
         rewrite(out, record)
     return answer(out, race, ended, judged, options.missing)
 

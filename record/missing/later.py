@@ -12,7 +12,7 @@ from dataclasses import dataclass
 from pathlib import Path
 from typing import Dict, List, Optional, Set, Tuple
 
-from record.make.database import Base, read_base
+from record.make.database import Base, cut, read_base
 from record.make.options import CLUSTER, LONG_WITH_WORD
 from record.make.owners import Make
 from record.make.words import makefiles
@@ -21,6 +21,8 @@ STOP = "race-record: the makefiles are read"
 DEFAULTS = ("GNUmakefile", "makefile", "Makefile")
 SECONDS = 120
 OF_CMAKE = "/compiler_depend.make"
+EXTRA = ".EXTRA_PREREQS"
+OWN_EXTRA = re.compile(r"(\S+): \.EXTRA_PREREQS :?= ?(.*)", re.S)
 
 
 class Unknown(Exception):
@@ -123,9 +125,19 @@ def ask(make: Make, spool: Path) -> Base:
     if STOP not in said:
         raise Unknown("it cannot read its makefiles again: " + " ".join(said.split())[-200:])
     found = read_base(ran.stdout.decode("utf-8", "surrogateescape").split("\n"))
+    found.phony.update(found.prerequisites.get(".PHONY", ()))  # it was stopped before make notes them
+    add_extra(found)
     if any(name.endswith(OF_CMAKE) for name in makefiles(make.words)):
         add_headers(found, make.folder)
     return found
+
+
+def add_extra(base: Base) -> None:
+    """Make adds what `.EXTRA_PREREQS` names to all targets, or to the one that has it for itself, when it has read its makefiles: it was stopped before."""
+    own = {found.group(1): found.group(2) for found in map(OWN_EXTRA.match, base.bodies.get(EXTRA, ())) if found}
+    for name, words in base.prerequisites.items():
+        if not name.startswith(".") and (words or name in base.recipes):
+            words += [one for one in cut(own.get(name, base.values.get(EXTRA, ""))) if one != name and one not in words and "$" not in one]
 
 
 def add_headers(base: Base, folder: str) -> None:
@@ -171,8 +183,8 @@ class Laters:
 
 
 def phony_of(*bases: Base) -> Set[str]:
-    """The phony targets of some data bases: one that was stopped early has only what `.PHONY` names."""
-    return {name for base in bases for name in (*base.phony, *base.prerequisites.get(".PHONY", []))}
+    """The phony targets of some data bases. Not what `.PHONY` needs where make has ended: it puts `.EXTRA_PREREQS` there too."""
+    return {name for base in bases for name in base.phony}
 
 
 def needs_of(name: str, first: Base, later: Base, vpath: Dict[str, str]) -> Optional[List[str]]:

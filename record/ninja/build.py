@@ -101,6 +101,9 @@ class NinjaBuilder(Builder):
         kept = self.kept(jobs)
         place = {edge.number: at for at, edge in enumerate(kept)}
         after = [{place[m.number] for m in manifest.makers_of(edge) if m.number in place} for edge in kept]
+        first = self.first()
+        for edge, before in zip(kept, after):
+            before |= {place[number] for number in first} if edge.number in jobs.keys() - first else set()
         keys = [(jobs[edge.number].life.died if edge.number in jobs else 0, edge.number) for edge in kept]
         order, dropped = order_tasks([Task(e.label, Node(e.label, e.label, 0, 0), "group") for e in kept], after, keys)
         if dropped:
@@ -117,6 +120,22 @@ class NinjaBuilder(Builder):
             self.build.tasks.append(task)
             self.build.edges.append(edge)
         self.build.bits = befores([t.after for t in self.build.tasks], list(range(len(order))))
+
+    def first(self) -> Set[int]:
+        """The statements that ran before all others: ninja first makes its manifest. They are those at the head of the run which it needs, and which
+        had to run then, as an output was absent or an input is never up to date."""
+        below, found = self.ninja.below_manifest(self.number), set()
+        for job in sorted(self.stage.jobs, key=lambda job: job.life.born):
+            if job.edge is None or job.edge.number not in below or not self.must_run(job.edge):
+                break
+            found.add(job.edge.number)
+        return found
+
+    def must_run(self, edge: Edge) -> bool:
+        """Whether a statement ran in any case: a phony input without inputs of its own, and without a file, is never up to date."""
+        makers = self.stage.manifest.makers
+        never = (makers[path].is_phony and not makers[path].waits() and self.full(path) not in self.before for path in edge.inputs + edge.implicit if path in makers)
+        return any(self.full(path) not in self.before for path in edge.makes()) or any(never)
 
     def kept(self, jobs: Dict[int, Job]) -> List[Edge]:
         """Statements that ran, and those without a command that ran which lead from one of them to another."""

@@ -10,9 +10,10 @@ import shutil
 import stat
 import subprocess
 import sys
-from contextlib import contextmanager
+import tempfile
+from contextlib import contextmanager, suppress
 from pathlib import Path
-from typing import Iterator, List, Set
+from typing import Dict, Iterator, List, Set, Tuple
 
 from record.entry import reason
 from record.ninja.again import named_folders
@@ -29,18 +30,38 @@ class CannotClean(Exception):
 def fresh_folder(words: List[str]) -> str:
     """The folder that a command builds in, where ninja builds there, and no earlier copy stands in its place."""
     names = [*named_folders(words), "."]
-    for folder in map(os.path.realpath, names):
-        if os.path.lexists(folder + SAVED):
-            raise CannotClean(left_over(folder))
+    for folder in [os.path.realpath(name) for name in names]:
+        for saved in saved_names(folder):
+            if os.path.lexists(saved):
+                raise CannotClean(left_over(folder, saved))
         if os.path.isfile(os.path.join(folder, "build.ninja")):
             return folder
     raise CannotClean("--fresh cleans folders that ninja builds in, and there is no build.ninja in %s; for make, clean the tree (make clean) "
                       "and record it without --fresh" % " or ".join(dict.fromkeys(names)))
 
 
-def left_over(folder: str) -> str:
+def saved_names(folder: str) -> Iterator[str]:
+    """The names that a folder may have meanwhile: beside itself, or beside a folder that it is in."""
+    yield folder + SAVED
+    yield from (saved_beside(str(top), folder) for top in Path(folder).parents if top.name)
+
+
+def saved_beside(top: str, folder: str) -> str:
+    """The name of a folder meanwhile, beside one that it is in."""
+    return top + "-" + os.path.relpath(folder, top).replace("/", "-") + SAVED
+
+
+def saved_name(folder: str, tops: List[str]) -> str:
+    """The name of a folder meanwhile: outside of the project, as its build may look everywhere in it; where nobody may write there, beside itself."""
+    top = next((top for top in tops if folder.startswith(top.rstrip("/") + "/")), "/")
+    above = os.path.dirname(top)
+    can_move = top != "/" and os.access(above, os.W_OK) and os.stat(above).st_dev == os.stat(os.path.dirname(folder)).st_dev
+    return saved_beside(top, folder) if can_move else folder + SAVED
+
+
+def left_over(folder: str, kept: str) -> str:
     """What to say where another run has not put the folder back."""
-    saved, own = shlex.quote(folder + SAVED), shlex.quote(folder)
+    saved, own = shlex.quote(kept), shlex.quote(folder)
     return ("%s is there: another --fresh runs now, or was killed before it put it back\n  it is your folder as it was: rm -rf %s && mv %s %s\n"
             "  %s is a copy of it. If you have worked in the copy since, keep that, and remove %s" % (saved, own, saved, own, own, saved))
 
@@ -64,14 +85,34 @@ def filled(folder: str) -> Set[str]:
     return {place for place, names, files in os.walk(folder) if names or files}
 
 
-def set_aside(folder: str, manifest: Manifest, kept: List[str]) -> None:
-    """Gives what `ninja -t clean` would remove outside of the folder another name meanwhile; `kept` gets the names that are to come back."""
+def outside(folder: str, manifest: Manifest) -> List[str]:
+    """The files outside of the folder that `ninja -t clean` would remove."""
     edges = [edge for edge in manifest.edges if not edge.is_phony and not edge.is_generator]
+    found = []
     for name in dict.fromkeys(name for edge in edges for name in (*edge.makes(), edge.path("depfile"), edge.path("rspfile")) if name):
         above, last = os.path.split(os.path.join(folder, name))
         path = os.path.join(os.path.realpath(above), last)
-        if path.startswith(folder.rstrip("/") + "/") or not os.path.lexists(path) or os.path.isdir(path):
-            continue
+        if not path.startswith(folder.rstrip("/") + "/") and os.path.lexists(path) and not os.path.isdir(path):
+            found.append(path)
+    return found
+
+
+def with_folders(paths: List[str], here: str) -> List[str]:
+    """These files, and in the place of all that a folder holds that folder: in a clean tree ninja makes it. Not the one in which the command runs."""
+    found = set(paths)
+    todo = {os.path.dirname(path) for path in paths}
+    while todo:
+        folder = todo.pop()
+        names = {os.path.join(folder, name) for name in os.listdir(folder)}
+        if names <= found and not (here + "/").startswith(folder + "/"):
+            found = (found - names) | {folder}
+            todo.add(os.path.dirname(folder))
+    return sorted(found)
+
+
+def set_aside(paths: List[str], kept: List[str]) -> None:
+    """Gives files and folders another name meanwhile; `kept` gets the names that are to come back."""
+    for path in paths:
         if os.path.lexists(path + SAVED):
             raise CannotClean("%s is there: another --fresh runs now, or was killed; it is %s as it was" % (path + SAVED, path))
         os.rename(path, path + SAVED)
@@ -81,7 +122,64 @@ def set_aside(folder: str, manifest: Manifest, kept: List[str]) -> None:
 def put_back(kept: List[str]) -> None:
     """What was set aside comes back, in the place of what the recorded build made."""
     for path in kept:
+        if os.path.isdir(path) and not os.path.islink(path):
+            remove(path)
         os.replace(path + SAVED, path)
+
+
+def remove(folder: str) -> None:
+    """Removes a folder, also where folders in it may not be written. What stays all the same gets another name: nothing may stand in the place."""
+    shutil.rmtree(folder, ignore_errors=True)
+    if os.path.isdir(folder):
+        let_write(folder)
+        shutil.rmtree(folder, ignore_errors=True)
+    if os.path.lexists(folder):
+        left = os.path.join(tempfile.mkdtemp(prefix=os.path.basename(folder) + ".race-left-", dir=os.path.dirname(folder)), "copy")
+        os.rename(folder, left)
+        print("race-record: %s is what is left of the copy, and could not be removed: remove it" % left, file=sys.stderr, flush=True)
+
+
+def let_write(folder: str) -> None:
+    """Lets the user change all folders of a tree, as far as they are the user's."""
+    for place, names, _ in os.walk(folder):
+        for path in [place] + [os.path.join(place, name) for name in names]:
+            if not os.path.islink(path):
+                with suppress(OSError):
+                    os.chmod(path, stat.S_IRWXU)
+
+
+class Copier:
+    """Copies files; a file with several names in the tree is one file there too."""
+
+    def __init__(self) -> None:
+        self.copies: Dict[Tuple[int, int], str] = {}
+        self.names: Dict[Tuple[int, int], int] = {}  # names that were not met yet
+
+    def copy(self, source: str, target: str) -> str:
+        """One file, for `shutil.copytree`."""
+        found = os.stat(source)
+        key = found.st_dev, found.st_ino
+        self.names[key] = self.names.get(key, found.st_nlink) - 1
+        if key in self.copies:
+            os.link(self.copies[key], target)
+            return target
+        self.copies[key] = target
+        shutil.copy2(source, target)
+        return target
+
+    def linked(self) -> List[str]:
+        """The copies whose files have names elsewhere too."""
+        return [path for key, path in self.copies.items() if self.names[key] > 0]
+
+
+def move_away(folder: str, saved: str) -> None:
+    """Gives the folder its other name."""
+    try:
+        os.rename(folder, saved)
+    except OSError as fault:
+        raise CannotClean("--fresh puts a clean copy in the place of %s, and the folder cannot get another name meanwhile (%s): clean it (ninja -C %s -t clean) "
+                          "and record without --fresh" % (folder, fault.strerror, shlex.quote(folder))) from None
+    print("race-record: %s is kept as %s meanwhile" % (folder, saved), file=sys.stderr, flush=True)
 
 
 def clean(folder: str, manifest: Manifest) -> None:
@@ -103,25 +201,28 @@ def clean(folder: str, manifest: Manifest) -> None:
 
 
 @contextmanager
-def cold_copy(folder: str) -> Iterator[None]:
-    """Works on a clean copy in the place of a folder; the folder itself comes back, whatever happens."""
-    saved, here = folder + SAVED, os.path.realpath(".")
+def cold_copy(folder: str, saved: str) -> Iterator[List[str]]:
+    """Works on a clean copy in the place of a folder, which is kept under another name; it comes back, whatever happens. Gives the copies of files
+    that have names outside of the folder too."""
+    here = os.path.realpath(".")
     check_kinds(folder)
-    print("race-record: %s is kept as %s meanwhile" % (folder, saved), file=sys.stderr, flush=True)
-    os.rename(folder, saved)
+    move_away(folder, saved)
     kept: List[str] = []
+    copier = Copier()
+    step = "copied"
     try:
-        shutil.copytree(saved, folder, symlinks=True)
-        os.chdir(here)
         try:
+            shutil.copytree(saved, folder, symlinks=True, copy_function=copier.copy)
+            os.chdir(here)
+            step = "cleaned"
             manifest = read_manifest(folder, "build.ninja", lambda path: Path(path).read_bytes().decode("utf-8", "surrogateescape"))
-            set_aside(folder, manifest, kept)
+            set_aside(with_folders(outside(folder, manifest), here), kept)
             clean(folder, manifest)
         except (Unreadable, OSError) as fault:
-            raise CannotClean("%s cannot be cleaned: %s" % (folder, reason(fault) if isinstance(fault, OSError) else fault)) from None
-        yield
+            raise CannotClean("%s cannot be %s: %s" % (folder, step, reason(fault) if isinstance(fault, OSError) else fault)) from None
+        yield copier.linked()
     finally:
-        shutil.rmtree(folder, ignore_errors=True)
+        remove(folder)
         os.rename(saved, folder)
         os.chdir(here)
         put_back(kept)

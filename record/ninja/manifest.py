@@ -6,9 +6,14 @@ Values of rules are worked out when they are asked for, all others where they st
 import os
 import re
 from dataclasses import dataclass, field
-from typing import Callable, Dict, Iterator, List, Optional, Set, Tuple
+from functools import cached_property
+from typing import TYPE_CHECKING, Callable, Dict, Iterator, List, Optional, Set, Tuple
 
 from record.ninja.depfile import depfile_inputs
+from record.ninja.log import read_deps
+
+if TYPE_CHECKING:
+    from record.ninja.dyndep import Found
 
 VARIABLE = re.compile(r"\$(?:\{([A-Za-z0-9_.-]+)\}|([A-Za-z0-9_-]+)|(.?))", re.S)
 TOKEN = re.compile(r" *(?:(\|\||\|@|\||:)|((?:\$(?:\{[A-Za-z0-9_.-]+\}|[A-Za-z0-9_-]+|[ $:|])|[^ :|$])+)|$)")
@@ -227,9 +232,16 @@ class Manifest:
         return list(found)
 
     def named(self, edge: Edge) -> List[str]:
-        """The inputs that a depfile names which ninja leaves where it is. What it keeps in its log of them `-t missingdeps` compares."""
-        path = edge.path("depfile") if not edge.value("deps") else ""
+        """The inputs that a depfile names: one that ninja leaves where it is, or that it keeps in its log of headers."""
+        if edge.value("deps"):
+            return [name for path in edge.makes() for name in self.deps.get(path, ())]
+        path = edge.path("depfile")
         return [canonical(name) for name in depfile_inputs(os.path.join(self.folder, path))] if path else []
+
+    @cached_property
+    def deps(self) -> Dict[str, List[str]]:
+        """What the log of headers says, when the build has ended."""
+        return read_deps(os.path.join(self.folder, self.top.value("builddir"), ".ninja_deps"))
 
     def compared(self) -> Iterator[Tuple[str, str]]:
         """Outputs, each with the inputs whose ages ninja compares with its own."""
@@ -266,7 +278,9 @@ class Manifest:
         return seen
 
 
-class _Reader:
+class Reader:
+    """Reads a manifest, and what it includes."""
+
     def __init__(self, manifest: Manifest, text_of: Callable[[str], str]) -> None:
         self.manifest, self.text_of = manifest, text_of
 
@@ -358,36 +372,7 @@ def read_manifest(folder: str, name: str, text_of: Callable[[str], str]) -> Mani
     """The manifest `name` in a folder; `text_of` gives the text of a file by its path."""
     manifest = Manifest(folder)
     try:
-        _Reader(manifest, text_of).read(name, manifest.top)
+        Reader(manifest, text_of).read(name, manifest.top)
     except OSError as fault:
         raise Unreadable("%s: %s" % (fault.filename or name, fault.strerror)) from None
     return manifest
-
-
-@dataclass
-class Found:
-    """What a dyndep file says of one build statement."""
-
-    output: str
-    outputs: List[str] = field(default_factory=list)
-    inputs: List[str] = field(default_factory=list)
-    restat: bool = False
-
-
-def read_dyndep(text: str) -> List[Found]:
-    """The statements of a dyndep file."""
-    top = Scope()
-    found: List[Found] = []
-    for _, line in logical_lines(text):
-        if line.startswith("build "):
-            _, parts = split_build(line[len("build "):])
-            words = [(section, canonical(evaluate(word, top.value))) for section, word in parts]
-            first = [w for s, w in words if s == "outputs"]
-            found.append(Found(first[0], [w for s, w in words if s == "implicit_outputs"], [w for s, w in words if s == "implicit"]))
-        elif line.startswith(" ") and found:
-            key, value = _Reader.let(line)
-            found[-1].restat = found[-1].restat or key == "restat" and bool(value)
-        elif LET.fullmatch(line):
-            key, value = _Reader.let(line)
-            top.values[key] = evaluate(value, top.value)
-    return found

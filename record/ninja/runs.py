@@ -8,8 +8,9 @@ from dataclasses import dataclass, field
 from typing import Callable, Dict, Iterator, List, Optional, Set, Tuple
 
 from record.make.owners import Owners, Work
+from record.ninja.dyndep import read_dyndep
 from record.ninja.log import Kept, ends, new_outputs, text_of
-from record.ninja.manifest import Edge, Manifest, Unreadable, canonical, read_dyndep, read_manifest
+from record.ninja.manifest import Edge, Manifest, Unreadable, canonical, read_manifest
 from record.tools import shelltext
 from record.trace.lives import Life
 from record.trace.names import Names
@@ -74,9 +75,9 @@ class Ninja:
         numbers = manifest.below(goals) if goals is not None else {edge.number for edge in manifest.edges}
         return [edge for edge in manifest.edges if edge.number in numbers]
 
-    def below_manifest(self) -> Set[int]:
-        """The numbers of the statement that makes the manifest, and of all that it needs."""
-        manifest = self.stages[-1].manifest
+    def below_manifest(self, number: int = -1) -> Set[int]:
+        """The numbers of the statement that makes the manifest, and of all that it needs, in a stage; in the last one where none is named."""
+        manifest = self.stages[number].manifest
         maker = manifest.makers.get(canonical(self.file))
         return manifest.below([maker]) if maker is not None else set()
 

@@ -104,6 +104,7 @@ class Names:
         self.twice: List[Tuple[str, str]] = []  # folders with two names, as far as numbers say so
         self.long: List[str] = []  # folders in which a path is longer than the kernel takes
         self.files: Dict[Tuple[int, int], Inode] = {}  # files with several names, by device and number
+        self.shared: Set[str] = set()  # copies of files that have names elsewhere too
 
     def walk(self, top: str) -> None:
         """Takes in the tree below a real path, as it is now. A folder that is not there yet is empty, and made by the build."""
@@ -178,6 +179,13 @@ class Names:
             self.files[key].unknown -= 1
             return self.files[key]
         return Inode("f")
+
+    def share(self, path: str) -> None:
+        """A file is a copy of one that has names elsewhere too."""
+        inode = self.find("/", path, False).inode
+        if inode is not None:
+            inode.unknown = max(1, inode.unknown)
+            self.shared.add(path)
 
     def folder(self, path: str) -> Inode:
         """The folder of a real path, with those above it."""

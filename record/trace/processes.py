@@ -51,6 +51,7 @@ class Processes(Moves):
         """A process, or a thread, has started."""
         if life.pid in self.begun:
             self.begun.remove(life.pid)
+            self.sharing.discard(life.pid)
         if ok and "CLONE_UNTRACED" in call.args:
             self.holes.append("a process runs unseen (CLONE_UNTRACED, as that of LeakSanitizer does): " + " ".join(life.argv)[:100])
         elif ok and call.result > 0:

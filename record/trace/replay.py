@@ -34,6 +34,7 @@ class Replay:
         self.place = 0
         self.begun: List[int] = []
         self.waiting: Dict[int, List[Event]] = {}
+        self.sharing: Set[int] = set()  # who has begun to start a thread
         self.makes: Dict[int, int] = {}
         self.holes: List[str] = []
         self.past: List[str] = []
@@ -65,6 +66,7 @@ class Replay:
                 parents = [self.lives[p] for p in self.begun if p in self.lives and p != pid]
                 if parents:
                     self.inherit(life, parents[-1])
+                    life.is_heir = True
                     life.parent = parents[0] if len(parents) == 1 else None
             else:
                 life.adopted, life.mask = True, self.mask
@@ -100,7 +102,9 @@ class Replay:
     @staticmethod
     def inherit(child: Life, parent: Life) -> None:
         """What a process has from who started it: its folder, its mask, and until it runs a program of its own the words."""
-        child.folder, child.cut, child.mask, child.taken = parent.folder, parent.cut, parent.mask, parent.taken
+        if not child.is_heir:  # else it may have changed these since
+            child.folder, child.mask = parent.folder, parent.mask
+        child.cut, child.taken = parent.cut, parent.taken
         child.argv = child.argv or parent.argv
         child.is_wrapper = parent.is_wrapper if not child.ran else child.is_wrapper
 
@@ -119,12 +123,12 @@ class Replay:
             self.take(event)
 
     def is_unclear(self, pid: int) -> bool:
-        """Whether a process is new, and several that differ may have started it."""
+        """Whether a process is new, and several that differ may have started it, or it may be a thread that does not share its folder yet."""
         life = self.lives.get(pid)
         if life is not None and life.died > self.place or not self.all:
             return False
         parents = [self.lives[p] for p in self.begun if p in self.lives and p != pid]
-        return len({(p.folder, p.is_wrapper, p.mask) for p in parents}) > 1
+        return not self.sharing.isdisjoint(self.begun) or len({(p.folder, p.is_wrapper, p.mask) for p in parents}) > 1
 
     def take(self, event: Event) -> None:
         """One event of a process that is known."""
@@ -135,6 +139,7 @@ class Replay:
         elif isinstance(event, Begun):
             self.life(event.pid)
             self.begun.append(event.pid)
+            self.sharing.update([event.pid] if event.shares else [])
         else:
             self.life(event.pid).died = self.place
 

@@ -43,6 +43,7 @@ class Begun:
     """A call that creates a process has begun: the child may be seen before the call is finished."""
 
     pid: int
+    shares: bool = False  # a thread, which has one folder with it
 
 
 @dataclass(frozen=True)
@@ -160,7 +161,7 @@ def odd(line: str, pid: Optional[int], text: str, begun: Dict[int, str]) -> Tupl
         return [], ""
     if text.endswith(UNFINISHED):
         begun[pid] = text[: -len(UNFINISHED)].rstrip()
-        return ([Begun(pid)] if text.startswith(MAKES_PROCESS) else []), ""
+        return ([Begun(pid, "CLONE_FS" in text)] if text.startswith(MAKES_PROCESS) else []), ""
     if not text.startswith("<... "):
         return ([] if text else [Unread(line.strip())]), text
     first = begun.pop(pid, None)

@@ -136,6 +136,11 @@ class ReachTests(unittest.TestCase):
         self.assertEqual(Blame(set(), {"f", "x"}), self.blame(look, "f x", races=(look, self.race("a", "c"))))
         self.assertEqual(Blame({"x", "f", "a"}), self.blame(look, "f a x", races=(look, self.race("c", "c"))))
 
+    def test_recipe_that_races_with_others_between_recipes(self) -> None:
+        self.build(task("a", writes="f"), task("b", reads="f"), task("c"))
+        race = self.race("a", "b")
+        self.assertEqual(Blame({"a", "b"}), self.blame(race, "a b", races=(race, self.race("a", "c"))))
+
     def nested(self) -> None:
         """Two makes one after the other inside a recipe, beside which another recipe runs one."""
         self.build(task("sub", writes="sub/a sub/c"), task("dir"), task("app", "sub"))

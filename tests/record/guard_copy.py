@@ -4,6 +4,7 @@ Each module is compiled once, for all copies: a copy's own text is compiled only
 """
 
 import os
+import re
 import shutil
 import sys
 import tempfile
@@ -11,7 +12,7 @@ import unittest
 from importlib.machinery import FileFinder, SourceFileLoader
 from pathlib import Path
 from types import CodeType
-from typing import Callable, Dict, List
+from typing import Callable, Dict, List, Tuple, Type
 
 import forked
 from guard_table import Guard
@@ -39,15 +40,19 @@ class Loader(SourceFileLoader):
 
 
 class Copy:
-    """The recorder and its tests in a folder of their own."""
+    """The recorder and its tests in a folder of their own. Another companion says which packages it needs, its own first, and where its tests are."""
+
+    packages: Tuple[str, ...] = ("record",)
+    source = HERE
 
     def __init__(self) -> None:
         self.room = tempfile.TemporaryDirectory(prefix="race-guards-")
         self.top = Path(os.path.realpath(self.room.name))
-        self.tests = self.top / "tests" / "record"
-        shutil.copytree(TOP / "record", self.top / "record", ignore=shutil.ignore_patterns("__pycache__"))
+        self.tests = self.top / self.source.relative_to(TOP)
+        for package in self.packages:
+            shutil.copytree(TOP / package, self.top / package, ignore=shutil.ignore_patterns("__pycache__"))
         self.tests.mkdir(parents=True)
-        for path in [*HERE.glob("*.py"), HERE / "run"]:
+        for path in [*self.source.glob("*.py"), self.source / "run"]:
             shutil.copy2(path, self.tests)
         (self.tests / "cases").symlink_to(HERE / "cases")
         (self.top / "examples").symlink_to(TOP / "examples")
@@ -65,7 +70,7 @@ class Copy:
 
     def replace(self, module: str, old: str, new: str) -> str:
         """Replaces a text of a module that stands there once; what is wrong with it, or nothing."""
-        path = self.top / "record" / module
+        path = self.top / self.packages[0] / module
         text = path.read_text()
         if text.count(old) != 1:
             return "the text stands %d times in %s: %s" % (text.count(old), module, old)
@@ -85,8 +90,8 @@ class Copy:
             sys.path[:] = own + [path for path in sys.path if not path.startswith(str(TOP))]
             sys.path_hooks.insert(0, self.finder)
             sys.dont_write_bytecode, os.environ["PYTHONDONTWRITEBYTECODE"] = True, "1"
-            tests = {path.stem for path in HERE.glob("*.py")}
-            for name in [name for name in sys.modules if name in tests or name.split(".")[0] == "record"]:
+            tests = {path.stem for path in self.source.glob("*.py")}
+            for name in [name for name in sys.modules if name in tests or name.split(".")[0] in self.packages]:
                 del sys.modules[name]
             return 0 if unittest.TextTestRunner(sys.stderr).run(unittest.defaultTestLoader.loadTestsFromNames(names)).wasSuccessful() else 1
 
@@ -94,10 +99,26 @@ class Copy:
 
     def finder(self, folder: str) -> FileFinder:
         """What finds the modules of this copy."""
-        if folder not in map(str, (self.top, self.top / "record", self.tests)):
+        if folder not in map(str, (self.top, *(self.top / package for package in self.packages), self.tests)):
             raise ImportError(folder)
         return FileFinder(folder, (Loader, [".py"]))
 
     def stops(self, output: str) -> bool:
-        """Whether tests show that the recorder itself stops: one of its modules is in a traceback."""
-        return any(str(top / "record") + "/" in output for top in (self.top, TOP))
+        """Whether tests show that the companion itself stops: one of its modules is in a traceback."""
+        return any(str(top / self.packages[0]) + "/" in output for top in (self.top, TOP))
+
+
+def fault_of(guard: Guard, kind: Type[Copy] = Copy) -> str:
+    """What is wrong where a guard is off, or nothing where its test sees it."""
+    with kind() as copy:
+        fault = copy.edit(guard)
+        if fault:
+            return fault
+        output = copy.test([guard.test])
+        if copy.stops(output):
+            return "the %s stops in place of a wrong answer:\n%s" % ("recorder" if kind is Copy else "companion", output[-1500:])
+    if not re.search(r"(?m)^FAILED \(failures=\d+\)$", output):
+        return "no failure of %s" % guard.test
+    if guard.gives not in output:
+        return "%s fails, and not with '%s':\n%s" % (guard.test, guard.gives, output[-1500:])
+    return ""

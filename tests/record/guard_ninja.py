@@ -119,9 +119,29 @@ LATER: List[Guard] = [
     Guard("ninja, holes: a manifest that is gone", "ninja/runs.py", "ninja.is_tried = is_tried(ninja)", "ninja.is_tried = bool(jobs)", ninja("tried-by-another"), LOST_HOLE),
     Guard("ninja, tried by CMake: no hole", "ninja/runs.py", "ninja.is_tried = is_tried(ninja)", "ninja.is_tried = False", ninja("tried-by-cmake"), WITHHELD),
     Guard("ninja, said: tried by CMake", "ninja/builds.py", 'assumed.add("tried", ninja.folder)', "pass", ninja("tried-by-cmake"), UNSAID),
-    Guard("ninja, fresh: outputs outside are kept", "ninja/fresh.py", "            set_aside(folder, manifest, kept)\n", "", "test_ninja.Fresh.test_outputs_outside_come_back"),
+    Guard("ninja, fresh: outputs outside are kept", "ninja/fresh.py", "            set_aside(with_folders(outside(folder, manifest), here), kept)\n", "", "test_ninja.Fresh.test_outputs_outside_come_back"),
     Guard("ninja, fresh: outputs outside come back", "ninja/fresh.py", "        put_back(kept)\n", "", "test_ninja.Fresh.test_outputs_outside_come_back"),
     Guard("ninja, fresh: nothing that cannot be copied", "ninja/fresh.py", "    check_kinds(folder)\n", "", "test_ninja.Fresh.test_what_cannot_be_copied"),
     Guard("ninja, fresh: a folder that holds something", "ninja/fresh.py", " and not all(FULL.fullmatch(line) for line in ran.stderr.splitlines()):", ":", "test_ninja.Fresh.test_folder_that_holds_something"),
 ]
-NINJA_GUARDS = WARM + INSIDE + HOLES + ATTRIBUTION + ORDER + OWN + LATER
+FRESH = "test_fresh.Copies.test_"
+PLACES = "test_fresh.Places.test_"
+FIRST: List[Guard] = [
+    Guard("ninja, order: what the manifest needs comes first", "ninja/build.py", "        first = self.first()\n", "        first: Set[int] = set()\n",
+          ninja("log-that-is-listed-for-the-manifest"), FALSE_RACE),
+    Guard("ninja, order: only what had to run then comes first", "ninja/build.py", " or not self.must_run(job.edge):", ":", ninja("statement-for-the-manifest-that-runs-later"), YES),
+    Guard("ninja's own: ages of what its log of headers names", "ninja/manifest.py", "for name in self.deps.get(path, ())]", "for name in ()]", ninja("ages-of-a-log-of-headers"), YES),
+    Guard("ninja, fresh: folders outside", "ninja/fresh.py", "set_aside(with_folders(outside(folder, manifest), here), kept)", "set_aside(outside(folder, manifest), kept)",
+          FRESH + "folder_outside_that_ninja_makes", YES),
+    Guard("ninja, fresh: folders outside that hold something", "ninja/fresh.py", "if names <= found and not", "if not", FRESH + "folder_outside_that_ninja_makes", FALSE_RACE),
+    Guard("ninja, fresh: two names of a file", "ninja/fresh.py", "        if key in self.copies:\n", "        if False:\n", FRESH + "file_with_two_names", YES),
+    Guard("ninja, fresh: a name outside", "importing.py", "for path in replay.hard_links if path in names.shared]", "for path in ()]", FRESH + "name_outside_of_the_folder", LOST_HOLE),
+    Guard("ninja, fresh: a name outside of a file that nobody writes", "ninja/fresh.py", "        self.names[key] = self.names.get(key, found.st_nlink) - 1\n", "        self.names[key] = 1\n",
+          FRESH + "file_with_two_names", "1 != 2"),
+    Guard("ninja, fresh: the folder itself is not below the project", "ninja/fresh.py", "return saved_beside(top, folder) if can_move else", "return", FRESH + "build_that_looks_everywhere"),
+    Guard("ninja, fresh: one that was left beside the project", "ninja/fresh.py", "    yield from (saved_beside(str(top), folder) for top in Path(folder).parents if top.name)\n", "",
+          PLACES + "left_over_beside_the_project"),
+    Guard("ninja, fresh: folders that may not be written go", "ninja/fresh.py", "        let_write(folder)\n", "        pass\n", PLACES + "folders_that_may_not_be_written"),
+    Guard("ninja, fresh: what to do about a folder inside", "main.py", "WARM_COPY if options.fresh else WARM", "WARM", FRESH + "folder_inside_that_was_built_too", UNSAID),
+]
+NINJA_GUARDS = WARM + INSIDE + HOLES + ATTRIBUTION + ORDER + OWN + LATER + FIRST

@@ -54,6 +54,8 @@ LOOKS = ("make/build.py", "return {**self.make.looked.get(spelled, {}), **self.m
 TRACE: List[Guard] = [
     Guard("devices are no files", "trace/replay.py", "if path.startswith(KERNEL) and DEVICES.match(path) and not self.is_inside(path):", "if False:", small("devices_are_no_files"), FALSE_RACE),
     Guard("devices: no path below a top is left out", "trace/replay.py", "if path.startswith(KERNEL) and DEVICES.match(path) and not self.is_inside(path):", "if DEVICES.match(path):", "test_replay.Footprints.test_no_path_below_a_top_is_left_out"),
+    Guard("lives: what a process changed before its start is finished", "trace/replay.py", "if not child.is_heir:", "if True:", "test_replay.Lives.test_folder_of_a_process_that_changes_it_first"),
+    Guard("lives: threads wait for who starts them", "trace/replay.py", "not self.sharing.isdisjoint(self.begun) or len({", "len({", "test_replay.Lives.test_thread_that_is_seen_first"),
     Guard("system: what somebody changes is read", "trace/skips.py", "if has_change(left, skip.changes):", "if False:", "test_skips.Skips.test_look_where_somebody_changes_a_name"),
     Guard("system: a change below a top is none elsewhere", "trace/skips.py", 'if not any((t + "/").startswith("/%s/" % p) for t in tops)', "", "test_skips.Skips.test_change_below_a_top_leaves_other_folders_skipped"),
     Guard("system: opens that change something", "trace/skips.py", "|(?!, O_)[^", "|[^", "test_skips.Skips.test_look_where_somebody_changes_a_name"),
@@ -81,6 +83,9 @@ TRACE: List[Guard] = [
     Guard("numbers: more processes than jobs", "make/owners.py", "            if len(lives) != len(jobs):\n", "            if False:\n", "test_owners.Holes.test_number_that_comes_again_once_too_often"),
     Guard("wrapper: the recipe that runs", "make/wrapper.py", "        if not self.job:\n            return self.is_early(packet)\n", "        if True:\n            return self.is_early(packet)\n", "test_wrapper.Splits.test_recipe_that_prints_words_of_make"),
     Guard("wrapper: words before the line about a recipe", "make/wrapper.py", "            return bool(WORD_LINE.match(packet)) and", "            return False and", "test_wrapper.Splits.test_recipe_that_speaks_before_the_line_about_it"),
+    Guard("wrapper: its path in what configuring keeps", "main.py", "        record.notes += name_real_makes(found.lives, str(spool / \"bin\"), names.tops)\n", "", "test_output.Output.test_make_that_configuring_finds"),
+    Guard("wrapper: times of what configuring keeps", "make/unwrapped.py", "    os.utime(path,", "    str((path,", "test_output.Output.test_times_of_what_configuring_keeps", "",
+          ("make/unwrapped.py", "ns=(times.st_atime_ns, times.st_mtime_ns))", "(times.st_atime_ns, times.st_mtime_ns)))")),
     Guard("wrapper: makefiles that a recipe includes", "make/wrapper.py", " and not INCLUDED.match(packet)", "", "test_output.Output.test_makefiles_that_a_recipe_includes"),
     Guard("wrapper: what looks like the data base before that line", "make/wrapper.py", "elif self.next is not None and self.blank and packet.startswith(BASE):", "elif False:", "test_wrapper.Splits.test_recipe_whose_first_words_look_like_the_data_base"),
     Guard("wrapper: job lines of that recipe alone", "make/wrapper.py", "about.group(2) not in (None, self.job):", "False:", "test_wrapper.Splits.test_recipe_that_prints_words_of_make"),

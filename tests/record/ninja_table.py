@@ -207,3 +207,16 @@ CASES += [
     Case("outputs-that-were-removed-first", SAFE, GEN + sh("a", "g", USE), words="sh ./all", files={"all": "ninja -t clean; ninja -j1\n"}, setup="ninja -j1 > /dev/null"),
     Case("outputs-that-a-command-removes", NONE, GEN + sh("a", "g", USE) + sh("c", "", "ninja -t clean g a"), ["WARM"], words="sh ./all", files={"all": "ninja -j1 a; ninja c; ninja -j1 a\n"}, setup="ninja -j1 a > /dev/null"),
 ]
+GLOBS = ("rule look\n  command = %s\n  restat = 1\nrule remake\n  command = touch $out\n  generator = 1\nbuild f: phony\nbuild v: look | f\n"
+         "build build.ninja: remake | v w\nbuild w: remake s\n")
+HEADS = (REMADE.replace("next.ninja\n", "next.ninja | h0 x\n") + sh("h0", "", "touch h h0")
+         + "rule r\n  command = echo ran >> log; echo 'x: h' > x.m; touch x\n  deps = gcc\n  depfile = x.m\nbuild x: r\n")
+OLD = "touch -d 2001-01-01 s; touch -d 2002-01-01 w v; touch -d 2003-01-01 build.ninja"
+CASES += [
+    Case("log-that-is-listed-for-the-manifest", SAFE, GLOBS % "ls -A . > /dev/null" + "build d/a: sh\n  c = touch d/a\ndefault d/a\n", files={"v": "", "w": "", "s": "", "d/x": ""}, setup=OLD),
+    Case("statement-for-the-manifest-that-runs-later", RACE, (GLOBS % "touch s").replace("touch $out", "touch $out z") + "build a: sh\n  c = test -f z && echo 1 > a; touch a\ndefault w a\n",
+         ["RACE  z"], files={"v": "", "w": "", "s": ""}, setup=OLD, races=1),
+    Case("ages-of-a-log-of-headers", RACE, HEADS, ["/h is newer"], files={"next.ninja": RULES + HEADS}, setup="touch -d 2001-01-01 build.ninja"),
+    Case("ages-of-a-log-of-headers-ordered", SAFE, HEADS.replace("build x: r", "build x: r | h0"), files={"next.ninja": RULES + HEADS.replace("build x: r", "build x: r | h0")},
+         setup="touch -d 2001-01-01 build.ninja"),
+]

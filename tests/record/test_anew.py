@@ -115,6 +115,13 @@ class Later(unittest.TestCase):
         self.assertEqual(1, outcome.status, outcome.text() + outcome.stderr.decode())
         self.assertIn("MISSING  conf\n", outcome.text())
 
+    def test_extra_prerequisites_are_not_phony(self) -> None:
+        """Make puts them among those of `.PHONY` too."""
+        files = {"Makefile": ".PHONY: all\nall: a\n.EXTRA_PREREQS = g\na: list\n\tcat list g > a\ng: list\n\tcat list h.h > g\n", **FILES}
+        with support.Project(files) as project:
+            outcome = project.record(options=["--missing"])
+        self.assertIn("MISSING  h.h\n", outcome.text(), outcome.stderr.decode())
+
     def test_phony_recipes_too(self) -> None:
         files = {"Makefile": ".PHONY: all a b\nall: a b\nb: a\na:\n\tcat list o > out.a 2>/dev/null || true\nb:\n\tcp list o\n", **FILES}
         with support.Project(files) as project:

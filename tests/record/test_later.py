@@ -67,7 +67,7 @@ class Needs(unittest.TestCase):
         self.assertIsNone(self.needs("a", ["a: my file", "my file:"], ["a: my file", "my file:"]))
 
     def test_phony(self) -> None:
-        self.assertEqual({"all", "x"}, phony_of(base(".PHONY: all"), base("x:\n#  Phony target (prerequisite of .PHONY).")))
+        self.assertEqual({"all", "x"}, phony_of(base(".PHONY: all g", "", "all:\n#  Phony target (prerequisite of .PHONY)."), base("x:\n#  Phony target (prerequisite of .PHONY).")))
 
 
 class Answers(unittest.TestCase):

@@ -32,6 +32,8 @@ PROJECTS: Dict[str, Tuple[str, Pairs]] = {
     "a folder in order alone": ("all: o/a\no:\n\tmkdir o\no/a: a.c | o\n\tcp a.c o/a\n", set()),
     "a script": ("all: g.h\ng.h: list\n\tsh gen.sh list > g.h\n", {("g.h", "gen.sh")}),
     "a program of the project": ("all: g.h\ntool: gen.sh\n\tcp gen.sh tool\ng.h: list\n\tsh ./tool list > g.h\n.NOTPARALLEL:\ng.h: | tool\n", {("g.h", "tool")}),
+    "extra prerequisites": ("all: a\n.EXTRA_PREREQS = h.h\na: list\n\tcat list h.h > a\n", set()),
+    "extra prerequisites of a target": ("all: a b\na: .EXTRA_PREREQS = h.h\na: list\n\tcat list h.h > a\nb: list\n\tcat list h.h > b\n", {("b", "h.h")}),
     "a chain": ("all: b\na: list h.h\n\tcat list h.h > a\nb: a\n\tcat a h.h list > b\n", set()),
     "a chain without a recipe": ("all: b\nh.h: list\nb: h.h\n\tcat list > b\n", {("b", "list")}),
     "phony": (".PHONY: all show\nall: show a\nshow:\n\tcat list h.h > shown\na: list\n\tcp list a\n", set()),

@@ -36,6 +36,18 @@ class Output(unittest.TestCase):
             left = {str(p.relative_to(project.folder)): p.read_bytes().replace(here, b".") for p in kept}
         return status, out.replace(here, b"."), left
 
+    def test_make_that_configuring_finds(self) -> None:
+        """Its path is kept, and the recorder's own is gone when the build has ended."""
+        for name in ("CMakeCache.txt", "config.status", "sub/Makefile"):
+            with self.subTest(name):
+                self.both("all: ; echo CMAKE_MAKE_PROGRAM=$$(command -v make) > c; mkdir -p sub; chmod 755 c; touch -d 2001-01-01 c; mv c %s\n" % name)
+
+    def test_times_of_what_configuring_keeps(self) -> None:
+        with support.Project({"Makefile": "all: ; command -v make > config.status; chmod 755 config.status; touch -d @1000000000 config.status\n"}) as project:
+            project.record()
+            kept = (project.folder / "config.status").stat()
+        self.assertEqual((1000000000, 0o755), (kept.st_mtime, kept.st_mode & 0o777))
+
     def test_recipes_that_open_their_output_anew(self) -> None:
         self.both("T := $(shell seq 99)\nall: $T\n$T: ; @echo $@ > /dev/stdout; printf x | tee /dev/fd/1\n")
 

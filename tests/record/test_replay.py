@@ -67,6 +67,21 @@ class Lives(unittest.TestCase):
                         "1 <... vfork resumed>) = 2")
         self.assertIn(("W", "sub/a"), events_of(lives_of(replay, 2)[0]))
 
+    def test_folder_of_a_process_that_changes_it_first(self) -> None:
+        """What it changes before the call that started it is finished holds behind that."""
+        replay = played("1 clone(child_stack=NULL, flags=SIGCHLD <unfinished ...>", '2 chdir("sub") = 0', "2 umask(077) = 022",
+                        "1 <... clone resumed>) = 2", '2 mkdir("a", 0777) = 0', '1 mkdir("b", 0777) = 0')
+        one, two = lives_of(replay, 1)[0], lives_of(replay, 2)[0]
+        self.assertEqual((True, True, 0o77), (("M", "sub/a") in events_of(two), ("M", "b") in events_of(one), two.mask))
+
+    def test_thread_that_is_seen_first(self) -> None:
+        begin, end = "1 clone3({flags=CLONE_VM|CLONE_FS|CLONE_THREAD}, 88 <unfinished ...>", "1 <... clone3 resumed>) = 2"
+        leave, enter = "2 unshare(CLONE_FS) = 0", '2 chdir("sub") = 0'
+        for lines, name in (((begin, leave, enter, end), "b"), ((begin, leave, end, enter), "b"), ((begin, end, leave, enter), "b"), ((begin, enter, end), "sub/b")):
+            replay = played(*lines, '1 mkdir("b", 0777) = 0', '2 mkdir("a", 0777) = 0')
+            self.assertIn(("M", name), events_of(lives_of(replay, 1)[0]), lines)
+            self.assertIn(("M", "sub/a"), events_of(lives_of(replay, 2)[0]), lines)
+
     def test_number_that_comes_again_is_another_life(self) -> None:
         one = ["1 vfork() = 2", f'2 openat(AT_FDCWD<{TOP}>, "a", O_WRONLY|O_CREAT, 0666) = 3<{TOP}/a>', "2 +++ exited with 0 +++"]
         two = ["1 vfork() = 2", f'2 openat(AT_FDCWD<{TOP}>, "b", O_WRONLY|O_CREAT, 0666) = 3<{TOP}/b>', "2 +++ exited with 0 +++"]

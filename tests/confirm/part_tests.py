@@ -1,0 +1,46 @@
+"""Parts of race-confirm by themselves: points and schedules, targets in makefiles, differences of trees."""
+
+from __future__ import annotations
+
+import os
+import tempfile
+import unittest
+from pathlib import Path
+
+from confirm.races import CannotConfirm, Held
+from confirm.schedules import Points, inner
+from confirm.tree import Difference, difference
+
+
+class Parts(unittest.TestCase):
+    """Modules by themselves."""
+
+    def test_points(self) -> None:
+        points = Points()
+        rows = (("start", "-", "sh"), ("before", "open-to-write", "sh"), ("after", "open-to-write", "sh"), ("start", "-", "mv"),
+                ("before", "rename", "mv"), ("after", "rename", "mv"))
+        for row in rows:
+            points.add("first", *row)
+        wanted = ["before `mv` renames it", "before `mv` begins", "after `sh` opens it to write"]
+        self.assertEqual(wanted, [str(it) for it in inner(points.all)])
+        self.assertEqual("before `sh` begins, time 2", str(points.add("first", "start", "-", "sh")))
+
+    def test_targets_in_makefiles(self) -> None:
+        self.assertEqual("a\\ b\\:\\%$$c", Held("first", "a b:%$c", "/", True).in_makefile())
+        with self.assertRaises(CannotConfirm):
+            Held("first", "a=b", "/", True).in_makefile()
+
+    def test_differences(self) -> None:
+        with tempfile.TemporaryDirectory() as room:
+            serial, parallel = Path(room, "serial"), Path(room, "parallel")
+            for tree, text in ((serial, b"one\ntwo\n"), (parallel, b"one\nthree\n")):
+                tree.mkdir()
+                (tree / "text").write_bytes(text)
+                (tree / "bytes").write_bytes(text + b"\0")
+            (serial / "gone").touch()
+            os.symlink("text", serial / "link")
+            os.symlink("bytes", parallel / "link")
+            found = [difference(it, serial, parallel) for it in ("text", "bytes", "gone", "link")]
+        wanted = ["line 2 is `three`, and `two` after a serial build", "other bytes (11 bytes, 9 after a serial build)",
+                  "is missing", "leads elsewhere"]
+        self.assertEqual([Difference(*it) for it in zip(("text", "bytes", "gone", "link"), wanted)], found)

@@ -1,0 +1,112 @@
+"""`--fresh`: what stands outside of the folder, files with several names, and folders that cannot be moved or removed."""
+
+import os
+import shutil
+import unittest
+from pathlib import Path
+from typing import Dict, Tuple
+
+import support
+from ninja_table import RULES, sh
+
+from record.ninja import fresh
+
+NOBODY = 65534
+BUILD = ["ninja", "-C", "b"]
+
+
+def state(project: support.Project) -> Dict[str, Tuple[int, int, str]]:
+    """Numbers, times of files and contents of all names besides the record."""
+    paths = [p for p in sorted(project.folder.rglob("*")) if ".race" not in p.parts]
+    return {str(p): (p.lstat().st_ino, p.lstat().st_mtime_ns if p.is_file() else 0, p.read_text() if p.is_file() else "") for p in paths}
+
+
+@unittest.skipUnless(shutil.which("ninja"), "ninja is missing (Debian: apt-get install ninja-build)")
+class Copies(unittest.TestCase):
+    """What the recorded build of a copy shows."""
+
+    def recorded(self, manifest: str, setup: str, *words: str) -> support.Outcome:
+        """Of a folder that is warm; it must be as it was behind that."""
+        with support.Project({"b/build.ninja": RULES + manifest, "x.in": ""}) as project:
+            project.sh("%s\nninja -C b -j1 > /dev/null" % setup)
+            before = state(project)
+            outcome = project.record(words or BUILD, ["--fresh"])
+            self.assertEqual((before, ["project"]), (state(project), os.listdir(project.folder.parent)), outcome.stderr.decode())
+        return outcome
+
+    def test_folder_outside_that_ninja_makes(self) -> None:
+        looks = "test -d ../gen/d && echo 1 > z; touch z"
+        outcome = self.recorded(sh("../gen/d/a", "", "echo 1 > ../gen/d/a") + sh("z", "", looks), "")
+        self.assertEqual(1, outcome.status, outcome.text() + outcome.stderr.decode())
+        self.assertEqual(0, self.recorded(sh("../gen/d/a", "", "echo 1 > ../gen/d/a") + sh("z", "|| ../gen/d/a", looks), "").status)
+        self.assertEqual(0, self.recorded(sh("../gen/d/a", "", "echo 1 > ../gen/d/a") + sh("z", "", looks), "mkdir -p gen/d; touch gen/d/kept").status)
+
+    def test_file_with_two_names(self) -> None:
+        setup = "echo 0 > b/x; ln b/x b/y"
+        outcome = self.recorded(sh("a", "", "echo 1 >> x; touch a") + sh("z", "", "cat y > z"), setup)
+        self.assertEqual(1, outcome.status, outcome.text() + outcome.stderr.decode())
+        self.assertEqual(0, self.recorded(sh("a", "", "echo 1 >> x; touch a") + sh("z", "a", "cat y > z"), setup).status)
+
+    def test_name_outside_of_the_folder(self) -> None:
+        setup = "echo 0 > b/x; ln b/x y"
+        outcome = self.recorded(sh("a", "", "echo 1 >> x; touch a") + sh("z", "", "cat ../y > z"), setup)
+        self.assertEqual(2, outcome.status, outcome.text() + outcome.stderr.decode())
+        self.assertIn("b/x, which has a name outside of the folder too, and the build writes it", " ".join(outcome.text().split()))
+        self.assertEqual(0, self.recorded(sh("z", "", "cat x ../y > z"), setup).status)
+
+    def test_build_that_looks_everywhere(self) -> None:
+        """It does not see the folder that is kept: neither below the project, where that is known, nor in a list."""
+        outcome = self.recorded(sh("a", "", "find .. -name '*.in' | sort; touch a"), "touch b/y.in")
+        self.assertEqual(["../b/y.in", "../x.in"], [line for line in outcome.text().splitlines() if line.endswith(".in") and line.startswith("..")])
+
+    def test_folder_inside_that_was_built_too(self) -> None:
+        """The line on a warm tree does not name what was just done."""
+        inner = "mkdir b/c; printf 'rule sh\\n  command = $c\\nbuild i: sh\\n  c = touch i\\n' > b/c/build.ninja"
+        outcome = self.recorded(sh("a", "", "ninja -C c; touch a"), inner)
+        self.assertEqual(2, outcome.status, outcome.text())
+        self.assertIn("what another ninja or make builds in it stays: configure an empty folder anew, and record without --fresh", " ".join(outcome.text().split()))
+
+
+@unittest.skipUnless(shutil.which("ninja"), "ninja is missing (Debian: apt-get install ninja-build)")
+class Places(unittest.TestCase):
+    """Where the folder is meanwhile, and what stands in its place."""
+
+    def test_other_name(self) -> None:
+        with support.Project({"top/a/b/x": ""}) as project:
+            top = os.path.realpath(project.folder) + "/top"
+            names = [fresh.saved_name(top + below, tops) for below, tops in (("/a/b", [top]), ("/a/b", [top + "/a"]), ("/a", [top + "/a"]), ("/a", ["/"]))]
+            self.assertEqual([top + name + ".race-saved" for name in ("-a-b", "/a-b", "/a", "/a")], names)
+            self.assertTrue({*names[:2]} <= {*fresh.saved_names(top + "/a/b")})
+
+    def test_left_over_beside_the_project(self) -> None:
+        with support.Project({"b/build.ninja": RULES}) as project:
+            left = project.folder.parent / "project-b.race-saved"
+            left.mkdir()
+            outcome = project.record(BUILD, ["--fresh"])
+            self.assertEqual(3, outcome.status)
+            self.assertIn("project-b.race-saved is there: another --fresh runs now", outcome.stderr.decode())
+            self.assertTrue(left.is_dir())
+
+    def test_folder_that_cannot_be_moved(self) -> None:
+        with self.assertRaisesRegex(fresh.CannotClean, r"cannot get another name meanwhile \(.*\): clean it \(ninja -C /proc/sys -t clean\) and record without --fresh"):
+            fresh.move_away("/proc/sys", "/proc/sys.race-saved")
+
+    def test_folders_that_may_not_be_written(self) -> None:
+        """They go too; else the folder itself could not come back."""
+        with support.Project({"b/d/e/f": ""}) as project:
+            folder = project.folder / "b"
+            for path in (folder / "d" / "e", folder / "d"):
+                path.chmod(0o555)
+            if os.geteuid() == 0:
+                for path in (project.folder.parent, project.folder, folder, folder / "d", folder / "d" / "e"):
+                    os.chown(path, NOBODY, NOBODY)
+            child = os.fork()
+            if child == 0:
+                try:
+                    if os.geteuid() == 0:
+                        os.setuid(NOBODY)
+                    fresh.remove(str(folder))
+                finally:
+                    os._exit(0)
+            os.waitpid(child, 0)
+            self.assertEqual([], sorted(Path(project.folder).iterdir()))
