@@ -14,6 +14,7 @@ BRACKETS = {"(": ")", "{": "}"}
 ANY = "*"
 PLAIN = re.compile(r"[\w./+-]*")  # texts without blanks, patterns and signs of make
 WORDS = re.compile(r"[\w./+-]+|\*|(.)", re.S)
+NUMBER = re.compile(r"[1-9][0-9]{0,8}")  # of a word that `call` hands on
 ABOUT = re.compile(r"(value|origin|flavor)[ \t]+")
 EVAL = re.compile(r"eval[ \t]")
 SIMPLY = re.compile(r" *(?:(?:override|export|private)[ \t]+)*([\w.-]+)[ \t]*::?=")
@@ -142,7 +143,7 @@ class Reach:
         """What a reference comes to."""
         if one.text == "@":
             return self.target if self.target and PLAIN.fullmatch(self.target) else ANY
-        if one.text.isdigit() and one.text != "0" and given is not None:
+        if given is not None and NUMBER.fullmatch(one.text):
             return given[int(one.text) - 1] if int(one.text) <= len(given) else ""
         return ANY
 
