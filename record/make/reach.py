@@ -127,8 +127,8 @@ class Reach:
             self.add(text[end:].replace("$$", "$"), given)  # it is read twice
 
     def visit(self, name: str, given: Given) -> None:
-        """A macro, or all whose names fit."""
-        self.found.add(name)
+        """A macro, or all whose names fit. Who asks for the list of all macros may ask for any."""
+        self.found.add(ANY if name == ".VARIABLES" else name)
         for other in [one for one in {*self.texts, *self.odd} if fnmatchcase(one, name)] if ANY in name else [name]:
             self.found.add(other)
             for text in (*self.texts.get(other, ()), *self.odd.get(other, ())):

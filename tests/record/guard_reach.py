@@ -20,6 +20,7 @@ REACH_GUARDS: List[Guard] = [
     Guard("reach: words that nobody can say", "make/reach.py", '<= len(given) else ""\n        return ANY\n', '<= len(given) else ""\n        return ""\n', reach("word_that_another_macro_gives"), YES),
     Guard("reach: what a call hands on", "make/reach.py", "tuple(self.value(word, given) for word in words))", "given)", reach("word_that_a_call_hands_on"), YES),
     Guard("reach: brackets of another kind", "make/reach.py", "parts(text[end:], one.opening)", 'parts(text[end:].replace("{", "("), one.opening)', reach("word_behind_others"), YES),
+    Guard("reach: the list of all macros", "make/reach.py", 'ANY if name == ".VARIABLES" else name', "name", "test_small.Makefiles.test_macro_in_the_list_of_all", YES),
     Guard("reach: the name of the target", "make/reach.py", 'if one.text == "@":', "if False:", reach("name_of_the_target"), FALSE_RACE),
     Guard("reach: loops over what a call hands on", "make/macros.py", " if not self.is_bound_otherwise else None", "", reach("argument_that_a_loop_gives"), YES),
     Guard("reach: what eval expands again", "make/reach.py", "if EVAL.match(text):", "if False:", reach("macro_that_eval_expands_again"), YES),
