@@ -106,38 +106,8 @@ pub fn other_input<'a>(question: JobQuestion<'a>) -> Option<InputPath<'a>>
     }
 }
 
-/// The inputs of a build, with the paths of their files, in the order in which they are opened and read. The only error is out
-/// of memory.
-pub fn build_inputs<'a>(
-    alloc: Global,
-    build: &BuildArgs<'a>,
-) -> Result<Vec<InputPath<'a>>, AllocError>
-    ensures { IfOk result (λ inputs. inputs.items ≡ spec.build_inputs build.now) }
-{
-    let mut inputs = Vec::new(alloc);
-    if let Some(base) = build.base {
-        push_input(&mut inputs, InputFile::Base, base)?;
-    }
-    push_input(&mut inputs, InputFile::Makefile, build.makefile)?;
-    push_input(&mut inputs, InputFile::Listing, build.listing)?;
-    Ok(inputs)
-}
-
-/// The inputs of a question about the jobs of a build: those of the build, its footprints, and one more where the question has
-/// one. The only error is out of memory.
-pub fn job_inputs<'a>(alloc: Global, args: &JobArgs<'a>) -> Result<Vec<InputPath<'a>>, AllocError>
-    ensures { IfOk result (λ inputs. inputs.items ≡ spec.inputs_of (Request.Jobs args.now)) }
-{
-    let mut inputs = build_inputs(alloc, &args.build)?;
-    push_input(&mut inputs, InputFile::Footprints, args.footprints)?;
-    if let Some(other) = other_input(args.question) {
-        inputs.push(other)?;
-    }
-    Ok(inputs)
-}
-
-/// The inputs of a question about tasks: a listing where it has one, their text, and a proof where it has one. The only error is
-/// out of memory.
+/// The inputs of a question about tasks, with the paths of their files, in the order in which they are opened and read: a listing
+/// where it has one, their text, and a proof where it has one. The only error is out of memory.
 pub fn task_inputs<'a>(alloc: Global, args: &TaskArgs<'a>) -> Result<Vec<InputPath<'a>>, AllocError>
     ensures { IfOk result (λ inputs. inputs.items ≡ spec.inputs_of (Request.Tasks args.now)) }
 {
