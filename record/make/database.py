@@ -9,7 +9,6 @@ TARGET = re.compile(r"^(.*?)(::?)(?: (.*))?$")
 PLACE = re.compile(r"^#  recipe to execute \(from '(.*)', line (\d+)\):")
 ORIGIN = re.compile(r"# (makefile|environment|command line|default|automatic|'override' directive)")
 VALUE = re.compile(r"^([^\s:#=]+) (?:=|:=|::=|:::=) ?(.*)$", re.A)
-SIMPLE = re.compile(r"\S+ ::?= ?")  # of a macro whose value is its text as it stands
 LINES_TEXT = "$(lines)*"  # what stands for a macro of several lines
 LINES = re.compile(r"^define ([^\s:#=]+)", re.A)
 PATTERN = re.compile(r"^([^#\t:=]*%[^:=]*)(::?)(?!=) *(.*)$")
@@ -45,7 +44,6 @@ class Base:
     search: List[Tuple[str, List[str]]] = field(default_factory=list)  # patterns of names, and the folders in which make looks for them
     values: Dict[str, str] = field(default_factory=dict)  # the text of macros; `$(lines)*` for one of several lines
     bodies: Dict[str, List[str]] = field(default_factory=dict)  # by macro: its lines, and its values for single targets and patterns
-    simple: Set[str] = field(default_factory=set)  # macros whose values are their texts as they stand
     scoped: Set[str] = field(default_factory=set)  # targets with macros of their own
     serial: bool = False
 
@@ -144,7 +142,6 @@ def before_files(base: Base, text: str, previous: str) -> None:
         base.patterns.append((cut(pattern.group(1)), cut(pattern.group(3).replace("|", " "))))
     if value:
         base.values[value.group(1)] = value.group(2)
-        base.simple.update([value.group(1)] if SIMPLE.match(text) else [])
     if lines:
         base.values[lines.group(1)] = LINES_TEXT
     if is_macro and text.startswith("# "):

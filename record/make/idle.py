@@ -111,20 +111,6 @@ def unread(lines: List[str], there: Set[str], macros: Set[str]) -> Set[int]:
     return set() if open_branches else found
 
 
-def surely_read(text: str) -> List[str]:
-    """The lines of a makefile that make reads whatever its conditions come to, and that are no part of a recipe. None where it is not plain
-    which lines are conditions, as behind a tab."""
-    depth, found = 0, []
-    for _, _, line in logical(text.split("\n")):
-        condition = CONDITION.match(line or "")
-        if line is not None and line.startswith("\t") and (condition or DEFINE.match(line) or ENDEF.match(line)) or depth < 0:
-            return []
-        depth += (condition is not None and condition.group(1).startswith("if")) - (condition is not None and condition.group(1) == "endif")
-        if line is not None and not depth and not line.startswith("\t"):
-            found.append(line)
-    return found if not depth else []
-
-
 def recipe_lines(lines: List[str], at: int, recipe: List[str]) -> Set[int]:
     """Where the lines of a recipe stand, and those between and behind them that a condition takes away: make adds each other one to the
     recipe. None where they are not these lines."""

@@ -9,9 +9,8 @@ from typing import Dict, Iterable, Iterator, List, NamedTuple, Optional, Set, Tu
 
 from record.make.database import Base
 from record.make.database import LINES_TEXT as LINES
-from record.make.globs import BOUND, composes
+from record.make.globs import composes
 from record.make.owners import Make
-from record.make.reach import Reach, late_texts, odd_texts
 from record.make.words import makefiles
 from record.tools.shelltext import shell_text
 from record.tools.texts import is_plain
@@ -147,8 +146,7 @@ class Macros:
     def __init__(self, make: Make, base: Base) -> None:
         self.make, self.base = make, base
         paths = [os.path.join(make.folder, name) for name in sorted(makefiles(make.words)) if not make.never_read(name)]
-        self.files = [text_of(path) for path in paths]
-        self.text = "\n".join(self.files)
+        self.text = "\n".join(text_of(path) for path in paths)
         self.is_lost = bool(make.stale) or not all(map(is_plain, paths))  # then macros of several lines may hold anything
         recipes = (line for lines in base.recipes.values() for line in lines)
         texts = [self.text, *base.values.values(), *recipes, *(line for lines in base.bodies.values() for line in lines)]
@@ -285,46 +283,11 @@ class Macros:
         callers = [life.argv for life in self.make.life.up() if life is not self.make.life and not life.is_make and not life.is_wrapper]
         return name in os.environ or any(not shell_text(argv) or name + "=" in shell_text(argv) for argv in callers)
 
-    def asked(self, text: str, target: str) -> Set[str]:
-        """The macros that the recipe of a target asks for. Where names of macros are put together and may lead to any macro, or to `eval`, each call
-        is followed with its words."""
-        found = self.reached(text)
-        if self.is_lost or found.isdisjoint(self.far):
-            return found
-        is_named = target and not self.base.search and target not in self.grouped
-        less = Reach(self.late, self.odd, target if is_named else "").of(text) if not self.is_bound_otherwise else None
-        return found if less is None or ANY in less else less
-
-    @cached_property
-    def far(self) -> Set[str]:
-        """The macros whose texts name `eval`, and what stands for any macro."""
-        return {ANY, *(name for name, texts in self.texts.items() if any("eval" in text for text in texts))}
-
-    @cached_property
-    def late(self) -> Dict[str, List[str]]:
-        """All that each macro may be when recipes run."""
-        return late_texts(self.texts, self.files, self.base)
-
-    @cached_property
-    def odd(self) -> Dict[str, List[str]]:
-        """The same of names with other signs."""
-        return {name: list(map(with_functions, texts)) for name, texts in odd_texts(self.text).items()}
-
-    @cached_property
-    def grouped(self) -> Set[str]:
-        """Targets of which one recipe makes several: it may run for any of them."""
-        return {*self.base.also, *(other for others in self.base.also.values() for other in others)}
-
-    @cached_property
-    def is_bound_otherwise(self) -> bool:
-        """Whether a loop or an assignment may give another value to what `call` hands on, or to the name of a target."""
-        return BOUND.search(self.text) is not None
-
-    def use(self, text: str, target: str = "") -> Use:
+    def use(self, text: str) -> Use:
         """What expanding a recipe reads and writes."""
         found, text = Use(), with_functions(text)
         own, sure = list(evals(text)), outermost(text)
-        found.reads = self.asked(text, target)
+        found.reads = self.reached(text)
         if any(COMPUTED.search(one) for one in (text, *map(self.text_of, found.reads))) and (self.names_eval or BARE.search(text)):
             found.writes |= {ANY}
         for name in found.reads:
@@ -365,7 +328,7 @@ def uses(macros: Macros) -> Dict[str, Use]:
     if not macros.is_used:
         return {}
     implied = macros.implied()
-    found = {name: macros.use("\n".join(lines), name).joined(implied) for name, lines in base.recipes.items()}
+    found = {name: macros.use("\n".join(lines)).joined(implied) for name, lines in base.recipes.items()}
     changed = macros.changed = {name for use in found.values() for name in use.writes}
     exported = {name for name in changed if name != ANY and (macros.is_exported(name) or name in macros.handed_on)}
     exported |= {one.name for lines in base.recipes.values() for one in evals(with_functions("\n".join(lines))) if one.is_exported}

@@ -51,7 +51,7 @@ def own_folders(builder: "Builder", node: Node) -> Optional[Set[str]]:
     """The folders in which a target's recipe looks for names; None where nobody can say which."""
     base, known = builder.graph.base, builder.known
     text = "\n".join(base.recipes.get(node.name, ()))
-    if ".SECONDEXPANSION" in base.prerequisites or any(may_list(known, one) for one in (text, *map(known.text_of, known.asked(text, node.name)))):
+    if ".SECONDEXPANSION" in base.prerequisites or any(may_list(known, one) for one in (text, *map(known.text_of, known.reached(text)))):
         return None
     return folders_asked(known, builder.names, node)
 
@@ -87,7 +87,7 @@ def words_asked(known: Macros, node: Node) -> Optional[List[str]]:
     """The words of `wildcard` in the recipe of a target; None where nobody can say them."""
     base = known.base
     text = "\n".join(base.recipes.get(node.name, ()))
-    reached = known.asked(text, node.name)
+    reached = known.reached(text)
     texts = [text, *map(known.text_of, reached)]
     calls = [call for one in texts for call in arguments(one)]
     if ANY in reached or composes("\n".join(texts), "wildcard") or sum(one.count("wildcard") for one in texts) > len(calls) or None in calls or BOUND.search("\n".join(texts)):
@@ -107,10 +107,9 @@ def looped(text: str) -> Iterator[str]:
 
 
 def folders_asked(known: Macros, names: Names, node: Node) -> Optional[Set[str]]:
-    """The folders that the recipe of a target lists by `wildcard`; None where nobody can say which. A name without a pattern make looks at by
-    itself, and lists nothing for it."""
+    """The folders in which the recipe of a target looks for names by `wildcard`; None where nobody can say which."""
     words = words_asked(known, node)
-    return None if words is None else {names.find(known.make.folder, os.path.dirname(word) or ".", True).path for word in words if MAGIC.search(word)}
+    return None if words is None else {names.find(known.make.folder, os.path.dirname(word) or ".", True).path for word in words}
 
 
 def with_target(text: str, target: str) -> str:
