@@ -19,6 +19,8 @@ from record.tools.texts import text_of as plain_text
 BEGIN = re.compile(r"\$(?:[({](?:(?:call|value|origin|flavor)[ \t]+)?|(\w))")
 EVAL = re.compile(r"\$([({])eval[ \t]")
 BUILT_IN = re.compile(r"\$([({])call\s+(call|eval|value|origin|flavor)\s*,")  # a function of make that `call` calls
+SPLIT = re.compile(r"\$([({])(call|eval|value|origin|flavor)[\n\r\f\v]")  # a function whose words begin on the next line
+CONTINUED = re.compile(r"[ \t]*(?<!\\)\\\n[ \t]*")  # make takes it for one blank in a reference
 COMPUTED = re.compile(r"\$[({]call\s[^,(){}]*\$")  # a function that another macro names
 LOOP = re.compile(r"\$\(foreach[ \t]+([\w.-]+),[ \t]*\$\(([\w.-]+)\)[ \t]*,")  # over the words of one macro
 ALONE = re.compile(r"(?<!\S)\$\(([\w.-]+)\)(?!\S)")  # a macro that stands for whole words
@@ -65,7 +67,8 @@ def evals(text: str) -> Iterator[Eval]:
 
 
 def with_functions(text: str) -> str:
-    """A text in which a function of make that is called by `$(call eval,..)` stands as it does without `call`."""
+    """A text in which a function of make that is called by `$(call eval,..)` stands as it does without `call`, and with a blank behind its name."""
+    text = SPLIT.sub(r"$\1\2 ", CONTINUED.sub(" ", text))
     count: int = "call" in text
     while count:
         text, count = BUILT_IN.subn(r"$\1\2 ", text)
@@ -77,7 +80,7 @@ def named(text: str) -> Set[str]:
     read twice."""
     plain = text.replace("$$", "  ")
     found = {one.group(1) or name_at(plain, one.end()) for one in BEGIN.finditer(plain)}
-    found = {ANY if name == ".VARIABLES" else name for name in found if name}
+    found = {ANY if fnmatchcase(".VARIABLES", name) else name for name in found if name}
     again = (text[one.start + 2:one.end].replace("$$", "$") for one in evals(text) if "$$" in text[one.start:one.end])
     return found.union(*map(named, again))
 

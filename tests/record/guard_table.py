@@ -245,7 +245,7 @@ UNFILED: List[Guard] = [
     Guard("macros: by computed names", "make/macros.py", 'found + "*", end_of(text, at + 1)', "found, end_of(text, at + 1)", small("macro_by_a_part_of_its_name"), YES),
     Guard("macros: by patterns that fit", "make/macros.py", "if fnmatchcase(name, pattern)", "", small("macro_by_a_part_of_another_name"), FALSE_RACE),
     Guard("macros: asked for by origin", "make/macros.py", "value|origin|flavor)[ \\t]+", "value)[ \\t]+", small("macro_by_its_origin"), YES),
-    Guard("macros: in the list of all", "make/macros.py", 'ANY if name == ".VARIABLES" else name', "name", small("macro_in_the_list_of_all"), YES),
+    Guard("macros: in the list of all", "make/macros.py", 'ANY if fnmatchcase(".VARIABLES", name) else name', "name", small("macro_in_the_list_of_all"), YES),
     Guard("macros: that make reads", "make/macros.py", " or name in IMPLIED", "", small("macro_that_make_reads"), YES),
     Guard("macros: of the caller", "make/macros.py", "or self.is_inherited(name)", "", small("macro_that_the_caller_sets"), YES),
     Guard("macros: more than a macro", "make/macros.py", "set(changed) if ANY in changed else", "", small("search_path_that_a_recipe_sets"), YES),

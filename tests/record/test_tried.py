@@ -21,7 +21,15 @@ SIDE = "all: c\nx: ; echo 1 > x\ny: ; echo 2 > y\nc: x y ; { %s; } > c || true\n
 TIMED = "a b: ; t=t.$$(date +%s%N | cut -c1-13); echo $@ > $$t; mv $$t $@\n"
 UNKNOWN = "programs that nobody knows look at two files"
 
+# A recipe that shows a macro, and one that may change it.
+SHOWS = "all: s a b\ns: ; touch s\nb: ; echo '%s' > b\n"
+
 TRIED: Dict[str, Small] = {
+    # macros
+    "eval_whose_words_stand_on_the_next_line": Small("race", SHOWS % "$(X)" + "a: s\n\t$(eval\\\n\tX := set)touch a\n"),
+    "eval_with_a_new_line_behind_its_name": Small("race", "define both\n$(eval\nX := set)touch $@\nendef\n" + SHOWS % "$(X)" + "a: s ; $(both)\n"),
+    "list_of_all_macros_by_a_name_that_is_put_together": Small("race", "of = VARIABLES\n" + SHOWS % "$(filter X,$(.$(of)))" + "a: s ; $(eval X := set)touch a\n"),
+    "names_of_macros_that_nobody_sets": Small("safe", "of = PHONY\n" + SHOWS % "$(filter X,$(MY_$(of)))" + "a: s ; $(eval X := set)touch a\n"),
     # patterns
     "brackets_with_a_quote": Small("race", LISTS % "echo [x'yz'].i", {"y.i": ""}),
     "brackets_with_a_blank": Small("race", LISTS % "echo y.i [x\\ z].i", {"y.i": ""}),
