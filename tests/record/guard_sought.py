@@ -16,7 +16,7 @@ SOUGHT_GUARDS: List[Guard] = [
     Guard("macros: that a recipe may set", "make/macros.py", " and one.start in sure", "", sought("macro_that_a_recipe_may_set"), YES),
     Guard("macros: that a recipe surely sets", "make/macros.py", " and one.start in sure", " and False", sought("macro_that_a_recipe_surely_sets")),
     Guard("macros: by a function that is called", "make/macros.py", "    count: int = \"call\" in text\n", "    count = False\n", sought("macro_by_a_function_that_is_called"), YES),
-    Guard("macros: by a called function that shows one", "make/macros.py", "(call|eval|value|origin|flavor)", "(call|eval)", sought("macro_that_a_called_function_shows"), YES),
+    Guard("macros: by a called function that shows one", "make/macros.py", r"call\s+(call|eval|value|origin|flavor)", r"call\s+(call|eval)", sought("macro_that_a_called_function_shows"), YES),
     Guard("macros: by a function of a computed name", "make/macros.py", "(self.names_eval or BARE.search(text))", "False", sought("macro_by_a_function_of_a_computed_name"), YES),
     Guard("macros: of lines with a computed name", "make/macros.py", ', *((name, "\\n".join(lines)) for name, lines in self.base.bodies.items())', "", sought("macro_of_lines_with_a_computed_name"), YES),
     Guard("macros: that eval reads", "make/macros.py", "return found.union(*map(named, again))", "return found", sought("macro_that_eval_reads"), YES),
