@@ -63,7 +63,7 @@ class Record:
 
     def text(self) -> str:
         """As it is written."""
-        found = {"version": VERSION, **asdict(self)}
+        found: Dict[str, Any] = {"version": VERSION, **asdict(self)}
         alone = found.pop("stands_alone")
         del found["configured"]
         if self.missing is None:

@@ -170,7 +170,8 @@ def import_record(spool: Path, names: Names, kept: Kept, real: str, folder: str,
         assumed.add("clock", name)
     if (owners.makes or ninjas) and record.status == 0 and did_nothing(builds):
         record.holes.append(IDLE)
-    cleaned = Cleaned(names, replay.changes, [one.life for one in (*owners.makes, *ninjas)], replay.all)
+    tools = [*(make.life for make in owners.makes), *(ninja.life for ninja in ninjas)]
+    cleaned = Cleaned(names, replay.changes, tools, replay.all)
     return Imported(builds, assumed, replay.all, ninjas, cleaned, idle_targets(owners, names, cleaned), find_configured(owners.makes, replay.all, names))
 
 

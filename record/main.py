@@ -130,8 +130,7 @@ def run_build(words: List[str], spool: Path, tops: List[str]) -> Tuple[int, floa
         finally:
             ended.set()
             signal.signal(signal.SIGINT, old)
-        for work in (filling, sifting, loading):
-            work.result()
+        filling.result(), sifting.result(), loading.result()
     if interrupts and status != 0:
         raise Stopped("SIGINT")
     return status, seconds

@@ -6,8 +6,9 @@ from typing import TYPE_CHECKING, List
 
 from record.make.database import LINES_TEXT
 from record.make.globs import DEPTH
-from record.make.macros import ANY, Macros
+from record.make.macros import Macros
 from record.make.memory import with_target
+from record.make.references import ANY
 
 if TYPE_CHECKING:
     from record.make.build import Builder

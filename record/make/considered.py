@@ -9,8 +9,8 @@ from fnmatch import fnmatchcase
 from functools import cached_property
 from typing import TYPE_CHECKING, Dict, Iterator, List, Set, Tuple
 
+from record.make.asked import MAGIC
 from record.make.database import Base
-from record.make.globs import MAGIC
 from record.make.graph import Node
 from record.make.memory import first_birth
 from record.make.searches import DEPTH, Searches, stems

@@ -5,12 +5,16 @@ from dataclasses import dataclass, field
 from functools import cached_property
 from typing import Dict, List, Set, Tuple
 
+from record.make.references import NAME
+
 TARGET = re.compile(r"^(.*?)(::?)(?: (.*))?$")
 PLACE = re.compile(r"^#  recipe to execute \(from '(.*)', line (\d+)\):")
 ORIGIN = re.compile(r"# (makefile|environment|command line|default|automatic|'override' directive)")
-VALUE = re.compile(r"^([^\s:#=]+) (?:=|:=|::=|:::=) ?(.*)$", re.A)
+VALUE = re.compile(r"^(" + NAME + r"*)(.*?) (?:=|:=|::=|:::=|\+=|\?=) ?(.*)$", re.A)  # its name up to a sign that names seldom have, and the rest of it
 LINES_TEXT = "$(lines)*"  # what stands for a macro of several lines
-LINES = re.compile(r"^define ([^\s:#=]+)", re.A)
+BEGINS = r"[ \t]*(?:(?:override|export|private)[ \t]+)*define(?![\w.-])"  # a macro of several lines
+LEVEL = re.compile("(" + BEGINS + r")|[ \t]*endef(?![\w.-])")
+LINES = re.compile(r"^define (" + NAME + r"*)(.*)", re.A)
 PATTERN = re.compile(r"^([^#\t:=]*%[^:=]*)(::?)(?!=) *(.*)$")
 NO_TARGET = "# Not a target:"
 SEARCH = re.compile(r"^vpath (\S+) (.*)$", re.A)
@@ -126,6 +130,12 @@ class _Files:
             base.double.setdefault(self.name, []).append(Colons(cut(first), cut(second)))
 
 
+def level(text: str) -> int:
+    """By how much a line of a macro goes deeper into others of several lines."""
+    found = LEVEL.match(text)
+    return 0 if found is None else 1 if found.group(1) else -1
+
+
 def own_value(base: Base, text: str, line: str) -> None:
     """A macro that one target, or the targets of a pattern, have for themselves."""
     value = VALUE.match(text)
@@ -133,19 +143,54 @@ def own_value(base: Base, text: str, line: str) -> None:
         base.bodies.setdefault(value.group(1), []).append(line)
 
 
-def before_files(base: Base, text: str, previous: str) -> None:
-    """A line of the parts that list macros and implicit rules; a macro stands behind the line that says where it is from."""
-    pattern, is_macro = PATTERN.match(text), ORIGIN.match(previous)
-    value, lines = (VALUE.match(text), LINES.match(text)) if is_macro else (None, None)
+class _Macros:
+    """The part of the data base that lists macros."""
+
+    def __init__(self, base: Base) -> None:
+        self.base = base
+        self.name = ""  # of the last macro
+        self.depth = 0  # of `define` and `endef`, inside of a macro of several lines
+        self.goes_on = False  # what follows may be more lines of a value
+
+    def line(self, text: str, previous: str) -> None:
+        """One line: a macro stands behind the line that says where it is from."""
+        if self.depth:
+            self.depth += level(text)
+            self.body(text) if self.depth else None
+        elif ORIGIN.match(previous):
+            self.macro(text)
+        elif self.goes_on and not text.startswith("#"):  # make shows a value with ends of lines as it is
+            self.body(text)
+        else:
+            self.goes_on = False
+
+    def macro(self, text: str) -> None:
+        """The value of a macro, or the first line of one that has several. Where its name has a rest, this counts as another value of the name."""
+        lines, value = LINES.match(text), VALUE.match(text) if not text.startswith("# ") else None
+        self.depth, self.goes_on = int(lines is not None), lines is None and value is not None
+        if lines is not None:
+            self.name = lines.group(1)
+            self.base.values.update({self.name: LINES_TEXT} if not lines.group(2) else {})
+        elif value is None:
+            own_value(self.base, text[2:], text)
+        elif value.group(2):
+            self.name = value.group(1)
+            self.body(text)
+        else:
+            self.name = value.group(1)
+            self.base.values[self.name] = value.group(3)
+
+    def body(self, text: str) -> None:
+        """A line of the last macro."""
+        self.base.bodies.setdefault(self.name, []).append(text)
+
+
+def pattern_rule(base: Base, text: str) -> None:
+    """A line of the part that lists implicit rules."""
+    pattern = PATTERN.match(text)
     if pattern:
         base.terminal.update([len(base.patterns)] if pattern.group(2) == "::" else [])
         base.patterns.append((cut(pattern.group(1)), cut(pattern.group(3).replace("|", " "))))
-    if value:
-        base.values[value.group(1)] = value.group(2)
-    if lines:
-        base.values[lines.group(1)] = LINES_TEXT
-    if is_macro and text.startswith("# "):
-        own_value(base, text[2:], text)
 
 
 def behind_files(base: Base, text: str, previous: str) -> None:
@@ -160,14 +205,13 @@ def behind_files(base: Base, text: str, previous: str) -> None:
 def read_base(lines: List[str]) -> Base:
     """What one data base says."""
     base = Base()
-    files = _Files(base)
-    inside, behind, previous, several = False, False, "", ""
+    files, macros = _Files(base), _Macros(base)
+    inside, behind, previous = False, False, ""
     for text in lines:
         if behind:
             behind_files(base, text, previous)
-        elif several:
-            several = several if text != "endef" else ""
-            base.bodies.setdefault(several, []).append(text) if several else None
+        elif macros.depth:
+            macros.line(text, previous)
         elif text.startswith("# Files"):
             inside = True
         elif text.startswith("# files hash-table stats"):
@@ -175,8 +219,7 @@ def read_base(lines: List[str]) -> Base:
         elif inside:
             files.line(text)
         else:
-            before_files(base, text, previous)
-            found = LINES.match(text)
-            several = found.group(1) if found and ORIGIN.match(previous) else ""
+            pattern_rule(base, text)
+            macros.line(text, previous)
         previous = text
     return base

@@ -3,31 +3,31 @@
 import os
 import re
 from dataclasses import dataclass, field
-from fnmatch import fnmatchcase
 from functools import cached_property, lru_cache
-from typing import Dict, Iterable, Iterator, List, NamedTuple, Optional, Set, Tuple
+from typing import Dict, Iterable, Iterator, List, Optional, Set, Tuple
 
-from record.make.database import Base
+from record.make.database import BEGINS, Base, level
 from record.make.database import LINES_TEXT as LINES
 from record.make.globs import composes
 from record.make.owners import Make
+from record.make.references import ANY, COMPUTED, EVAL, NAME, SECOND, Eval, end_of, evals, matching, named, outermost, read_again, with_functions
 from record.make.words import makefiles
 from record.tools.shelltext import shell_text
 from record.tools.texts import is_plain
 from record.tools.texts import text_of as plain_text
 
-BEGIN = re.compile(r"\$(?:[({](?:(?:call|value|origin|flavor)[ \t]+)?|(\w))")
-EVAL = re.compile(r"\$([({])eval[ \t]")
-BUILT_IN = re.compile(r"\$([({])call\s+(call|eval|value|origin|flavor)\s*,")  # a function of make that `call` calls
-SPLIT = re.compile(r"\$([({])(call|eval|value|origin|flavor)[\n\r\f\v]")  # a function whose words begin on the next line
-CONTINUED = re.compile(r"[ \t]*(?<!\\)\\\n[ \t]*")  # make takes it for one blank in a reference
-COMPUTED = re.compile(r"\$[({]call\s[^,(){}]*\$")  # a function that another macro names
+CHANGES = ("eval", "guile")  # functions of make that change macros
 LOOP = re.compile(r"\$\(foreach[ \t]+([\w.-]+),[ \t]*\$\(([\w.-]+)\)[ \t]*,")  # over the words of one macro
 ALONE = re.compile(r"(?<!\S)\$\(([\w.-]+)\)(?!\S)")  # a macro that stands for whole words
-BARE = re.compile(r"(?<![({\w-])eval\b")  # its name where nothing calls it
-SETS = re.compile(r"[ \t]*(?:override[ \t]+|export[ \t]+)*([\w.-]+)[ \t]*(\+|\?|!|:{0,3})=")
-ASSIGNED = re.compile(r"(?<![\w.-])([\w.-]+)[ \t]*(?:[+?!]|:{1,3})?=((?:[^\n]*\\\n)*[^\n]*)")
-DEFINED = re.compile(r"(?ms)^[ \t]*define[ \t]+([\w.-]+)[^\n]*\n(.*?)^[ \t]*endef")
+BARE = re.compile(r"(?<![({\w-])(?:eval|guile)\b")  # its name where nothing calls it
+LINE = r"((?:[^\n]*\\\n)*[^\n]*)"  # of a makefile
+ASSIGNED = re.compile(r"(?<!" + NAME + ")(" + NAME + r"+?)[ \t]*(?:[+?!]|:{1,3})?=" + LINE)
+ASSIGNED_TO_ANY = re.compile(r"(?:[)}]|\$\w)[\w.-]*[ \t]*(?:[+?!]|:{1,3})?=" + LINE)  # the same of a macro whose name another one gives
+DEFINED = re.compile(BEGINS + r"[ \t]*(" + NAME + r"*)([^\n]*)")
+# Macros of a recipe, and functions: these have one line, if their words do.
+NO_MACRO = re.compile(r"[@<^+*?|%][DF]?|\W?|(?:pat)?subst|strip|findstring|filter(?:-out)?|sort|words?|wordlist|firstword|lastword|(?:not)?dir|suffix|basename|addsuffix"
+                      r"|addprefix|join|wildcard|realpath|abspath|if|or|and|intcmp|foreach|let|file|eval|error|warning|info|shell")
+FILES = re.compile(r"\$[({](?:call[ \t]+)?file[ \t,]*<")  # what reads the lines of a file
 # A line of a makefile that is a rule: what stands behind its colon, up to a recipe on the same line.
 RULE = re.compile(r"(?m)^(?!\t)[^\n=#]*?:(?![:=])((?:[^\n;#=]*\\\n)*[^\n;#]*)")
 # An export of a macro or of all, for one target too: the first of a line.
@@ -36,92 +36,9 @@ EXPORTED = re.compile(EXPORT + r"([^\n]*)")
 EXPORTS_ALL = re.compile(EXPORT + r"[ \t]*$|\.EXPORT_ALL_VARIABLES")
 WORD = re.compile(r"[\w.-]+")
 GIVEN = re.compile(r"(?:^| )([\w.-]+)(?:[+?!]|:{1,3})?=")  # a macro that the words of make set
-BRACKETS = {"(": ")", "{": "}"}
-ANY = "*"  # macros that nobody can name
 ACTS = re.compile(r"\$[({](?:call[ \t]+)?(?:shell|eval|file|wildcard|realpath)[ \t,]")  # what makes a value by way of the disk, or of other macros
 # What each recipe asks for without a word: macros that make itself reads.
 IMPLIED = frozenset(("SHELL", ".SHELLFLAGS", "MAKEFLAGS", "MFLAGS", "GNUMAKEFLAGS", "MAKEOVERRIDES", "MAKE", "VPATH", "GPATH", ".LIBPATTERNS"))
-
-
-class Eval(NamedTuple):
-    """One `$(eval ..)`: where it stands, the macro that it sets, whether it sets it anew, whether it exports it."""
-
-    start: int
-    end: int
-    name: str
-    is_fresh: bool
-    is_exported: bool
-
-
-def evals(text: str) -> Iterator[Eval]:
-    """Those of a text."""
-    for call in EVAL.finditer(text):
-        depth, at = 1, call.end()
-        while depth and at < len(text):
-            depth += (text[at] == call.group(1)) - (text[at] == BRACKETS[call.group(1)])
-            at += 1
-        body = text[call.end():at - 1]
-        sets = SETS.match(body)
-        is_one = sets is not None and "\n" not in body
-        yield Eval(call.start(), at, sets.group(1) if sets is not None and is_one else ANY, sets is not None and is_one and sets.group(2) not in ("+", "?"), "export" in body)
-
-
-def with_functions(text: str) -> str:
-    """A text in which a function of make that is called by `$(call eval,..)` stands as it does without `call`, and with a blank behind its name."""
-    text = SPLIT.sub(r"$\1\2 ", CONTINUED.sub(" ", text))
-    count: int = "call" in text
-    while count:
-        text, count = BUILT_IN.subn(r"$\1\2 ", text)
-    return text
-
-
-def named(text: str) -> Set[str]:
-    """The macros that a text refers to; a name that is made of other macros is a pattern, with `*` for each of them. What `eval` gets is
-    read twice."""
-    plain = text.replace("$$", "  ")
-    found = {one.group(1) or name_at(plain, one.end()) for one in BEGIN.finditer(plain)}
-    found = {ANY if fnmatchcase(".VARIABLES", name) else name for name in found if name}
-    again = (text[one.start + 2:one.end].replace("$$", "$") for one in evals(text) if "$$" in text[one.start:one.end])
-    return found.union(*map(named, again))
-
-
-def outermost(text: str) -> Set[int]:
-    """Where the references of a text begin that stand in no other one: make surely comes to these."""
-    found, at = set(), text.find("$")
-    while at >= 0:
-        is_sign = text[at + 1:at + 2] == "$"
-        found |= set() if is_sign else {at}
-        at = text.find("$", at + 2 if is_sign else end_of(text, at + 1))
-    return found
-
-
-def name_at(text: str, at: int) -> str:
-    """The name that begins at a place, up to a blank, a colon, a comma or a bracket."""
-    found = ""
-    while at < len(text) and text[at] not in " \t\n:,(){}":
-        if text[at] != "$":
-            found, at = found + text[at], at + 1
-        else:
-            found, at = found + "*", end_of(text, at + 1)
-    return found
-
-
-def end_of(text: str, at: int) -> int:
-    """Where a reference ends whose sign stands before a place."""
-    if at >= len(text) or text[at] not in BRACKETS:
-        return at + 1
-    opening, depth = text[at], 0
-    while at < len(text):
-        depth += (text[at] == opening) - (text[at] == BRACKETS[opening])
-        at += 1
-        if not depth:
-            break
-    return at
-
-
-def matching(names: Iterable[str], pattern: str) -> List[str]:
-    """The names that a pattern of `named` fits."""
-    return [name for name in names if fnmatchcase(name, pattern)]
 
 
 @dataclass
@@ -140,7 +57,24 @@ class Use:
 @lru_cache(8)
 def assigned_in(text: str) -> List[Tuple[str, str]]:
     """What makefiles assign to macros: many makes may read the same ones."""
-    return [(one.group(1), one.group(2)) for one in [*ASSIGNED.finditer(text), *DEFINED.finditer(text)]]
+    return [*((one.group(1), one.group(2)) for one in ASSIGNED.finditer(text)), *((ANY, one.group(1)) for one in ASSIGNED_TO_ANY.finditer(text)), *defined_in(text)]
+
+
+def defined_in(text: str) -> Iterator[Tuple[str, str]]:
+    """The macros of several lines, which may hold others."""
+    name, depth = "", 0
+    body: List[str] = []
+    for line in text.split("\n") if "define" in text else ():
+        begins = DEFINED.match(line) if not depth else None
+        if begins is not None:
+            name, depth, body = ANY if "$" in begins.group(2) else begins.group(1), 1, []
+        elif depth:
+            depth += level(line)
+            body.append(line)
+            if not depth:
+                yield name, "\n".join(body[:-1])
+    if depth:
+        yield name, "\n".join(body)
 
 
 class Macros:
@@ -153,10 +87,13 @@ class Macros:
         self.is_lost = bool(make.stale) or not all(map(is_plain, paths))  # then macros of several lines may hold anything
         recipes = (line for lines in base.recipes.values() for line in lines)
         texts = [self.text, *base.values.values(), *recipes, *(line for lines in base.bodies.values() for line in lines)]
-        self.is_used = self.is_lost and LINES in base.values.values() or any("eval" in text for text in texts) or composes("\n".join(texts), "eval")
-        self.named: Dict[str, Set[str]] = {}
-        self.ways: Dict[str, Set[str]] = {}
+        self.is_used = self.is_lost and LINES in base.values.values() or any(may_change(text) for text in [*texts, "\n".join(texts)])
+        self.named: Dict[Tuple[str, bool], Set[str]] = {}
+        self.ways: Dict[Tuple[str, bool], Set[str]] = {}
+        self.joined: Dict[str, str] = {}
+        self.read_twice: Dict[str, bool] = {}
         self.changed: Set[str] = set()  # those that recipes change
+        self.given: Dict[str, List[str]] = {}
 
     @cached_property
     def texts(self) -> Dict[str, List[str]]:
@@ -164,13 +101,50 @@ class Macros:
         found: Dict[str, List[str]] = {name: [value] for name, value in self.base.values.items()}
         for name, value in [*assigned_in(self.text), *((name, "\n".join(lines)) for name, lines in self.base.bodies.items())]:
             found.setdefault(name, []).append(value)
+        found.pop(ANY, None)
         return {name: list(map(with_functions, values)) for name, values in found.items()}
+
+    def all_given(self) -> Dict[str, List[str]]:
+        """What each macro may be for a while only: what some `eval` gives it, and what makefiles assign to names that are put together."""
+        texts = [self.text, *(text for values in self.texts.values() for text in values), *("\n".join(lines) for lines in self.base.recipes.values())]
+        found: Dict[str, List[str]] = {ANY: [value for name, value in assigned_in(self.text) if name == ANY]}
+        for text in map(with_functions, texts):
+            for one in self.evals(text):
+                found.setdefault(one.name, []).append(text[one.start + 1:one.end])
+        return {name: [read_again(with_functions(one)) for one in dict.fromkeys(values)] for name, values in found.items()}
+
+    def learn(self, changed: Set[str]) -> bool:
+        """Says which macros recipes change; whether that brings anything new."""
+        given = self.all_given() if changed else {}
+        if (changed, given) == (self.changed, self.given):
+            return False
+        self.changed, self.given = changed, given
+        self.named, self.ways, self.read_twice, self.joined = {}, {}, {}, {}
+        for name in ("handed_on", "exported_words"):
+            self.__dict__.pop(name, None)  # they are worked out anew
+        return True
+
+    def evals(self, text: str) -> Iterator[Eval]:
+        """Those of a text. One that may get several lines sets macros that nobody can name."""
+        for one in evals(text):
+            is_known = one.name == ANY or not self.may_have_lines(text[one.start + 2:one.end])
+            yield one if is_known else one._replace(name=ANY, is_fresh=False)
+
+    def may_have_lines(self, text: str) -> bool:
+        """Whether the references of a text may come to more than one line."""
+        names = self.reached_by(named(text), False)
+        is_open = any(name not in self.texts and not NO_MACRO.fullmatch(name) for name in names)  # an argument, or a macro of a loop
+        return FILES.search(text) is not None or any(map(self.has_lines, self.texts if is_open else names))
+
+    def has_lines(self, name: str) -> bool:
+        """Whether a macro may have several lines."""
+        return any("\n" in one.replace("\\\n", " ") or FILES.search(one) for one in self.texts_of(name))
 
     @cached_property
     def names_eval(self) -> bool:
         """Whether a macro may hold the name of `eval`, by which a recipe may call it."""
         found = [self.text, *(text for texts in self.texts.values() for text in texts)]
-        return any(map(BARE.search, found)) or composes("\n".join(found), "eval")
+        return any(map(BARE.search, found)) or any(composes("\n".join(found), one) for one in CHANGES)
 
     @cached_property
     def rule_words(self) -> Set[str]:
@@ -180,13 +154,31 @@ class Macros:
 
     def text_of(self, name: str) -> str:
         """All texts that a macro may have."""
-        return "\n".join(self.texts.get(name, ()))
+        if name not in self.joined:
+            self.joined[name] = "\n".join(self.texts_of(name))
+        return self.joined[name]
 
-    def named_by(self, name: str) -> Set[str]:
-        """The macros that a macro refers to; those that a pattern fits."""
-        if name not in self.named:
-            self.named[name] = set(matching(self.texts, name)) if "*" in name else named(self.with_loops(self.text_of(name)))
-        return self.named[name]
+    def texts_of(self, name: str) -> List[str]:
+        """The same, one by one."""
+        is_changed = ANY in self.changed or name in self.changed
+        return [*self.texts.get(name, ()), *([*self.given.get(name, ()), *self.given.get(ANY, ())] if is_changed else ())]
+
+    def reads_twice(self, name: str) -> bool:
+        """Whether a macro may call what reads its words a second time."""
+        if name not in self.read_twice:
+            self.read_twice[name] = SECOND.search(self.text_of(name)) is not None
+        return self.read_twice[name]
+
+    def named_by(self, name: str, again: bool = True) -> Set[str]:
+        """The macros that a macro refers to, also where its text is read again; those that a pattern fits."""
+        if (name, again) not in self.named:
+            self.named[name, again] = set(matching(self.texts, name)) if "*" in name else self.named_in(self.text_of(name), again)
+        return self.named[name, again]
+
+    def named_in(self, text: str, again: bool) -> Set[str]:
+        """The macros that a text refers to, also where it is read again."""
+        text = self.with_loops(text)
+        return named(read_again(text) if again else text)
 
     def with_loops(self, text: str) -> str:
         """A text in which a loop names the macros that it asks for where their names are the words of another one: `$(foreach x,$(ALL),$($(x)))`."""
@@ -204,27 +196,39 @@ class Macros:
         for text in (one.replace("\\\n", " ") for one in self.texts.get(name, ()) if name not in seen):
             others = [self.words_of(other, {*seen, name}) for other in ALONE.findall(text)]
             words = set(ALONE.sub(" ", text).split())
-            if self.is_lost or None in others or not all(map(WORD.fullmatch, words)):
+            if self.is_lost or name in self.changed or ANY in self.changed or None in others or not all(map(WORD.fullmatch, words)):
                 return None
             found |= words.union(*(other or () for other in others))
         return found
 
     def reached(self, text: str) -> Set[str]:
-        """All macros that a text refers to, also by way of others."""
-        return {name for one in named(self.with_loops(text)) for name in self.reached_from(one)}
+        """All macros that a text refers to, also by way of others. Where one of these texts is read again, any of them may be: what it says may
+        get there as a word of a function."""
+        text = with_functions(text)
+        found = self.reached_by(self.named_in(text, False), False)
+        is_again = SECOND.search(text) is not None or any(map(self.reads_twice, found))
+        return self.reached_by(self.named_in(text, True), True) if is_again else found
+
+    def reached_by(self, names: Iterable[str], again: bool) -> Set[str]:
+        """Some macros, and all that they refer to, also by way of others."""
+        return {name for one in names for name in self.way_of(one, again)}
 
     def reached_from(self, start: str) -> Set[str]:
         """A macro, and all that it refers to, also by way of others."""
-        if start not in self.ways:
+        return {start} | self.reached("$(%s)" % start)
+
+    def way_of(self, start: str, again: bool) -> Set[str]:
+        """The same, where its text is read again, or not."""
+        if (start, again) not in self.ways:
             seen: Set[str] = set()
             todo = [start]
             while todo:
                 name = todo.pop()
                 if name not in seen:
                     seen.add(name)
-                    todo.extend(self.named_by(name))
-            self.ways[start] = seen
-        return self.ways[start]
+                    todo.extend(self.named_by(name, again))
+            self.ways[start, again] = seen
+        return self.ways[start, again]
 
     def is_exported(self, name: str) -> bool:
         """Whether each process of a recipe finds a macro in its environment, or make itself reads it for each recipe."""
@@ -289,12 +293,12 @@ class Macros:
     def use(self, text: str) -> Use:
         """What expanding a recipe reads and writes."""
         found, text = Use(), with_functions(text)
-        own, sure = list(evals(text)), outermost(text)
+        own, sure = list(self.evals(text)), outermost(text)
         found.reads = self.reached(text)
         if any(COMPUTED.search(one) for one in (text, *map(self.text_of, found.reads))) and (self.names_eval or BARE.search(text)):
             found.writes |= {ANY}
         for name in found.reads:
-            for one in evals(self.text_of(name)):
+            for one in self.evals(self.text_of(name)):
                 (found.keeps if one.name == name and one.is_fresh else found.writes).add(one.name)
         if self.is_lost and any(self.base.values.get(name) == LINES for name in found.reads):
             found.writes.add(ANY)
@@ -307,14 +311,14 @@ class Macros:
 
     def implied(self) -> Use:
         """What each recipe does without a word: make works out the macros that it exports, and those that it reads itself, for each of them."""
-        setting = {name for name, texts in self.texts.items() if any(EVAL.search(one) for one in texts)}
+        setting = {name for name in self.texts if EVAL.search(self.text_of(name))}
         names = {name for name in self.reaching(setting) if name in IMPLIED or name in os.environ or self.is_lost or self.is_named_in_export(name)} if setting else set()
         return self.use("".join("$(%s)" % name for name in sorted(names))) if names else Use()
 
     def set_by_expansion(self) -> Set[str]:
         """The macros that the prerequisites of implicit rules set where make expands them a second time."""
         text = with_functions(" ".join(word for _, asked in self.base.patterns for word in asked))
-        return {one.name for part in (text, *map(self.text_of, self.reached(text))) for one in evals(part)}
+        return {one.name for part in (text, *map(self.text_of, self.reached(text))) for one in self.evals(part)}
 
 
 def text_of(path: str) -> str:
@@ -325,14 +329,19 @@ def text_of(path: str) -> str:
         return ""
 
 
+def may_change(text: str) -> bool:
+    """Whether a text may call a function that changes macros."""
+    return any(one in text or composes(text, one) for one in CHANGES)
+
+
 def uses(macros: Macros) -> Dict[str, Use]:
     """For each target whose recipe takes part: what its recipe does with the macros that some recipe changes."""
     base = macros.base
     if not macros.is_used:
         return {}
-    implied = macros.implied()
-    found = {name: macros.use("\n".join(lines)).joined(implied) for name, lines in base.recipes.items()}
-    changed = macros.changed = {name for use in found.values() for name in use.writes}
+    found, changed = all_uses(macros)
+    while macros.learn(changed):  # what a macro is for a while may change others
+        found, changed = all_uses(macros)
     exported = {name for name in changed if name != ANY and (macros.is_exported(name) or name in macros.handed_on)}
     exported |= {one.name for lines in base.recipes.values() for one in evals(with_functions("\n".join(lines))) if one.is_exported}
     for use in found.values():
@@ -342,6 +351,13 @@ def uses(macros: Macros) -> Dict[str, Use]:
     for use in found.values():
         use.writes &= wanted
     return {name: use for name, use in found.items() if use.reads or use.writes or use.keeps}
+
+
+def all_uses(macros: Macros) -> Tuple[Dict[str, Use], Set[str]]:
+    """For each recipe, what it does with macros, as far as is known by now which macros recipes change; and which these are."""
+    implied = macros.implied()
+    found = {name: macros.use("\n".join(lines)).joined(implied) for name, lines in macros.base.recipes.items()}
+    return found, macros.changed.union(*(use.writes for use in found.values()))
 
 
 def own_path(make: Make, name: str) -> str:

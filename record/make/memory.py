@@ -4,10 +4,12 @@ import os
 import re
 from typing import TYPE_CHECKING, Dict, Iterator, List, Optional, Set
 
-from record.make.globs import BOUND, MAGIC, WORD_EVAL, arguments, composes, with_values
+from record.make.asked import MAGIC
+from record.make.globs import BOUND, WORD_EVAL, arguments, composes, with_values
 from record.make.graph import Node
-from record.make.macros import ANY, Macros, evals
+from record.make.macros import Macros
 from record.make.owners import Make, Work
+from record.make.references import ANY, evals
 from record.trace.events import LISTED, MAKE_LISTED, ORDER_SEEN
 from record.trace.names import Names
 

@@ -7,7 +7,8 @@ from itertools import islice
 from typing import TYPE_CHECKING, Dict, Iterator, List, Set, Tuple
 
 from record.make.folders import each, mark
-from record.make.macros import ANY, keepers, own_path
+from record.make.macros import keepers, own_path
+from record.make.references import ANY
 from record.trace.events import AGE_TAKEN, ORDER_SEEN
 
 if TYPE_CHECKING:

@@ -8,14 +8,15 @@ import glob
 import os
 import re
 from fnmatch import fnmatchcase
-from typing import Iterator, List, Set, Tuple
+from typing import Callable, Iterator, List, Set, Tuple
 
+from record.make.asked import MAGIC
 from record.make.considered import is_deep
 from record.make.database import Base
-from record.make.globs import MAGIC
 from record.make.graph import Build, Node
-from record.make.macros import Macros, evals, matching, named
+from record.make.macros import Macros
 from record.make.memory import filled
+from record.make.references import SECOND, evals, matching, named, read_again, with_functions
 from record.make.searches import DEPTH, Searches
 from record.make.searches import filled as placed
 from record.missing.later import phony_of
@@ -100,14 +101,18 @@ class Anew:
 
     def asked(self, text: str) -> Set[str]:
         """The macros whose values a text is made of when make expands it: a value that was worked out before asks for no other."""
-        values, found, todo = self.first.values, set(), [text]
-        while todo:
-            for one in named(todo.pop()):
+        found, texts = self.asked_by(text, named)
+        return self.asked_by(text, lambda one: named(read_again(one)))[0] if any(map(SECOND.search, map(with_functions, texts))) else found
+
+    def asked_by(self, text: str, named_in: Callable[[str], Set[str]]) -> Tuple[Set[str], List[str]]:
+        """The same where texts name macros in one way, and all of these texts."""
+        values, found, texts = self.first.values, set(), [text]
+        for part in texts:
+            for one in named_in(part):
                 for name in (matching({*values, *self.later.values, *self.first.bodies, *self.later.bodies}, one) if "*" in one else [one]):
-                    if name not in found:
-                        found.add(name)
-                        todo += [values.get(name, ""), *self.first.bodies.get(name, ())]
-        return found
+                    texts += [values.get(name, ""), *self.first.bodies.get(name, ())] if name not in found else []
+                    found.add(name)
+        return found, texts
 
     # ---------------------------------------------------------------- prerequisites
     def other_prerequisites(self, node: Node) -> Iterator[str]:

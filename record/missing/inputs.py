@@ -159,7 +159,10 @@ def labels_in(tasks: Path) -> Tuple[Dict[str, str], Set[str]]:
 
 def read_answer(lines: List[str], labels: Dict[str, str], loose: Set[str]) -> Iterator[Found]:
     """The violations of a report; a line to add belongs to the one before it, unless it names a file that has no rule."""
-    called = lambda name: labels.get(unshown(name), unshown(name))
+
+    def called(name: str) -> str:
+        return labels.get(unshown(name), unshown(name))
+
     last: List[Found] = []
     for text in lines:
         found, present, add = FOUND.match(text), PRESENT.match(text), ADD.match(text)

@@ -7,8 +7,9 @@ What make itself looks for is no part of it: anew.py compares what it knows.
 import os
 from typing import Dict, Iterator, List, Optional, Sequence, Set, Tuple
 
+from record.make.asked import MAGIC
 from record.make.called import called_by
-from record.make.globs import MAGIC, arguments
+from record.make.globs import arguments
 from record.make.graph import Build, Task
 from record.make.macros import Macros
 from record.make.memory import folders_asked

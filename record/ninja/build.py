@@ -65,6 +65,8 @@ class NinjaBuild(Build):
 class NinjaBuilder(Builder):
     """Makes the tasks of a stage; footprints, folders and ages are those of make's builds."""
 
+    build: NinjaBuild
+
     def __init__(self, ninja: Ninja, number: int, before: Dict[str, str], removed: Set[str], names: Names, assumed: Assumptions) -> None:
         self.ninja, self.stage = ninja, ninja.stages[number]
         self.make, self.number, self.names, self.assumed = ninja, number, names, assumed  # type: ignore[assignment]
@@ -98,7 +100,7 @@ class NinjaBuilder(Builder):
         """The statements that ran, and all between them, in an order in which they could run one after the other."""
         manifest = self.stage.manifest
         jobs = {job.edge.number: job for job in self.stage.jobs if job.edge is not None}
-        kept = self.kept(jobs)
+        kept = self.taking_part(jobs)
         place = {edge.number: at for at, edge in enumerate(kept)}
         after = [{place[m.number] for m in manifest.makers_of(edge) if m.number in place} for edge in kept]
         first = self.first()
@@ -137,7 +139,7 @@ class NinjaBuilder(Builder):
         never = (makers[path].is_phony and not makers[path].waits() and self.full(path) not in self.before for path in edge.inputs + edge.implicit if path in makers)
         return any(self.full(path) not in self.before for path in edge.makes()) or any(never)
 
-    def kept(self, jobs: Dict[int, Job]) -> List[Edge]:
+    def taking_part(self, jobs: Dict[int, Job]) -> List[Edge]:
         """Statements that ran, and those without a command that ran which lead from one of them to another."""
         manifest = self.stage.manifest
         below = manifest.below([job.edge for job in jobs.values() if job.edge is not None])

@@ -9,10 +9,10 @@ from functools import lru_cache
 from typing import Dict, Iterator, List, Optional, Sequence, Set, Tuple
 
 from record.make.database import Base
-from record.make.globs import with_values
-from record.make.macros import ANY as ANY_MACRO
-from record.make.macros import COMPUTED, evals, with_functions
+from record.make.globs import composes, with_values
 from record.make.owners import Owners
+from record.make.references import ANY as ANY_MACRO
+from record.make.references import COMPUTED, evals, with_functions
 from record.make.words import Words, makefiles
 from record.tools import shelltext
 from record.tools.scriptcut import ScriptCutter
@@ -28,7 +28,8 @@ SHELLS_OWN = re.compile(r"SHELL$|IFS$|PS\d$|DIRSTACK$|MAPFILE$|COPROC$|BASH(?!_E
 HANDS_ON = {*shelltext.PASSING} - {"env"}  # programs that leave the environment as it is
 REFERENCE = re.compile(r"\$(?:\(([A-Za-z_][\w.-]*)\)|\{([A-Za-z_][\w.-]*)\}|([A-Za-z_]))")
 ANYTHING = "$(eval $(text))"  # what may stand in a makefile that nobody can read
-EVAL = re.compile(r"(?<![\w./-])eval(?![\w./-])")
+EVAL = re.compile(r"(?<![\w./-])(?:eval|guile)(?![\w./-])")
+LINES = re.compile(r"(?m)^[ \t]*(?:(?:override|export|private)[ \t]+)*define\b|\$[({]file[ \t]*<")  # what makes macros of several lines
 WRITTEN_AGAIN = (".d", ".Po", ".Plo", ".Pc", ".P", ".dep", ".depend")  # files that compilers write
 READ_AS = ("sh", "dash", "bash")
 SIGNS = re.compile(r"[\w./:+,@%%%s-]*" % COUNT)  # none of them says anything to a shell
@@ -174,10 +175,13 @@ class Surroundings:
 
 
 def changed_in(text: str) -> Set[str]:
-    """The macros that `eval` may set in the text of a makefile; a function whose name is a macro's value may be `eval`."""
+    """The macros that `eval` may set in the text of a makefile; a function whose name is a macro's value may be `eval`. Where a macro may have
+    several lines, `eval` may get more than one by each reference."""
     plain = with_functions(text)
-    is_open = len(text) >= shelltext.LARGE or COMPUTED.search(plain) and EVAL.search(plain)
-    return {ANY_MACRO} if is_open else {one.name for one in evals(plain)}
+    is_open = len(text) >= shelltext.LARGE or COMPUTED.search(plain) and (EVAL.search(plain) or composes(plain, "eval"))
+    has_lines = LINES.search(plain) is not None
+    names = {ANY_MACRO if has_lines and "$" in plain[one.start + 2:one.end].replace("$$", "") else one.name for one in evals(plain)}
+    return {ANY_MACRO} if is_open else names
 
 
 def expanded(base: Base, name: str, changing: Set[str]) -> Optional[str]:

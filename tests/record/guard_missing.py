@@ -92,7 +92,7 @@ MISSING_GUARDS: List[Guard] = [
     Guard("missing: other macros", "missing/anew.py", "name in asked or", "False or", one_later("hole", "macro")),
     Guard("missing: exported macros", "missing/anew.py", "or self.known.is_named_in_export(name))", "or False)", one_later("hole", "export")),
     Guard("missing: macros of a target and of lines", "missing/anew.py", "if self.first.bodies.get(name) != self.later.bodies.get(name)}", "if False}", one_later("hole", "target's own")),
-    Guard("missing: values that were worked out", "missing/anew.py", "todo += [values.get(name, \"\"), *self.first.bodies.get(name, ())]", "todo += [values.get(name, \"\"), self.known.text_of(name)]", one_later("quiet", "generated sources")),
+    Guard("missing: values that were worked out", "missing/anew.py", "[values.get(name, \"\"), *self.first.bodies.get(name, ())]", "[values.get(name, \"\"), self.known.text_of(name)]", one_later("quiet", "generated sources")),
     Guard("missing: functions that look for files", "missing/keeping.py", "any(FILES.search(one) for one in texts) or ", "", tree("a recipe of functions that look for a file")),
     Guard("missing: functions that call a process", "missing/keeping.py", "acts is not None and any(", "False and any(", tree("a recipe of functions that call a process")),
     Guard("missing: canned recipes", "missing/keeping.py", "for one in (text, *map(known.text_of, known.reached(text))))\n\n", "for one in (text, *(known.base.values.get(name, '') for name in known.reached(text))))\n\n", tree("a canned recipe that asks what is newer")),

@@ -202,7 +202,7 @@ def main() -> int:
         status, lines = listed(tasks, root)
         if command == "check":
             lines = ["race" if status else "safe"] + lines[1:]
-    print("".join(line + "\n" for line in lines), end="")
+    sys.stdout.buffer.write("".join(line + "\n" for line in lines).encode())  # whatever the locale
     return status
 
 

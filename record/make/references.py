@@ -1,0 +1,112 @@
+"""How a text of make names macros: in references, also those of a text that is read a second time, and in what `$(eval ..)` is handed."""
+
+import re
+from functools import lru_cache
+from typing import Iterable, Iterator, List, NamedTuple, Set
+
+BEGIN = re.compile(r"\$(?:[({](?:(?:call|value|origin|flavor)\s+)?|([^\s$({]))")
+EVAL = re.compile(r"\$([({])(?:eval|guile)[ \t]")  # a program in Guile may change any macro
+BUILT_IN = re.compile(r"\$([({])call\s+(call|eval|guile|value|origin|flavor)\s*,")  # a function of make that `call` calls
+SPLIT = re.compile(r"\$([({])(call|eval|guile|value|origin|flavor)[\n\r\f\v]")  # a function whose words begin on the next line
+CONTINUED = re.compile(r"[ \t]*(?<!\\)\\\n[ \t]*")  # make takes it for one blank in a reference
+COMPUTED = re.compile(r"\$[({]call\s[^,(){}]*\$")  # a function that another macro names
+# What reads a text that it gets a second time: `eval`, a function that another macro names, and one that works out its own words, where `call` calls it.
+SECOND = re.compile(EVAL.pattern + "|" + COMPUTED.pattern + r"|\$[({]call\s+(?:foreach|let|if|or|and)\s*,")
+SIGNS = re.compile(r"\$+")
+STEM = re.compile(r"\$(?:\*|\(\*[DF]?\)|\{\*[DF]?\})")  # what stands for `%`: its name is no pattern
+ENDS = " \t\n:=#,(){}"  # signs before which we cut a name: what stands behind them may be no part of it
+NAME = r"[^\s:=#,(){}$]"  # one of any other signs
+SETS = re.compile(r"[ \t]*(?:override[ \t]+|export[ \t]+)*([\w.-]+)[ \t]*(\+|\?|!|:{0,3})=")
+BRACKETS = {"(": ")", "{": "}"}
+ANY = "*"  # macros that nobody can name
+
+
+class Eval(NamedTuple):
+    """One `$(eval ..)`: where it stands, the macro that it sets, whether it sets it anew, whether it exports it."""
+
+    start: int
+    end: int
+    name: str
+    is_fresh: bool
+    is_exported: bool
+
+
+def evals(text: str) -> Iterator[Eval]:
+    """Those of a text."""
+    for call in EVAL.finditer(text):
+        end = end_of(text, call.start() + 1)
+        body = text[call.end():end - 1]
+        sets = SETS.match(body) if "\n" not in body else None
+        is_fresh = sets is not None and sets.group(2) not in ("+", "?")
+        yield Eval(call.start(), end, ANY if sets is None else sets.group(1), is_fresh, "export" in body)
+
+
+def with_functions(text: str) -> str:
+    """A text in which a function of make that is called by `$(call eval,..)` stands as it does without `call`, and with a blank behind its name."""
+    text = SPLIT.sub(r"$\1\2 ", CONTINUED.sub(" ", text))
+    count: int = "call" in text
+    while count:
+        text, count = BUILT_IN.subn(r"$\1\2 ", text)
+    return text
+
+
+def read_again(text: str) -> str:
+    """A text with all references that it may have when it is read once more, or several times: `$$(X)` is then one to X."""
+    return SIGNS.sub("$", text)
+
+
+def named(text: str) -> Set[str]:
+    """The macros that a text refers to when it is read once; a name that is made of other macros is a pattern, with `*` for each of them."""
+    plain = STEM.sub(" ", text.replace("$$", "  "))
+    found = {one.group(1).strip(ENDS) if one.group(1) else name_at(plain, one.end()) for one in BEGIN.finditer(plain)}
+    return {ANY if fits(".VARIABLES", name) else name for name in found}
+
+
+def outermost(text: str) -> Set[int]:
+    """Where the references of a text begin that stand in no other one: make surely comes to these."""
+    found, at = set(), text.find("$")
+    while at >= 0:
+        is_sign = text[at + 1:at + 2] == "$"
+        found |= set() if is_sign else {at}
+        at = text.find("$", at + 2 if is_sign else end_of(text, at + 1))
+    return found
+
+
+def name_at(text: str, at: int) -> str:
+    """The name that begins at a place, up to one of `ENDS`. Macros whose names go on behind that count as one."""
+    found = ""
+    while at < len(text) and text[at] not in ENDS:
+        if text[at] != "$":
+            found, at = found + text[at], at + 1
+        else:
+            found, at = found + "*", end_of(text, at + 1)
+    return found
+
+
+def end_of(text: str, at: int) -> int:
+    """Where a reference ends whose sign stands before a place."""
+    if at >= len(text) or text[at] not in BRACKETS:
+        return at + 1
+    opening, depth = text[at], 0
+    while at < len(text):
+        depth += (text[at] == opening) - (text[at] == BRACKETS[opening])
+        at += 1
+        if not depth:
+            break
+    return at
+
+
+@lru_cache(1 << 10)
+def shape(pattern: str) -> "re.Pattern[str]":
+    """A pattern of `named`, in which no sign means anything other than `*`."""
+    return re.compile(".*".join(map(re.escape, pattern.split("*"))), re.S)
+
+
+def fits(name: str, pattern: str) -> bool:
+    """Whether a name may be the one that a pattern of `named` stands for."""
+    return name == pattern or "*" in pattern and shape(pattern).fullmatch(name) is not None
+
+
+def matching(names: Iterable[str], pattern: str) -> List[str]:
+    """The names that a pattern of `named` fits."""
+    return [name for name in names if fits(name, pattern)]
