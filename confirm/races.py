@@ -8,6 +8,7 @@ from collections import Counter
 from collections.abc import Iterator, Sequence
 from dataclasses import dataclass
 from pathlib import Path
+from typing import Any
 
 from record.tasks import file_of
 from report.model import Race, Report, read_json
@@ -70,13 +71,13 @@ def chosen(report: Report, record: Path, words: Sequence[str]) -> Iterator[Chose
             yield choice(number, race, record)
 
 
-def tasks_of(record: Path, number: str) -> Iterator[dict]:
+def tasks_of(record: Path, number: str) -> Iterator[dict[str, Any]]:
     """The tasks of a build."""
     with open(record / "builds" / number / "tasks", encoding="utf-8", errors="surrogateescape") as lines:
         yield from map(json.loads, filter(str.strip, lines))
 
 
-def file_in(about: dict, path: str) -> str:
+def file_in(about: dict[str, Any], path: str) -> str:
     """The file that a path of a build is about."""
     return file_of(path) if path in about["meanings"] else path
 

@@ -6,6 +6,7 @@ import os
 from collections.abc import Callable, Container, Iterable, Iterator, Sequence
 from dataclasses import dataclass, field
 from pathlib import Path
+from typing import Any
 
 from confirm.failed import STATUS, failed
 from confirm.races import file_in, tasks_of
@@ -24,7 +25,7 @@ class Tasks:
     reads: dict[Task, set[str]] = field(default_factory=dict)
     writers: dict[str, set[Task]] = field(default_factory=dict)
     targets: dict[str, set[Task]] = field(default_factory=dict)  # by the name that make or ninja has for it
-    abouts: dict[str, dict] = field(default_factory=dict)  # by the number of a build
+    abouts: dict[str, dict[str, Any]] = field(default_factory=dict)  # by the number of a build
     of_build: dict[str, list[Task]] = field(default_factory=dict)
     builds_in: dict[Task | None, list[str]] = field(default_factory=dict)  # by the task inside which they ran
 
@@ -92,7 +93,7 @@ class Tasks:
 
     def named(self, name: str, file: str) -> set[Task]:
         """The tasks of a target as make or ninja names it, in this makefile where it says which."""
-        found = self.targets.get(name) or self.targets.get(os.path.normpath(name), set())
+        found: set[Task] = self.targets.get(name) or self.targets.get(os.path.normpath(name)) or set()
         labels = {it: self.abouts[it[0]]["labels"][it[1]] for it in found}
         makers = {it for it in found if labels[it].get("kind") in ("recipe", "decision")} or found
         return {it for it in makers if labels[it].get("file") == file} or makers
@@ -140,7 +141,7 @@ class Reach:
 
     def is_recipe(self, task: Task) -> bool:
         """Whether a recipe of a task ran."""
-        return self.tasks.abouts[task[0]]["labels"].get(task[1], {}).get("kind") == "recipe"
+        return bool(self.tasks.abouts[task[0]]["labels"].get(task[1], {}).get("kind") == "recipe")
 
     def has_other(self, task: Task, races: Sequence[Race]) -> bool:
         """Whether a recipe races with a recipe of others too. While it is held beside make alone, that one may run before it."""

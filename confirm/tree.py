@@ -9,6 +9,7 @@ import subprocess
 from collections.abc import Iterator
 from dataclasses import dataclass
 from pathlib import Path
+from typing import Any
 
 from confirm.races import CannotConfirm, written
 from record.ninja.again import OWN
@@ -41,7 +42,7 @@ def remove(path: Path) -> None:
         shutil.rmtree(path, onerror=again)
 
 
-def of_ninja(tree: Path, folder: str, about: dict) -> Iterator[str]:
+def of_ninja(tree: Path, folder: str, about: dict[str, Any]) -> Iterator[str]:
     """What ninja makes in a tree, and what it keeps of earlier builds: a log of headers would order what a cold build does not."""
     options = options_of(["ninja", *about["words"].split()])
     name = (options[0] if options else {}).get("-f", "build.ninja")

@@ -24,7 +24,8 @@ def kind_of(line: str, before: str) -> str:
 
 def groups(lines: tuple[str, ...]) -> Iterator[tuple[str, list[str]]]:
     """The lines by what they are a part of; each item is a part by itself."""
-    before, group = "", []
+    before = ""
+    group: list[str] = []
     for line in lines:
         kind = kind_of(line, before)
         if kind != before or kind == "item" and ITEM.match(line):

@@ -38,7 +38,8 @@ class Section:
 
 def sections(page: str) -> Iterator[Section]:
     """The sections of a page. A line that begins with a number sign inside a fence is no heading."""
-    heading, lines, is_fenced = "", [], False
+    heading, is_fenced = "", False
+    lines: list[str] = []
     for line in page.splitlines():
         is_fenced ^= line.startswith("```")
         found = None if is_fenced else HEADING.match(line)

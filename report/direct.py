@@ -9,6 +9,7 @@ import subprocess
 from collections.abc import Iterator, Sequence
 from dataclasses import dataclass
 from pathlib import Path
+from typing import Any
 
 from record.judge import RACE_LINE, explained, unshown
 from record.pages import page
@@ -63,8 +64,7 @@ def inputs(args: argparse.Namespace) -> Inputs:
 
 def run(program: Path, words: Sequence[str]) -> subprocess.CompletedProcess[str]:
     """Runs `race` with these words."""
-    how = {"capture_output": True, "text": True, "errors": "replace", "stdin": subprocess.DEVNULL}
-    return subprocess.run([str(program), *words], check=False, **how)
+    return subprocess.run([str(program), *words], capture_output=True, text=True, errors="replace", stdin=subprocess.DEVNULL, check=False)
 
 
 def asked(program: Path, words: Sequence[str]) -> subprocess.CompletedProcess[str]:
@@ -83,7 +83,8 @@ def refusal(done: subprocess.CompletedProcess[str], command: str) -> str:
 
 def rules(makefile: Path) -> Iterator[tuple[str, int, str]]:
     """The rules of a makefile whose targets stand there as they are: each target, its line, and the first line of its recipe."""
-    open_at, targets = 0, []
+    open_at = 0
+    targets: list[str] = []
     for number, line in enumerate(makefile.read_text(encoding="utf-8", errors="surrogateescape").split("\n"), 1):
         if line.startswith("\t") and open_at:
             yield from ((it, open_at, line.strip()) for it in targets)
@@ -95,7 +96,7 @@ def rules(makefile: Path) -> Iterator[tuple[str, int, str]]:
 
 def graph_of(order: str, given: Inputs) -> Build:
     """The graph that `race order` prints, with places in the makefile."""
-    labels: dict[str, dict] = {}
+    labels: dict[str, dict[str, Any]] = {}
     after: dict[str, list[str]] = {}
     for found in filter(None, map(ORDER.match, order.split("\n"))):
         name = unshown(found[2])

@@ -5,6 +5,7 @@ from __future__ import annotations
 import json
 import os
 from pathlib import Path
+from typing import Any
 from urllib.parse import quote
 
 from report import VERSION
@@ -19,13 +20,13 @@ from report.plain import summary
 SCHEMA = "https://json.schemastore.org/sarif-2.1.0.json"
 
 
-def side(it: Side) -> dict:
+def side(it: Side) -> dict[str, Any]:
     """One of the two recipes of a race as the schema has it."""
     recipe = it.recipe
     return {"target": recipe.target, "does": it.does, "file": recipe.file, "line": recipe.line, "recipe": recipe.text}
 
 
-def race_object(race: Race, report: Report) -> dict:
+def race_object(race: Race, report: Report) -> dict[str, Any]:
     """A race as the schema has it; docs/REPORT.md says what each key means."""
     return {
         "fingerprint": race.fingerprint, "known": race.fingerprint in report.known, "kind": race.kind.name,
@@ -34,7 +35,7 @@ def race_object(race: Race, report: Report) -> dict:
     }
 
 
-def input_object(judged: Judged, it: Found, known: set[str]) -> dict:
+def input_object(judged: Judged, it: Found, known: set[str]) -> dict[str, Any]:
     """A missing input as the schema has it."""
     file, line = judged.rule(it.reader)
     return {
@@ -44,7 +45,7 @@ def input_object(judged: Judged, it: Found, known: set[str]) -> dict:
     }
 
 
-def missing_object(missing: Question, known: set[str]) -> dict:
+def missing_object(missing: Question, known: set[str]) -> dict[str, Any]:
     """What a record with --missing says of missing inputs."""
     about = missing.record["missing"]
     return {
@@ -84,13 +85,13 @@ def read_baseline(path: Path) -> dict[str, str]:
         raise BadRecord(f"the baseline {path} is no report in JSON ({type(error).__name__}: {error}); {how}") from error
 
 
-def location(recipe: Recipe, message: str, number: int | None = None) -> dict:
+def location(recipe: Recipe, message: str, number: int | None = None) -> dict[str, Any]:
     """A place of SARIF: physical where the rule's place is known, and the target as a logical one."""
-    found: dict = {"logicalLocations": [{"name": recipe.target, "kind": "resource"}], "message": {"text": message}}
+    found: dict[str, Any] = {"logicalLocations": [{"name": recipe.target, "kind": "resource"}], "message": {"text": message}}
     if number is not None:
         found["id"] = number
     if recipe.file:
-        artifact: dict = {"uri": quote(os.fsencode(recipe.file), safe="/")}
+        artifact: dict[str, Any] = {"uri": quote(os.fsencode(recipe.file), safe="/")}
         if not recipe.file.startswith("/"):
             artifact["uriBaseId"] = "PROJECT"
         else:
@@ -99,7 +100,7 @@ def location(recipe: Recipe, message: str, number: int | None = None) -> dict:
     return found
 
 
-def result(race: Race, report: Report) -> dict:
+def result(race: Race, report: Report) -> dict[str, Any]:
     """One race as a result, at the recipe that has to wait; both recipes are related places, the one that runs first in front."""
     late, early = race.second, race.first
     message = (f"{late.recipe.target} {late.does} {race.path}, {early.recipe.target} {early.does} it, and nothing orders the two. "

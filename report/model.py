@@ -9,6 +9,7 @@ import re
 from collections.abc import Iterator
 from dataclasses import dataclass, field
 from pathlib import Path
+from typing import Any
 
 from record.entry import reason
 from record.missing.report import Question
@@ -170,7 +171,7 @@ class Report:
         return self.missing is not None and any(judged.fingerprint(it) not in self.known for judged, it in self.missing.all())
 
 
-def read_json(path: Path) -> dict:
+def read_json(path: Path) -> dict[str, Any]:
     """One file of a record."""
     try:
         found = json.loads(path.read_text(encoding="utf-8"))
@@ -192,7 +193,7 @@ class Build:
     number: str
     folder: str
     project: str
-    about: dict
+    about: dict[str, Any]
     after: dict[str, list[str]]
     users: dict[str, list[str]] = field(default_factory=dict)
 
@@ -219,12 +220,15 @@ class Build:
     def race(self, path: str, first: tuple[str, str], second: tuple[str, str]) -> Race:
         """A race between two labels, each with what it does to the path."""
         targets = (self.recipe(first[0]).target, self.recipe(second[0]).target)
-        other = lambda labels: tuple(it for it in self.targets(labels) if it not in targets)
-        sides = [Side(self.recipe(it), does, other(self.after.get(it, [])), other(self.users.get(it, []))) for it, does in (first, second)]
+
+        def others(labels: list[str]) -> tuple[str, ...]:
+            return tuple(it for it in self.targets(labels) if it not in targets)
+
+        early, late = (Side(self.recipe(it), does, others(self.after.get(it, [])), others(self.users.get(it, []))) for it, does in (first, second))
         kind = kind_of(path, targets, (first[1], second[1]))
         in_project = fix_text(self.about["labels"], first[0], second[0], path) if self.about.get("tool") == "ninja" else ""
         instead = first_look({"meanings": {}, **self.about}, path, first[0], second[0])
-        return Race(self.number, path, self.about.get("meanings", {}).get(path, ""), *sides, kind, in_project, instead)
+        return Race(self.number, path, self.about.get("meanings", {}).get(path, ""), early, late, kind, in_project, instead)
 
 
 def read_build(folder: Path, number: str, project: str) -> Build:
