@@ -17,6 +17,15 @@ MACROS = (
     ("$(eval V := $@)", "'$(V)'", ""), ("$(call V.set)", "'$(V)'", "V.set = $(eval V := set)\n"),
     ("$(eval V += $@)", "'$(V.show)'", "V.show = $(V)\n"), ("$(eval V := $@)", "$$V", "export V\n"),
 )
+# Ways by which a text comes to the same: what stands before the rules, and what stands in place of the text. E is that text, D the same
+# with each sign `$` doubled, and T a macro.
+WAYS = (
+    ("T = E\n", "$(T)"), ("T := D\n", "$(call or,$(T))"), ("T = D\n", "$(call or,$(T))"), ("", "$(call or,D)"), ("", "$(if 1,E)"), ("", "$(call foreach,v,1,D)"),
+    ("T = $(1)\n", "$(call T,E)"), ("T = $(eval T.u := $(1))$(T.u)\n", "$(call T,D)"), ("", "$(eval T := D)$(T)"), ("T.n := T.m\nT.m = E\n", "$($(T.n))"),
+    ("define T\nE\nendef\n", "$(T)"), ("T.n := T x\n$(T.n) = E\n", "$(T x)"), ("T.n := T:x\n$(T.n) = E\n", "$(T:x)"), ("T.f = or\n", "$(call $(T.f),D)"),
+    ("T = E\n", "$(call or,$(value T))"), ("T = D\n", "$(eval T.u = $(T))$(T.u)"), ("T = D\n", "$(foreach v,1,$(eval T.u = $(T)))$(T.u)"),
+    ("define T\n\nendef\n", "$(eval T.u := 1$(T)T.v = D)$(T.v)"), ("T.o = define T.u\nT.e = endef\ndefine T\n\nendef\n", "$(eval $(T.o)$(T)D$(T)$(T.e))$(T.u)"),
+)
 KEEPERS = ("cat NAME.s 2>/dev/null", "cat NAME.s 2>/dev/null", "echo 1")
 FOLDERS = ("mkdir -p NAME.d", "umask 077; mkdir -p NAME.d", "mkdir -p -m 700 NAME.d", "umask 022; mkdir -p -m 755 NAME.d")
 # How a file takes over the age of NAME, and its name.
@@ -56,7 +65,7 @@ class GadgetDraw(Draw):
     def __init__(self, seed: int, only: Optional[List[str]] = None) -> None:
         super().__init__(seed, only)
         shapes: Dict[str, Callable[[str], Block]] = {
-            "macro": self.macro, "keeper": self.keeper, "handed": self.handed, "kept": self.kept, "prints": self.prints, "interpreter": self.interpreter,
+            "macro": self.macro, "reread": self.reread, "while": self.while_, "keeper": self.keeper, "handed": self.handed, "kept": self.kept, "prints": self.prints, "interpreter": self.interpreter,
             "modes": self.modes, "ages": self.ages, "listing": self.listing, "inherited": self.inherited, "archive": self.archive,
             "inside": self.inside, "searched": self.searched, "past": self.past,
         }
@@ -97,6 +106,37 @@ class GadgetDraw(Draw):
         text = head + text + self.plain(name + ".b", self.unless(name), "echo %s > $@" % asks)
         self.done.append(name)
         return Block(self.pair(name, name + ".b"), text.replace("V", "V" + name))
+
+    def by_ways(self, name: str, text: str, count: int) -> List[str]:
+        """A text by some ways, and what stands before the rules."""
+        head = ""
+        for number in range(count):
+            before, use = (one.replace("D", text.replace("$", "$$")).replace("E", text).replace("T", "%s.%d" % (name, number)) for one in self.random.choice(WAYS))
+            head, text = head + before, use
+        return [head, text]
+
+    def reread(self, name: str) -> Block:
+        """The same by ways on which make reads a text several times."""
+        value = "v" + name
+        before, sets = self.by_ways(name + "-s", "$(eval %s := $@)" % value, self.random.randrange(4))
+        head, asks = self.by_ways(name + "-a", "$(%s)" % value, self.random.randrange(4))
+        text = before + head + self.plain(name + ".s", " ".join(self.prerequisites()), "touch $@") + "%s: %s.s\n\t@%s$N $@; touch $@\n" % (name, name, sets)
+        self.done.append(name)
+        return Block(self.pair(name, name + ".b"), text + self.plain(name + ".b", self.unless(name), "echo '%s' > $@" % asks))
+
+    def while_(self, name: str) -> Block:
+        """A macro has a text for a while, by which a recipe changes another macro, or asks for it."""
+        value, last = "v" + name, "w" + name
+        does = ["$(eval %s := $@)" % value, "$(%s)" % value]
+        self.random.shuffle(does)
+        head, within = self.by_ways(name + "-w", does[0], self.random.randrange(3))
+        before, gives = self.by_ways(name + "-g", "$(eval %s = %s)" % (last, within.replace("$", "$$")), self.random.randrange(2))
+        text = head + before + "%s.c: %s\n\t@%stouch $@\n" % (name, " ".join(self.prerequisites()), gives)
+        text += self.plain(name + ".s", name + ".c", "touch $@") + "%s: %s.s\n\t@echo '%s' > $@.see; $N $@; touch $@\n" % (name, name, does[1])
+        text += "%s.b: %s.c %s\n\t@$N $@; echo '$(%s)' > $@\n" % (name, name, self.unless(name), last)
+        text += "%s.d: %s %s.b\n\t@$(eval %s := done)touch $@\n" % (name, name, name, last)
+        self.done.append(name)
+        return Block([name + ".d"], text)
 
     def keeper(self, name: str) -> Block:
         """A macro that works out its value when it is first asked for."""
