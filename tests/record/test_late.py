@@ -24,6 +24,8 @@ LONG = "# ...............................................................\n" * 5
 INSIDE = "all: a b\na: ; $(MAKE) -f in.mk\nb: ; echo 'V = 2' > y.x; touch b\n"
 TAKES = "a: ; echo '$^$(V)' > a\n"
 LATER = "D = d1\nall: a c b.q\na: ; touch d2/n.x a\nc: ; touch c\n%s\n"
+# c lists d first; d/a looks for names there, and d/b, which nothing orders with d/a, makes one.
+FIRST = "all: c d/a d/b\ns: ; touch s\nc: s ; echo $(wildcard d/*.q) > c\nd/a: s ; %s > $@\nd/b: c ; touch d/z.q $@\n"
 FOLDERS = "mkdir d1 d2 'd 2'"
 SEES = "who lists the processes that run"
 READ = "who asks when a file was read last"
@@ -61,6 +63,13 @@ LATE: Dict[str, Small] = {
     "wildcard_of_a_macro_of_one_value": Small("safe", LATER % "b.q: c ; echo $(wildcard $(D)/*.x) $(foreach E,d2,$(E)) > b.q", setup=FOLDERS),
     "wildcard_at_home": Small("race", "HOME := $(CURDIR)/d2\n" + LATER % "b.q: c ; echo $(wildcard ~/*.x) > b.q", setup=FOLDERS),
     "wildcard_with_a_blank": Small("race", LATER.replace("d2/n.x", "'d 2/n.x'") % "b.q: c ; echo $(wildcard d\\ 2/*.x) > b.q", setup=FOLDERS),
+    "wildcard_of_its_own_target": Small("safe", FIRST % "$(if $(wildcard $@),echo yes,echo no)", {"d/k": ""}),
+    "wildcard_of_a_name": Small("safe", "N = d/k\n" + FIRST % "echo $(wildcard $(N))", {"d/k": ""}),
+    "wildcard_of_a_name_that_another_makes": Small("race", FIRST % "echo $(wildcard d/z.q)", {"d/k": ""}),
+    "wildcard_of_a_name_and_a_pattern": Small("race", FIRST % "echo $(wildcard d/k d/*.q)", {"d/k": ""}),
+    "wildcard_of_a_pattern_in_a_macro": Small("race", "N = d/[z].q\n" + FIRST % "echo $(wildcard $(N))", {"d/k": ""}),
+    "wildcard_of_a_macro_that_may_be_a_pattern": Small("race", "N = d/k\n" + FIRST.replace("s: ;", "s: ; $(eval N := d/*.q)") % "echo $(wildcard $(N))", {"d/k": ""}),
+    "wildcard_of_a_folder_that_is_a_pattern": Small("race", FIRST % "echo $(wildcard ?/z.q)", {"d/k": ""}),
     # processes of other recipes
     "signal_for_another_recipe": Small("safe", "all: b\na: ; sleep 9 > /dev/null 2>&1 & echo $$! > a\nb: a ; kill `cat a`; touch b\n", says=SEES),
     "signal_for_its_own_process": Small("safe", "all: ; sleep 9 & kill $$!; touch all\n", lacks=SEES),
