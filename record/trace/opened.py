@@ -1,7 +1,7 @@
 """What calls do to what is open, such as requests (`ioctl`) and locks; and the calls that nobody follows. calls.py says which calls each method takes."""
 
 import re
-from typing import Set
+from typing import List, Set
 
 from record.tools import shelltext
 from record.trace.classes import HIDING, LEFT_OUT, SHARING, UNFOLLOWED, named
@@ -23,9 +23,24 @@ CHANGING = set("""FS_IOC_SETFLAGS FS_IOC32_SETFLAGS FS_IOC_SETVERSION FS_IOC32_S
 NO_WAIT = re.compile(r", F_(?:OFD_)?(?:GETLK|SETLK)(?:64)?, (?!\{l_type=F_UNLCK)")  # a lock that is asked for and not waited for
 WAITS = re.compile(r", F_(?:OFD_)?SETLKW(?:64)?, (?!\{l_type=F_UNLCK)")  # one that is waited for
 LOCK_FILE = re.compile(r", O_RDONLY\|O_CREAT(?:\|O_(?:NOCTTY|CLOEXEC|LARGEFILE))*, 0666$")  # how `flock` opens it
+FOR_A_WHILE = re.compile(r"-\w*[nw]|--[nwt]")  # options of `flock`: `-n`, `-w SECONDS`
+STATUS = re.compile(r"-\w*E|--c[a-z-]*")  # and one that has a word behind it: `-E NUMBER`
 LEASE = re.compile(r", F_(?:SETLEASE|NOTIFY), ")
 LOOSE = re.compile(r"AF_(?:INET6?|UNIX), SOCK_(?:DGRAM|RAW)\b")  # a socket that may send without being connected
 OF_KERNEL = re.compile(r"/(?:dev/(?!shm/)|proc/|sys/)")  # requests to devices change no file
+
+
+def waits(argv: List[str]) -> bool:
+    """Whether the words of `flock` say that it waits for the lock, as long as it takes. Its own options stand in front of the file."""
+    words = iter(argv[1:])
+    for word in words:
+        if not word.startswith("-"):
+            return True
+        if FOR_A_WHILE.match(word):
+            return False
+        if STATUS.fullmatch(word):
+            next(words, "")
+    return True
 
 
 def requests(args: str) -> Set[str]:
@@ -56,8 +71,9 @@ class Opened(Processes):
         taken.append(path)
 
     def opens_to_lock(self, life: Life, flags: str) -> bool:
-        """Whether it is `flock` that opens the file which its words name: it makes the file where it is not there, and does nothing else with it."""
-        return LOCK_FILE.match(flags) is not None and shelltext.base_name(life.argv) == "flock" and not self.is_inside(life.program)
+        """Whether it is `flock` that opens the file which its words name, and waits for the lock: it makes the file where it is not there, and does nothing
+        else with it."""
+        return LOCK_FILE.match(flags) is not None and shelltext.base_name(life.argv) == "flock" and waits(life.argv) and not self.is_inside(life.program)
 
     def open_to_lock(self, life: Life, found: Found) -> None:
         """The file of a lock, and the bits without which it is made. What runs under the lock has it open, too."""

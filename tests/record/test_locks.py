@@ -22,6 +22,10 @@ LOCKS: Dict[str, Small] = {
     "file_that_the_command_writes_in_one_process": Small("race", "all: a b\na b: ; flock -F lock sh -c 'echo $@ >> lock; touch $@'\n"),
     "file_that_a_shell_opens": Small("race", "all: a b\na b: ; (flock 9; touch $@) 9> lock\n"),
     "tool_of_that_name": Small("race", "all: a b\na b: ; ./flock lock touch $@\n", {"flock.c": ""}, setup="cp $(command -v flock) flock"),
+    "lock_that_nobody_waits_for": Small("race", "all: a b\na b: ; flock -n lock touch $@\n"),
+    "lock_that_nobody_waits_for_with_a_status": Small("race", "all: a b\na b: ; flock -E 3 -xn lock touch $@\n"),
+    "lock_that_all_wait_for_a_while": Small("race", "all: a b\na b: ; flock -w 9 lock touch $@\n"),
+    "lock_before_other_options": Small("safe", "all: a b\na b: ; flock -xE 3 lock sort -n Makefile -o $@\n"),
     # who looks whether it is there
     "file_that_another_looks_for": Small("race", BOTH + "c: ; test -f lock && echo yes > c || touch c\n"),
     "file_that_another_looks_for_behind_one": Small("safe", BOTH + "c: a ; test -f lock && echo yes > c || touch c\n"),
