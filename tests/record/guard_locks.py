@@ -27,6 +27,7 @@ LOCK_GUARDS: List[Guard] = [
     Guard("locks of files: options with a word", OPENED, "if STATUS.fullmatch(word):", "if False:", lock("lock_that_nobody_waits_for_with_a_status"), YES),
     Guard("locks of files: words of the command", OPENED, 'if not word.startswith("-"):', "if False:", lock("lock_before_other_options"), FALSE_RACE),
     Guard("locks of files: by the number of an open file", OPENED, "        life.opened.add(found.path)\n", "        pass\n", lock("file_by_its_number"), YES),
+    Guard("locks of files: they are writes", "trace/events.py", "REMOVED + LOCKED\n", "REMOVED\n", lock("file_that_another_looks_for_first"), YES),
     Guard("locks of files: the time of the folder", FOLDERS, "FOLDER_REMOVED, TIME_CHANGED, LOCKED):", "FOLDER_REMOVED, TIME_CHANGED):", lock("time_of_its_folder_by_the_second"), YES),
     Guard("locks of files: ninja", "ninja/build.py", "        pass_locks(self)\n", "        pass\n", "test_locks.Others.test_ninja", FALSE_RACE),
     Guard("locks of files: footprints", "footprints.py", "touched(task, WRITTEN + CREATED + REMOVED,", 'touched(task, WRITTEN + CREATED + REMOVED + "F",', "test_locks.Others.test_footprints"),
