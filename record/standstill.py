@@ -12,7 +12,8 @@ from record.entry import printable, traced
 PATIENCE, STEP = 600.0, 1.0  # seconds without a change until the line comes; between two looks at what strace writes
 WIDTH = 100  # signs of a command
 # A file that was opened to change it, and is no device, or a name that came or went. A recipe that waits starts processes, and looks at files.
-CHANGE = re.compile(rb"O_(?:WRONLY|RDWR|CREAT|TRUNC)[^\n]*\) = \d+</(?!dev/|proc/)|\b(?:rename|unlink|rmdir|mkdir|mknod|link|symlink|truncate)\w*\([^\n]*\) = 0\n")
+CHANGE = re.compile(rb"O_(?:WRONLY|RDWR|CREAT|TRUNC)[^\n]*\) = \d+</(?!dev/|proc/)"
+                    rb"|\b(?:rename|unlink|rmdir|mkdir|mknod|link|symlink|truncate)\w*\([^\n]*\) = 0\n")
 STATUS = re.compile(r"Name:\t(.*)\n(?:.*\n)*?PPid:\t(\d+)\n")
 BUILDERS = ("make", "gmake", "ninja")
 LINE = ("race-record: no file was made or changed for %d minutes%s. A build is recorded with one job: a recipe that waits for one which another job would run "

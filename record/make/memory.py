@@ -2,6 +2,7 @@
 
 import os
 import re
+from functools import lru_cache
 from typing import TYPE_CHECKING, Dict, Iterable, Iterator, List, Optional, Set
 
 from record.make.asked import MAGIC
@@ -10,7 +11,7 @@ from record.make.graph import Node
 from record.make.macros import Macros
 from record.make.owners import Make, Work
 from record.make.references import ANY, evals
-from record.trace.events import LISTED, MAKE_LISTED, ORDER_SEEN
+from record.trace.events import ASKS, LISTED, MAKE_LISTED, ORDER_SEEN
 from record.trace.names import Names
 
 if TYPE_CHECKING:
@@ -115,10 +116,21 @@ def folders_asked(known: Macros, names: Names, node: Node) -> Optional[Set[str]]
 
 
 def folders_listed(known: Macros, names: Names, node: Node) -> Optional[Set[str]]:
-    """Those of them that make lists for that; None where nobody can say which. For a name without a sign of a pattern make asks the disk itself, each
-    time, as for any other file: that is in the trace, and make lists no folder for it."""
+    """Those of them that make lists for that; None where nobody can say which. For a name without a sign of a pattern it asks the disk itself, where the
+    trace shows that, and lists no folder."""
     words = words_asked(known, node)
-    return None if words is None else folders_of(known, names, filter(MAGIC.search, words))
+    return None if words is None else folders_of(known, names, (word for word in words if MAGIC.search(word) or not is_asked(known.make, names, word)))
+
+
+def is_asked(make: Make, names: Names, name: str) -> bool:
+    """Whether a make has asked the disk for a name by itself, and not as for a target."""
+    return names.find(make.folder, name, False).path in asked_by(make)
+
+
+@lru_cache(16)
+def asked_by(make: Make) -> Set[str]:
+    """All such names: the function by which it finds names for `wildcard` asks by `lstat`."""
+    return {act.path for act in make.life.acts if act.kind in ASKS and not act.word}
 
 
 def folders_of(known: Macros, names: Names, words: Iterable[str]) -> Set[str]:

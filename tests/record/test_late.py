@@ -9,8 +9,12 @@ from typing import Dict
 
 import support
 import test_output
+from record.make.memory import asked_by
+from record.make.owners import Make
+from record.make.words import Words
 from record.tools.shellages import asks_reads
 from record.tools.texts import is_plain, text_of
+from record.trace.lives import Act, Life
 from record.trace.names import Names
 from record.trace.skips import Skip
 from test_replay import TOP, events_of, lives_of, played
@@ -166,6 +170,10 @@ class Traces(unittest.TestCase):
 
 class Texts(unittest.TestCase):
     """Files that are read when the build has ended."""
+
+    def test_names_that_a_make_asks_for(self) -> None:
+        acts = [Act(1, "S", "/p/a"), Act(2, "S", "/p/b", "b"), Act(3, "N", "/p/c"), Act(4, "Q", "/p/d"), Act(5, "R", "/p/e", "e")]
+        self.assertEqual({"/p/a", "/p/c"}, asked_by(Make(Words(1, 0), Life(1, acts=acts), "/p")))
 
     def test_what_cannot_be_read_again(self) -> None:
         with tempfile.TemporaryDirectory() as room:
