@@ -4,7 +4,7 @@ import re
 import sys
 import time
 from contextlib import suppress
-from dataclasses import dataclass, field
+from dataclasses import dataclass
 from typing import IO, Callable, Optional
 
 from record.entry import printable, traced
@@ -25,7 +25,7 @@ class Standstill:
     """Looks at what strace writes, and says once that nothing goes on."""
 
     tracer: int = 0  # the number of strace's process
-    out: IO[str] = field(default_factory=lambda: sys.stderr)
+    out: Optional[IO[str]] = None  # else standard error
     clock: Callable[[], float] = time.monotonic
     changed: Optional[float] = None  # when a change was seen last
     is_said: bool = False
@@ -35,10 +35,11 @@ class Standstill:
         now = self.clock()
         if self.changed is None or lines and now - self.changed >= STEP and CHANGE.search(lines):
             self.changed = now
-        elif not self.is_said and now - self.changed >= PATIENCE:
+        elif not self.is_said and now - self.changed >= PATIENCE and (self.out or sys.stderr):
             self.is_said = True
             command = running(self.tracer)
-            print(printable(LINE % (PATIENCE // 60, "; this runs: " + command if command else "")), file=self.out, flush=True)
+            with suppress(OSError):  # nobody reads it, or the device is full: the recording goes on
+                print(printable(LINE % (PATIENCE // 60, "; this runs: " + command if command else "")), file=self.out or sys.stderr, flush=True)
 
 
 def running(tracer: int) -> str:

@@ -1,5 +1,6 @@
 """What the recorder says while a build stands still, as where two recipes wait for each other."""
 
+import errno
 import io
 import unittest
 from itertools import count
@@ -17,7 +18,14 @@ TAKEN = b'7 mkdir("lock", 0777) = -1 EEXIST (File exists)\n'
 WRITES = b'7 openat(AT_FDCWD</w>, "a", O_WRONLY|O_CREAT|O_TRUNC, 0666) = 3</w/a>\n'
 MOVES = b'7 rename("a", "b") = 0\n'
 # a waits for b, which comes second; it does not wait for ever.
-WAITS = "all: a b\na: ; for n in 1 2 3 4 5 6 7 8; do test -f b && break; sleep 0.5; done; touch a\nb: ; touch b\n"
+WAITS = "all: a b\na: ; for n in 1 2 3 4 5 6 7 8 9; do test -f b && break; sleep 1; done; touch a\nb: ; touch b\n"
+
+
+class Full(io.StringIO):
+    """A device that is full."""
+
+    def flush(self) -> None:
+        raise OSError(errno.ENOSPC, "No space left on device")
 
 
 class Lines(unittest.TestCase):
@@ -49,6 +57,22 @@ class Lines(unittest.TestCase):
                              (b'7 openat(AT_FDCWD</w>, "a", O_RDONLY|O_CLOEXEC) = 3</w/a>\n', False), (b'7 readlink("/w/a", 0x7f, 1023) = 0\n', False)):
             self.assertEqual(wanted, CHANGE.search(line) is not None, line)
 
+    def test_nobody_reads_it(self) -> None:
+        with mock.patch.object(standstill.sys, "stderr", None), mock.patch("builtins.print") as printed:
+            watch = Standstill(0, None, iter((0.0, 700.0, 1400.0)).__next__)
+            for _ in range(3):
+                watch.see(b"")
+        printed.assert_not_called()
+        watch = Standstill(0, Full(), iter((0.0, 700.0, 1400.0)).__next__)
+        stops = False
+        try:
+            for _ in range(3):
+                watch.see(b"")
+        except OSError:
+            stops = True
+        self.assertFalse(stops)
+        self.assertTrue(watch.is_said)
+
     def test_minutes(self) -> None:
         self.assertEqual(600, PATIENCE)
 
@@ -57,7 +81,8 @@ class Recorded(unittest.TestCase):
     """A recipe that waits for another one."""
 
     def test_a_recipe_that_waits(self) -> None:
-        with support.Project({"Makefile": WAITS}) as project, mock.patch.object(standstill, "PATIENCE", 1.0):
+        files = {"Makefile": "all: ; @$(MAKE) --no-print-directory -f in.mk\n", "in.mk": WAITS}
+        with support.Project(files) as project, mock.patch.object(standstill, "PATIENCE", 5.0):  # (a busy machine may take seconds to begin)
             outcome = project.record(["make"])
             plain = project.plain(["make", "-B"])
         said = outcome.stderr.decode()
@@ -66,11 +91,6 @@ class Recorded(unittest.TestCase):
         self.assertNotIn("no file was made", outcome.text())
         self.assertTrue(outcome.stdout.startswith(plain.stdout), outcome.text())
         self.assertEqual(1, outcome.status, outcome.text())
-
-    def test_a_recipe_of_a_make_inside(self) -> None:
-        with support.Project({"Makefile": "all: ; $(MAKE) -f in.mk\n", "in.mk": WAITS}) as project, mock.patch.object(standstill, "PATIENCE", 1.0):
-            said = project.record(["make"]).stderr.decode()
-        self.assertIn("this runs: /bin/sh -c for n in 1 2 3", said)
 
 
 if __name__ == "__main__":
