@@ -12,7 +12,7 @@ from record.tools import shelltext
 from record.tools.background import ALL, AT_ONCE, Background, background
 from record.trace.lives import Life, Program, program_at
 
-CHANGES, TOUCHES = "WCDMTX", "WCDMTXRSNEx"  # kinds of events of a file or a folder
+CHANGES, TOUCHES = "WCDFMTX", "WCDFMTXRSNEx"  # kinds of events of a file or a folder
 NEVER = 1 << 60
 
 

@@ -7,7 +7,7 @@ from typing import Dict, Iterator, List, Set
 
 from record.make.graph import Build, Task
 from record.tasks import relative, shown
-from record.trace.events import CHANGES
+from record.trace.events import CREATED, REMOVED, WRITTEN
 from record.trace.names import Names
 
 
@@ -37,7 +37,7 @@ def footprints(build: Build, names: Names) -> Iterator[Dict[str, object]]:
     root = build.make.folder
     for task in build.tasks:
         if task.kind == "recipe":
-            writes = task.writes | touched(task, CHANGES, names.tops)
+            writes = task.writes | touched(task, WRITTEN + CREATED + REMOVED, names.tops)
             reads = task.reads | touched(task, "RSNPK", names.tops)
             folders = {path for path in reads if names.before.get(path) == "d"} - writes
             yield {"target": shown(task.node.name), "reads": sorted(relative(root, p) for p in reads - folders - {root}),

@@ -27,6 +27,7 @@ from record.ninja.again import JOBS, TRIES, by_hand, by_name, hints, tops_of, un
 from record.ninja.fresh import CannotClean, cold_copy, fresh_folder, saved_name
 from record.ninja.log import Kept
 from record.report import Judged, colours, read_json, report
+from record.standstill import Standstill
 from record.trace.classes import traced
 from record.trace.names import Names
 from record.trace.newer import Older
@@ -119,7 +120,7 @@ def run_build(words: List[str], spool: Path, tops: List[str]) -> Tuple[int, floa
         words = STRACE + ["-o", str(pipe.path), "--"] + words
         process = subprocess.Popen(words, env=env, preexec_fn=lambda: older.enter(heard))
         ended, filled = threading.Event(), threading.Event()
-        filling = pool.submit(pipe.fill, ended.wait)
+        filling = pool.submit(pipe.fill, ended.wait, Standstill(process.pid).see)
         filling.add_done_callback(lambda _: filled.set())
         sifting, loading = pool.submit(sift, pipe.file, tops, spool / "sifted", filled.wait), pool.submit(import_module, "record.importing")
         try:

@@ -13,6 +13,7 @@ from record.make.fixed import asked_ages, fixed_looks, remade_anyway, unasked_ag
 from record.make.folders import Events, add_folders
 from record.make.graph import Build, Graph, Node, Task, befores, drop_lonely, order_tasks
 from record.make.inner import add_inner
+from record.make.locks import pass_locks
 from record.make.macros import Macros, Use, uses
 from record.make.memory import libraries, place_listings, share_listings
 from record.make.owners import Make, Work
@@ -22,7 +23,6 @@ from record.make.words import makefiles
 from record.tools.listed import fits
 from record.trace.events import AGE_SEEN, ASKS, CHANGES, CREATED, ENTERED, FOLDER_KEPT, FOLDER_REMOVED, LISTED, MAKES, REMOVED, WRITTEN
 from record.trace.names import Names, join
-
 
 
 class Builder:
@@ -349,6 +349,7 @@ class Builder:
         add_folders(self)
         add_ages(self)
         add_elsewhere(self, created)
+        pass_locks(self)
         # the next build reads the makefiles that this one looked for
         drop_lonely(self.build.tasks, {self.names.find(self.make.folder, name, True).path for name in makefiles(self.make.words)})
 

@@ -15,7 +15,7 @@ from record.make.ahead import makes_ahead
 from record.make.quiet import excused, makes_itself
 from record.tools import shelltext
 from record.trace.events import (
-    ABSENT, CHANGES, CREATED, ENTERED, FOLDER_KEPT, FOLDER_REMOVED, LINKS_CHANGED, LINKS_SEEN, LISTED, LOOKS, MADE_BEFORE,
+    ABSENT, CHANGES, CREATED, ENTERED, FOLDER_KEPT, FOLDER_REMOVED, LINKS_CHANGED, LINKS_SEEN, LISTED, LOCKED, LOOKS, MADE_BEFORE,
     MADE_QUIETLY, MAKER_SEEN, MAKES, MODE_CHANGED, MODE_GIVEN, READ, REMOVED, SEEN, STRICT, TIME_CHANGED, TREE_CHANGES, WRITTEN,
 )
 from record.trace.lives import Life
@@ -205,7 +205,7 @@ def add_folder(builder: "Builder", path: str, folder: Folder) -> None:
         for who, events in each(builder):
             if who != at:
                 for kind, name, _ in events:
-                    if kind in (CREATED, REMOVED) and os.path.dirname(name.rstrip("/")) == path:
+                    if kind in (CREATED, REMOVED, LOCKED) and os.path.dirname(name.rstrip("/")) == path:
                         mark(builder, name.rstrip("/"), "", {at}, {who})
 
 
@@ -297,7 +297,7 @@ def add_times(builder: "Builder") -> None:
         for kind, path, _ in events:
             if kind in MAKES and path in wanted:
                 builder.births.setdefault(path, set()).add(at)
-            if kind not in (CREATED, REMOVED, FOLDER_REMOVED, TIME_CHANGED):
+            if kind not in (CREATED, REMOVED, FOLDER_REMOVED, TIME_CHANGED, LOCKED):
                 continue
             where = path if kind == TIME_CHANGED else dirname(path.rstrip("/"))
             if where in wanted:

@@ -2,7 +2,8 @@
 
 import os
 import re
-from typing import TYPE_CHECKING, Dict, Iterator, List, Optional, Set
+from functools import lru_cache
+from typing import TYPE_CHECKING, Dict, Iterable, Iterator, List, Optional, Set
 
 from record.make.asked import MAGIC
 from record.make.globs import BOUND, WORD_EVAL, arguments, composes, with_values
@@ -10,7 +11,7 @@ from record.make.graph import Node
 from record.make.macros import Macros
 from record.make.owners import Make, Work
 from record.make.references import ANY, evals
-from record.trace.events import LISTED, MAKE_LISTED, ORDER_SEEN
+from record.trace.events import ASKS, LISTED, MAKE_LISTED, ORDER_SEEN
 from record.trace.names import Names
 
 if TYPE_CHECKING:
@@ -50,12 +51,12 @@ def exported_lists(known: Macros) -> bool:
 
 
 def own_folders(builder: "Builder", node: Node) -> Optional[Set[str]]:
-    """The folders in which a target's recipe looks for names; None where nobody can say which."""
+    """The folders that a target's recipe lists by `wildcard`; None where nobody can say which."""
     base, known = builder.graph.base, builder.known
     text = "\n".join(base.recipes.get(node.name, ()))
     if ".SECONDEXPANSION" in base.prerequisites or any(may_list(known, one) for one in (text, *map(known.text_of, known.reached(text)))):
         return None
-    return folders_asked(known, builder.names, node)
+    return folders_listed(known, builder.names, node)
 
 
 def may_list(known: Macros, text: str) -> bool:
@@ -73,7 +74,7 @@ def share_listings(builder: "Builder") -> None:
     make, began = builder.make, first_birth(builder)
     late = {folder: first for folder, (first, last) in builder.listed.items() if last > began}
     for node in builder.graph.nodes.values() if late else ():
-        asked = folders_asked(builder.known, builder.names, node) if node.jobs or node.must and node.has_recipe else set()
+        asked = folders_listed(builder.known, builder.names, node) if node.jobs or node.must and node.has_recipe else set()
         for folder, place in late.items():
             if place < birth(builder, node) and (asked is None or folder in asked):
                 add_list(make, make.acts.setdefault((builder.number, node.name), Work()), folder, place)
@@ -111,7 +112,30 @@ def looped(text: str) -> Iterator[str]:
 def folders_asked(known: Macros, names: Names, node: Node) -> Optional[Set[str]]:
     """The folders in which the recipe of a target looks for names by `wildcard`; None where nobody can say which."""
     words = words_asked(known, node)
-    return None if words is None else {names.find(known.make.folder, os.path.dirname(word) or ".", True).path for word in words}
+    return None if words is None else folders_of(known, names, words)
+
+
+def folders_listed(known: Macros, names: Names, node: Node) -> Optional[Set[str]]:
+    """Those of them that make lists for that; None where nobody can say which. For a name without a sign of a pattern it asks the disk itself, where the
+    trace shows that, and lists no folder."""
+    words = words_asked(known, node)
+    return None if words is None else folders_of(known, names, (word for word in words if MAGIC.search(word) or not is_asked(known.make, names, word)))
+
+
+def is_asked(make: Make, names: Names, name: str) -> bool:
+    """Whether a make has asked the disk for a name by itself, and not as for a target."""
+    return names.find(make.folder, name, False).path in asked_by(make)
+
+
+@lru_cache(16)
+def asked_by(make: Make) -> Set[str]:
+    """All such names: the function by which it finds names for `wildcard` asks by `lstat`."""
+    return {act.path for act in make.life.acts if act.kind in ASKS and not act.word}
+
+
+def folders_of(known: Macros, names: Names, words: Iterable[str]) -> Set[str]:
+    """The folders in which some names are, as a make spells them."""
+    return {names.find(known.make.folder, os.path.dirname(word) or ".", True).path for word in words}
 
 
 def with_target(text: str, target: str) -> str:

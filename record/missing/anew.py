@@ -215,7 +215,11 @@ class Anew:
                 if words and needs.issuperset(words):
                     ended.add(target)
                 elif target not in ended:
-                    yield from (one for one in words if one not in needs and one != name)
+                    yield from (one for one in words if one not in needs and one != name and not self.is_ruled(one))
+
+    def is_ruled(self, name: str) -> bool:
+        """Whether a rule of its own, with a recipe, makes a name: the search for an implicit rule takes it for one that is there, in each build."""
+        return bool(self.first.recipes.get(name)) and name not in self.first.implicit
 
 
 def stems(targets: List[str], name: str) -> Iterator[Tuple[str, str, str]]:

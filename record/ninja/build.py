@@ -10,6 +10,7 @@ from record.make.elsewhere import Askers, add_elsewhere, find_askers
 from record.make.folders import add_folders, apart, parents
 from record.make.graph import Build, Node, Task, befores, drop_lonely, order_tasks
 from record.make.inner import add_inner
+from record.make.locks import pass_locks
 from record.make.owners import Work
 from record.make.unfiled import count_listings
 from record.ninja.fix import owner_of
@@ -251,6 +252,7 @@ class NinjaBuilder(Builder):
                 ages_by_words(self, at, work)
                 ages_in_archives(self, at, work)
         add_elsewhere(self, created)
+        pass_locks(self)
         drop_lonely(self.build.tasks, set())
 
     def add_logs(self) -> None:

@@ -192,6 +192,9 @@ class Calls(Started):
             self.fresh.add(found.path)
         if "O_CREAT" in flags and not self.is_inside(found.path):
             self.put(life, CREATED, found.path)  # the disk has it after the build: nobody knows whether it was there before
+        if self.opens_to_lock(life, flags):
+            self.open_to_lock(life, found)
+            return
         if "O_WRONLY" not in flags and "O_TRUNC" not in flags and not is_creat:
             self.put(life, READ, found.path)
         self.write(life, found)

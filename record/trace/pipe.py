@@ -38,12 +38,14 @@ class Pipe:
             return OSError(error.errno, error.strerror, str(self.file))
         return None
 
-    def fill(self, has_ended: Callable[[float], object]) -> None:
-        """Fills the file until strace has ended. Where it cannot be written, the build still goes on to its end, and then that is the fault."""
+    def fill(self, has_ended: Callable[[float], object], seen: Callable[[bytes], object] = lambda data: None) -> None:
+        """Fills the file until strace has ended, and hands on what it reads, each time. Where the file cannot be written, the build still goes on to its end,
+        and then that is the fault."""
         fault: Optional[OSError] = None
         with open(self.file, "ab", buffering=0) as file:
             while True:
                 is_last, data = bool(has_ended(0)), self.read()  # (asked before the read: what is written until then is read)
+                seen(data)
                 if data:
                     fault = fault or self.fault_of(file, data)
                 elif is_last:

@@ -21,6 +21,10 @@ class Case(NamedTuple):
 HOLES: Dict[str, Case] = {
     "rule": Case("all: f.o b\nf.o: list\n%.o: %.c\n\tcat $< list > $@\n%.o: %.s\n\tcat $< list > $@\nb: list f.o\n\tcp list f.c\n\tcp list b\n",
                  "make finds another rule for f.o, as f.c is there", files=(("f.s", "s\n"),)),
+    "rule that needs what a rule of patterns makes": Case(".SECONDARY:\nall: f.o g.y\n%.o: %.c g.h\n\tcat $< > $@\n%.o: %.s\n\tcat $< > $@\n%.y: %.h\n\tcp $< $@\n%.h: %.x\n\tcp $< $@\n",
+                                                           "make finds another rule for f.o, as g.h is there", files=(("f.s", "s\n"), ("f.c", "c\n"), ("g.x", "x\n"))),
+    "rule that needs what another recipe makes": Case("all: f.o b\n%.o: %.c g.h\n\tcat $< > $@\n%.o: %.s\n\tcat $< > $@\nb: list f.o\n\tcp list g.h; cp list b\n",
+                                                       "make finds another rule for f.o, as g.h is there", files=(("f.s", "s\n"), ("f.c", "c\n"))),
     "vpath": Case("VPATH = src\nall: a b\na: list x.h\n\tcat src/x.h > a\nb: list a\n\tcp list b\n\tcp list x.h\n", "make finds x.h for x.h", files=(("src/x.h", "x\n"),)),
     "vpath of a pattern": Case("vpath %.h one two\nall: a b\na: x.h\n\tcat $< > a\nb: list a\n\tmkdir -p one; cp list one/x.h; cp list b\n",
                                "make finds one/x.h for x.h", files=(("two/x.h", "x\n"),)),
@@ -74,6 +78,8 @@ QUIET: Dict[str, str] = {
     "files of dependencies": "D := $(wildcard *.d)\nall: a\na: list h.h\n\tcat list h.h > a\n\techo 'a: h.h' > a.d\n-include $(D)\n",
     "generated sources": "S := $(wildcard *.c) g.c\nO := $(sort $(S:.c=.o))\nall: $(O)\n\tcat $(O) > out\ng.c: list\n\tcp list g.c\n%.o: %.c\n\tcp $< $@\n",
     "folders that are looked for": "all: a b\na: list\n\ttest -d o || mkdir o\n\tcp list o/a\n\tcp list a\nb: list a\n\ttest -d o || mkdir o\n\tcp list b\n",
+    "extra prerequisites that are made": ".EXTRA_PREREQS = g.h\nall: a\ng.h: list\n\tcp list g.h\na: list h.h\n\tcat list g.h h.h > a\n",
+    "a rule that needs a target": "MAKEFLAGS += -r\nall: f.o g.h\nf.o: list\n%.o: %.c g.h\n\tcat g.h list > $@\n%.o: h.h\n\tcat h.h list > $@\ng.h: list\n\tcp list g.h\n",
     "files that are removed first": "a: list\n\trm -f a b\n\tcp list a\n\tcp list b\n",
 }
 

@@ -9,8 +9,12 @@ from typing import Dict
 
 import support
 import test_output
+from record.make.memory import asked_by
+from record.make.owners import Make
+from record.make.words import Words
 from record.tools.shellages import asks_reads
 from record.tools.texts import is_plain, text_of
+from record.trace.lives import Act, Life
 from record.trace.names import Names
 from record.trace.skips import Skip
 from test_replay import TOP, events_of, lives_of, played
@@ -24,6 +28,8 @@ LONG = "# ...............................................................\n" * 5
 INSIDE = "all: a b\na: ; $(MAKE) -f in.mk\nb: ; echo 'V = 2' > y.x; touch b\n"
 TAKES = "a: ; echo '$^$(V)' > a\n"
 LATER = "D = d1\nall: a c b.q\na: ; touch d2/n.x a\nc: ; touch c\n%s\n"
+# c lists d first; d/a looks for names there, and d/b, which nothing orders with d/a, makes one.
+FIRST = "all: c d/a d/b\ns: ; touch s\nc: s ; echo $(wildcard d/*.q) > c\nd/a: s ; %s > $@\nd/b: c ; touch d/z.q $@\n"
 FOLDERS = "mkdir d1 d2 'd 2'"
 SEES = "who lists the processes that run"
 READ = "who asks when a file was read last"
@@ -61,6 +67,13 @@ LATE: Dict[str, Small] = {
     "wildcard_of_a_macro_of_one_value": Small("safe", LATER % "b.q: c ; echo $(wildcard $(D)/*.x) $(foreach E,d2,$(E)) > b.q", setup=FOLDERS),
     "wildcard_at_home": Small("race", "HOME := $(CURDIR)/d2\n" + LATER % "b.q: c ; echo $(wildcard ~/*.x) > b.q", setup=FOLDERS),
     "wildcard_with_a_blank": Small("race", LATER.replace("d2/n.x", "'d 2/n.x'") % "b.q: c ; echo $(wildcard d\\ 2/*.x) > b.q", setup=FOLDERS),
+    "wildcard_of_its_own_target": Small("safe", FIRST % "$(if $(wildcard $@),echo yes,echo no)", {"d/k": ""}),
+    "wildcard_of_a_name": Small("safe", "N = d/k\n" + FIRST % "echo $(wildcard $(N))", {"d/k": ""}),
+    "wildcard_of_a_name_that_another_makes": Small("race", FIRST % "echo $(wildcard d/z.q)", {"d/k": ""}),
+    "wildcard_of_a_name_and_a_pattern": Small("race", FIRST % "echo $(wildcard d/k d/*.q)", {"d/k": ""}),
+    "wildcard_of_a_pattern_in_a_macro": Small("race", "N = d/[z].q\n" + FIRST % "echo $(wildcard $(N))", {"d/k": ""}),
+    "wildcard_of_a_macro_that_may_be_a_pattern": Small("race", "N = d/k\n" + FIRST.replace("s: ;", "s: ; $(eval N := d/*.q)") % "echo $(wildcard $(N))", {"d/k": ""}),
+    "wildcard_of_a_folder_that_is_a_pattern": Small("race", FIRST % "echo $(wildcard ?/z.q)", {"d/k": ""}),
     # processes of other recipes
     "signal_for_another_recipe": Small("safe", "all: b\na: ; sleep 9 > /dev/null 2>&1 & echo $$! > a\nb: a ; kill `cat a`; touch b\n", says=SEES),
     "signal_for_its_own_process": Small("safe", "all: ; sleep 9 & kill $$!; touch all\n", lacks=SEES),
@@ -157,6 +170,10 @@ class Traces(unittest.TestCase):
 
 class Texts(unittest.TestCase):
     """Files that are read when the build has ended."""
+
+    def test_names_that_a_make_asks_for(self) -> None:
+        acts = [Act(1, "S", "/p/a"), Act(2, "S", "/p/b", "b"), Act(3, "N", "/p/c"), Act(4, "Q", "/p/d"), Act(5, "R", "/p/e", "e")]
+        self.assertEqual({"/p/a", "/p/c"}, asked_by(Make(Words(1, 0), Life(1, acts=acts), "/p")))
 
     def test_what_cannot_be_read_again(self) -> None:
         with tempfile.TemporaryDirectory() as room:

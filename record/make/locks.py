@@ -1,0 +1,53 @@
+"""Files of locks: `flock FILE COMMAND` makes the file where it is not there, and neither reads nor writes it.
+
+Where nobody in a build changes such a file, it is there behind each recipe that locks it, and holds what it held before. So who is the first to
+make it makes no difference, except to those who look whether it is there. What the commands under the lock do counts as ever.
+"""
+
+from dataclasses import dataclass, field
+from typing import TYPE_CHECKING, Dict, Set
+
+from record.make.folders import each
+from record.trace.events import CHANGES, CREATED, LOCKED, MODE_GIVEN
+
+if TYPE_CHECKING:
+    from record.make.build import Builder
+
+
+@dataclass
+class Lock:
+    """What tasks did to the file of a lock."""
+
+    makers: Set[int] = field(default_factory=set)
+    modes: Set[str] = field(default_factory=set)  # the bits without which they make it
+    askers: Set[int] = field(default_factory=set)
+    is_changed: bool = False  # by more than a lock
+
+
+def pass_locks(builder: "Builder") -> None:
+    """Tasks that only lock a file do not write it, where all of them make it alike, and each task that asks for it comes behind one of them."""
+    tasks, build = builder.build.tasks, builder.build
+    for path, lock in gather(builder).items():
+        lock.askers |= {at for at, task in enumerate(tasks) if path in task.reads}
+        writers = {at for at, task in enumerate(tasks) if path in task.writes}
+        is_seen = any(not any(build.is_before(maker, at) for maker in lock.makers - {at}) for at in lock.askers)
+        if not (lock.is_changed or is_seen or len(lock.modes) > 1 or writers - lock.makers):
+            for at in lock.makers:
+                tasks[at].writes.discard(path)
+
+
+def gather(builder: "Builder") -> Dict[str, Lock]:
+    """All files that recipes lock so."""
+    table = {path: Lock() for _, events in each(builder) for kind, path, _ in events if kind == LOCKED}
+    for at, events in each(builder) if table else ():
+        for kind, text, _ in events:
+            path, _, more = text.partition("\0")
+            lock = table.get(path)
+            if lock is not None and kind == MODE_GIVEN:
+                lock.modes.add(more)
+            elif lock is not None and kind == LOCKED:
+                lock.makers.add(at)
+            elif lock is not None and kind != CREATED:
+                lock.askers.add(at)
+                lock.is_changed = lock.is_changed or kind in CHANGES
+    return table

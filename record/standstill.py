@@ -1,0 +1,53 @@
+"""A build that seems to stand still: with one job a recipe that waits for another one waits for ever. A line on standard error says so, once."""
+
+import re
+import sys
+import time
+from contextlib import suppress
+from dataclasses import dataclass
+from typing import IO, Callable, Optional
+
+from record.entry import printable, traced
+
+PATIENCE, STEP = 600.0, 1.0  # seconds without a change until the line comes; between two looks at what strace writes
+WIDTH = 100  # signs of a command
+# A file that was opened to change it, and is no device, or a name that came or went. A recipe that waits starts processes, and looks at files.
+CHANGE = re.compile(rb"O_(?:WRONLY|RDWR|CREAT|TRUNC)[^\n]*\) = \d+</(?!dev/|proc/)"
+                    rb"|\b(?:rename|unlink|rmdir|mkdir|mknod|link|symlink|truncate)\w*\([^\n]*\) = 0\n")
+STATUS = re.compile(r"Name:\t(.*)\n(?:.*\n)*?PPid:\t(\d+)\n")
+BUILDERS = ("make", "gmake", "ninja")
+LINE = ("race-record: no file was made or changed for %d minutes%s. A build is recorded with one job: a recipe that waits for one which another job would run "
+        "waits for ever. Ctrl-C stops the build, without a verdict")
+
+
+@dataclass
+class Standstill:
+    """Looks at what strace writes, and says once that nothing goes on."""
+
+    tracer: int = 0  # the number of strace's process
+    out: Optional[IO[str]] = None  # else standard error
+    clock: Callable[[], float] = time.monotonic
+    changed: Optional[float] = None  # when a change was seen last
+    is_said: bool = False
+
+    def see(self, lines: bytes) -> None:
+        """Takes what strace has written since the last call, which may be nothing. Of a build that goes on it reads little."""
+        now = self.clock()
+        if self.changed is None or lines and now - self.changed >= STEP and CHANGE.search(lines):
+            self.changed = now
+        elif not self.is_said and now - self.changed >= PATIENCE and (self.out or sys.stderr):
+            self.is_said = True
+            command = running(self.tracer)
+            with suppress(OSError):  # nobody reads it, or the device is full: the recording goes on
+                print(printable(LINE % (PATIENCE // 60, "; this runs: " + command if command else "")), file=self.out or sys.stderr, flush=True)
+
+
+def running(tracer: int) -> str:
+    """The command of the recipe that runs, the innermost one: what a make or a ninja has started and is neither."""
+    found = {}
+    for pid in traced(tracer):
+        with suppress(OSError), open("/proc/%d/status" % pid, errors="replace") as status, open("/proc/%d/cmdline" % pid, errors="replace") as words:
+            name = STATUS.match(status.read())
+            found[pid] = (name[1], int(name[2]), words.read()) if name else ("", 0, "")
+    commands = [words for pid, (name, parent, words) in sorted(found.items()) if name not in BUILDERS and found.get(parent, ("",))[0] in BUILDERS]
+    return " ".join(commands[-1].replace("\0", " ").split())[:WIDTH] if commands else ""
