@@ -9,14 +9,15 @@ from record.make.references import NAME
 
 TARGET = re.compile(r"^(.*?)(::?)(?: (.*))?$")
 PLACE = re.compile(r"^#  recipe to execute \(from '(.*)', line (\d+)\):")
-ORIGIN = re.compile(r"# (makefile|environment|command line|default|automatic|'override' directive)")
+ORIGIN = re.compile(r"# (?:makefile|environment(?: under -e)?|command line|default|automatic|'override' directive)(?: private)?(?: \(from '.*', line \d+\))?$")
 VALUE = re.compile(r"^(" + NAME + r"*)(.*?) (?:=|:=|::=|:::=|\+=|\?=) ?(.*)$", re.A)  # its name up to a sign that names seldom have, and the rest of it
 LINES_TEXT = "$(lines)*"  # what stands for a macro of several lines
 BEGINS = r"[ \t]*(?:(?:override|export|private)[ \t]+)*define(?![\w.-])"  # a macro of several lines
-LEVEL = re.compile("(" + BEGINS + r")|[ \t]*endef(?![\w.-])")
+LEVEL = re.compile(r"(?!\t)[ \t]*(?:(define)|endef)(?=[ \t]|$)")  # behind a tab it is a line of a recipe, and another word in front hides it
 LINES = re.compile(r"^define (" + NAME + r"*)(.*)", re.A)
 PATTERN = re.compile(r"^([^#\t:=]*%[^:=]*)(::?)(?!=) *(.*)$")
 NO_TARGET = "# Not a target:"
+BEHIND = "# variable set hash-table stats:"  # what follows the last macro
 SEARCH = re.compile(r"^vpath (\S+) (.*)$", re.A)
 
 
@@ -49,6 +50,8 @@ class Base:
     values: Dict[str, str] = field(default_factory=dict)  # the text of macros; `$(lines)*` for one of several lines
     bodies: Dict[str, List[str]] = field(default_factory=dict)  # by macro: its lines, and its values for single targets and patterns
     scoped: Set[str] = field(default_factory=set)  # targets with macros of their own
+    own: Set[str] = field(default_factory=set)  # macros of single targets and patterns
+    cut: Set[str] = field(default_factory=set)  # names of macros that go on
     serial: bool = False
 
     @cached_property
@@ -87,7 +90,7 @@ class _Files:
             if self.name in self.base.double and text.strip().lstrip("@+-").strip() not in ("", ":"):  # make starts nothing for these
                 self.base.double[self.name][-1].is_empty = False
             self.base.recipes.setdefault(self.name, []).append(text if self.goes_on else text[1:])
-        self.goes_on = (len(text) - len(text.rstrip("\\"))) % 2 == 1
+        self.goes_on = is_continued(text)
 
     def remark(self, text: str) -> None:
         """A line such as `#  Phony target (prerequisite of .PHONY).`, about the target above it; or one that says where a macro is from."""
@@ -130,9 +133,14 @@ class _Files:
             base.double.setdefault(self.name, []).append(Colons(cut(first), cut(second)))
 
 
-def level(text: str) -> int:
+def is_continued(text: str) -> bool:
+    """Whether the next line belongs to a line."""
+    return (len(text) - len(text.rstrip("\\"))) % 2 == 1
+
+
+def level(text: str, previous: str) -> int:
     """By how much a line of a macro goes deeper into others of several lines."""
-    found = LEVEL.match(text)
+    found = LEVEL.match(text) if not is_continued(previous) else None
     return 0 if found is None else 1 if found.group(1) else -1
 
 
@@ -141,6 +149,7 @@ def own_value(base: Base, text: str, line: str) -> None:
     value = VALUE.match(text)
     if value:
         base.bodies.setdefault(value.group(1), []).append(line)
+        base.own.add(value.group(1))
 
 
 class _Macros:
@@ -153,13 +162,17 @@ class _Macros:
         self.goes_on = False  # what follows may be more lines of a value
 
     def line(self, text: str, previous: str) -> None:
-        """One line: a macro stands behind the line that says where it is from."""
-        if self.depth:
-            self.depth += level(text)
+        """One line: a macro stands behind the line that says where it is from, and its lines may be any others."""
+        is_behind = text == BEHIND or ORIGIN.match(text) is not None
+        if self.depth and previous == "endef" and is_behind:
+            self.depth = 0  # lines of a macro of the environment need not be in pairs
+        elif self.depth:
+            self.depth += level(text, previous)
+            self.goes_on = not self.depth
             self.body(text) if self.depth else None
         elif ORIGIN.match(previous):
             self.macro(text)
-        elif self.goes_on and not text.startswith("#"):  # make shows a value with ends of lines as it is
+        elif self.goes_on and not is_behind:  # make shows a value with ends of lines as it is
             self.body(text)
         else:
             self.goes_on = False
@@ -175,6 +188,7 @@ class _Macros:
             own_value(self.base, text[2:], text)
         elif value.group(2):
             self.name = value.group(1)
+            self.base.cut.add(self.name)
             self.body(text)
         else:
             self.name = value.group(1)

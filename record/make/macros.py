@@ -3,42 +3,38 @@
 import os
 import re
 from dataclasses import dataclass, field
-from functools import cached_property, lru_cache
-from typing import Dict, Iterable, Iterator, List, Optional, Set, Tuple
+from functools import cached_property
+from typing import Dict, Iterable, Iterator, List, NamedTuple, Optional, Set, Tuple
 
-from record.make.database import BEGINS, Base, level
+from record.make.assigned import assigned_in, text_of
+from record.make.database import Base
 from record.make.database import LINES_TEXT as LINES
+from record.make.exports import ALONE, WORD, Exports
 from record.make.globs import composes
+from record.make.kept import Kept, bound_in
 from record.make.owners import Make
-from record.make.references import ANY, COMPUTED, EVAL, NAME, SECOND, Eval, end_of, evals, matching, named, outermost, read_again, with_functions
+from record.make.references import ANY, COMPUTED, EVAL, SECOND, Eval, end_of, evals, joined, matching, named, outermost, read_again, with_functions
 from record.make.words import makefiles
-from record.tools.shelltext import shell_text
 from record.tools.texts import is_plain
-from record.tools.texts import text_of as plain_text
 
+UNNAMED = "\x01"  # stands for all texts of macros that nobody can name: each macro that recipes change may have any of them
 CHANGES = ("eval", "guile")  # functions of make that change macros
 LOOP = re.compile(r"\$\(foreach[ \t]+([\w.-]+),[ \t]*\$\(([\w.-]+)\)[ \t]*,")  # over the words of one macro
-ALONE = re.compile(r"(?<!\S)\$\(([\w.-]+)\)(?!\S)")  # a macro that stands for whole words
+# What puts words together, or brings others: what they come to stands in no text.
+MAKES = re.compile(r"\$[({](?:(?:pat)?subst|join|addprefix|addsuffix|shell|file|basename|notdir|dir|suffix)[ \t]|\$[({][\w.-]+:[^=]*=")
+COLON = re.compile(r"(?<![^\s,=])([\w.+-]+):(?=[^\s=:])")
+FIRM = re.compile(r"\boverride[ \t]+(?:(?:export|private|define)[ \t]+)*([^\s:+?!=]+)")
 BARE = re.compile(r"(?<![({\w-])(?:eval|guile)\b")  # its name where nothing calls it
-LINE = r"((?:[^\n]*\\\n)*[^\n]*)"  # of a makefile
-ASSIGNED = re.compile(r"(?<!" + NAME + ")(" + NAME + r"+?)[ \t]*(?:[+?!]|:{1,3})?=" + LINE)
-ASSIGNED_TO_ANY = re.compile(r"(?:[)}]|\$\w)[\w.-]*[ \t]*(?:[+?!]|:{1,3})?=" + LINE)  # the same of a macro whose name another one gives
-DEFINED = re.compile(BEGINS + r"[ \t]*(" + NAME + r"*)([^\n]*)")
 # Macros of a recipe, and functions: these have one line, if their words do.
 NO_MACRO = re.compile(r"[@<^+*?|%][DF]?|\W?|(?:pat)?subst|strip|findstring|filter(?:-out)?|sort|words?|wordlist|firstword|lastword|(?:not)?dir|suffix|basename|addsuffix"
                       r"|addprefix|join|wildcard|realpath|abspath|if|or|and|intcmp|foreach|let|file|eval|error|warning|info|shell")
 FILES = re.compile(r"\$[({](?:call[ \t]+)?file[ \t,]*<")  # what reads the lines of a file
 # A line of a makefile that is a rule: what stands behind its colon, up to a recipe on the same line.
 RULE = re.compile(r"(?m)^(?!\t)[^\n=#]*?:(?![:=])((?:[^\n;#=]*\\\n)*[^\n;#]*)")
-# An export of a macro or of all, for one target too: the first of a line.
-EXPORT = r"(?m)^(?:[^\t\n#][^\n]*?:)??[ \t]*(?:(?:override|private)[ \t]+)*export\b"
-EXPORTED = re.compile(EXPORT + r"([^\n]*)")
-EXPORTS_ALL = re.compile(EXPORT + r"[ \t]*$|\.EXPORT_ALL_VARIABLES")
-WORD = re.compile(r"[\w.-]+")
-GIVEN = re.compile(r"(?:^| )([\w.-]+)(?:[+?!]|:{1,3})?=")  # a macro that the words of make set
 ACTS = re.compile(r"\$[({](?:call[ \t]+)?(?:shell|eval|file|wildcard|realpath)[ \t,]")  # what makes a value by way of the disk, or of other macros
 # What each recipe asks for without a word: macros that make itself reads.
-IMPLIED = frozenset(("SHELL", ".SHELLFLAGS", "MAKEFLAGS", "MFLAGS", "GNUMAKEFLAGS", "MAKEOVERRIDES", "MAKE", "VPATH", "GPATH", ".LIBPATTERNS"))
+IMPLIED = frozenset(("SHELL", ".SHELLFLAGS", "MAKEFLAGS", "MFLAGS", "GNUMAKEFLAGS", "MAKEOVERRIDES", "MAKE", "VPATH", "GPATH", ".LIBPATTERNS", "MAKEFILES", "MAKELEVEL",
+                     "MAKE_TERMOUT", "MAKE_TERMERR"))
 
 
 @dataclass
@@ -54,27 +50,11 @@ class Use:
         return Use(self.reads | other.reads, self.writes | other.writes, self.keeps | other.keeps)
 
 
-@lru_cache(8)
-def assigned_in(text: str) -> List[Tuple[str, str]]:
-    """What makefiles assign to macros: many makes may read the same ones."""
-    return [*((one.group(1), one.group(2)) for one in ASSIGNED.finditer(text)), *((ANY, one.group(1)) for one in ASSIGNED_TO_ANY.finditer(text)), *defined_in(text)]
+class Act(NamedTuple):
+    """What one macro does, if it does anything, and whether it calls a function that another one names."""
 
-
-def defined_in(text: str) -> Iterator[Tuple[str, str]]:
-    """The macros of several lines, which may hold others."""
-    name, depth = "", 0
-    body: List[str] = []
-    for line in text.split("\n") if "define" in text else ():
-        begins = DEFINED.match(line) if not depth else None
-        if begins is not None:
-            name, depth, body = ANY if "$" in begins.group(2) else begins.group(1), 1, []
-        elif depth:
-            depth += level(line)
-            body.append(line)
-            if not depth:
-                yield name, "\n".join(body[:-1])
-    if depth:
-        yield name, "\n".join(body)
+    use: Optional[Use]
+    calls: bool
 
 
 class Macros:
@@ -88,12 +68,16 @@ class Macros:
         recipes = (line for lines in base.recipes.values() for line in lines)
         texts = [self.text, *base.values.values(), *recipes, *(line for lines in base.bodies.values() for line in lines)]
         self.is_used = self.is_lost and LINES in base.values.values() or any(may_change(text) for text in [*texts, "\n".join(texts)])
+        self.is_used = self.is_used or any(COMPUTED.search(text) for text in texts) and any(MAKES.search(text) for text in texts)
         self.named: Dict[Tuple[str, bool], Set[str]] = {}
         self.ways: Dict[Tuple[str, bool], Set[str]] = {}
         self.joined: Dict[str, str] = {}
         self.read_twice: Dict[str, bool] = {}
         self.changed: Set[str] = set()  # those that recipes change
         self.given: Dict[str, List[str]] = {}
+        self.exports, self.kept = Exports(self), Kept(self)
+        self.lines: Dict[str, bool] = {}
+        self.acts: Dict[str, Act] = {}
 
     @cached_property
     def texts(self) -> Dict[str, List[str]]:
@@ -113,6 +97,27 @@ class Macros:
                 found.setdefault(one.name, []).append(text[one.start + 1:one.end])
         return {name: [read_again(with_functions(one)) for one in dict.fromkeys(values)] for name, values in found.items()}
 
+    def all_texts(self) -> Iterator[str]:
+        """The texts of all macros and recipes."""
+        yield from (text for values in self.texts.values() for text in values)
+        yield from (with_functions("\n".join(lines)) for lines in self.base.recipes.values())
+
+    @cached_property
+    def bound(self) -> Set[str]:
+        """The macros that have a value in a loop."""
+        return {name for text in (self.text, *self.all_texts()) for name in bound_in(text)}
+
+    @cached_property
+    def firm(self) -> Set[str]:
+        """The macros that `override` sets: no `eval` surely sets them anew."""
+        return {ANY if "$" in name else name for text in (self.text, *self.all_texts()) if "override" in text for name in FIRM.findall(text)}
+
+    def read_by(self, one: Eval, text: str) -> Set[str]:
+        """The macro to which an `eval` of a text adds something that has references: whether make works these out depends on what it was."""
+        body = text[one.start + 2:one.end - 1]
+        is_read = one.is_added and any("$$" in part for part in (body, *map(self.text_of, self.reached_by(named(body), False))))
+        return {one.name} if is_read else set()
+
     def learn(self, changed: Set[str]) -> bool:
         """Says which macros recipes change; whether that brings anything new."""
         given = self.all_given() if changed else {}
@@ -120,7 +125,8 @@ class Macros:
             return False
         self.changed, self.given = changed, given
         self.named, self.ways, self.read_twice, self.joined = {}, {}, {}, {}
-        for name in ("handed_on", "exported_words"):
+        self.exports, self.kept, self.lines, self.acts = Exports(self), Kept(self), {}, {}
+        for name in ("handed_on", "some_have_lines"):
             self.__dict__.pop(name, None)  # they are worked out anew
         return True
 
@@ -132,19 +138,31 @@ class Macros:
 
     def may_have_lines(self, text: str) -> bool:
         """Whether the references of a text may come to more than one line."""
-        names = self.reached_by(named(text), False)
+        names = self.reached(text)
         is_open = any(name not in self.texts and not NO_MACRO.fullmatch(name) for name in names)  # an argument, or a macro of a loop
-        return FILES.search(text) is not None or any(map(self.has_lines, self.texts if is_open else names))
+        return FILES.search(text) is not None or is_open and self.some_have_lines or any(map(self.has_lines, names))
+
+    @cached_property
+    def some_have_lines(self) -> bool:
+        """Whether some macro may have several lines."""
+        return any(map(self.has_lines, self.texts))
 
     def has_lines(self, name: str) -> bool:
         """Whether a macro may have several lines."""
-        return any("\n" in one.replace("\\\n", " ") or FILES.search(one) for one in self.texts_of(name))
+        if name not in self.lines:
+            self.lines[name] = any("\n" in joined(one) or FILES.search(one) for one in self.texts_of(name))
+        return self.lines[name]
 
     @cached_property
     def names_eval(self) -> bool:
         """Whether a macro may hold the name of `eval`, by which a recipe may call it."""
         found = [self.text, *(text for texts in self.texts.values() for text in texts)]
-        return any(map(BARE.search, found)) or any(composes("\n".join(found), one) for one in CHANGES)
+        return any(map(BARE.search, found)) or any(composes("\n".join(found), one) for one in CHANGES) or any(map(self.makes_name, self.all_texts()))
+
+    def makes_name(self, text: str) -> bool:
+        """Whether a function that `call` calls may have a name that other functions put together."""
+        names = (text[one.start() + 2:one.end() - 1] + text[one.end() - 1:].partition(",")[0] for one in COMPUTED.finditer(text))
+        return any(MAKES.search(part) for name in names for part in (name, *map(self.text_of, self.reached(name))))
 
     @cached_property
     def rule_words(self) -> Set[str]:
@@ -161,7 +179,15 @@ class Macros:
     def texts_of(self, name: str) -> List[str]:
         """The same, one by one."""
         is_changed = ANY in self.changed or name in self.changed
-        return [*self.texts.get(name, ()), *([*self.given.get(name, ()), *self.given.get(ANY, ())] if is_changed else ())]
+        known = self.texts.get(name, [])
+        again = map(read_again, known) if is_changed and self.is_evaluated else ()  # an `eval` may have read the line that assigns them
+        given = [*self.given.get(name, ()), *(["$(%s)" % UNNAMED] if self.given.get(ANY) else ())]
+        return self.given.get(ANY, []) if name == UNNAMED else [*known, *again, *(given if is_changed else ())]
+
+    @cached_property
+    def is_evaluated(self) -> bool:
+        """Whether an `eval` in the makefiles may set any macro."""
+        return any(one.name == ANY for one in evals(with_functions(self.text)))
 
     def reads_twice(self, name: str) -> bool:
         """Whether a macro may call what reads its words a second time."""
@@ -172,8 +198,20 @@ class Macros:
     def named_by(self, name: str, again: bool = True) -> Set[str]:
         """The macros that a macro refers to, also where its text is read again; those that a pattern fits."""
         if (name, again) not in self.named:
-            self.named[name, again] = set(matching(self.texts, name)) if "*" in name else self.named_in(self.text_of(name), again)
+            self.named[name, again] = {*(self.fitting(name) if "*" in name else ()), *self.named_in(self.text_of(name), again)}
         return self.named[name, again]
+
+    def fitting(self, pattern: str) -> List[str]:
+        """The macros that a pattern fits. What stands for a `*` may have a colon or a blank, and then what stands behind it says nothing of a name."""
+        head, _, tail = pattern.partition("*")
+        if tail.strip("*") and self.has_colons:
+            return [name for name in self.texts if name.startswith(head)]
+        return matching(self.texts, pattern) + [name for name in self.base.cut if tail and name.startswith(head)]
+
+    @cached_property
+    def has_colons(self) -> bool:
+        """Whether a word of some text is the name of a macro with a colon behind it: `X:s=` in a reference changes the value of X."""
+        return any(found.group(1) in self.texts for text in self.all_texts() for found in COLON.finditer(text))
 
     def named_in(self, text: str, again: bool) -> Set[str]:
         """The macros that a text refers to, also where it is read again."""
@@ -185,7 +223,8 @@ class Macros:
         for loop in reversed(list(LOOP.finditer(text))):
             end, name = end_of(text, loop.start() + 1), re.escape(loop.group(1))
             body, words = text[loop.end():end], self.words_of(loop.group(2), set())
-            if words is not None and not re.search(r"\b(?:eval\b|(?:foreach|let)[ \t]+[^,]*(?<![\w.-])%s(?![\w.-]))" % name, body):
+            is_loop = text[loop.start() - 1:loop.start()] != "$"  # two signs: it is none
+            if words is not None and is_loop and not re.search(r"\b(?:eval\b|(?:foreach|let)[ \t]+[^,]*(?<![\w.-])%s(?![\w.-]))" % name, body):
                 body = re.sub(r"\$\(\$(?:\(%s\)|\{%s\})\)" % (name, name), "".join("$(%s)" % word for word in sorted(words)), body)
                 text = text[:loop.end()] + body + text[end:]
         return text
@@ -193,6 +232,8 @@ class Macros:
     def words_of(self, name: str, seen: Set[str]) -> Optional[Set[str]]:
         """The words that a macro may have, where all of them stand in texts; None where they are put together otherwise."""
         found: Set[str] = set()
+        if name.isdigit() or self.bound & {name, ANY}:
+            return None
         for text in (one.replace("\\\n", " ") for one in self.texts.get(name, ()) if name not in seen):
             others = [self.words_of(other, {*seen, name}) for other in ALONE.findall(text)]
             words = set(ALONE.sub(" ", text).split())
@@ -232,13 +273,13 @@ class Macros:
 
     def is_exported(self, name: str) -> bool:
         """Whether each process of a recipe finds a macro in its environment, or make itself reads it for each recipe."""
-        return self.is_lost or self.is_named_in_export(name) or name in IMPLIED or self.is_inherited(name)
+        return self.is_lost or self.is_named_in_export(name) or name in IMPLIED or self.exports.is_inherited(name)
 
     @cached_property
     def handed_on(self) -> Set[str]:
         """The exported macros, and all macros that their values refer to, also by way of others: make works these out for each recipe."""
         found = {name for name in self.texts if self.is_exported(name)}
-        return found.union(*map(self.reached_from, found), self.reached(self.exported))
+        return found.union(*map(self.reached_from, found), self.reached("\n".join(self.exports.texts)))
 
     def works_late(self) -> bool:
         """Whether make may do something when it works out the exported macros of a recipe, or find others in them: that comes when the recipe
@@ -250,23 +291,7 @@ class Macros:
 
     def is_named_in_export(self, name: str) -> bool:
         """Whether a makefile exports a macro, by its name or with all others, or for a target; or the words of make give it a value."""
-        return self.exports_all or name in self.exported_words
-
-    @cached_property
-    def exported_words(self) -> Set[str]:
-        """The words behind `export`, those of macros that are named there, and names with a value among the words of make."""
-        texts = (self.exported, *map(self.text_of, self.reached(self.exported)))
-        return {word for text in texts for word in WORD.findall(text)}.union(GIVEN.findall(" ".join((self.make.words.args, self.make.words.flags))))
-
-    @cached_property
-    def exports_all(self) -> bool:
-        """Whether a makefile exports all macros."""
-        return EXPORTS_ALL.search(self.text) is not None
-
-    @cached_property
-    def exported(self) -> str:
-        """What stands behind `export` in lines of makefiles."""
-        return "\n".join(EXPORTED.findall(self.text))
+        return self.exports.names is None or name in self.exports.names
 
     def reaching(self, wanted: Set[str]) -> Set[str]:
         """All macros that refer to one of some macros, also by way of others, and these."""
@@ -285,33 +310,40 @@ class Macros:
             todo.extend(more)
         return found & set(self.texts)
 
-    def is_inherited(self, name: str) -> bool:
-        """Whether make may have found a macro in its own environment: then it hands that on to each recipe."""
-        callers = [life.argv for life in self.make.life.up() if life is not self.make.life and not life.is_make and not life.is_wrapper]
-        return name in os.environ or any(not shell_text(argv) or name + "=" in shell_text(argv) for argv in callers)
-
-    def use(self, text: str) -> Use:
-        """What expanding a recipe reads and writes."""
+    def use(self, text: str, is_one: bool = True) -> Use:
+        """What expanding a recipe reads and writes; `is_one`: make expands all lines at once, as those of a target with two colons may belong to several rules."""
         found, text = Use(), with_functions(text)
         own, sure = list(self.evals(text)), outermost(text)
         found.reads = self.reached(text)
-        if any(COMPUTED.search(one) for one in (text, *map(self.text_of, found.reads))) and (self.names_eval or BARE.search(text)):
+        acts = [*map(self.act, found.reads)]
+        if (COMPUTED.search(text) or any(act.calls for act in acts)) and (self.names_eval or BARE.search(text)):
             found.writes |= {ANY}
-        for name in found.reads:
-            for one in self.evals(self.text_of(name)):
-                (found.keeps if one.name == name and one.is_fresh else found.writes).add(one.name)
-        if self.is_lost and any(self.base.values.get(name) == LINES for name in found.reads):
-            found.writes.add(ANY)
+        for act in acts:
+            found = found.joined(act.use) if act.use is not None else found
+        surely: Set[str] = set()
         for one in own:
             found.writes.add(one.name)
-            before = self.reached(text[:one.end])
-            if one.is_fresh and one.start in sure and one.name not in before:
+            found.reads |= self.read_by(one, text) - surely
+            is_sure = is_one and one.is_fresh and one.start in sure and not self.firm & {one.name, ANY}
+            if is_sure and one.name not in self.reached(text[:one.end]):
                 found.reads.discard(one.name)
+                surely.add(one.name)
         return found
+
+    def act(self, name: str) -> Act:
+        """What make does where it expands a macro, without what others in it do."""
+        if name not in self.acts:
+            text, use = self.text_of(name), Use()
+            for one in self.evals(text):
+                (use.keeps if self.kept.holds(name, one) else use.writes).add(one.name)
+                use.reads |= self.read_by(one, text)
+            use.writes |= {ANY} if self.is_lost and self.base.values.get(name) == LINES else set()
+            self.acts[name] = Act(use if use.writes or use.keeps else None, COMPUTED.search(text) is not None)
+        return self.acts[name]
 
     def implied(self) -> Use:
         """What each recipe does without a word: make works out the macros that it exports, and those that it reads itself, for each of them."""
-        setting = {name for name in self.texts if EVAL.search(self.text_of(name))}
+        setting = {name for name in self.texts if EVAL.search(self.text_of(name)) or COMPUTED.search(self.text_of(name))}
         names = {name for name in self.reaching(setting) if name in IMPLIED or name in os.environ or self.is_lost or self.is_named_in_export(name)} if setting else set()
         return self.use("".join("$(%s)" % name for name in sorted(names))) if names else Use()
 
@@ -319,14 +351,6 @@ class Macros:
         """The macros that the prerequisites of implicit rules set where make expands them a second time."""
         text = with_functions(" ".join(word for _, asked in self.base.patterns for word in asked))
         return {one.name for part in (text, *map(self.text_of, self.reached(text))) for one in self.evals(part)}
-
-
-def text_of(path: str) -> str:
-    """A makefile's text; nothing where it is gone."""
-    try:
-        return plain_text(path)
-    except OSError:
-        return ""
 
 
 def may_change(text: str) -> bool:
@@ -343,10 +367,9 @@ def uses(macros: Macros) -> Dict[str, Use]:
     while macros.learn(changed):  # what a macro is for a while may change others
         found, changed = all_uses(macros)
     exported = {name for name in changed if name != ANY and (macros.is_exported(name) or name in macros.handed_on)}
-    exported |= {one.name for lines in base.recipes.values() for one in evals(with_functions("\n".join(lines))) if one.is_exported}
     for use in found.values():
         patterns = [name for name in use.reads if "*" in name]
-        use.reads = set(changed) if ANY in changed else (use.reads & changed) | exported | {n for one in patterns for n in matching(changed, one)}
+        use.reads = set(changed) if ANY in changed else (use.reads & changed) | exported | {n for one in patterns for n in (*matching(changed, one), *macros.fitting(one)) if n in changed}
     wanted = {name for use in found.values() for name in use.reads}
     for use in found.values():
         use.writes &= wanted
@@ -356,14 +379,8 @@ def uses(macros: Macros) -> Dict[str, Use]:
 def all_uses(macros: Macros) -> Tuple[Dict[str, Use], Set[str]]:
     """For each recipe, what it does with macros, as far as is known by now which macros recipes change; and which these are."""
     implied = macros.implied()
-    found = {name: macros.use("\n".join(lines)).joined(implied) for name, lines in macros.base.recipes.items()}
+    found = {name: macros.use("\n".join(lines), name not in macros.base.double).joined(implied) for name, lines in macros.base.recipes.items()}
     return found, macros.changed.union(*(use.writes for use in found.values()))
-
-
-def own_path(make: Make, name: str) -> str:
-    """What stands for something of a make among the paths of tasks: a name behind that of its makefile."""
-    first = next((name for start in make.words.read for name in start), "Makefile")
-    return os.path.normpath(os.path.join(make.folder, first)) + "/@" + name
 
 
 def keepers(found: Dict[str, Use]) -> Dict[str, List[str]]:

@@ -11,7 +11,9 @@ SPLIT = re.compile(r"\$([({])(call|eval|guile|value|origin|flavor)[\n\r\f\v]")  
 CONTINUED = re.compile(r"[ \t]*(?<!\\)\\\n[ \t]*")  # make takes it for one blank in a reference
 COMPUTED = re.compile(r"\$[({]call\s[^,(){}]*\$")  # a function that another macro names
 # What reads a text that it gets a second time: `eval`, a function that another macro names, and one that works out its own words, where `call` calls it.
-SECOND = re.compile(EVAL.pattern + "|" + COMPUTED.pattern + r"|\$[({]call\s+(?:foreach|let|if|or|and)\s*,")
+SECOND = re.compile(EVAL.pattern + "|" + COMPUTED.pattern + r"|\$[({]call\s+(?:foreach|let|if|or|and|intcmp)\s*,")
+GOES_ON = re.compile(r"(?<!\\)((?:\\\\)*)\\\n[ \t]*")  # a line of a makefile: two backslashes at its end are one sign of it
+BINDS = re.compile(r"\$[({](?:call[ \t]+)?(?:foreach|let)[ \t,]([^,]*),")  # a loop, and the macros that it gives a value
 SIGNS = re.compile(r"\$+")
 STEM = re.compile(r"\$(?:\*|\(\*[DF]?\)|\{\*[DF]?\})")  # what stands for `%`: its name is no pattern
 ENDS = " \t\n:=#,(){}"  # signs before which we cut a name: what stands behind them may be no part of it
@@ -22,13 +24,13 @@ ANY = "*"  # macros that nobody can name
 
 
 class Eval(NamedTuple):
-    """One `$(eval ..)`: where it stands, the macro that it sets, whether it sets it anew, whether it exports it."""
+    """One `$(eval ..)`: where it stands, the macro that it sets, and whether it sets it anew, or adds to it."""
 
     start: int
     end: int
     name: str
     is_fresh: bool
-    is_exported: bool
+    is_added: bool
 
 
 def evals(text: str) -> Iterator[Eval]:
@@ -38,7 +40,7 @@ def evals(text: str) -> Iterator[Eval]:
         body = text[call.end():end - 1]
         sets = SETS.match(body) if "\n" not in body else None
         is_fresh = sets is not None and sets.group(2) not in ("+", "?")
-        yield Eval(call.start(), end, ANY if sets is None else sets.group(1), is_fresh, "export" in body)
+        yield Eval(call.start(), end, ANY if sets is None else sets.group(1), is_fresh, sets is not None and sets.group(2) == "+")
 
 
 def with_functions(text: str) -> str:
@@ -48,6 +50,11 @@ def with_functions(text: str) -> str:
     while count:
         text, count = BUILT_IN.subn(r"$\1\2 ", text)
     return text
+
+
+def joined(text: str) -> str:
+    """The text of a makefile in which each line is a whole one."""
+    return GOES_ON.sub(r"\1 ", text)
 
 
 def read_again(text: str) -> str:

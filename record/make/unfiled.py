@@ -1,20 +1,24 @@
 """What recipes share that is no file: macros of make that a recipe changes, and the order of what a make prints; and the order in
 which a folder shows its names, which is only counted."""
 
+import os
 import re
 from collections import Counter
 from itertools import islice
 from typing import TYPE_CHECKING, Dict, Iterator, List, Set, Tuple
 
 from record.make.folders import each, mark
-from record.make.macros import keepers, own_path
-from record.make.references import ANY
+from record.make.macros import Macros, keepers
+from record.make.owners import Make
+from record.make.references import ANY, SECOND, end_of, named, with_functions
 from record.trace.events import AGE_TAKEN, ORDER_SEEN
 
 if TYPE_CHECKING:
     from record.make.build import Builder
 
 Created = Dict[str, Dict[str, Set[int]]]
+SEARCHES = re.compile(r"(?<![\w.-])vpath[ \t\n)}]")
+PRINTED = re.compile(r"\$[({](?:call[ \t]+)?(?:shell|file)[ \t,]")
 TARGET = re.compile(r"\$(?:[@*]|[({][@*])")
 
 
@@ -24,6 +28,8 @@ def add_macros(builder: "Builder", created: Created) -> None:
     for label, at in builder.of_node.items():
         node = builder.graph.nodes[label]
         use = builder.macros.get(node.name) if builder.build.tasks[at].kind == "recipe" else None
+        if builder.build.tasks[at].kind == "recipe" and reads_output(builder.known, "\n".join(builder.graph.base.recipes.get(node.name, ()))):
+            builder.assumed.add("handed", node.name)
         if use is None:
             continue
         looker = builder.acts_at.get(label, at)
@@ -34,10 +40,34 @@ def add_macros(builder: "Builder", created: Created) -> None:
                 mark(builder, own_path(builder.make, "macro/" + name), about, {looker} if is_read else set(), set() if is_read else {looker})
     if ".SECONDEXPANSION" in builder.graph.base.prerequisites and (builder.known.changed or is_set_late(builder)):
         builder.holes.append("a recipe changes a macro by $(eval ..), and make expands prerequisites a second time: make " + builder.build.words[:100])
+    if searches_anew(builder.known):
+        builder.holes.append("a recipe changes by $(eval ..) where make searches for files: make " + builder.build.words[:100])
     for targets in keepers(builder.macros).values():
         add_keepers(builder, [t for t in targets if t in who], who, created)
     count_inherited(builder)
     count_grouped(builder)
+
+
+def own_path(make: Make, name: str) -> str:
+    """What stands for something of a make among the paths of tasks: a name behind that of its makefile."""
+    first = next((name for start in make.words.read for name in start), "Makefile")
+    return os.path.normpath(os.path.join(make.folder, first)) + "/@" + name
+
+
+def searches_anew(known: Macros) -> bool:
+    """Whether a recipe may change where make searches for files: make searches for the prerequisites of a target before it makes any of them."""
+    recipes = ["\n".join(lines) for lines in known.base.recipes.values()] if ANY in known.changed else []
+    reached = {name for text in recipes for name in known.reached(text)}
+    return ".LIBPATTERNS" in known.changed or any(map(SEARCHES.search, (*recipes, *map(known.text_of, reached))))
+
+
+def reads_output(known: Macros, text: str) -> bool:
+    """Whether make reads once more what a program prints for a recipe, or what a file holds."""
+    text = with_functions(text)
+    reached = known.reached(text)
+    parts = [text, *map(known.text_of, reached)] if SECOND.search(text) or any(map(known.reads_twice, reached)) else []
+    bodies = (part[one.start() + 2:end_of(part, one.start() + 1)].replace("$$", "  ") for part in parts for one in SECOND.finditer(part))
+    return any(PRINTED.search(one) for body in bodies for one in (body, *(known.text_of(n).replace("$$", "  ") for n in known.reached_by(named(body), False))))
 
 
 def is_set_late(builder: "Builder") -> bool:

@@ -89,7 +89,7 @@ SEEN_GUARDS: List[Guard] = [
     Guard("makes: others of its name", "make/copies.py", "return is_named or", "return", seen("another_make"), LOST_HOLE),
     Guard("makes: scripts are none", "make/copies.py", "in MAKES and not first_words(path)", "in MAKES", seen("script_that_is_called_make")),
     Guard("macros: of makefiles that are gone", "make/macros.py", "*base.values.values(), *recipes, *(line", "*base.values.values(), *(line", seen("macro_of_a_makefile_that_goes"), YES),
-    Guard("macros: of lines that are gone", "make/macros.py", "            found.writes.add(ANY)\n", "            pass\n", seen("macro_of_lines_of_a_makefile_that_goes"), YES,
+    Guard("macros: of lines that are gone", "make/macros.py", "use.writes |= {ANY} if self.is_lost and", "use.writes |= {ANY} if False and", seen("macro_of_lines_of_a_makefile_that_goes"), YES,
           ("make/macros.py", ', *((name, "\\n".join(lines)) for name, lines in self.base.bodies.items())', "")),
     Guard("sockets: their names", "trace/calls.py", "            self.write(life, found)\n        elif found is not None and", "            pass\n        elif found is not None and", seen("name_of_a_socket"), YES),
     Guard("sockets: memory: said", "trace/calls.py", "elif name in SHARING and ok:", "elif False:", seen("memory"), WITHHELD),

@@ -3,9 +3,10 @@
 import unittest
 from typing import Dict
 
+from record.make.assigned import defined_in
 from record.make.database import read_base
-from record.make.references import evals, fits, named, read_again
-from test_small import Small, test_of
+from record.make.references import SECOND, evals, fits, joined, named, read_again
+from test_small import COMMANDS, Small, test_of
 
 # A recipe that does something with macros, and another one that nothing orders; both come behind s.
 PAIR = "all: s a b\ns: ; touch s\na: s ; %s\nb: s ; %s\n"
@@ -14,6 +15,10 @@ SHOWS = "echo '$(X)' > b"
 # V has a text only from c to d, while b asks for it, and a runs.
 WHILE = "all: a d\nc: ; %s touch c\nb: c ; echo '$(V)' > b\nd: a b ; %s touch d\na: c ; %s\n"
 N = "n := V\n"
+OWN = "$(eval X := b)echo '$(X)' > b"  # a recipe that sets a macro before it shows it
+BOTH = PAIR % ("echo '$(V)' > a", "echo '$(V)' > b")
+KEEPS = "V = $(eval V := $$(shell echo 1))$(V)\n"
+SEES = PAIR % (SETS, "echo $$X > b")
 
 MACROS: Dict[str, Small] = {
     # texts that are read a second time
@@ -42,17 +47,91 @@ MACROS: Dict[str, Small] = {
     "eval_of_words": Small("safe", "define two\n1\nX := set\nendef\nfew := 1 2\n" + PAIR % ("$(eval T := $(sort $(few)))touch a", SHOWS)),
     "macro_of_lines_in_another_one": Small("race", "define two\ndefine in\nendef\n$(eval X := set)\nendef\n" + PAIR % ("$(if $(two),)touch a", SHOWS)),
     "macro_of_lines_that_were_worked_out": Small("race", "define two\n1\n$$(eval X := set)\nendef\nn := V\n$(n) := $(two)\n" + PAIR % ("$(if $(call or,$(V)),)touch a", SHOWS)),
+    "eval_of_lines_that_or_hands_on": Small("race", "define two\n1\nX := set\nendef\n" + PAIR % ("$(eval T := $(call or,$$(two)))touch a", SHOWS)),
+    "eval_of_a_line_with_two_backslashes": Small("race", "define two\n1\\\\\nX := set\nendef\n" + PAIR % ("$(eval T := $(two))touch a", SHOWS)),
+    "macro_of_lines_with_a_remark": Small("race", "define two\n1\n# x\n$$(eval X := set)\nendef\nn := V\n$(n) := $(two)\n" + PAIR % ("$(if $(call or,$(V)),)touch a", SHOWS)),
+    "macro_of_lines_with_a_tab": Small("race", "define two\n\tendef\n$(eval X := set)\nendef\n" + PAIR % ("$(if $(two),)touch a", SHOWS)),
+    "macro_of_lines_with_a_long_one": Small("race", "define two\nfoo \\\nendef\n$(eval X := set)\nendef\n" + PAIR % ("$(if $(two),)touch a", SHOWS)),
+    "macro_of_lines_for_a_while_with_a_tab": Small("race", "define V\n\tendef\n$(eval X := set)\nendef\n" + WHILE.replace("echo '$(V)' > b", "$(if $(V),)touch b") % ("", "$(eval V := done)", "echo '$(X)' > a")),
+    "assignment_of_two_lines": Small("race", "V \\\n= $(X)\n" + WHILE % ("", "$(eval V := done)", SETS)),
+    "macro_of_a_template_for_a_while": Small("race", "define T\nV = $$(X)\nendef\n$(eval $(T))\n" + WHILE % ("", "$(eval V := done)", SETS)),
+    # what surely sets a macro
+    "macro_that_override_sets": Small("race", PAIR % ("$(eval override X := a)touch a", OWN)),
+    "macro_that_override_sets_in_lines": Small("race", "define O\noverride X := a\nendef\n" + PAIR % ("$(eval $(O))touch a", OWN)),
+    "macro_that_override_sets_by_a_computed_name": Small("race", N.replace("V", "X") + "override $(n) := 1\n" + PAIR % ("$(eval override X := a)touch a", OWN)),
+    "macro_beside_one_that_override_sets": Small("safe", "override Y := 1\n" + PAIR % ("$(eval X := a)touch a", OWN)),
+    "macro_of_two_rules_with_two_colons": Small("race", "all: s a c\ns: ; touch s\na:: s ; $(eval X := 1)touch a\na:: s ; echo '$(X)' > b\nc: s ; $(eval X := 2)touch c\n"),
+    "macro_that_gets_more_by_its_flavor": Small("race", "X = 1\n" + PAIR % ("$(eval X := 1)touch a", "$(eval X += $$(eval Y := 1))echo '$(Y)' > b")),
+    "macro_that_gets_more": Small("safe", PAIR % ("$(eval X += a)touch a", "$(eval X += $@)touch b")),
+    # macros that keep what they work out first
+    "kept_name_of_a_target": Small("race", "V = $(eval V := $@)$(V)\n" + BOTH),
+    "kept_name_of_a_target_by_another": Small("race", "T = $(@F)\nV = $(eval V := $(T))$(V)\n" + BOTH),
+    "kept_argument": Small("race", "V = $(eval V := $(1))$(V)\n" + PAIR % ("echo '$(call V,1)' > a", "echo '$(call V,2)' > b")),
+    "kept_macro_of_a_target": Small("race", "T := 0\na: T := 1\nV = $(eval V := $(T))$(V)\n" + BOTH),
+    "kept_macro_of_a_loop": Small("race", "V = $(eval V := $(x))$(V)\n" + PAIR % ("echo '$(foreach x,1,$(V))' > a", "echo '$(foreach x,2,$(V))' > b")),
+    "kept_behind_another_text": Small("race", "V = first$(eval V := later)\n" + BOTH),
+    "kept_by_one_of_two": Small("race", "V = $(if $(filter a,$@),$(eval V := 1)1,2)\n" + BOTH),
+    "kept_and_shown_as_it_stands": Small("race", KEEPS + PAIR % ("echo '$(V)' > a", "echo '$(value V)' > b")),
+    "kept_and_shown_by_a_function": Small("race", "f = $(flavor $(1))\n" + KEEPS + PAIR % ("echo '$(V)' > a", "echo '$(call f,V)' > b")),
+    "kept_word_of_awk": Small("safe", "V = $(eval V := $$(shell echo 1 2 | awk '{print $$$$2}'))$(V)\n" + BOTH),
+    "kept_with_braces_and_a_remark": Small("safe", "V = ${eval V := $$(shell echo 1)}${V} # once\n" + BOTH),
+    # loops and functions
+    "loop_over_an_argument": Small("race", "show = $(foreach x,$(1),$($(x)))\n" + PAIR % (SETS, "echo '$(call show,X)' > b")),
+    "loop_over_a_macro_of_a_loop": Small("race", "ALL =\nshow = $(foreach x,$(ALL),$($(x)))\n" + PAIR % (SETS, "echo '$(foreach ALL,X,$(show))' > b")),
+    "loop_over_a_macro_of_a_computed_loop": Small("race", "n = ALL\nALL =\nshow = $(foreach x,$(ALL),$($(x)))\n" + PAIR % (SETS, "echo '$(foreach $(n),X,$(show))' > b")),
+    "loop_behind_two_signs": Small("race", "ALL = A\nx := X\n" + PAIR % (SETS, "echo '$$(foreach x,$(ALL),$($(x)))' > b")),
+    "function_whose_name_is_put_together": Small("race", "E = $(subst Q,,eQval)\n" + PAIR % ("$(call $(E),X := set)touch a", SHOWS)),
+    "function_that_a_file_names": Small("race", "E = $(shell cat x)\n" + PAIR % ("$(call $(E),X := set)touch a", SHOWS), {"x": "eval"}),
+    "function_of_an_exported_macro": Small("race", "E = eval\nexport Y = $(call $(E),X := $@)\n" + PAIR % ("touch a", SHOWS)),
+    "text_of_a_program_that_eval_reads": Small("safe", PAIR % (SETS, "$(eval T := $(shell echo 1))echo '$(T)' > b"), says="names no macros"),
+    "text_of_a_program_that_or_reads": Small("safe", PAIR % ("$(if $(call or,$(shell echo 1)),)touch a", SHOWS), says="names no macros"),
+    "text_of_a_program_that_is_read_once": Small("safe", PAIR % (SETS, "$(eval T := $$(shell echo 1))echo '$(T)' > b"), lacks="names no macros"),
+    # what make hands on
+    "export_of_two_lines": Small("race", "export A \\\n X\n" + SEES),
+    "export_behind_an_even_number_of_backslashes": Small("race", "A = 1\\\\\nexport X\n" + SEES),
+    "export_with_a_remark": Small("race", "export # all\n" + SEES),
+    "export_by_eval": Small("race", "$(eval export X)\n" + SEES),
+    "export_by_a_macro_that_eval_reads": Small("race", "E = export X\n$(eval $(E))\n" + SEES),
+    "export_by_a_macro_of_a_recipe": Small("race", "E = $(eval export X := set)\n" + PAIR % ("$(E)touch a", "echo $$X > b")),
+    "export_by_a_template": Small("race", "define T\nexport $(1)\nendef\n$(foreach v,X Y,$(eval $(call T,$(v))))\n" + SEES),
+    "export_of_a_name_that_a_function_makes": Small("race", "export $(addprefix MY_,A)\n" + PAIR % ("$(eval MY_A := set)touch a", "echo $$MY_A > b")),
+    "export_of_a_name_that_is_put_together": Small("race", "n = X\nexport MY_$(n)\n" + PAIR % ("$(eval MY_X := set)touch a", "echo $$MY_X > b")),
+    "export_of_all_by_a_computed_name": Small("race", "V = VARIABLES\n.EXPORT_ALL_$(V):\n" + SEES),
+    "export_of_names_in_a_list": Small("safe", "L = A B\nexport $(L) \\\n C\n" + PAIR % (SETS, "echo $$A > b")),
+    "export_of_a_value_that_a_function_makes": Small("safe", "export A = $(addprefix X,Y)\n" + PAIR % (SETS, "echo $$A > b")),
+    "export_of_a_shell": Small("safe", "all: s a b\ns: ; touch s\na: s ; $(eval X := set)touch a\nb: s\n\texport A B; echo $(words 1 2) > b\n"),
+    "export_of_a_shell_with_quotes": Small("safe", "P := 1\nall: s a b\ns: ; touch s\na: s ; $(eval X := set)touch a\nb: s\n\texport \"A=$(P)\"; echo $$A > b\n"),
+    "export_in_words_of_make": Small("race", SEES),
+    "macro_of_a_file_that_the_caller_reads": Small("race", SEES, {"vars": "X=1; export X\n"}),
+    "macro_of_a_loop_of_the_caller": Small("race", SEES),
+    "macro_that_the_caller_does_not_set": Small("safe", SEES),
+    "macro_among_the_words_of_make_in_a_makefile": Small("race", "MAKEFLAGS += X=1\n" + PAIR % ("$(eval override X := set)touch a", "echo $$X > b")),
+    "makefiles_that_a_recipe_sets": Small("race", PAIR % ("$(eval MAKEFILES := x.mk)touch a", "echo $$MAKEFILES > b"), {"x.mk": ""}),
+    # where make searches
+    "search_path_of_a_prerequisite": Small("no verdict", "all: s b.o\ns: ; touch s\na: s ; $(eval vpath %.c src)touch a\nb.o: a b.c ; echo $< > b.o\n", {"src/b.c": ""}, says="where make searches for files"),
+    "libraries_of_a_prerequisite": Small("no verdict", "all: s b\ns: ; touch s\na: s ; $(eval .LIBPATTERNS := %.lib)touch a\nb: a -lx ; echo $^ > b\n", {"x.lib": "", "libx.a": ""}, says="where make searches for files"),
     # names
     "macro_of_a_target_that_gets_more": Small("race", "n := V\nV := v\nb: $(n) += $(X)\n" + PAIR % (SETS, "echo '$(V)' > b")),
     "macro_whose_name_has_a_colon": Small("race", "n := x:y\n$(n) = $(eval X := set)\n" + PAIR % ("$(x:y)touch a", SHOWS)),
     "macro_whose_name_has_a_blank": Small("race", "n := x y\n$(n) = $(X)\n" + PAIR % (SETS, "echo '$(x y)' > b")),
     "macro_whose_name_is_a_comma": Small("race", ", = $(X)\n" + PAIR % (SETS, "echo '$,' > b")),
+    "macro_whose_name_has_a_star": Small("race", "a*b = $(X)\n" + PAIR % (SETS, "echo '$(a*b)' > b")),
+    "macro_by_a_name_with_a_colon_in_another": Small("race", "B := X:s=\n" + PAIR % (SETS, "echo '$($(B)t)' > b")),
+    "macro_by_a_name_with_a_blank_in_another": Small("race", "n := x yc\nS := x y\n$(n) = $(X)\n" + PAIR % (SETS, "echo '$($(S)c)' > b")),
     "macro_whose_name_has_brackets_of_a_pattern": Small("race", "i := 1\na[1] = $(X)\n" + PAIR % (SETS, "echo '$(a[$(i)])' > b")),
 }
 
 
 class Makefiles(unittest.TestCase):
     """A test for each makefile."""
+
+
+COMMANDS.update({
+    "export_in_words_of_make": ["make", "--eval=export X"],
+    "macro_of_a_file_that_the_caller_reads": ["sh", "-c", ". ./vars; make"],
+    "macro_of_a_loop_of_the_caller": ["sh", "-c", "for X in 1; do export X; make; done"],
+    "macro_that_the_caller_does_not_set": ["sh", "-c", "set -e; Y=1 make"],
+})
 
 
 for key, one in MACROS.items():
@@ -79,6 +158,24 @@ class Texts(unittest.TestCase):
 
     def test_macros_of_a_data_base(self) -> None:
         base = read_base(["# makefile (from 'M', line 1)", "a b := 1", "# makefile (from 'M', line 2)", "V := 1", "2 = 3", "# default", "W = $(x)", "# makefile (from 'M', line 3)", "define two", "define in",
-                          "endef", "last", "endef", "# makefile (from 'M', line 9)", "x:y += 4", "# automatic", "# Y := 3"])
+                          "endef", "\tendef", "last", "endef", "# makefile (from 'M', line 9)", "x:y += 4", "# automatic", "# Y := 3"])
         self.assertEqual({"V": "1", "W": "$(x)", "two": "$(lines)*"}, base.values)
-        self.assertEqual({"a": ["a b := 1"], "V": ["2 = 3"], "two": ["define in", "endef", "last"], "x": ["x:y += 4"], "Y": ["# Y := 3"]}, base.bodies)
+        self.assertEqual({"a": ["a b := 1"], "V": ["2 = 3"], "two": ["define in", "endef", "\tendef", "last"], "x": ["x:y += 4"], "Y": ["# Y := 3"]}, base.bodies)
+
+    def test_lines_that_are_in_no_pairs(self) -> None:
+        base = read_base(["# environment", "define E", "define in", "endef", "# makefile (from 'M', line 1)", "V := 1", "# variable set hash-table stats:", "# Load=1"])
+        self.assertEqual({"E": "$(lines)*", "V": "1"}, base.values)
+        self.assertEqual({"E": ["define in", "endef"]}, base.bodies)
+
+    def test_lines_that_go_on(self) -> None:
+        base = read_base(["# makefile (from 'M', line 1)", "define two", "foo \\", "endef", "x", "endef", "# default", "V := 1"])
+        self.assertEqual({"two": ["foo \\", "endef", "x"]}, base.bodies)
+        self.assertEqual([("two", "foo \\\nendef\nx")], list(defined_in("define two\nfoo \\\nendef\nx\nendef\n")))
+
+    def test_functions_that_read_a_text_again(self) -> None:
+        for text, wanted in (("$(call or,$$(X))", True), ("$(call intcmp,1,1,$$(X))", True), ("$(call sort,$$(X))", False), ("$(or $$(X))", False)):
+            self.assertEqual(wanted, SECOND.search(text) is not None, text)
+
+    def test_lines_of_makefiles(self) -> None:
+        for text, wanted in (("a \\\n b", "a  b"), ("a\\\\\nb", "a\\\\\nb"), ("a\\\\\\\nb", "a\\\\ b")):
+            self.assertEqual(wanted, joined(text), text)

@@ -64,7 +64,7 @@ SMALL: Dict[str, Small] = {
     "macro_in_the_list_of_all": Small("race", "all: s a b\ns: ; touch s\na: s ; $(eval X := set)touch a\nb: ; echo '$(filter X,$(.VARIABLES))' > b\n"),
     "macro_that_make_reads": Small("race", "all: s a b\ns: ; touch s\na: s ; $(eval .SHELLFLAGS := -xc)touch a\nb: ; echo $$- > b\n"),
     "macro_that_the_caller_sets": Small("race", "all: ; X=1 $(MAKE) -f in.mk\n", {"in.mk": "all: s a b\ns: ; touch s\na: s ; $(eval X := set)touch a\nb: ; echo $$X > b\n"}),
-    "search_path_that_a_recipe_sets": Small("race", "all: s a b.o\ns: ; touch s\na: s ; $(eval vpath %.c src)touch a\nb.o: b.c ; echo $< > b.o\nb.c: ; touch b.c\n", {"src/b.c": ""}, says="changes in make"),
+    "search_path_that_a_recipe_sets": Small("no verdict", "all: s a b.o\ns: ; touch s\na: s ; $(eval vpath %.c src)touch a\nb.o: b.c ; echo $< > b.o\nb.c: ; touch b.c\n", {"src/b.c": ""}, says="changes in make"),
     "prerequisites_that_a_recipe_sets": Small("no verdict", ".SECONDEXPANSION:\nall: s a b\ns: ; touch s\na: s ; $(eval X := more)touch a\nb: $$(X) ; echo $^ > b\nmore: ; touch more\n", says="expands prerequisites a second time"),
     # what make keeps of what it saw
     "listing_that_make_keeps": Small("race", "all: a b c\na: ; echo 1 > d/n; touch a\nb: a ; echo '$(wildcard d/*)' > b\nc: ; echo '$(wildcard d/*)' > c\n", {"d/k": "k"}),

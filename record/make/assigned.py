@@ -1,0 +1,47 @@
+"""What makefiles assign to macros, by their texts."""
+
+import re
+from functools import lru_cache
+from typing import Iterator, List, Tuple
+
+from record.make.database import BEGINS, level
+from record.make.references import ANY, NAME, joined
+from record.tools.texts import text_of as plain_text
+
+LINE = r"((?:[^\n]*\\\n)*[^\n]*)"  # of a makefile
+ASSIGNED = re.compile(r"(?<!" + NAME + ")(" + NAME + r"+?)[ \t]*(?:[+?!]|:{1,3})?=" + LINE)
+ASSIGNED_TO_ANY = re.compile(r"(?:[)}]|\$\w)[\w.-]*[ \t]*(?:[+?!]|:{1,3})?=" + LINE)  # the same of a macro whose name another one gives
+DEFINED = re.compile(BEGINS + r"[ \t]*(" + NAME + r"*)([^\n]*)")
+
+
+@lru_cache(8)
+def assigned_in(text: str) -> List[Tuple[str, str]]:
+    """What makefiles assign to macros: many makes may read the same ones."""
+    lines = joined(text)
+    return [*((one.group(1), one.group(2)) for one in ASSIGNED.finditer(lines)), *((ANY, one.group(1)) for one in ASSIGNED_TO_ANY.finditer(lines)), *defined_in(text)]
+
+
+def defined_in(text: str) -> Iterator[Tuple[str, str]]:
+    """The macros of several lines, which may hold others."""
+    name, depth, previous = "", 0, ""
+    body: List[str] = []
+    for line in text.split("\n") if "define" in text else ():
+        begins = DEFINED.match(line) if not depth else None
+        if begins is not None:
+            name, depth, body = ANY if "$" in begins.group(2) else begins.group(1), 1, []
+        elif depth:
+            depth += level(line, previous)
+            body.append(line)
+            if not depth:
+                yield name, "\n".join(body[:-1])
+        previous = line
+    if depth:
+        yield name, "\n".join(body)
+
+
+def text_of(path: str) -> str:
+    """A makefile's text; nothing where it is gone."""
+    try:
+        return plain_text(path)
+    except OSError:
+        return ""

@@ -1,0 +1,101 @@
+"""Which macros of make the processes of its recipes find in their environment: by `export` in makefiles, by words of make, and from its own environment."""
+
+import os
+import re
+from functools import cached_property
+from typing import TYPE_CHECKING, Iterator, List, Optional, Set
+
+from record.make.references import evals, joined, with_functions
+from record.tools.shelltext import shell_text
+
+if TYPE_CHECKING:
+    from record.make.macros import Macros
+
+ALONE = re.compile(r"(?<!\S)\$[({]([\w.-]+)[)}](?!\S)")  # a macro that stands for whole words
+WORD = re.compile(r"[\w.-]+")
+BEGINS = r"[ \t]*(?:(?:override|private)[ \t]+)*export\b"
+EXPORTED = re.compile(r"(?m)^(?:[^\t\n#][^\n]*?:)??" + BEGINS + r"([^\n]*)")  # of a macro or of all, for one target too: the first of a line
+IN_EVAL = re.compile(r"\bexport\b([^\n]*)")
+BEGINS_TEXT = re.compile(BEGINS + r"([^\n]*)")
+ASSIGNS = re.compile(r"[ \t]*(?:(?:override|private)[ \t]+)*(?:define[ \t]+([\w.-]+)|([\w.-]+)[ \t]*(?:[+?!]|:{1,3})?=)")
+ENDS = re.compile(r"[;&|'\"]")  # what stands behind these is about a shell
+GIVEN = re.compile(r"(?:^|[ \t])([\w.-]+)(?:[+?!]|:{1,3})?=")  # a macro that the words of make set
+EVALUATED = re.compile(r"--eval[= ](.*)")
+FLAGS = ("MAKEFLAGS", "GNUMAKEFLAGS", "MAKEOVERRIDES", "MFLAGS")  # macros with words of make: makefiles may set them too
+# A shell takes macros from a file, or from words that do not stand in its text.
+TAKES = re.compile(r"(?<![\w./-])(?:(?:\.|source|eval)\s|(?:export|read|readonly|declare|typeset|printf|env)\b[^;&|\n]*[$`*])")
+
+
+class Exports:
+    """Those of one make."""
+
+    def __init__(self, known: "Macros") -> None:
+        self.known = known
+
+    @cached_property
+    def names(self) -> Optional[Set[str]]:
+        """The macros that a makefile exports, also for one target, or to which the words of make give a value; None where these may be any."""
+        if ".EXPORT_ALL_VARIABLES" in self.known.text or ".EXPORT_ALL_VARIABLES" in self.known.base.prerequisites:
+            return None
+        flags = [text for name in FLAGS for text in self.known.texts.get(name, ())]
+        found = set(GIVEN.findall(" ".join((*self.words_of_make, *flags))))
+        for text in self.texts:
+            words = self.words(text)
+            if words is None:
+                return None
+            found |= words
+        return found
+
+    @property
+    def words_of_make(self) -> List[str]:
+        """The words of make, and those that it was handed."""
+        return [self.known.make.words.args, self.known.make.words.flags]
+
+    @cached_property
+    def texts(self) -> List[str]:
+        """What stands behind each `export`: in lines of makefiles, and in what `eval` reads."""
+        text = self.known.text
+        lines = [*EXPORTED.findall(text), *EXPORTED.findall(joined(text))] if "export" in text else []
+        return list(dict.fromkeys([*lines, *self.in_evals(), *self.in_words()]))
+
+    def in_words(self) -> Iterator[str]:
+        """The same in the words of make."""
+        for text in self.words_of_make:
+            for found in EVALUATED.finditer(text.replace("\\ ", " ")):
+                yield from IN_EVAL.findall(found.group(1))
+
+    def in_evals(self) -> Iterator[str]:
+        """The same in what `eval` reads: its own words, and macros of one line that it leads to."""
+        known = self.known
+        begins = {name: [one for one in map(BEGINS_TEXT.match, texts) if one] for name, texts in known.texts.items()}
+        begins = {name: found for name, found in begins.items() if found}
+        recipes = ("\n".join(lines) for lines in known.base.recipes.values())
+        sources = {*map(with_functions, (known.text, *recipes)), *(text for texts in known.texts.values() for text in texts)}
+        bodies = [text[one.start + 2:one.end - 1] for text in sources if begins or "export" in text for one in evals(text)]
+        yield from (found for body in bodies for found in IN_EVAL.findall(body))
+        reached = {name for body in bodies for name in known.reached(body)} if begins else set()
+        yield from (one.group(1) for name, found in begins.items() if name in reached for one in found)
+
+    def words(self, text: str) -> Optional[Set[str]]:
+        """The macros that one `export` names; None where it names none, and so all, or where its words are put together."""
+        assigned = ASSIGNS.match(text)
+        if assigned is not None:
+            return {assigned.group(1) or assigned.group(2)}
+        text = text.replace("$$", "").partition("#")[0]
+        first = ENDS.split(text)[0]
+        others = [self.known.words_of(name, set()) for name in ALONE.findall(first)]
+        plain = ALONE.sub(" ", first)
+        if not text.strip() or "$" in plain or None in others:
+            return None
+        return {*WORD.findall(plain)}.union(*(one or () for one in others))
+
+    def is_inherited(self, name: str) -> bool:
+        """Whether make may have found a macro in its own environment: then it hands that on to each recipe."""
+        life = self.known.make.life
+        callers = [one.argv for one in life.up() if one is not life and not one.is_make and not one.is_wrapper]
+        return name in os.environ or any(gives(shell_text(argv), name) for argv in callers)
+
+
+def gives(text: str, name: str) -> bool:
+    """Whether the text of a shell may put a macro into the environment of what it starts; any program may that is no shell with a text."""
+    return not text or TAKES.search(text) is not None or re.search(r"(?<![\w.-])%s(?![\w.-])" % re.escape(name), text) is not None

@@ -1,0 +1,63 @@
+"""Macros that work out their value when they are first asked for: `V = $(eval V := $$(shell ..))$(V)`. Whoever asks first sets them, and nobody
+sees who that was where all would have set the same."""
+
+import re
+from functools import cached_property
+from typing import TYPE_CHECKING, Dict, Iterator, Set
+
+from record.make.references import ANY, BINDS, EVAL, Eval, evals, fits, name_at, named
+
+if TYPE_CHECKING:
+    from record.make.macros import Macros
+
+OWN = re.compile(r"\$[({]?(?:[@<^+*?|%]|\d)")  # names of a target and its prerequisites, and arguments
+LOOKS = re.compile(r"\$[({](?:value|flavor|origin)[ \t]+")  # what sees whether a macro was asked for
+
+
+class Kept:
+    """Those of one make."""
+
+    def __init__(self, known: "Macros") -> None:
+        self.known = known
+        self.found: Dict[str, bool] = {}
+
+    def holds(self, name: str, one: Eval) -> bool:
+        """Whether an `eval` in the text of a macro gives this macro the value that it keeps."""
+        if name not in self.found:
+            self.found[name] = not self.is_looked_at(name) and all(self.is_right(name, text) for text in self.known.texts_of(name) if EVAL.search(text))
+        return one.name == name and one.is_fresh and self.found[name]
+
+    def is_right(self, name: str, text: str) -> bool:
+        """Whether a text is such a call and then the macro itself, and whether the value is the same for each recipe."""
+        one = next(evals(text))
+        rest = text[one.end:].partition("#")[0].strip()
+        is_alone = not text[:one.start].strip() and rest in ("$(%s)" % name, "${%s}" % name, "$" + name if len(name) == 1 else "")
+        return is_alone and one.name == name and self.is_same(text[one.start + 2:one.end - 1])
+
+    def is_same(self, body: str) -> bool:
+        """Whether what `eval` is handed has no name of a target, no argument, and no macro that has a value of its own in a loop or for a target."""
+        known = self.known
+        reached = known.reached_by((name for text in readings(body) for name in named(text)), True)
+        texts = [body, *map(known.text_of, reached)]
+        is_bound = ANY in known.bound or not reached.isdisjoint(known.bound | known.base.own)
+        return not is_bound and not any(OWN.search(part) for text in texts for part in readings(text))
+
+    def is_looked_at(self, name: str) -> bool:
+        """Whether some text may show the value of a macro as it stands there, or where that is from."""
+        return any(fits(name, one) for one in self.looked_at)
+
+    @cached_property
+    def looked_at(self) -> Set[str]:
+        """The macros of which a recipe, or a macro, asks such things."""
+        return {name_at(text, found.end()) for text in self.known.all_texts() for found in LOOKS.finditer(text)}
+
+
+def readings(text: str) -> Iterator[str]:
+    """A text as `eval` is handed it, and as it reads what it was handed."""
+    yield text.replace("$$", "  ")
+    yield text.replace("$$", "$").replace("$$", "  ")
+
+
+def bound_in(text: str) -> Set[str]:
+    """The macros to which loops in a text give values."""
+    return {ANY if "$" in name else name for found in BINDS.finditer(text) for name in found.group(1).split()}
