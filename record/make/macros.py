@@ -2,13 +2,14 @@
 
 import os
 import re
-from dataclasses import dataclass, field
+from dataclasses import dataclass, field, replace
 from functools import cached_property, lru_cache
-from typing import Dict, Iterable, Iterator, List, Optional, Set, Tuple
+from typing import Dict, FrozenSet, Iterable, Iterator, List, Optional, Set, Tuple
 
 from record.make.database import BEGINS, Base, level
 from record.make.database import LINES_TEXT as LINES
 from record.make.globs import composes
+from record.make.idle import idle_in
 from record.make.owners import Make
 from record.make.references import ANY, COMPUTED, EVAL, NAME, SECOND, Eval, end_of, evals, matching, named, outermost, read_again, with_functions
 from record.make.words import makefiles
@@ -17,6 +18,7 @@ from record.tools.texts import is_plain
 from record.tools.texts import text_of as plain_text
 
 CHANGES = ("eval", "guile")  # functions of make that change macros
+LOOSE = "\0loose"  # what each macro that recipes change may be: the texts of a macro that nobody can name
 LOOP = re.compile(r"\$\(foreach[ \t]+([\w.-]+),[ \t]*\$\(([\w.-]+)\)[ \t]*,")  # over the words of one macro
 ALONE = re.compile(r"(?<!\S)\$\(([\w.-]+)\)(?!\S)")  # a macro that stands for whole words
 BARE = re.compile(r"(?<![({\w-])(?:eval|guile)\b")  # its name where nothing calls it
@@ -89,11 +91,18 @@ class Macros:
         texts = [self.text, *base.values.values(), *recipes, *(line for lines in base.bodies.values() for line in lines)]
         self.is_used = self.is_lost and LINES in base.values.values() or any(may_change(text) for text in [*texts, "\n".join(texts)])
         self.named: Dict[Tuple[str, bool], Set[str]] = {}
-        self.ways: Dict[Tuple[str, bool], Set[str]] = {}
+        self.settled: Dict[str, List[Eval]] = {}
+        self.ways: Dict[Tuple[FrozenSet[str], bool], Set[str]] = {}
         self.joined: Dict[str, str] = {}
         self.read_twice: Dict[str, bool] = {}
         self.changed: Set[str] = set()  # those that recipes change
         self.given: Dict[str, List[str]] = {}
+
+    @cached_property
+    def idle(self) -> Set[str]:
+        """The targets that make never considered, and whose recipes are those of no other target: it expands none of these."""
+        places = idle_in(self.base, {name for one in self.make.words.rounds for name in (*one.nodes, *one.must, *one.vpath.values())})
+        return {name for name, found in self.base.places.items() if not places.keys().isdisjoint(found)}
 
     @cached_property
     def texts(self) -> Dict[str, List[str]]:
@@ -103,6 +112,11 @@ class Macros:
             found.setdefault(name, []).append(value)
         found.pop(ANY, None)
         return {name: list(map(with_functions, values)) for name, values in found.items()}
+
+    @property
+    def names(self) -> Set[str]:
+        """All macros that have a text."""
+        return {*self.texts, LOOSE}
 
     def all_given(self) -> Dict[str, List[str]]:
         """What each macro may be for a while only: what some `eval` gives it, and what makefiles assign to names that are put together."""
@@ -119,7 +133,7 @@ class Macros:
         if (changed, given) == (self.changed, self.given):
             return False
         self.changed, self.given = changed, given
-        self.named, self.ways, self.read_twice, self.joined = {}, {}, {}, {}
+        self.named, self.ways, self.read_twice, self.joined, self.settled = {}, {}, {}, {}, {}
         for name in ("handed_on", "exported_words"):
             self.__dict__.pop(name, None)  # they are worked out anew
         return True
@@ -130,11 +144,18 @@ class Macros:
             is_known = one.name == ANY or not self.may_have_lines(text[one.start + 2:one.end])
             yield one if is_known else one._replace(name=ANY, is_fresh=False)
 
+    def evals_of(self, name: str) -> Iterator[Eval]:
+        """Those of a macro."""
+        for text in self.texts_of(name):
+            if text not in self.settled:
+                self.settled[text] = list(self.evals(text))
+            yield from self.settled[text]
+
     def may_have_lines(self, text: str) -> bool:
         """Whether the references of a text may come to more than one line."""
         names = self.reached_by(named(text), False)
-        is_open = any(name not in self.texts and not NO_MACRO.fullmatch(name) for name in names)  # an argument, or a macro of a loop
-        return FILES.search(text) is not None or any(map(self.has_lines, self.texts if is_open else names))
+        is_open = any(name not in self.names and not NO_MACRO.fullmatch(name) for name in names)  # an argument, or a macro of a loop
+        return FILES.search(text) is not None or any(map(self.has_lines, self.names if is_open else names))
 
     def has_lines(self, name: str) -> bool:
         """Whether a macro may have several lines."""
@@ -160,8 +181,11 @@ class Macros:
 
     def texts_of(self, name: str) -> List[str]:
         """The same, one by one."""
-        is_changed = ANY in self.changed or name in self.changed
-        return [*self.texts.get(name, ()), *([*self.given.get(name, ()), *self.given.get(ANY, ())] if is_changed else ())]
+        return self.given.get(ANY, []) if name == LOOSE else [*self.texts.get(name, ()), *(self.given.get(name, ()) if self.is_changed(name) else ())]
+
+    def is_changed(self, name: str) -> bool:
+        """Whether recipes may change a macro."""
+        return ANY in self.changed or name in self.changed
 
     def reads_twice(self, name: str) -> bool:
         """Whether a macro may call what reads its words a second time."""
@@ -172,7 +196,8 @@ class Macros:
     def named_by(self, name: str, again: bool = True) -> Set[str]:
         """The macros that a macro refers to, also where its text is read again; those that a pattern fits."""
         if (name, again) not in self.named:
-            self.named[name, again] = set(matching(self.texts, name)) if "*" in name else self.named_in(self.text_of(name), again)
+            parts = [{LOOSE} if self.is_changed(name) else set(), *(self.named_in(one, again) for one in self.texts_of(name))]
+            self.named[name, again] = set(matching(self.texts, name)) if "*" in name else set().union(*parts)
         return self.named[name, again]
 
     def named_in(self, text: str, again: bool) -> Set[str]:
@@ -210,25 +235,20 @@ class Macros:
         return self.reached_by(self.named_in(text, True), True) if is_again else found
 
     def reached_by(self, names: Iterable[str], again: bool) -> Set[str]:
-        """Some macros, and all that they refer to, also by way of others."""
-        return {name for one in names for name in self.way_of(one, again)}
+        """Some macros, and all that they refer to, also by way of others: one sweep, as they may all lead to the same ones."""
+        key = (frozenset(names), again)
+        if key not in self.ways:
+            seen: Set[str] = set()
+            todo = set(key[0])
+            while todo:
+                seen |= todo
+                todo = set().union(*(self.named_by(name, again) for name in todo)) - seen
+            self.ways[key] = seen
+        return self.ways[key]
 
     def reached_from(self, start: str) -> Set[str]:
         """A macro, and all that it refers to, also by way of others."""
         return {start} | self.reached("$(%s)" % start)
-
-    def way_of(self, start: str, again: bool) -> Set[str]:
-        """The same, where its text is read again, or not."""
-        if (start, again) not in self.ways:
-            seen: Set[str] = set()
-            todo = [start]
-            while todo:
-                name = todo.pop()
-                if name not in seen:
-                    seen.add(name)
-                    todo.extend(self.named_by(name, again))
-            self.ways[start, again] = seen
-        return self.ways[start, again]
 
     def is_exported(self, name: str) -> bool:
         """Whether each process of a recipe finds a macro in its environment, or make itself reads it for each recipe."""
@@ -294,11 +314,11 @@ class Macros:
         """What expanding a recipe reads and writes."""
         found, text = Use(), with_functions(text)
         own, sure = list(self.evals(text)), outermost(text)
-        found.reads = self.reached(text)
+        found.reads = {*self.reached(text)}
         if any(COMPUTED.search(one) for one in (text, *map(self.text_of, found.reads))) and (self.names_eval or BARE.search(text)):
             found.writes |= {ANY}
         for name in found.reads:
-            for one in self.evals(self.text_of(name)):
+            for one in self.evals_of(name):
                 (found.keeps if one.name == name and one.is_fresh else found.writes).add(one.name)
         if self.is_lost and any(self.base.values.get(name) == LINES for name in found.reads):
             found.writes.add(ANY)
@@ -311,7 +331,7 @@ class Macros:
 
     def implied(self) -> Use:
         """What each recipe does without a word: make works out the macros that it exports, and those that it reads itself, for each of them."""
-        setting = {name for name in self.texts if EVAL.search(self.text_of(name))}
+        setting = {name for name in self.names if EVAL.search(self.text_of(name))}
         names = {name for name in self.reaching(setting) if name in IMPLIED or name in os.environ or self.is_lost or self.is_named_in_export(name)} if setting else set()
         return self.use("".join("$(%s)" % name for name in sorted(names))) if names else Use()
 
@@ -349,14 +369,16 @@ def uses(macros: Macros) -> Dict[str, Use]:
         use.reads = set(changed) if ANY in changed else (use.reads & changed) | exported | {n for one in patterns for n in matching(changed, one)}
     wanted = {name for use in found.values() for name in use.reads}
     for use in found.values():
-        use.writes &= wanted
+        use.writes = use.writes & wanted
     return {name: use for name, use in found.items() if use.reads or use.writes or use.keeps}
 
 
 def all_uses(macros: Macros) -> Tuple[Dict[str, Use], Set[str]]:
     """For each recipe, what it does with macros, as far as is known by now which macros recipes change; and which these are."""
     implied = macros.implied()
-    found = {name: macros.use("\n".join(lines)).joined(implied) for name, lines in macros.base.recipes.items()}
+    texts = {name: "\n".join(lines) for name, lines in macros.base.recipes.items() if name not in macros.idle}
+    known = {text: macros.use(text).joined(implied) for text in {*texts.values()}}  # a rule may serve many targets
+    found = {name: replace(known[text]) for name, text in texts.items()}
     return found, macros.changed.union(*(use.writes for use in found.values()))
 
 
