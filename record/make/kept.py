@@ -3,12 +3,12 @@ sees who that was where all would have set the same."""
 
 import re
 from functools import cached_property
-from typing import TYPE_CHECKING, Dict, Iterator, Set
+from typing import TYPE_CHECKING, Dict, Iterator, List, Set
 
 from record.make.references import ANY, BINDS, EVAL, Eval, evals, fits, name_at, named
 
 if TYPE_CHECKING:
-    from record.make.macros import Macros
+    from record.make.macros import Macros, Use
 
 OWN = re.compile(r"\$[({]?(?:[@<^+*?|%]|\d)")  # names of a target and its prerequisites, and arguments
 LOOKS = re.compile(r"\$[({](?:value|flavor|origin)[ \t]+")  # what sees whether a macro was asked for
@@ -61,3 +61,12 @@ def readings(text: str) -> Iterator[str]:
 def bound_in(text: str) -> Set[str]:
     """The macros to which loops in a text give values."""
     return {ANY if "$" in name else name for found in BINDS.finditer(text) for name in found.group(1).split()}
+
+
+def keepers(found: Dict[str, "Use"]) -> Dict[str, List[str]]:
+    """For each macro that works out its value once: the targets whose recipes ask for it."""
+    table: Dict[str, List[str]] = {}
+    for target, use in found.items():
+        for name in use.keeps:
+            table.setdefault(name, []).append(target)
+    return table

@@ -2,15 +2,16 @@
 
 import os
 import re
-from dataclasses import dataclass, field
+from dataclasses import dataclass, field, replace
 from functools import cached_property
-from typing import Dict, Iterable, Iterator, List, NamedTuple, Optional, Set, Tuple
+from typing import Dict, FrozenSet, Iterable, Iterator, List, NamedTuple, Optional, Set, Tuple
 
 from record.make.assigned import assigned_in, text_of
 from record.make.database import Base
 from record.make.database import LINES_TEXT as LINES
 from record.make.exports import ALONE, WORD, Exports
 from record.make.globs import composes
+from record.make.idle import idle_in
 from record.make.kept import Kept, bound_in
 from record.make.owners import Make
 from record.make.references import ANY, COMPUTED, EVAL, SECOND, Eval, end_of, evals, joined, matching, named, outermost, read_again, with_functions
@@ -70,7 +71,7 @@ class Macros:
         self.is_used = self.is_lost and LINES in base.values.values() or any(may_change(text) for text in [*texts, "\n".join(texts)])
         self.is_used = self.is_used or any(COMPUTED.search(text) for text in texts) and any(MAKES.search(text) for text in texts)
         self.named: Dict[Tuple[str, bool], Set[str]] = {}
-        self.ways: Dict[Tuple[str, bool], Set[str]] = {}
+        self.ways: Dict[Tuple[FrozenSet[str], bool], Set[str]] = {}
         self.joined: Dict[str, str] = {}
         self.read_twice: Dict[str, bool] = {}
         self.changed: Set[str] = set()  # those that recipes change
@@ -80,6 +81,12 @@ class Macros:
         self.acts: Dict[str, Act] = {}
 
     @cached_property
+    def idle(self) -> Set[str]:
+        """The targets that make never considered, and whose recipes are those of no other target: it expands none of these."""
+        places = idle_in(self.base, {name for one in self.make.words.rounds for name in (*one.nodes, *one.must, *one.vpath.values())})
+        return {name for name, found in self.base.places.items() if not places.keys().isdisjoint(found)}
+
+    @cached_property
     def texts(self) -> Dict[str, List[str]]:
         """All that each macro may be, as far as makefiles and the data base show it."""
         found: Dict[str, List[str]] = {name: [value] for name, value in self.base.values.items()}
@@ -87,6 +94,11 @@ class Macros:
             found.setdefault(name, []).append(value)
         found.pop(ANY, None)
         return {name: list(map(with_functions, values)) for name, values in found.items()}
+
+    @property
+    def names(self) -> Set[str]:
+        """All macros that have a text."""
+        return {*self.texts, UNNAMED}
 
     def all_given(self) -> Dict[str, List[str]]:
         """What each macro may be for a while only: what some `eval` gives it, and what makefiles assign to names that are put together."""
@@ -251,25 +263,20 @@ class Macros:
         return self.reached_by(self.named_in(text, True), True) if is_again else found
 
     def reached_by(self, names: Iterable[str], again: bool) -> Set[str]:
-        """Some macros, and all that they refer to, also by way of others."""
-        return {name for one in names for name in self.way_of(one, again)}
+        """Some macros, and all that they refer to, also by way of others: one sweep, as they may all lead to the same ones."""
+        key = (frozenset(names), again)
+        if key not in self.ways:
+            seen: Set[str] = set()
+            todo = set(key[0])
+            while todo:
+                seen |= todo
+                todo = set().union(*(self.named_by(name, again) for name in todo)) - seen
+            self.ways[key] = seen
+        return self.ways[key]
 
     def reached_from(self, start: str) -> Set[str]:
         """A macro, and all that it refers to, also by way of others."""
         return {start} | self.reached("$(%s)" % start)
-
-    def way_of(self, start: str, again: bool) -> Set[str]:
-        """The same, where its text is read again, or not."""
-        if (start, again) not in self.ways:
-            seen: Set[str] = set()
-            todo = [start]
-            while todo:
-                name = todo.pop()
-                if name not in seen:
-                    seen.add(name)
-                    todo.extend(self.named_by(name, again))
-            self.ways[start, again] = seen
-        return self.ways[start, again]
 
     def is_exported(self, name: str) -> bool:
         """Whether each process of a recipe finds a macro in its environment, or make itself reads it for each recipe."""
@@ -314,7 +321,7 @@ class Macros:
         """What expanding a recipe reads and writes; `is_one`: make expands all lines at once, as those of a target with two colons may belong to several rules."""
         found, text = Use(), with_functions(text)
         own, sure = list(self.evals(text)), outermost(text)
-        found.reads = self.reached(text)
+        found.reads = {*self.reached(text)}
         acts = [*map(self.act, found.reads)]
         if (COMPUTED.search(text) or any(act.calls for act in acts)) and (self.names_eval or BARE.search(text)):
             found.writes |= {ANY}
@@ -343,7 +350,7 @@ class Macros:
 
     def implied(self) -> Use:
         """What each recipe does without a word: make works out the macros that it exports, and those that it reads itself, for each of them."""
-        setting = {name for name in self.texts if EVAL.search(self.text_of(name)) or COMPUTED.search(self.text_of(name))}
+        setting = {name for name in self.names if EVAL.search(self.text_of(name)) or COMPUTED.search(self.text_of(name))}
         names = {name for name in self.reaching(setting) if name in IMPLIED or name in os.environ or self.is_lost or self.is_named_in_export(name)} if setting else set()
         return self.use("".join("$(%s)" % name for name in sorted(names))) if names else Use()
 
@@ -372,21 +379,14 @@ def uses(macros: Macros) -> Dict[str, Use]:
         use.reads = set(changed) if ANY in changed else (use.reads & changed) | exported | {n for one in patterns for n in (*matching(changed, one), *macros.fitting(one)) if n in changed}
     wanted = {name for use in found.values() for name in use.reads}
     for use in found.values():
-        use.writes &= wanted
+        use.writes = use.writes & wanted
     return {name: use for name, use in found.items() if use.reads or use.writes or use.keeps}
 
 
 def all_uses(macros: Macros) -> Tuple[Dict[str, Use], Set[str]]:
     """For each recipe, what it does with macros, as far as is known by now which macros recipes change; and which these are."""
     implied = macros.implied()
-    found = {name: macros.use("\n".join(lines), name not in macros.base.double).joined(implied) for name, lines in macros.base.recipes.items()}
+    texts = {name: ("\n".join(lines), name not in macros.base.double) for name, lines in macros.base.recipes.items() if name not in macros.idle}
+    known = {text: macros.use(*text).joined(implied) for text in {*texts.values()}}  # a rule may serve many targets
+    found = {name: replace(known[text]) for name, text in texts.items()}
     return found, macros.changed.union(*(use.writes for use in found.values()))
-
-
-def keepers(found: Dict[str, Use]) -> Dict[str, List[str]]:
-    """For each macro that works out its value once: the targets whose recipes ask for it."""
-    table: Dict[str, List[str]] = {}
-    for target, use in found.items():
-        for name in use.keeps:
-            table.setdefault(name, []).append(target)
-    return table

@@ -46,7 +46,7 @@ def add_list(make: Make, work: Work, folder: str, place: int) -> None:
 
 def exported_lists(known: Macros) -> bool:
     """Whether make may look for names by `wildcard` for each recipe, to make the values of exported macros."""
-    found = {name for name in known.texts if "wildcard" in known.text_of(name)}
+    found = {name for name in known.names if "wildcard" in known.text_of(name)}
     return bool(found) and any(known.is_exported(name) for name in known.reaching(found))
 
 

@@ -17,9 +17,10 @@ BINDS = re.compile(r"\$[({](?:call[ \t]+)?(?:foreach|let)[ \t,]([^,]*),")  # a l
 SIGNS = re.compile(r"\$+")
 STEM = re.compile(r"\$(?:\*|\(\*[DF]?\)|\{\*[DF]?\})")  # what stands for `%`: its name is no pattern
 ENDS = " \t\n:=#,(){}"  # signs before which we cut a name: what stands behind them may be no part of it
+PLAIN = re.compile("[^$" + re.escape(ENDS) + "]+")
 NAME = r"[^\s:=#,(){}$]"  # one of any other signs
 SETS = re.compile(r"[ \t]*(?:override[ \t]+|export[ \t]+)*([\w.-]+)[ \t]*(\+|\?|!|:{0,3})=")
-BRACKETS = {"(": ")", "{": "}"}
+BRACKETS = {"(": re.compile("[()]"), "{": re.compile("[{}]")}
 ANY = "*"  # macros that nobody can name
 
 
@@ -83,10 +84,8 @@ def name_at(text: str, at: int) -> str:
     """The name that begins at a place, up to one of `ENDS`. Macros whose names go on behind that count as one."""
     found = ""
     while at < len(text) and text[at] not in ENDS:
-        if text[at] != "$":
-            found, at = found + text[at], at + 1
-        else:
-            found, at = found + "*", end_of(text, at + 1)
+        run = PLAIN.match(text, at)
+        found, at = (found + run.group(), run.end()) if run is not None else (found + "*", end_of(text, at + 1))
     return found
 
 
@@ -94,13 +93,12 @@ def end_of(text: str, at: int) -> int:
     """Where a reference ends whose sign stands before a place."""
     if at >= len(text) or text[at] not in BRACKETS:
         return at + 1
-    opening, depth = text[at], 0
-    while at < len(text):
-        depth += (text[at] == opening) - (text[at] == BRACKETS[opening])
-        at += 1
+    depth = 0
+    for sign in BRACKETS[text[at]].finditer(text, at):
+        depth += 1 if sign.group() == text[at] else -1
         if not depth:
-            break
-    return at
+            return sign.end()
+    return len(text)
 
 
 @lru_cache(1 << 10)

@@ -8,7 +8,8 @@ from itertools import islice
 from typing import TYPE_CHECKING, Dict, Iterator, List, Set, Tuple
 
 from record.make.folders import each, mark
-from record.make.macros import Macros, keepers
+from record.make.kept import keepers
+from record.make.macros import Macros
 from record.make.owners import Make
 from record.make.references import ANY, SECOND, end_of, named, with_functions
 from record.trace.events import AGE_TAKEN, ORDER_SEEN

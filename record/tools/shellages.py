@@ -7,6 +7,7 @@ from typing import List
 
 from record.tools.shelltext import FORMAT_OF_STAT, KEPT, LARGE, SHELLS, TAKES_IN, base_name, contents, is_interpreter, script_of, shell_words, sourced
 from record.tools.texts import text_of
+from record.trace.system import OF_SYSTEM
 
 # Words of a shell's text, or of a program, that ask when a file was read last.
 READ_TIME_WORDS = re.compile(r"""
@@ -43,6 +44,7 @@ HEADED = re.compile(r"\s(?:-\w*[ucUC]|--(?:un|co))(?!.*\s(?:-L|--la))")  # words
 LOADS = re.compile(r"@(?:load|include)\b")  # a text of awk that takes in what may ask for ages
 LOADED = re.compile(r"-[li]\S*|--(?:lo|in)\S*")  # a word of awk that does so
 QUALIFIED = re.compile(r"[\w*?\])/>]\(")  # a pattern of zsh that may ask for ages, as `*(om)` does
+NEWER = re.compile(r"-[\"'\\]*[no][\"'\\]*t\b")  # a test of which is newer
 DEPTH = 3  # how many scripts may take in one another
 COMPUTED = re.compile(r"\beval[ \t]+[\"']?(?:\$\(|`)")  # `eval "$(..)"`: the text that a program prints
 
@@ -56,6 +58,15 @@ def script_compares(path: str, folder: str, depth: int = 0) -> bool:
     if len(text) == LARGE or AGE_WORDS.search(text) or COMPUTED.search(text) or depth > DEPTH:
         return True
     return any("$" in name or script_compares(os.path.join(folder, name), folder, depth + 1) for name in sourced(text))
+
+
+@lru_cache(KEPT)
+def tests_newer(path: str) -> bool:
+    """Whether a script that a shell has opened tests which of two files is newer; so may one that cannot be read, other than the system's."""
+    try:
+        return NEWER.search(text_of(path, LARGE)) is not None
+    except OSError:
+        return not OF_SYSTEM.match(path)
 
 
 def shows_ages(argv: List[str]) -> bool:

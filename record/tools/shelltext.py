@@ -45,6 +45,7 @@ SHOWS_SIZES = {"ls": re.compile(r"\s(-\w*[sS]|--si|--so\w*[= ]s)"), "find": re.c
 OPTIONS = re.compile(r"\b(shopt|compgen|GLOBIGNORE)\b|\s[-+]O\s")  # of bash, by which patterns say something else, or nothing
 # A text of another file, or one that is put together: `. ./x`, `then source x`, `a=1 eval "$x"`.
 TAKES_IN = re.compile(r"(^|[;&|({\n`!]\s*|\b(then|do|else|elif|if|while|until|time|command|builtin)\s+|\b\w+=\S*\s+)(\.|source|eval)\s")
+DOT = re.compile(r"(^|(?<!\\)[;&|\n])(?:[ \t]|\\\n)*\.[ \t]+(?![-=!<>&|;\])])")  # the same at the begin of a command, where no test of bash goes on: `[[ x && . -nt y ]]`
 # The name of a script that a script takes in: `./x` in `if . ./x; then`, see `sourced`.
 SOURCED = re.compile(r"""
     (?: (?:^|[;&|{(!]|=`|\w=\S*[ \t])[ \t]*                                  # where a command begins, and behind `a=1 `
@@ -306,8 +307,9 @@ def is_interpreter(argv: List[str]) -> bool:
 
 
 def names_here(argv: List[str]) -> bool:
-    """Whether the words name the folder that a process is in; shells look at it anyway."""
-    return bool(re.search(r"\s(\./?|\$PWD)(\s|$)", " ".join(argv)))
+    """Whether the words name the folder that a process is in; shells look at it anyway. A dot where a command of a shell begins takes in a script."""
+    text, words = shell_text(argv), " ".join(argv)
+    return bool(re.search(r"\s(\./?|\$PWD)(\s|$)", words.replace(text, DOT.sub(r"\1", text)) if text else words))
 
 
 def asks_size(argv: List[str]) -> bool:

@@ -7,7 +7,7 @@ is printed under a yes (sockets, locks, watchers). moves.py, processes.py, opene
 import re
 from typing import Callable, Dict, Iterable, List, Tuple
 
-from record.tools import listed, shelltext
+from record.tools import listed, shellages, shelltext
 from record.trace.arguments import TEXT_END, Opening, opening, spelled
 from record.trace.classes import SHARING
 from record.trace.events import (
@@ -124,7 +124,9 @@ class Calls(Started):
     @staticmethod
     def is_own(life: Life, path: str, found: Found) -> bool:
         """Whether a process looks at the folder that it is in, or at one above, as shells do by themselves; interpreters also at those
-        in which they look for modules."""
+        in which they look for modules. A shell does so before it opens a script: what comes later may be of that."""
+        if life.compares_here:
+            return False
         above = life.traits().is_interpreter or (life.folder.rstrip("/") + "/").startswith(found.path.rstrip("/") + "/")
         return path == "." or path.startswith("/") and above
 
@@ -231,6 +233,7 @@ class Calls(Started):
             self.is_open_shell = self.is_open_shell or shelltext.sets_options_in(found.path)
         elif traits.is_shell:
             life.taken += (found.path,) if shelltext.takes_in(life.argv, found.path) else ()
+            life.compares_here = life.compares_here or shellages.tests_newer(found.path)
         elif not traits.is_interpreter and (self.ages(life) or self.is_unknown(life)):
             self.put(life, AGE_SEEN if self.ages(life) else AGE_UNKNOWN, found.path)
 

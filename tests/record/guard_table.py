@@ -241,7 +241,7 @@ UNFILED: List[Guard] = [
     Guard("wrapper: intermediate files", "make/wrapper.py", "Removing intermediate files\\.\\.\\.$|", "", "test_output.Output.test_intermediate_files"),
     Guard("wrapper: order-only prerequisites", "make/wrapper.py", "older than|order-only for", "older than", "test_output.Output.test_order_only_prerequisite_of_a_target_that_is_there"),
     Guard("macros that recipes change", "make/build.py", "        add_macros(self, created)\n", "", small("macro_that_a_recipe_changes"), YES),
-    Guard("macros: by way of others", "make/macros.py", "todo.extend(self.named_by(name, again))", "pass", small("macro_by_way_of_another"), YES),
+    Guard("macros: by way of others", "make/macros.py", "todo = set().union(*(self.named_by(name, again) for name in todo)) - seen", "todo = set()", small("macro_by_way_of_another"), YES),
     Guard("macros: by computed names", "make/references.py", 'found + "*", end_of(text, at + 1)', "found, end_of(text, at + 1)", small("macro_by_a_part_of_its_name"), YES),
     Guard("macros: by patterns that fit", "make/references.py", "if fits(name, pattern)", "", small("macro_by_a_part_of_another_name"), FALSE_RACE),
     Guard("macros: asked for by origin", "make/references.py", "value|origin|flavor)\\s+", "value)\\s+", small("macro_by_its_origin"), YES),

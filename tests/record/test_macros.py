@@ -1,10 +1,14 @@
 """Macros that `eval` changes: texts that make reads a second time, values that a macro has for a while, odd names; on small makefiles."""
 
 import unittest
-from typing import Dict
+from types import SimpleNamespace
+from typing import Dict, cast
+from unittest import mock
 
 from record.make.assigned import defined_in
-from record.make.database import read_base
+from record.make.database import Base, read_base
+from record.make.macros import Macros
+from record.make.owners import Make
 from record.make.references import SECOND, evals, fits, joined, named, read_again
 from test_small import COMMANDS, Small, test_of
 
@@ -19,6 +23,8 @@ OWN = "$(eval X := b)echo '$(X)' > b"  # a recipe that sets a macro before it sh
 BOTH = PAIR % ("echo '$(V)' > a", "echo '$(V)' > b")
 KEEPS = "V = $(eval V := $$(shell echo 1))$(V)\n"
 SEES = PAIR % (SETS, "echo $$X > b")
+# `say` asks for a macro whose name is put together, which may be one that sets any.
+FUNCTIONS = 'say = echo $(1)="$($(1))"\neach = $(foreach t,all,$(eval $(call rule,$(t))))\n'
 
 MACROS: Dict[str, Small] = {
     # texts that are read a second time
@@ -40,6 +46,9 @@ MACROS: Dict[str, Small] = {
     "macro_of_a_makefile_for_a_while": Small("race", N + "$(n) = $(eval X := set)\n" + WHILE % ("", "$(eval $(n) := done)", "echo '$(X)' > a")),
     "macro_of_lines_for_a_while": Small("race", N + "define $(n)\n$(eval X := set)\nendef\n" + WHILE % ("", "$(eval $(n) := done)", "echo '$(X)' > a")),
     "macro_with_another_value_for_a_while": Small("safe", WHILE % ("$(eval V = $$(Y))", "$(eval V := done)", SETS)),
+    # recipes of other targets
+    "macro_of_a_recipe_that_nobody_asks_for": Small("safe", FUNCTIONS + "all: a b\na b: ; touch $@ $(X)\ncheck: ; $(call say,X,y)\n"),
+    "macro_of_a_recipe_that_somebody_asks_for": Small("race", FUNCTIONS + "all: a b check\na b: ; touch $@ $(X)\ncheck: ; $(call say,X,y)\n"),
     # several lines
     "eval_of_two_lines": Small("race", "define two\n1\nX := set\nendef\n" + PAIR % ("$(eval T := $(two))touch a", SHOWS)),
     "eval_of_two_lines_as_an_argument": Small("race", "define two\n1\nX := set\nendef\ngive = $(eval T := $(1))\n" + PAIR % ("$(call give,$(two))touch a", SHOWS)),
@@ -136,6 +145,30 @@ COMMANDS.update({
 
 for key, one in MACROS.items():
     setattr(Makefiles, "test_" + key, test_of(key, one))
+
+
+class Sweeps(unittest.TestCase):
+    """How often macros are looked at, where there are many."""
+
+    def macros(self, values: Dict[str, str]) -> Macros:
+        """Macros of a make without makefiles."""
+        make = SimpleNamespace(folder="/w", words=SimpleNamespace(args="", flags="", rounds=[]), stale=[], never_read=lambda name: False)
+        with mock.patch("record.make.macros.makefiles", return_value=set()):
+            return Macros(cast(Make, make), Base(values=values))
+
+    def test_macros_in_a_row(self) -> None:
+        macros = self.macros({"m%d" % at: "$(m%d)" % (at + 1) for at in range(200)})
+        with mock.patch.object(macros, "named_by", side_effect=macros.named_by) as asked:
+            self.assertEqual(201, len(macros.reached_by({"m%d" % at for at in range(200)}, False)))
+        self.assertLess(asked.call_count, 300)
+
+    def test_macros_that_may_be_any_text(self) -> None:
+        macros = self.macros({"m%d" % at: "$(m%d)" % (at + 1) for at in range(200)})
+        self.assertTrue(macros.learn({"*"}))
+        macros.given = {"*": ["$(x%d)" % at for at in range(200)]}
+        with mock.patch("record.make.macros.named", side_effect=named) as asked:
+            self.assertLess(400, len(macros.reached_by({"m0"}, False)))
+        self.assertLess(asked.call_count, 900)
 
 
 class Texts(unittest.TestCase):

@@ -8,7 +8,7 @@ import support
 from record.clock import clock
 from record.tools.computed import tests_unseen
 from record.tools.shellages import may_show_ages
-from record.tools.shelltext import glob_words
+from record.tools.shelltext import glob_words, names_here
 from test_small import Small, test_of
 
 # A recipe that lists names, and a later one that makes another name.
@@ -17,6 +17,9 @@ LISTS = "all: b a\na: ; touch z.i a\nb: ; %s > b\n"
 FOLDER = "all: a b\na: ; %s\nb: ; mkdir -p d; touch b\n"
 # Two recipes that nothing orders make x and y, and a third one looks at both.
 SIDE = "all: c\nx: ; echo 1 > x\ny: ; echo 2 > y\nc: x y ; { %s; } > c || true\n"
+# A recipe that runs something in a folder, and another one that makes a name there.
+HERE = "all: a b\na: ; cd d && %s > ../a\nb: ; touch d/x b\n"
+IN_FOLDER = {"t": "if [ . -nt s ]; then echo newer; fi\n", "d/s": ""}
 # Two recipes with a file of their own, whose name has the time in thousandths of a second.
 TIMED = "a b: ; t=t.$$(date +%s%N | cut -c1-13); echo $@ > $$t; mv $$t $@\n"
 UNKNOWN = "programs that nobody knows look at two files"
@@ -41,6 +44,14 @@ TRIED: Dict[str, Small] = {
     "folder_by_a_function_of_that_name": Small("race", FOLDER % 'mkdir() { /bin/mkdir "$$@" && echo made > a; }; test -d d || mkdir -p d; touch a'),
     "folder_beside_a_function": Small("safe", FOLDER % "f() { touch a; }; test -d d || mkdir -p d; f"),
     "folder_and_a_list_of_the_programs_that_ran": Small("race", FOLDER % "test -d d || mkdir -p d; hash > a"),
+    # ages of the folder that a script is in
+    "age_of_a_folder_in_a_script": Small("race", HERE % "sh ../t", IN_FOLDER, says="(the time of the folder"),
+    "age_of_a_folder_in_a_script_that_is_taken_in": Small("race", HERE % ". ../t", IN_FOLDER, says="RACE  d  (the time of the folder"),
+    "age_of_a_folder_in_a_part_of_a_script": Small("race", HERE % "sh ../u", {**IN_FOLDER, "u": "x=$([ . -nt s ] && echo newer); echo $x\n"}, says="(the time of the folder"),
+    "age_of_a_folder_by_the_whole_path": Small("race", HERE % "sh ../t", {**IN_FOLDER, "t": "[ $PWD -nt s ] && echo newer; true\n"}, says="(the time of the folder"),
+    "script_that_a_shell_takes_in": Small("safe", "all: a b\na: ; . ./v; echo $$x > a\nb: ; touch b\n", {"v": "x=1\n"}),
+    "script_that_bash_takes_in": Small("safe", "SHELL = /bin/bash\nall: a b\na: ; y=2; . ./v; echo $$x > a\nb: ; touch b\n", {"v": "x=1\n"}),
+    "ages_of_other_files_in_a_script": Small("safe", "all: a b\na: ; sh t > a\nb: ; touch b\n", {"t": "[ d/s -nt t ] && echo newer; true\n", "d/s": ""}),
     # names
     "names_with_the_time": Small("safe", "all: a b\n" + TIMED, says="recipes that put the time into the name"),
     "names_with_the_time_in_order": Small("safe", "all: a b\nb: a\n" + TIMED, lacks="recipes that put the time into the name"),
@@ -70,6 +81,11 @@ class Texts(unittest.TestCase):
     def test_brackets_that_a_quote_cuts(self) -> None:
         for text, wanted in (("echo [a'b']*", True), ("echo [a\\ b]*", True), ("echo ['ab']*", True), ("echo [a\\;b]*", True), ("echo [ab]'c'*", False), ("echo [ab]*", False), ("[ -e 'a'*.c ]", False)):
             self.assertEqual(wanted, "*" in glob_words(text), text)
+
+    def test_dots_that_name_the_folder(self) -> None:
+        for wanted, text in ((False, ". ./x"), (False, "a; . ./x"), (False, "a && . ./x"), (False, "a ;\\\n . ./x"), (True, "a \\\n . x"), (True, "[ . -nt x ]"), (True, "[[ a && . -nt x ]]"), (True, "test ! . -nt x"), (True, "ls \\; . x"), (True, ". ./x; ls .")):
+            self.assertEqual(wanted, names_here(["bash", "-c", text]), text)
+        self.assertTrue(names_here(["find", "a", ";", ".", "x"]))
 
     def test_names_that_have_the_time(self) -> None:
         found = clock(1795793502)
