@@ -46,6 +46,7 @@ LOADED = re.compile(r"-[li]\S*|--(?:lo|in)\S*")  # a word of awk that does so
 QUALIFIED = re.compile(r"[\w*?\])/>]\(")  # a pattern of zsh that may ask for ages, as `*(om)` does
 NEWER = re.compile(r"-[\"'\\]*[no][\"'\\]*t\b")  # a test of which is newer
 DEPTH = 3  # how many scripts may take in one another
+EVAL = re.compile(r"\beval\b")
 COMPUTED = re.compile(r"\beval[ \t]+[\"']?(?:\$\(|`)")  # `eval "$(..)"`: the text that a program prints
 
 
@@ -67,6 +68,12 @@ def tests_newer(path: str) -> bool:
         return NEWER.search(text_of(path, LARGE)) is not None
     except OSError:
         return not OF_SYSTEM.match(path)
+
+
+def is_unread(argv: List[str], folder: str) -> bool:
+    """Whether a shell runs a text that nobody reads: one from standard input, or one that `eval` gets."""
+    text, script = shell_words(argv)
+    return EVAL.search(text) is not None if text else not script or COMPUTED.search(contents(os.path.join(folder, script))) is not None
 
 
 def shows_ages(argv: List[str]) -> bool:

@@ -107,6 +107,8 @@ class Calls(Started):
         plain = path if call.name == "stat" or (call.name == "newfstatat" and follow and not path.startswith("/")) else ""
         link = call.name.startswith("readlink") and ok
         found = self.look(life, path, ok or call.error == "EINVAL", follow, READ if link else SEEN, base, plain)
+        is_begin = path == "." and life.looks == 0 and life.last_look.startswith("/")  # as shells do when they start
+        life.looks, life.last_look = life.looks + (path == "."), path
         traits = life.traits()
         if traits.looks_at_links:
             self.put(life, LINKS_SEEN, found.path)
@@ -114,7 +116,8 @@ class Calls(Started):
             return
         if life.is_query or traits.is_interpreter and not (traits.makes_folders and shelltext.makes(life.argv, found.path)) or self.ages(life):
             is_folder = found.inode is not None and found.inode.kind == "d"
-            if not is_folder or not self.is_own(life, path, found) or shelltext.names_here(life.argv):
+            is_of_text = path == "." and not is_begin and traits.is_shell and shellages.is_unread(life.argv, life.folder)
+            if not is_folder or is_of_text or not self.is_own(life, path, found) or shelltext.names_here(life.argv):
                 self.put(life, AGE_SEEN, found.path)
         elif traits.asks_size and found.inode is not None and found.inode.kind == "d":
             self.put(life, AGE_SEEN, found.path)

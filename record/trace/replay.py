@@ -104,7 +104,7 @@ class Replay:
         """What a process has from who started it: its folder, its mask, and until it runs a program of its own the words."""
         if not child.is_heir:  # else it may have changed these since
             child.folder, child.mask = parent.folder, parent.mask
-        child.cut, child.taken, child.compares_here = parent.cut, parent.taken, parent.compares_here
+        child.cut, child.taken, child.compares_here, child.looks = parent.cut, parent.taken, parent.compares_here, parent.looks
         child.argv = child.argv or parent.argv
         child.is_wrapper = parent.is_wrapper if not child.ran else child.is_wrapper
 
