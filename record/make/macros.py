@@ -138,7 +138,7 @@ class Macros:
         self.changed, self.given = changed, given
         self.named, self.ways, self.read_twice, self.joined = {}, {}, {}, {}
         self.exports, self.kept, self.lines, self.acts = Exports(self), Kept(self), {}, {}
-        for name in ("handed_on", "some_have_lines"):
+        for name in ("handed_on", "names_eval", "rule_words", "some_have_lines"):
             self.__dict__.pop(name, None)  # they are worked out anew
         return True
 
@@ -157,7 +157,7 @@ class Macros:
     @cached_property
     def some_have_lines(self) -> bool:
         """Whether some macro may have several lines."""
-        return any(map(self.has_lines, self.texts))
+        return any(map(self.has_lines, self.names))
 
     def has_lines(self, name: str) -> bool:
         """Whether a macro may have several lines."""
