@@ -58,7 +58,7 @@ MACRO_GUARDS: List[Guard] = [
     Guard("names: signs of patterns", REFERENCES, 'map(re.escape, pattern.split("*"))', 'pattern.split("*")', macro("macro_whose_name_has_brackets_of_a_pattern"), YES),
     Guard("eval: what override sets", MACROS, "not self.firm & {one.name, ANY}", "True", macro("macro_that_override_sets"), YES),
     Guard("eval: other macros that override sets", MACROS, "not self.firm & {one.name, ANY}", "not self.firm", macro("macro_beside_one_that_override_sets"), FALSE_RACE),
-    Guard("eval: rules with two colons", MACROS, ", name not in macros.base.double)", ")", macro("macro_of_two_rules_with_two_colons"), YES),
+    Guard("eval: rules with two colons", MACROS, ", name not in macros.base.double)", ", True)", macro("macro_of_two_rules_with_two_colons"), YES),
     Guard("eval: whether it works out what it adds", MACROS, "is_read = one.is_added and", "is_read = False and", macro("macro_that_gets_more_by_its_flavor"), YES),
     Guard("eval: what it adds without references", MACROS, 'one.is_added and any("$$" in part', 'one.is_added and any(True', macro("macro_that_gets_more"), FALSE_RACE),
     Guard("eval: arguments of or that have several lines", MACROS, "names = self.reached(text)\n        is_open", "names = self.reached_by(named(text), False)\n        is_open", macro("eval_of_lines_that_or_hands_on"), YES),
