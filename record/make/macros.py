@@ -7,8 +7,7 @@ from functools import cached_property
 from typing import Dict, FrozenSet, Iterable, Iterator, List, NamedTuple, Optional, Set, Tuple
 
 from record.make.assigned import assigned_in, text_of
-from record.make.database import Base
-from record.make.database import LINES_TEXT as LINES
+from record.make.database import LINES_TEXT, Base
 from record.make.exports import ALONE, WORD, Exports
 from record.make.globs import composes
 from record.make.idle import idle_in
@@ -68,16 +67,16 @@ class Macros:
         self.is_lost = bool(make.stale) or not all(map(is_plain, paths))  # then macros of several lines may hold anything
         recipes = (line for lines in base.recipes.values() for line in lines)
         texts = [self.text, *base.values.values(), *recipes, *(line for lines in base.bodies.values() for line in lines)]
-        self.is_used = self.is_lost and LINES in base.values.values() or any(may_change(text) for text in [*texts, "\n".join(texts)])
+        self.is_used = self.is_lost and LINES_TEXT in base.values.values() or any(may_change(text) for text in [*texts, "\n".join(texts)])
         self.is_used = self.is_used or any(COMPUTED.search(text) for text in texts) and any(MAKES.search(text) for text in texts)
         self.named: Dict[Tuple[str, bool], Set[str]] = {}
         self.ways: Dict[Tuple[FrozenSet[str], bool], Set[str]] = {}
-        self.joined: Dict[str, str] = {}
+        self.whole_texts: Dict[str, str] = {}
         self.read_twice: Dict[str, bool] = {}
         self.changed: Set[str] = set()  # those that recipes change
         self.given: Dict[str, List[str]] = {}
         self.exports, self.kept = Exports(self), Kept(self)
-        self.lines: Dict[str, bool] = {}
+        self.with_lines: Dict[str, bool] = {}
         self.acts: Dict[str, Act] = {}
 
     @cached_property
@@ -136,9 +135,9 @@ class Macros:
         if (changed, given) == (self.changed, self.given):
             return False
         self.changed, self.given = changed, given
-        self.named, self.ways, self.read_twice, self.joined = {}, {}, {}, {}
-        self.exports, self.kept, self.lines, self.acts = Exports(self), Kept(self), {}, {}
-        for name in ("handed_on", "some_have_lines"):
+        self.named, self.ways, self.read_twice, self.whole_texts = {}, {}, {}, {}
+        self.exports, self.kept, self.with_lines, self.acts = Exports(self), Kept(self), {}, {}
+        for name in ("handed_on", "names_eval", "rule_words", "some_have_lines"):
             self.__dict__.pop(name, None)  # they are worked out anew
         return True
 
@@ -157,13 +156,13 @@ class Macros:
     @cached_property
     def some_have_lines(self) -> bool:
         """Whether some macro may have several lines."""
-        return any(map(self.has_lines, self.texts))
+        return any(map(self.has_lines, self.names))
 
     def has_lines(self, name: str) -> bool:
         """Whether a macro may have several lines."""
-        if name not in self.lines:
-            self.lines[name] = any("\n" in joined(one) or FILES.search(one) for one in self.texts_of(name))
-        return self.lines[name]
+        if name not in self.with_lines:
+            self.with_lines[name] = any("\n" in joined(one) or FILES.search(one) for one in self.texts_of(name))
+        return self.with_lines[name]
 
     @cached_property
     def names_eval(self) -> bool:
@@ -184,9 +183,9 @@ class Macros:
 
     def text_of(self, name: str) -> str:
         """All texts that a macro may have."""
-        if name not in self.joined:
-            self.joined[name] = "\n".join(self.texts_of(name))
-        return self.joined[name]
+        if name not in self.whole_texts:
+            self.whole_texts[name] = "\n".join(self.texts_of(name))
+        return self.whole_texts[name]
 
     def texts_of(self, name: str) -> List[str]:
         """The same, one by one."""
@@ -292,7 +291,7 @@ class Macros:
         """Whether make may do something when it works out the exported macros of a recipe, or find others in them: that comes when the recipe
         starts, and all else before."""
         bodies = {name: "\n".join(lines) for name, lines in self.base.bodies.items()}
-        acting = {name for known in (self.base.values, bodies) for name, text in known.items() if ACTS.search(text) or self.is_lost and text == LINES}
+        acting = {name for known in (self.base.values, bodies) for name, text in known.items() if ACTS.search(text) or self.is_lost and text == LINES_TEXT}
         is_acting = bool(acting) and any(map(self.is_exported, self.reaching(acting)))
         return is_acting or any(name == ANY or self.is_exported(name) or name in self.handed_on for name in self.changed)
 
@@ -344,7 +343,7 @@ class Macros:
             for one in self.evals(text):
                 (use.keeps if self.kept.holds(name, one) else use.writes).add(one.name)
                 use.reads |= self.read_by(one, text)
-            use.writes |= {ANY} if self.is_lost and self.base.values.get(name) == LINES else set()
+            use.writes |= {ANY} if self.is_lost and self.base.values.get(name) == LINES_TEXT else set()
             self.acts[name] = Act(use if use.writes or use.keeps else None, COMPUTED.search(text) is not None)
         return self.acts[name]
 
@@ -376,7 +375,8 @@ def uses(macros: Macros) -> Dict[str, Use]:
     exported = {name for name in changed if name != ANY and (macros.is_exported(name) or name in macros.handed_on)}
     for use in found.values():
         patterns = [name for name in use.reads if "*" in name]
-        use.reads = set(changed) if ANY in changed else (use.reads & changed) | exported | {n for one in patterns for n in (*matching(changed, one), *macros.fitting(one)) if n in changed}
+        fitting = {name for one in patterns for name in (*matching(changed, one), *macros.fitting(one))}
+        use.reads = set(changed) if ANY in changed else (use.reads | fitting) & changed | exported
     wanted = {name for use in found.values() for name in use.reads}
     for use in found.values():
         use.writes = use.writes & wanted

@@ -8,8 +8,9 @@ import re
 from functools import lru_cache
 from typing import Dict, Iterator, List, Optional, Sequence, Set, Tuple
 
-from record.make.database import Base
+from record.make.database import BEGINS, Base
 from record.make.globs import composes, with_values
+from record.make.macros import CHANGES, FILES
 from record.make.owners import Owners
 from record.make.references import ANY as ANY_MACRO
 from record.make.references import COMPUTED, evals, with_functions
@@ -29,7 +30,7 @@ HANDS_ON = {*shelltext.PASSING} - {"env"}  # programs that leave the environment
 REFERENCE = re.compile(r"\$(?:\(([A-Za-z_][\w.-]*)\)|\{([A-Za-z_][\w.-]*)\}|([A-Za-z_]))")
 ANYTHING = "$(eval $(text))"  # what may stand in a makefile that nobody can read
 EVAL = re.compile(r"(?<![\w./-])(?:eval|guile)(?![\w./-])")
-LINES = re.compile(r"(?m)^[ \t]*(?:(?:override|export|private)[ \t]+)*define\b|\$[({]file[ \t]*<")  # what makes macros of several lines
+LINES = re.compile("(?m:^" + BEGINS + ")|" + FILES.pattern)  # what makes macros of several lines
 WRITTEN_AGAIN = (".d", ".Po", ".Plo", ".Pc", ".P", ".dep", ".depend")  # files that compilers write
 READ_AS = ("sh", "dash", "bash")
 SIGNS = re.compile(r"[\w./:+,@%%%s-]*" % COUNT)  # none of them says anything to a shell
@@ -178,7 +179,7 @@ def changed_in(text: str) -> Set[str]:
     """The macros that `eval` may set in the text of a makefile; a function whose name is a macro's value may be `eval`. Where a macro may have
     several lines, `eval` may get more than one by each reference."""
     plain = with_functions(text)
-    is_open = len(text) >= shelltext.LARGE or COMPUTED.search(plain) and (EVAL.search(plain) or composes(plain, "eval"))
+    is_open = len(text) >= shelltext.LARGE or COMPUTED.search(plain) and (EVAL.search(plain) or any(composes(plain, one) for one in CHANGES))
     has_lines = LINES.search(plain) is not None
     names = {ANY_MACRO if has_lines and "$" in plain[one.start + 2:one.end].replace("$$", "") else one.name for one in evals(plain)}
     return {ANY_MACRO} if is_open else names

@@ -107,8 +107,8 @@ class Calls(Started):
         plain = path if call.name == "stat" or (call.name == "newfstatat" and follow and not path.startswith("/")) else ""
         link = call.name.startswith("readlink") and ok
         found = self.look(life, path, ok or call.error == "EINVAL", follow, READ if link else SEEN, base, plain)
-        is_begin = path == "." and life.looks == 0 and life.last_look.startswith("/")  # as shells do when they start
-        life.looks, life.last_look = life.looks + (path == "."), path
+        is_begin = path == "." and life.looks == 0 and life.last_look == found.path  # as shells do when they start
+        life.looks, life.last_look = life.looks + (path == "."), found.path if path.startswith("/") else ""
         traits = life.traits()
         if traits.looks_at_links:
             self.put(life, LINKS_SEEN, found.path)

@@ -57,6 +57,7 @@ class Started(Opened):
         """A life has other words from here on, those of a script as its interpreter gets them. `words`: the program, and the words that it is handed."""
         argv = words[1:]
         life.taken, life.compares_here, life.looks = (), False, 0
+        life.last_look = ""
         life.is_wrapper = found.path.startswith(self.spool + "/bin/")
         argv = argv if life.is_wrapper else shelltext.with_interpreter(argv, found.path, self.first_words(found.path))
         life.program = found.path

@@ -274,7 +274,7 @@ UNFILED: List[Guard] = [
     Guard("recipes: behind another mark", "make/database.py", 'self.is_recipe = self.is_recipe or text.startswith("#  recipe to execute")', "pass", small("file_behind_another_mark_of_recipes"), YES),
     Guard("recipes: behind an empty line", "make/database.py", "if self.is_recipe and (text or self.goes_on):", "if self.is_recipe and text:", small("macro_behind_an_empty_line"), YES),
     Guard("system folders: links to a top", "trace/skips.py", "return any((real +", "return False and any((real +", "test_skips.Skips.test_link_that_leads_to_a_top"),
-    Guard("macros: in the environment", "make/macros.py", "(use.reads & changed) | exported", "use.reads & changed", small("macro_in_the_environment"), YES),
+    Guard("macros: in the environment", "make/macros.py", "& changed | exported", "& changed", small("macro_in_the_environment"), YES),
     Guard("macros: of leaves", "make/build.py", " or node.name in self.macros:", ":", small("macro_of_leaves"), FALSE_RACE),
     Guard("macros: set by the recipe itself", "make/macros.py", "                found.reads.discard(one.name)\n", "                pass\n", small("macro_that_each_recipe_sets"), FALSE_RACE),
     Guard("macros: that keep what they read", "make/unfiled.py", "builder.add_events(looker, events, created)", "pass", small("macro_that_keeps_what_it_read"), YES),

@@ -228,7 +228,8 @@ class Changing(unittest.TestCase):
     """Macros that makefiles change while recipes run."""
 
     def test_names(self) -> None:
-        for wanted, text in (("", "X := 1\na: eval.o ; eval x\n"), ("X", "a: ; $(eval X := 1)"), ("X", "a: ; $(call eval,X := 1)"), ("*", "a: ; $(eval $(X))"), ("*", ANYTHING), ("*", "E = eval\na: ; $(call $E,X := 1)")):
+        for wanted, text in (("", "X := 1\na: eval.o ; eval x\n"), ("X", "a: ; $(eval X := 1)"), ("X", "a: ; $(call eval,X := 1)"), ("*", "a: ; $(eval $(X))"), ("*", ANYTHING), ("*", "E = eval\na: ; $(call $E,X := 1)"),
+                             ("*", "E = ile\na: ; $(call gu$E,1)"), ("*", "define D\n1\n2\nendef\na: ; $(eval X := $(D))"), ("*", "a: ; $(eval X := $(call file,<D))")):
             self.assertEqual(set(wanted), changed_in(text), text)
 
 
