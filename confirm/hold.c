@@ -3,7 +3,7 @@
    It says when a process starts, and before and after each call that uses the file of the race. Each of these is a point.
    At a point it writes one line to a socket, and goes on when a byte comes back, or when nobody listens. The environment:
 
-     RACE_HOLD_SIDE    first or second: whose recipe this is
+     RACE_HOLD_SIDE    first or second: whose recipe this is; empty or absent for all others
      RACE_HOLD_LIFE    new, in the first process of a line of the recipe: it opens a connection that all below it inherit,
                        so that its end is seen when the last of them ends
      RACE_HOLD_SOCKET  where to write
@@ -38,6 +38,12 @@ static void *next(const char *name) {
   return dlsym((void *)-1L, name);
 }
 
+/* Whose recipe this is, where it is one of the two. */
+static const char *own_side(void) {
+  const char *side = getenv("RACE_HOLD_SIDE");
+  return side && *side ? side : NULL;
+}
+
 static int connected(void) {
   const char *where = getenv("RACE_HOLD_SOCKET");
   struct sockaddr_un address = {.sun_family = AF_UNIX};
@@ -70,7 +76,7 @@ static char *in_digits(char *buffer, unsigned rest) {
 /* Writes one line: what it is, the side, the process, its program, and what it does. */
 static void report(int channel, const char *what, const char *when, const char *does) {
   char line[LINE] = "", number[16];
-  const char *words[] = {what, getenv("RACE_HOLD_SIDE"), in_digits(number, getpid()), when, does, program_invocation_short_name};
+  const char *words[] = {what, own_side(), in_digits(number, getpid()), when, does, program_invocation_short_name};
   for (size_t at = 0; at < sizeof words / sizeof *words; at++) put(line, words[at] && *words[at] ? words[at] : "-");
   line[strlen(line) - 1] = '\n';
   send(channel, line, strlen(line), MSG_NOSIGNAL);
@@ -88,7 +94,7 @@ static void ask(const char *what, const char *when, const char *does) {
 
 static void point(const char *when, const char *does) {
   int before = errno;
-  if (getenv("RACE_HOLD_SIDE")) ask("point", when, does);
+  if (own_side()) ask("point", when, does);
   errno = before;
 }
 
@@ -120,7 +126,7 @@ static int whole(int folder, const char *path, char *out) {
 
 /* Whether a path is that of the race. */
 static int is_it(int folder, const char *path) {
-  const char *wanted = getenv("RACE_HOLD_SIDE") ? getenv("RACE_HOLD_PATH") : NULL;
+  const char *wanted = own_side() ? getenv("RACE_HOLD_PATH") : NULL;
   char full[LONGEST];
   int before = errno, found = 0;
   if (wanted && *wanted && path && *path && whole(folder, path, full)) {
@@ -177,7 +183,7 @@ static void pass_gate(void) {
   char sum[17], ninja[16];
   if (!getenv("RACE_HOLD_GATE") || !command_sum(sum)) return;
   ask("gate", in_digits(ninja, getppid()), sum);
-  const char *side = getenv("RACE_HOLD_SIDE") ? NULL : side_of(sum);
+  const char *side = own_side() ? NULL : side_of(sum);
   if (!side) return;
   setenv("RACE_HOLD_SIDE", side, 1);
   setenv("RACE_HOLD_LIFE", "new", 1);

@@ -168,12 +168,18 @@ class Room:
         return {"LD_PRELOAD": f"{self.top / 'hold.so'}{':' + above if above else ''}", "RACE_HOLD_SOCKET": str(self.socket)}
 
     def marks(self, race: Chosen) -> str:
-        """A makefile that make reads first: it hands the library to the two recipes, and to no other."""
-        mine, lines = self.top / "marks.mk", []
+        """A makefile that make reads first: it hands the library to the two recipes, and to no other. GNU make 4.3 exports also to
+        prerequisites what is private, but works it out for each of them: there the private macros that it stands for are empty."""
+        mine, above = self.top / "marks.mk", os.environ.get("LD_PRELOAD", "")
+        lines = [f"race_above_LD_PRELOAD := {in_value(above)}"]
         for held in filter(lambda it: it.is_recipe, race.sides):
-            words = {**self.holding(), "RACE_HOLD_SIDE": held.side, "RACE_HOLD_LIFE": "new", "RACE_HOLD_PATH": self.place(race.path)}
+            words = {} if self.has_ninja else self.holding()
+            words |= {"RACE_HOLD_SIDE": held.side, "RACE_HOLD_LIFE": "new", "RACE_HOLD_PATH": self.place(race.path)}
             lines += [f'ifeq "$(CURDIR)" "{in_value(self.place(held.folder))}"']
-            lines += [f"{held.in_makefile()}: private export {name} := {in_value(it)}" for name, it in words.items()] + ["endif"]
+            for name, it in words.items():
+                lines += [f"{held.in_makefile()}: private race_own_{name} := {in_value(it)}",
+                          f"{held.in_makefile()}: private export {name} = $(or $(race_own_{name}),$(race_above_{name}))"]
+            lines.append("endif")
         return "\n".join([*lines, "MAKEFILE_LIST :=", f"{mine}: ;", ""])
 
 
