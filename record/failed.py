@@ -1,8 +1,11 @@
-"""Which recipe failed first where a build fails, in one way for make and ninja: the innermost one, for those around it only say so again."""
+"""Which recipe failed first where a build fails, in one way for make and ninja: the innermost one, for those around it only say so again.
+
+And, where make builds, what that recipe lacked: a file that another recipe makes, which had not run yet.
+"""
 
 import os
 from dataclasses import dataclass
-from typing import Iterator, List, Optional, Sequence, Set, Tuple
+from typing import Dict, Iterator, List, Optional, Sequence, Set, Tuple
 
 from record.make.database import Base
 from record.make.owners import Make, Work
@@ -10,7 +13,9 @@ from record.make.words import Job, Round
 from record.ninja.manifest import Edge
 from record.ninja.runs import Job as NinjaJob
 from record.ninja.runs import Ninja
+from record.trace.names import Names
 
+HINTS = 5
 
 @dataclass
 class Failure:
@@ -85,6 +90,29 @@ def place(own: str, file: str, line: int, folder: str) -> str:
     """`sub/Makefile:3`, from the folder of the record on where it is below."""
     path = os.path.normpath(os.path.join(own, file))
     return "%s:%d" % (os.path.relpath(path, folder) if path.startswith(folder.rstrip("/") + "/") else path, line) if file and line else ""
+
+
+def unmade(makes: Sequence[Make], names: Names, folder: str) -> Dict[str, str]:
+    """The files that have a rule with a recipe which no make ran, by their paths, with the place of the rule."""
+    found: Dict[str, str] = {}
+    for make in makes:
+        ran = {job.target for one in make.words.rounds for job in one.jobs}
+        for base in (one.base for one in make.words.rounds if one.base):
+            for target in base.recipes.keys() - ran - base.phony:
+                file, line = base.places.get(target, [("", 0)])[0]
+                found[names.find(make.folder, target, True).path] = place(make.folder, file, line, folder) or "another rule"
+    return found
+
+
+def lacked(makes: Sequence[Make], names: Names, folder: str) -> List[str]:
+    """What the recipe that failed first looked for and did not find, where another rule makes it: had it waited for that, the file
+    would have been there."""
+    failed = {id(make) for make in makes if make.words.status} - ignored(makes)
+    jobs = [(make, found[1]) for make in makes if id(make) in failed for found in [failed_job(make)] if found is not None]
+    made = unmade(makes, names, folder) if jobs else {}
+    lines = ["%s looks for %s, which %s makes, and does not wait for it" % (job.target, os.path.relpath(path, make.folder), made[path])
+             for make, job in jobs for kind, path in make.work.get(id(job), Work()).events if kind == "N" and path in made]
+    return sorted(set(lines))[:HINTS]
 
 
 def failures(makes: Sequence[Make], ninjas: Sequence[Ninja], folder: str) -> List[Failure]:

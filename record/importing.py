@@ -16,7 +16,7 @@ from record.assumptions import Assumptions
 from record.cleaned import Cleaned
 from record.clock import named_by_time
 from record.configured import find_configured
-from record.failed import explained, failures
+from record.failed import explained, failures, lacked
 from record.folder import Record, write_record
 from record.footprints import write_footprints
 from record.granted import add_granted, idle_targets, named_by_ninja
@@ -152,6 +152,7 @@ def import_record(spool: Path, names: Names, kept: Kept, real: str, folder: str,
     record.holes += holes + more
     if record.status != 0:
         record.holes = explained(record.holes, owners.makes, ninjas, folder)
+        record.hints = lacked(owners.makes, names, folder)
     else:
         record.holes += ["a make failed: %s" % one for one in failures(owners.makes, [], folder)]
     if not owners.makes and not ninjas:

@@ -220,7 +220,7 @@ def attempt(options: argparse.Namespace, words: List[str], tools: Dict[str, str]
             shutil.copytree(spool, out / "trace", ignore=shutil.ignore_patterns("bin", "wrapper", "real", "outputs", "again", "*.start", "stop.mk", "sifted*"))
         if status != 1 or not any(stage.jobs for ninja in found.ninjas for stage in ninja.stages):
             return record, False
-        record.hints = hints(found.ninjas, names)
+        record.hints += hints(found.ninjas, names)
         changed = undo(names, found.lives, kept) if words != options.words and not is_last else []
         if changed:
             record.notes.append("the build that failed changed %s, so it is not recorded again" % changed[0])

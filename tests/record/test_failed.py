@@ -27,6 +27,17 @@ class Failed(unittest.TestCase):
         self.assertEqual([END + "; the recipe of b failed first (Makefile:4, make)"], holes)
         self.assertEqual(["if `make -j1` fails without race-record too, repair that first; if not, report it"], hints)
 
+    def test_prerequisite_that_was_forgotten(self) -> None:
+        lacks = "all: sub/a.o gen.h\nsub/a.o: ; cat gen.h > $@\n"
+        self.assertEqual(["sub/a.o looks for gen.h, which Makefile:4 makes, and does not wait for it"], self.failed(lacks + "gen.h:\n\techo > $@\n", {"sub/x": ""})[1])
+        by_hand = ["if `make -j1` fails without race-record too, repair that first; if not, report it"]
+        self.assertEqual(by_hand, self.failed(lacks + "other.h: ; echo > $@\n", {"sub/x": "", "gen.h/x": ""})[1])
+        self.assertEqual(by_hand, self.failed("all: a gen.h\na: ; cat gen.h && false\ngen.h: ; echo > $@\n", {"gen.h": ""})[1])
+        self.assertEqual(by_hand, self.failed("all: gen.h a\ngen.h: ; true\na: ; cat gen.h > $@\n")[1])
+        inner = {"sub/Makefile": "a: ; cat ../gen.h > $@\n"}
+        hints = self.failed("all: sub gen.h\nsub: ; $(MAKE) -C sub\ngen.h: ; echo > $@\n.PHONY: all sub\n", inner)[1]
+        self.assertEqual([it + "gen.h, which Makefile:3 makes, and does not wait for it" for it in ("a looks for ../", "sub looks for ")], hints)
+
     def test_makes_inside_makes(self) -> None:
         sub = {"sub/Makefile": "all: ; $(MAKE) -C deep\n", "sub/deep/Makefile": "all: a b\na: ; touch a\nb: ; @false\n"}
         self.assertEqual([END + "; the recipe of b failed first (sub/deep/Makefile:3, make -C deep)"], self.failed("all: ; $(MAKE) -C sub\n", sub)[0])
