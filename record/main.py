@@ -14,6 +14,7 @@ import time
 from concurrent.futures import ThreadPoolExecutor
 from importlib import import_module
 from importlib.util import find_spec
+from itertools import islice
 from pathlib import Path
 from typing import Dict, List, Optional, Tuple
 
@@ -42,6 +43,8 @@ EXAMPLE = """examples:
   race-record --warm                      after WARM, where what it names is part of each clean tree: judge again, without a build
 statuses: 0 safe, with --missing also nothing missing, 1 races or missing inputs,
           2 no verdict on one of the two, 3 usage or a tool that is missing"""
+NOT_TRACED = ("strace may not follow processes here, so nothing was built (see its lines above). In a container allow it, such as docker run --cap-add=SYS_PTRACE; "
+              "on a machine /proc/sys/kernel/yama/ptrace_scope must be less than 3")
 WRAPPER = ("record.make.limits", "record.make.options", "record.make.outputs", "record.make.wrapper")
 PROGRAM = """#!%s -ISBXutf8
 import marshal, sys
@@ -62,7 +65,7 @@ WARM_COPY = ("WARM: what was up to date did not run: --fresh cleans what the nin
 
 
 class Missing(Exception):
-    """A tool is not there, or too old."""
+    """A tool is not there, too old, or may not do its work."""
 
 
 def version_of(program: str, pattern: str, least: Tuple[int, int], package: str) -> str:
@@ -103,8 +106,14 @@ def prepare_spool(spool: Path, real: str) -> None:
             path.chmod(0o755)
 
 
+def has_calls(trace: Path) -> bool:
+    """Whether a trace has a call: the first one is that which starts the command, also where that fails."""
+    with open(trace, "rb") as lines:
+        return any(b"(" in line for line in islice(lines, 9))
+
+
 def run_build(words: List[str], spool: Path, tops: List[str]) -> Tuple[int, float]:
-    """The build under strace; meanwhile its trace is sifted, and the modules are loaded that read it. Its status and seconds."""
+    """The build under strace; meanwhile its trace is sifted, and the modules are loaded that read it. Its status and seconds; `Missing` where nobody may trace."""
     env = dict(os.environ)
     if "MAKELEVEL" in env:
         for name in ("MAKELEVEL", "MAKEFLAGS", "MFLAGS", "MAKE_TERMOUT", "MAKE_TERMERR"):
@@ -134,6 +143,8 @@ def run_build(words: List[str], spool: Path, tops: List[str]) -> Tuple[int, floa
         filling.result(), sifting.result(), loading.result()
     if interrupts and status != 0:
         raise Stopped("SIGINT")
+    if status != 0 and not has_calls(pipe.file):
+        raise Missing(NOT_TRACED)
     return status, seconds
 
 
@@ -274,7 +285,7 @@ def run(options: argparse.Namespace) -> int:
     try:
         with alone(out):
             return record_and_judge(options, tools, out, race)
-    except (CannotClean, Taken) as fault:
+    except (CannotClean, Missing, Taken) as fault:
         return stop(str(fault))
 
 

@@ -197,6 +197,8 @@ OWNERS: List[Guard] = [
     Guard("holes: a make that failed", "importing.py", "for one in failures(owners.makes, [], folder)]", "for one in ()]", case("inner-failure-ignored"), LOST_HOLE),
     Guard("report: no fix is checked beside a look that no line orders", "report.py", " and not any(first_look(judged.about, one.path, one.first, one.second) for one in judged.verdict.races)", "",
           "test_messages.NoVerdict.test_no_fix_is_checked_beside_a_look_that_no_line_orders"),
+    Guard("entry: nobody may trace", "main.py", "    if status != 0 and not has_calls(pipe.file):", "    if False:", "test_entry.Untraced.test_nobody_may_trace"),
+    Guard("entry: a command that cannot be run", "main.py", "    if status != 0 and not has_calls(pipe.file):", "    if status != 0:", "test_entry.Untraced.test_command_that_cannot_be_run"),
     Guard("failed: which recipe", "failed.py", "if one.base and job.target in one.base.failed)", "if one.base)", "test_failed.Failed.test_recipe"),
     Guard("failed: the innermost make alone", "failed.py", "elif not failed.intersection(inner(make.work.get(id(found[1]), Work()))):", "else:", "test_failed.Failed.test_failures_that_a_recipe_ignores"),
     Guard("failed: the first one first", "failed.py", "key=lambda one: one.ended)", "key=lambda one: -one.ended)", "test_failed.Failed.test_make_inside_a_command_of_ninja"),

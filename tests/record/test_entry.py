@@ -66,14 +66,26 @@ class Entry(unittest.TestCase):
         self.assertEqual(3, ran.returncode)
 
 
+class Untraced(unittest.TestCase):
+    """Where strace may not follow a process, as in a container: a process that is traced already starts none that can be."""
+
+    def test_nobody_may_trace(self) -> None:
+        with Project({"Makefile": "all: ; touch all\n"}) as project:
+            words = ["strace", "-f", "-q", "-o", "/dev/null", sys.executable, str(TOP / "record" / "race-record"), "--race", race_program(), "--", "make"]
+            ran = subprocess.run(words, cwd=project.folder, capture_output=True, text=True, timeout=60, check=False)
+            left = sorted(os.listdir(project.folder))
+        self.assertEqual((3, "", ["Makefile"]), (ran.returncode, ran.stdout, left))
+        self.assertIn("PTRACE_TRACEME", ran.stderr)
+        self.assertIn("race-record: strace may not follow processes here, so nothing was built", ran.stderr)
+
+    def test_command_that_cannot_be_run(self) -> None:
+        with Project({"Makefile": "", "build": "#!/nothing\n"}) as project:
+            project.sh("chmod +x build")
+            self.assertEqual(2, project.record(["./build"]).status)
+
+
 LOCALES = ({"LANG": "C"}, {"LC_ALL": "POSIX"}, {"LC_ALL": "en_US.ISO-8859-1"}, {"LC_ALL": "C", "PYTHONIOENCODING": "ascii:strict"})
 NAMES = b"all: \xc3\xa9.o b\xff.o\n\xc3\xa9.h: ; @echo > $@\n\xc3\xa9.o: \xc3\xa9.h ; @cat \xc3\xa9.h > $@; echo '\xc3\xa9'\nb\xff.o: ; @cat \xc3\xa9.h > $@\n"
-
-
-def without_make(outcome: Tuple[int, bytes, bytes]) -> Tuple[int, bytes, bytes]:
-    """An outcome without the lines of make, which depend on the job that ends first."""
-    status, stdout, stderr = outcome
-    return status, b"".join(line for line in stdout.splitlines(True) if not line.startswith(b"    make")), stderr
 
 
 @unittest.skipIf(any(not (TOP / name).is_dir() for name in LINES), "the other companions are not beside the recorder")
