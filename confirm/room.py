@@ -17,7 +17,7 @@ from pathlib import Path
 
 from confirm.races import CannotConfirm, Chosen
 from confirm.tree import copy, names_its_folder, remove
-from record.ninja.again import with_jobs
+from record.ninja.again import by_name, with_jobs
 from record.main import Missing, version_of
 
 HOLD = Path(__file__).resolve().parent / "hold.c"
@@ -142,8 +142,9 @@ class Room:
         return lambda: enter(self.tree, self.folder) if self.is_in_place else os.chdir(self.tree)
 
     def words(self, words: Sequence[str], is_parallel: bool) -> Sequence[str]:
-        """The words of a build; those that surely run ninja with a number of jobs."""
-        return with_jobs([*words], JOBS if is_parallel else 1, self.folder) if self.has_ninja else words
+        """The words of a build: they run make by its name, which here is another, and what surely runs ninja has a number of jobs."""
+        words = by_name([*words], shutil.which("make") or "make", self.folder)
+        return with_jobs(words, JOBS if is_parallel else 1, self.folder) if self.has_ninja else words
 
     def environment(self, race: Chosen | None = None, is_parallel: bool = False) -> dict[str, str]:
         """The environment of a build; with a race, make or the library marks the two recipes."""

@@ -8,8 +8,9 @@ from dataclasses import dataclass, field
 from pathlib import Path
 from typing import Any, Dict, List, Tuple
 
+from record.fixes import in_project
 from record.judge import Race, Verdict, explained
-from record.ninja.fix import fix_text, pool_text
+from record.ninja.fix import pool_text
 from record.pages import after_no_verdict
 from record.tasks import OWN_NAME, file_of, shown
 
@@ -87,11 +88,9 @@ def race_text(about: Dict[str, Any], race: Race, fixes: List[str], is_fixed: boo
     instead = first_look(about, race.path, race.first, race.second)
     if instead:
         return lines + ["  advice: " + instead]
-    fix = "%s: %s" % (target(about, race.second), target(about, race.first))
-    if about.get("tool") == "ninja":
-        fix = fix_text(about["labels"], race.first, race.second, name)
-        pool = pool_text(about["labels"], race.first, race.second)
-        lines += ["  " + pool] if pool else []
+    fix = in_project(about, race.first, race.second, name) or "%s: %s" % (target(about, race.second), target(about, race.first))
+    pool = pool_text(about["labels"], race.first, race.second)
+    lines += ["  " + pool] if pool else []
     lines.append("  fix: %s%s" % (fix, "          (checked: with all fixes the build is safe)" if is_fixed else ""))
     return lines
 

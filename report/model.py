@@ -12,8 +12,8 @@ from pathlib import Path
 from typing import Any
 
 from record.entry import reason
+from record.fixes import in_project
 from record.missing.report import Question
-from record.ninja.fix import fix_text
 from record.report import first_look
 from record.tasks import file_of
 from report.kinds import Kind, kind_of
@@ -69,7 +69,7 @@ class Race:
     first: Side
     second: Side
     kind: Kind
-    in_project: str = ""  # the fix in the words of what wrote the build: CMake, Meson, or build.ninja itself
+    in_project: str = ""  # the fix in the words of what wrote the build: CMake, Meson, or build.ninja itself; nothing where it is the line of a makefile
     instead: str = ""  # what to do where no line orders the two
 
     @property
@@ -104,7 +104,7 @@ class Race:
 
     @property
     def change(self) -> str:
-        """What to do: the words of what wrote the build, where ninja ran it, else a line of a makefile, or what is done instead."""
+        """What to do: in the words of what wrote the build, where no person did, else a line of the makefile, or what is done instead."""
         return self.instead or self.in_project or self.fix
 
     @property
@@ -226,9 +226,9 @@ class Build:
 
         early, late = (Side(self.recipe(it), does, others(self.after.get(it, [])), others(self.users.get(it, []))) for it, does in (first, second))
         kind = kind_of(path, targets, (first[1], second[1]))
-        in_project = fix_text(self.about["labels"], first[0], second[0], path) if self.about.get("tool") == "ninja" else ""
+        change = in_project(self.about, first[0], second[0], path)
         instead = first_look({"meanings": {}, **self.about}, path, first[0], second[0])
-        return Race(self.number, path, self.about.get("meanings", {}).get(path, ""), early, late, kind, in_project, instead)
+        return Race(self.number, path, self.about.get("meanings", {}).get(path, ""), early, late, kind, change, instead)
 
 
 def read_build(folder: Path, number: str, project: str) -> Build:

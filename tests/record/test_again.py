@@ -6,6 +6,7 @@ import unittest
 from typing import Dict
 
 import support
+from record.fixes import in_project
 from record.ninja.again import by_name, folders_of, source_of, tops_of, undo, with_jobs
 from record.ninja.fix import fix_text, owner_of, pool_text
 from record.ninja.log import Kept
@@ -132,6 +133,13 @@ class Fixes(unittest.TestCase):
         self.assertEqual("add_dependencies(my_prog header)", self.fix(self.CMAKE, "gen.h", "CMakeFiles/my_prog.dir/src/a.c.o"))
         self.assertEqual("add_dependencies(my_prog header)", self.fix(self.CMAKE, "gen.h", "my_prog"))
         self.assertTrue(self.fix(self.CMAKE, "lone.h", "my_prog").startswith("target_sources(my_prog PRIVATE lone.h)"))
+
+    def test_makefiles_of_cmake(self) -> None:
+        labels = {it: {"target": it, "file": "CMakeFiles/Makefile2"} for it in ("CMakeFiles/core.dir/all", "sub/CMakeFiles/my-app.dir/all", "CMakeFiles/app.dir/clean")}
+        core, app, clean = labels
+        about = {"tool": "make", "labels": {**labels, "app.o": {"target": "CMakeFiles/app.dir/all", "file": "Makefile"}}}
+        self.assertEqual("add_dependencies(my-app core)", in_project(about, core, app, "gen.h"))
+        self.assertEqual([""] * 4, [in_project(about, core, it, "gen.h") for it in (core, clean, "app.o", "nothing")])
 
     def test_cmake_with_a_user(self) -> None:
         used = self.CMAKE + "build cmake_object_order_depends_target_user: phony gen.h lone.h\nbuild CMakeFiles/other.dir/b.c.o: CC b.c || cmake_object_order_depends_target_user\n"

@@ -62,6 +62,7 @@ class Makefiles(unittest.TestCase):
                 outcome = project.record(["cmake", "--build", "b", "--target", "all", "-j", "1"])
             self.assertEqual(wanted, (outcome.status, races_of(outcome.text())), outcome.text() + outcome.stderr.decode()[-800:])
             self.assertEqual(plain.stdout, outcome.stdout[:len(plain.stdout)])
+            self.assertEqual(wanted[0], outcome.text().count("  fix: add_dependencies(use header)          (checked"), outcome.text())
 
     def test_targets_side_by_side(self) -> None:
         """CMake counts what is built in files that both targets touch, and takes these away at the end."""

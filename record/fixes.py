@@ -1,0 +1,25 @@
+"""The fix of a race in the words of what wrote the build, where no person writes its makefile or manifest."""
+
+import re
+from typing import Any, Dict
+
+from record.ninja.fix import fix_text
+
+# CMake's makefiles have a makefile for all targets, whose rules run a make for each.
+CMAKE_FILE = re.compile(r"(?:^|/)CMakeFiles/Makefile2$")
+CMAKE_TARGET = re.compile(r"(?:^|/)CMakeFiles/([^/]+)\.dir/all$")
+
+
+def cmake_target(found: Dict[str, Any]) -> str:
+    """The target of CMakeLists.txt that a recipe builds, or nothing."""
+    match = CMAKE_TARGET.search(found.get("target", "")) if CMAKE_FILE.search(found.get("file", "")) else None
+    return match.group(1) if match else ""
+
+
+def in_project(about: Dict[str, Any], first: str, second: str, path: str) -> str:
+    """What to write so that `second` waits for `first`, by what is known of a build: for ninja always, for CMake's makefiles where both are
+    targets of CMake; else nothing, and the line of a makefile is the fix."""
+    if about.get("tool") == "ninja":
+        return fix_text(about["labels"], first, second, path)
+    early, late = (cmake_target(about["labels"].get(it, {})) for it in (first, second))
+    return "add_dependencies(%s %s)" % (late, early) if early and late and early != late else ""
