@@ -1,18 +1,21 @@
-"""A copy of the recorder and its tests, in which a guard may be off; its tests run in a child of this process.
+"""A copy of the recorder and its tests, in which one guard after the other is turned off; the tests run in a child of the process that has the copy.
 
-Each module is compiled once, for all copies: a copy's own text is compiled only where it is another one.
+That process has loaded the copy as it is. A child loads again what is another one where the guard is off: the edited module, and those that import
+it, from what was compiled once for all copies.
 """
 
+import importlib
 import os
 import re
 import shutil
 import sys
 import tempfile
 import unittest
+from contextlib import contextmanager
 from importlib.machinery import FileFinder, SourceFileLoader
 from pathlib import Path
 from types import CodeType
-from typing import Callable, Dict, List, Tuple, Type
+from typing import Callable, Dict, Iterable, Iterator, List, Set, Tuple
 
 import forked
 from guard_table import Guard
@@ -21,6 +24,7 @@ HERE = Path(__file__).resolve().parent
 TOP = HERE.parent.parent
 SECONDS = 900
 COMPILED: Dict[bytes, CodeType] = {}
+IMPORT = re.compile(r"(?m)^ *(?:from ([\w.]+) import ([\w, ]*)|import ([\w., ]+))")
 
 
 def compile_all() -> None:
@@ -36,14 +40,32 @@ class Loader(SourceFileLoader):
 
     def source_to_code(self, data: bytes, path: str, *, _optimization: int = -1) -> CodeType:  # type: ignore[override]
         """The code of a text."""
-        return COMPILED.get(bytes(data)) or super().source_to_code(data, path)
+        text = bytes(data)
+        if text not in COMPILED:
+            COMPILED[text] = super().source_to_code(data, path)
+        return COMPILED[text]
+
+
+def imported(text: str) -> Set[str]:
+    """The names of modules that a text may import."""
+    found: Set[str] = set()
+    for package, names, modules in IMPORT.findall(text):
+        found.update({package, *("%s.%s" % (package, name.split()[0]) for name in names.split(",") if name.strip())} if package else modules.replace(",", " ").split())
+    return found
+
+
+def name_of(path: Path) -> str:
+    """The name of a module by its path below the folder that is searched."""
+    return ".".join(path.with_suffix("").parts).replace(".__init__", "")
 
 
 class Copy:
-    """The recorder and its tests in a folder of their own. Another companion says which packages it needs, its own first, and where its tests are."""
+    """The recorder and its tests in a folder of their own. Another companion says which packages it needs, its own first, where its tests are,
+    and which are loaded."""
 
     packages: Tuple[str, ...] = ("record",)
     source = HERE
+    shared: Tuple[str, ...] = ("support",)  # modules of its tests, with all that they need
 
     def __init__(self) -> None:
         self.room = tempfile.TemporaryDirectory(prefix="race-guards-")
@@ -56,6 +78,7 @@ class Copy:
             shutil.copy2(path, self.tests)
         (self.tests / "cases").symlink_to(HERE / "cases")
         (self.top / "examples").symlink_to(TOP / "examples")
+        self.users = self.find_users()
 
     def __enter__(self) -> "Copy":
         return self
@@ -63,10 +86,39 @@ class Copy:
     def __exit__(self, *_: object) -> None:
         self.room.cleanup()
 
-    def edit(self, guard: Guard) -> str:
-        """Turns a guard off; what is wrong with its text, or nothing."""
-        edits = [(guard.module, guard.old, guard.new)] + ([guard.beside] if guard.beside else [])
-        return "".join(self.replace(*edit) for edit in edits)
+    def find_users(self) -> Dict[str, Set[str]]:
+        """Which modules import a module."""
+        texts = {name_of(path.relative_to(self.top)): path.read_text() for package in self.packages for path in (self.top / package).rglob("*.py")}
+        texts.update((path.stem, path.read_text()) for path in self.tests.glob("*.py"))
+        users: Dict[str, Set[str]] = {name: set() for name in texts}
+        for name, text in texts.items():
+            for one in imported(text) & users.keys():
+                users[one].add(name)
+        return users
+
+    def load(self) -> None:
+        """Takes the modules of the copy, as they are, in the place of those that this process has."""
+        sys.path[:] = [str(self.tests), str(self.top), *(path for path in sys.path if not path.startswith(str(TOP)))]
+        sys.path_hooks.insert(0, self.finder)
+        sys.dont_write_bytecode, os.environ["PYTHONDONTWRITEBYTECODE"] = True, "1"
+        forget(self.users)
+        for name in self.shared:
+            importlib.import_module(name)
+
+    def finder(self, folder: str) -> FileFinder:
+        """What finds the modules of this copy."""
+        if not (folder + "/").startswith(str(self.top) + "/") or not os.path.isdir(folder):
+            raise ImportError(folder)
+        return FileFinder(folder, (Loader, [".py"]))
+
+    @contextmanager
+    def without(self, guard: Guard) -> Iterator[str]:
+        """Turns a guard off meanwhile; what is wrong with its text, or nothing."""
+        try:
+            yield "".join(self.replace(*edit) for edit in guard.edits())
+        finally:
+            for module in guard.modules():
+                shutil.copy2(TOP / self.packages[0] / module, self.top / self.packages[0] / module)
 
     def replace(self, module: str, old: str, new: str) -> str:
         """Replaces a text of a module that stands there once; what is wrong with it, or nothing."""
@@ -77,46 +129,54 @@ class Copy:
         path.write_text(text.replace(old, new))
         return ""
 
-    def test(self, names: List[str]) -> str:
-        """What the tests of these names say, on the modules of the copy."""
-        ran = forked.run(self.tests_of(names), self.tests, SECONDS)
+    def uses(self, modules: Iterable[str]) -> Set[str]:
+        """These modules, and all that import them, at once or by way of others."""
+        found: Set[str] = set()
+        todo = [*modules]
+        while todo:
+            one = todo.pop()
+            todo += self.users.get(one, set()) - found
+            found.add(one)
+        return found
+
+    def test(self, names: List[str], edited: Iterable[str] = ()) -> str:
+        """What the tests of these names say, on the modules of the copy, of which these were edited."""
+        modules = [name_of(Path(self.packages[0], module)) for module in edited]
+        ran = forked.run(tests_of(names, self.uses(modules)), self.tests, SECONDS)
         return (ran.stdout + ran.stderr).decode("utf-8", "replace")
-
-    def tests_of(self, names: List[str]) -> Callable[[], int]:
-        """What a child does that runs these tests."""
-
-        def work() -> int:
-            own = [str(self.tests), str(self.top)]
-            sys.path[:] = own + [path for path in sys.path if not path.startswith(str(TOP))]
-            sys.path_hooks.insert(0, self.finder)
-            sys.dont_write_bytecode, os.environ["PYTHONDONTWRITEBYTECODE"] = True, "1"
-            tests = {path.stem for path in self.source.glob("*.py")}
-            for name in [name for name in sys.modules if name in tests or name.split(".")[0] in self.packages]:
-                del sys.modules[name]
-            return 0 if unittest.TextTestRunner(sys.stderr).run(unittest.defaultTestLoader.loadTestsFromNames(names)).wasSuccessful() else 1
-
-        return work
-
-    def finder(self, folder: str) -> FileFinder:
-        """What finds the modules of this copy."""
-        if folder not in map(str, (self.top, *(self.top / package for package in self.packages), self.tests)):
-            raise ImportError(folder)
-        return FileFinder(folder, (Loader, [".py"]))
 
     def stops(self, output: str) -> bool:
         """Whether tests show that the companion itself stops: one of its modules is in a traceback."""
         return any(str(top / self.packages[0]) + "/" in output for top in (self.top, TOP))
 
 
-def fault_of(guard: Guard, kind: Type[Copy] = Copy) -> str:
+def forget(names: Iterable[str]) -> None:
+    """Lets modules be loaded again."""
+    for name in names:
+        sys.modules.pop(name, None)
+        package, _, last = name.rpartition(".")
+        if package in sys.modules:
+            vars(sys.modules[package]).pop(last, None)
+
+
+def tests_of(names: List[str], stale: Set[str]) -> Callable[[], int]:
+    """What a child does that runs these tests, where some modules are no longer those that were loaded."""
+
+    def work() -> int:
+        forget(stale)
+        return 0 if unittest.TextTestRunner(sys.stderr).run(unittest.defaultTestLoader.loadTestsFromNames(names)).wasSuccessful() else 1
+
+    return work
+
+
+def fault_of(guard: Guard, copy: Copy) -> str:
     """What is wrong where a guard is off, or nothing where its test sees it."""
-    with kind() as copy:
-        fault = copy.edit(guard)
+    with copy.without(guard) as fault:
         if fault:
             return fault
-        output = copy.test([guard.test])
-        if copy.stops(output):
-            return "the %s stops in place of a wrong answer:\n%s" % ("recorder" if kind is Copy else "companion", output[-1500:])
+        output = copy.test([guard.test], guard.modules())
+    if copy.stops(output):
+        return "the %s stops in place of a wrong answer:\n%s" % ("recorder" if type(copy) is Copy else "companion", output[-1500:])
     if not re.search(r"(?m)^FAILED \(failures=\d+\)$", output):
         return "no failure of %s" % guard.test
     if guard.gives not in output:

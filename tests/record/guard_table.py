@@ -32,6 +32,14 @@ class Guard:
     gives: str = ""
     beside: Optional[Tuple[str, str, str]] = None
 
+    def edits(self) -> List[Tuple[str, str, str]]:
+        """Each module with its text and what is put in its place."""
+        return [(self.module, self.old, self.new)] + ([self.beside] if self.beside else [])
+
+    def modules(self) -> List[str]:
+        """The modules that are other ones where it is off."""
+        return [module for module, _, _ in self.edits()]
+
 
 def case(name: str) -> str:
     """The test of a folder of cases/."""
