@@ -7,9 +7,11 @@ By its filter strace 6.1 passes over some numbers of which it knows no names. So
 import ctypes
 import errno
 import platform
+import shutil
 import signal
 import struct
 import subprocess
+from functools import lru_cache
 from typing import Any
 
 from record.trace.classes import FIRST, NEWER
@@ -23,10 +25,16 @@ OTHER = 0x40000000  # from here on numbers are those of another kind (x32)
 NO_NEW_RIGHTS, SECCOMP, FILTER = 38, 22, 2  # for prctl
 
 
+@lru_cache(maxsize=None)
+def knows(strace: str, name: str) -> bool:
+    """Whether this strace knows a name of a call."""
+    words = [strace, "-e", "trace=" + name, "-V"]
+    return subprocess.run(words, stdin=subprocess.DEVNULL, stdout=subprocess.DEVNULL, stderr=subprocess.DEVNULL, check=False).returncode == 0
+
+
 def is_known(number: int) -> bool:
     """Whether strace knows a name of a call."""
-    words = ["strace", "-e", "trace=" + NEWER[number], "-V"]
-    return subprocess.run(words, stdin=subprocess.DEVNULL, stdout=subprocess.DEVNULL, stderr=subprocess.DEVNULL, check=False).returncode == 0
+    return knows(shutil.which("strace") or "strace", NEWER[number])
 
 
 def first_unknown() -> int:

@@ -1,5 +1,6 @@
 """What the tests of the recorder share: the tools that they need, a project in a folder of its own, a recorded build."""
 
+import gc
 import json
 import os
 import re
@@ -24,6 +25,13 @@ sys.path.insert(0, str(TOP))
 
 import record.importing  # noqa: E402,F401  (once, for all recordings of this process)
 import record.main  # noqa: E402,F401
+from record.trace.newer import first_unknown  # noqa: E402
+from record.trace.skips import skipping  # noqa: E402
+
+skipping([])  # what is found here is kept for all children
+if shutil.which("strace"):
+    first_unknown()
+gc.freeze()  # a child need not go over what was loaded
 
 
 def race_program() -> str:
