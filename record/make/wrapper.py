@@ -43,6 +43,7 @@ LOOKED = re.compile(rb" *(?:Considering target file|Pruning file) '[^\n]*'\.\n\Z
 TOKEN = re.compile(rb"Need a job token; we |Obtained token for child 0x|Jobserver setup \(")
 RUNNING = re.compile(rb" *Recipe of '(.*)' is being run\.\n")  # make does not wait for it: with no bound on jobs it asks for no token
 MUST = re.compile(rb" *Must remake target '(.*)'\.\n")
+IGNORED = re.compile(rb"  Ignoring VPATH name '(.*)'\.\n")  # make says so next, where an old target stands in a folder of VPATH, and it makes another one here
 STARTED = re.compile(rb"(?:Putting|Live) child (0x[0-9a-f]+) \((.*)\) PID ")  # no line is put where the first names a program that is not there
 REMADE = re.compile(rb" *(?:Successfully remade|Failed to remake) target file '(.*)'\.\n")
 OF_JOB = re.compile(rb"(Live|Reaping winning|Reaping losing|Removing) child (0x[0-9a-f]+) |Got a SIGCHLD; \d+ unreaped")
@@ -67,6 +68,7 @@ class Splitter:
         self.blank = False  # an empty line that may belong to the data base is held back
         self.tail = False  # the empty line behind the data base is due
         self.next: "bytes | None" = None  # the target that make is about to remake
+        self.is_new = False  # make has said so, and nothing was written since
         self.job = b""  # the recipe that runs, by make's number for it
         self.target: "bytes | None" = b""  # its target
         self.is_between = False  # one of its lines has ended, and make has not started the next
@@ -126,8 +128,11 @@ class Splitter:
         An included makefile is make's own word there: a recipe may include one while make expands it.
         """
         must, begun, remade = MUST.match(packet), STARTED.match(packet), REMADE.match(packet)
+        is_new, self.is_new = self.is_new, must is not None
         if self.next is None:
             self.next, self.is_said = must.group(1) if must else None, False
+        elif is_new and self.is_ignored(packet):
+            return False
         elif begun and begun.group(2) == self.next:
             self.begin(begun.group(1))
         elif remade and remade.group(1) == self.next:
@@ -135,6 +140,11 @@ class Splitter:
         else:
             return bool(WORD_LINE.match(packet)) and not INCLUDED.match(packet)
         return False
+
+    def is_ignored(self, packet: bytes) -> bool:
+        """Whether make says of the target that it is about to remake that it does not take the one in a folder of VPATH."""
+        ignored = IGNORED.match(packet)
+        return ignored is not None and self.next is not None and os.path.basename(ignored.group(1)) == os.path.basename(self.next)
 
     def take(self, data: bytes) -> None:
         """What was read: one write of make or of a recipe. Where a recipe has opened /dev/stdout anew, what make writes behind its words may

@@ -67,6 +67,14 @@ class Output(unittest.TestCase):
         self.assertEqual(0, self.both(text, v_mk="V = 1\n"))
         self.assertEqual(1, self.both(text.replace("all:", "all: v.mk") + "v.mk: ; @echo V = 2 > v.mk\n"))
 
+    def test_target_that_stands_in_a_folder_of_search_paths(self) -> None:
+        """Make says that it does not take it, where it makes another one: a tree that was built in its own folder, and then out of it."""
+        rules = "VPATH = s\n.PHONY: F\nall: x.o y\nx.o: x.c F ; %s\ny: x.o ; cp x.o y\n"
+        for line in ("cp $< $@", "@echo \"  Ignoring VPATH name 's/x.o'.\"; cp $< $@"):
+            with self.subTest(line):
+                self.assertEqual(0, self.both(rules % line, **{"s/x.o": "0\n", "s/x.c": "1\n"}))
+        self.assertEqual(0, self.both("all: ; $(MAKE) -f in.mk > log\n", **{"in.mk": rules % "cp $< $@", "s/x.o": "0\n", "s/x.c": "1\n"}))
+
     def test_race_behind_words_of_make(self) -> None:
         self.assertEqual(1, self.both("all: a b\na: ; @echo; echo '# Make data base, printed on x'; touch a\nb: ; @echo hello; cp a b\n"))
 

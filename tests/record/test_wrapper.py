@@ -53,6 +53,14 @@ class Splits(unittest.TestCase):
         self.assertEqual((b"x", MUST + BEGIN + END), split(MUST + BEGIN + b"x" + END))
         self.assertEqual((b"x\necho b\ny\nz", MUST + BEGIN + ends + more + other), split(MUST, BEGIN, b"x\n" + ends + more + b"echo b\n" + other + b"y\nz"))
 
+    def test_target_of_a_search_path_that_is_not_taken(self) -> None:
+        said = b"  Ignoring VPATH name 's/a'.\n"
+        self.assertEqual((b"", MUST + said + BEGIN + END), split(MUST, said, BEGIN, END))
+        self.assertEqual((b"cp s/c a\n", MUST + said + BEGIN + END), split(MUST + said + b"cp s/c a\n", BEGIN, END))
+        self.assertEqual((b"x\n" + said, MUST + BEGIN + END), split(MUST, b"x\n", said, BEGIN, END))
+        self.assertEqual((said, MUST + said + BEGIN + END), split(MUST, said, said, BEGIN, END))
+        self.assertEqual((said.replace(b"/a", b"/b"), MUST + BEGIN + END), split(MUST, said.replace(b"/a", b"/b"), BEGIN, END))
+
     def test_recipe_that_speaks_before_the_line_about_it(self) -> None:
         for text in (b"Must remake target 'z'.\n", b" Considering target file 'b'.\n", b"Putting child 0x1 (b) PID 8 on the chain.\n"):
             self.assertEqual((text, MUST + BEGIN + END), split(MUST, text, BEGIN, END), text)
