@@ -46,20 +46,40 @@ def works_of(builder: "Builder", at: int) -> List[Tuple[int, Work]]:
 
 def note_sources(builder: "Builder") -> None:
     """Which names take over the age of which others: a file that is moved or linked, and one whose time a program sets, as `cp -p`
-    and `touch -r` do, from what it looked at. An archive keeps the ages of what was put in."""
+    and `touch -r` do, from what it looked at. An archive keeps the ages of what was put in, and may go through a pipe to who unpacks or keeps it."""
     for works in [*(works_of(builder, at) for at in range(len(builder.build.tasks))), *([(-1, work)] for _, work in builder.askers.works)]:
         showing = (life for _, work in works for life in work.lives if any(map(shellages.shows_ages, life.ran)))
         shown = {path for life in showing for kind, path in life.events if kind == AGE_SEEN}  # a time may come from such a program, as a word
+        shown |= {path for _, work in works for path in packed(work)}
         for life in (life for _, work in works for life in work.lives):
             names = {path for kind, path in life.events if kind in (READ, SEEN)} | (life.handed() | shown if any(kind == AGE_TAKEN for kind, _ in life.events) else set())
-            looked = {path for path in names if path in builder.build.writers or path in builder.timers or path in builder.askers.copies}
+            looked = made_here(builder, names)
             for name, source in takes_over(life):
                 builder.sources.setdefault(name, []).append({source} if source else looked)
+        for work in (work for _, work in works if pipes(work)):
+            looked = made_here(builder, packed(work))
+            for path in (path for kind, path in work.events if kind == WRITTEN):
+                builder.sources.setdefault(path, []).append(looked)
+
+
+def made_here(builder: "Builder", names: Set[str]) -> Set[str]:
+    """Those names whose ages the build settles."""
+    return {path for path in names if path in builder.build.writers or path in builder.timers or path in builder.askers.copies}
 
 
 def packs(life: Life) -> bool:
-    """Whether a process puts files with their ages into an archive."""
-    return any(shelltext.base_name(argv) in PACKERS for argv in life.ran)
+    """Whether a process puts files with their ages into an archive; `ar` does so where its words ask for that."""
+    return any(shelltext.base_name(argv) in PACKERS or shelltext.base_name(argv) == "ar" and "U" in "".join(argv[1:2]) for argv in life.ran)
+
+
+def packed(work: Work) -> Set[str]:
+    """The names that the packers of a recipe have taken in or opened: their ages may come out of an archive that no file keeps."""
+    return {path for life in work.lives if packs(life) for kind, path in life.events if kind in (READ, SEEN)}
+
+
+def pipes(work: Work) -> bool:
+    """Whether a packer of a recipe has written no file itself: what it packs goes elsewhere, as to a compressor."""
+    return any(packs(life) and all(kind != WRITTEN for kind, _ in life.events) for life in work.lives)
 
 
 def takes_over(life: Life) -> Iterator[Tuple[str, str]]:
@@ -136,13 +156,20 @@ def settled_by(builder: "Builder", at: int, work: Work, kind: str) -> Iterator[T
     """Pairs of tasks that nothing orders and that settle the ages of two names which a recipe has looked at, with these names."""
     writers, build = builder.build.writers, builder.build
     wrote: Dict[int, List[str]] = {}
-    for path in sorted({p for k, p in work.events if k == kind and (p in writers or p in builder.timers or p in builder.births or p in builder.sources)}):
+    seen = {path for one, path in work.events if one == kind} | (compared_in_archives(work) if kind == AGE_SEEN else set())
+    for path in sorted({p for p in seen if (p in writers or p in builder.timers or p in builder.births or p in builder.sources)}):
         for writer in writers_of(builder, path):
             wrote.setdefault(writer, []).append(path)
     for low, high in combinations(sorted(wrote), 2):
         first, second = wrote[low][0], next((p for p in wrote[high] if p != wrote[low][0]), wrote[low][-1])
         if first != second and at not in (low, high) and build.unordered(low, high):
             yield low, high, first, second
+
+
+def compared_in_archives(work: Work) -> Set[str]:
+    """What else a packer compares where it takes in or puts out newer files alone (`tar -u`, `tar --keep-newer-files`): the ages in the archive that it
+    changes, and of what another packer of the recipe hands on."""
+    return packed(work) if any(shellages.shows_ages(argv) for life in work.lives if packs(life) for argv in life.ran) else set()
 
 
 def ages_in_archives(builder: "Builder", at: int, work: Work) -> None:

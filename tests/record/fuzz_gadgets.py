@@ -32,6 +32,8 @@ FOLDERS = ("mkdir -p NAME.d", "umask 077; mkdir -p NAME.d", "mkdir -p -m 700 NAM
 TAKES = (
     ("touch $@; touch -r NAME $@", "NAME.r"), ("cp -p NAME $@", "NAME.r"), ("mv NAME NAME.x; touch $@", "NAME.x"), ("ln NAME NAME.x; touch $@", "NAME.x"),
     ("tar -H posix -cf $@.tar NAME; mkdir NAME.o; tar xf $@.tar -C NAME.o; rm $@.tar; touch $@", "NAME.o/NAME"), ("cp NAME $@", "NAME.r"),
+    ("mkdir NAME.o; tar -H posix -cf - NAME | tar xf - -C NAME.o; touch $@", "NAME.o/NAME"),
+    ("tar -H posix -cf - NAME | gzip > $@.z; mkdir NAME.o; gzip -dc $@.z | tar xf - -C NAME.o; rm $@.z; touch $@", "NAME.o/NAME"),
 )
 SHOWS = " && echo newer > $@ || echo older > $@"
 # How a recipe compares the age of X with that of NAME.b; the last one by a program that the recorder does not know.
