@@ -14,8 +14,8 @@ def gadget(name: str) -> str:
 
 GADGET_GUARDS: List[Guard] = [
     Guard("gadgets: ages through a pipe", AGES, "        shown |= {path for _, work in works for path in packed(work)}\n", "", gadget("age_of_a_folder_that_is_copied_through_a_pipe"), YES),
-    Guard("gadgets: archives that another program keeps", AGES, "for _, work in works if pipes(work) for", "for _, work in works if False for", gadget("ages_of_an_archive_in_a_later_recipe"), YES),
-    Guard("gadgets: archives that their packer writes", AGES, "for _, work in works if pipes(work) for", "for _, work in works for", gadget("archive_that_its_packer_writes_beside_another_file"), FALSE_RACE),
+    Guard("gadgets: archives that another program keeps", AGES, "for _, work in works if pipes(work)):", "for _, work in works if False):", gadget("ages_of_an_archive_in_a_later_recipe"), YES),
+    Guard("gadgets: archives that their packer writes", AGES, "for _, work in works if pipes(work)):", "for _, work in works):", gadget("archive_that_its_packer_writes_beside_another_file"), FALSE_RACE),
     Guard("gadgets: newer files through a pipe", AGES, "return packed(work) if any(", "return set() if any(", gadget("newer_files_through_a_pipe"), YES),
     Guard("gadgets: newer files for an archive", AGES, "return packed(work) if any(", "return set() if any(", gadget("newer_files_for_an_archive"), YES),
     Guard("gadgets: archives of ar", AGES, " or shelltext.base_name(argv) == \"ar\" and \"U\" in", " or shelltext.base_name(argv) == \"ar\" and \"?\" in", gadget("ages_of_an_archive_that_ar_keeps"), YES),
