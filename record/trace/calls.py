@@ -238,7 +238,7 @@ class Calls(Started):
             self.is_open_shell = self.is_open_shell or shelltext.sets_options_in(found.path)
         elif traits.is_shell:
             life.taken += (found.path,) if shelltext.takes_in(life.argv, found.path) else ()
-            life.compares_here = life.compares_here or shellages.tests_newer(found.path)
+            life.compares_here = life.compares_here or shellages.tests_newer(found.path, tuple(life.argv), life.folder)
         elif not traits.is_interpreter and (self.ages(life) or self.is_unknown(life)):
             self.put(life, AGE_SEEN if self.ages(life) else AGE_UNKNOWN, found.path)
 
