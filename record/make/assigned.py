@@ -11,6 +11,8 @@ from record.tools.texts import text_of as plain_text
 LINE = r"((?:[^\n]*\\\n)*[^\n]*)"  # of a makefile
 ASSIGNED = re.compile(r"(?<!" + NAME + ")(" + NAME + r"+?)[ \t]*(?:[+?!]|:{1,3})?=" + LINE)
 ASSIGNED_TO_ANY = re.compile(r"(?:[)}]|\$\w)[\w.-]*[ \t]*(?:[+?!]|:{1,3})?=" + LINE)  # the same of a macro whose name another one gives
+PUT_TOGETHER = re.compile(r"\$[({](?:call[ \t]+)?[\w.-]*\$")  # a reference whose name another one gives
+WHOLE = re.compile(r"(?ms)(?<!\\\n)^ *(?:(?:export|override)[ \t]+)*define[ \t]+([\w.-]+)[ \t]*=?[ \t]*\n.*?^[ \t]*endef\b")
 DEFINED = re.compile(BEGINS + r"[ \t]*(" + NAME + r"*)([^\n]*)")
 
 
@@ -45,3 +47,17 @@ def text_of(path: str) -> str:
         return plain_text(path)
     except OSError:
         return ""
+
+
+def without_printed(text: str) -> str:
+    """Makefiles without the macros of several lines that no reference names: recipes get them by the environment alone, as `$$NAME`. Where a
+    name may be put together all stay."""
+    if PUT_TOGETHER.search(text):
+        return text
+    return WHOLE.sub(lambda one: one.group() if is_named(one.group(1), text) else "", text)
+
+
+def is_named(name: str, text: str) -> bool:
+    """Whether a text has a name elsewhere than where it is defined, exported, or a word of a recipe's shell."""
+    others = re.finditer(r"(\$\$[({]?|\b(?:un)?(?:export|define)[ \t]+)?(?<![\w.-])" + re.escape(name) + r"(?![\w.-])", text)
+    return any(not one.group(1) for one in others)

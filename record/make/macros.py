@@ -6,7 +6,7 @@ from dataclasses import dataclass, field, replace
 from functools import cached_property
 from typing import Dict, FrozenSet, Iterable, Iterator, List, NamedTuple, Optional, Set, Tuple
 
-from record.make.assigned import assigned_in, text_of
+from record.make.assigned import assigned_in, text_of, without_printed
 from record.make.database import LINES_TEXT, Base
 from record.make.exports import ALONE, WORD, Exports
 from record.make.globs import composes
@@ -178,7 +178,7 @@ class Macros:
     @cached_property
     def rule_words(self) -> Set[str]:
         """The words that stand behind the colons of rules, and in macros that are named there."""
-        text = "\n".join(found.group(1) for found in RULE.finditer(self.text))
+        text = "\n".join(found.group(1) for found in RULE.finditer(without_printed(self.text)))
         return {word for one in [text, *map(self.text_of, self.reached(text))] for word in one.split()}
 
     def text_of(self, name: str) -> str:

@@ -3,9 +3,9 @@
 import os
 import re
 from functools import lru_cache
-from typing import List
+from typing import List, Tuple
 
-from record.tools.shelltext import FORMAT_OF_STAT, KEPT, LARGE, SHELLS, TAKES_IN, base_name, contents, is_interpreter, script_of, shell_words, sourced
+from record.tools.shelltext import FORMAT_OF_STAT, KEPT, LARGE, SHELLS, TAKES_IN, base_name, contents, is_input, is_interpreter, script_of, shell_words, sourced
 from record.tools.texts import text_of
 from record.trace.system import OF_SYSTEM
 
@@ -45,6 +45,8 @@ LOADS = re.compile(r"@(?:load|include)\b")  # a text of awk that takes in what m
 LOADED = re.compile(r"-[li]\S*|--(?:lo|in)\S*")  # a word of awk that does so
 QUALIFIED = re.compile(r"[\w*?\])/>]\(")  # a pattern of zsh that may ask for ages, as `*(om)` does
 NEWER = re.compile(r"-[\"'\\]*[no][\"'\\]*t\b")  # a test of which is newer
+COMMENT = re.compile(r"(?m)^[ \t]*#.*$")
+READS_INPUT = re.compile(r"\b(?:read|mapfile|readarray)\b|\$\([ \t]*<|/dev/(?:stdin|fd)|/proc/")  # by which a shell reads its input itself
 DEPTH = 3  # how many scripts may take in one another
 EVAL = re.compile(r"\beval\b")
 COMPUTED = re.compile(r"\beval[ \t]+[\"']?(?:\$\(|`)")  # `eval "$(..)"`: the text that a program prints
@@ -62,12 +64,19 @@ def script_compares(path: str, folder: str, depth: int = 0) -> bool:
 
 
 @lru_cache(KEPT)
-def tests_newer(path: str) -> bool:
-    """Whether a script that a shell has opened tests which of two files is newer; so may one that cannot be read, other than the system's."""
+def tests_newer(path: str, argv: Tuple[str, ...], folder: str) -> bool:
+    """Whether a script that a shell has opened tests which of two files is newer; so may one that cannot be read, other than the system's
+    and what the shell's own script hands to others as their input."""
     try:
         return NEWER.search(text_of(path, LARGE)) is not None
     except OSError:
-        return not OF_SYSTEM.match(path)
+        return not OF_SYSTEM.match(path) and not is_handed_on(path, list(argv), folder)
+
+
+def is_handed_on(path: str, argv: List[str], folder: str) -> bool:
+    """Whether the script of a shell names a file as input, and has no word by which the shell itself would read that."""
+    text = COMMENT.sub("", contents(os.path.join(folder, script_of(argv)))) if script_of(argv) else ""
+    return is_input(path, text) and not READS_INPUT.search(text)
 
 
 def is_unread(argv: List[str], folder: str) -> bool:

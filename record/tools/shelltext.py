@@ -365,7 +365,12 @@ def takes_in(argv: List[str], path: str) -> bool:
     text = shell_text(argv)
     if not text or OF_SYSTEM.match(path):
         return False
-    return not re.search(r"<\s*[^\s;|&<>()]*" + re.escape(os.path.basename(path)), text)
+    return not is_input(path, text)
+
+
+def is_input(path: str, text: str) -> bool:
+    """Whether the text of a shell names a file as input."""
+    return re.search(r"<\s*[^\s;|&<>()]*" + re.escape(os.path.basename(path)), text) is not None
 
 
 def runs_at_once(argv: List[str]) -> bool:

@@ -107,7 +107,8 @@ class Calls(Started):
         plain = path if call.name == "stat" or (call.name == "newfstatat" and follow and not path.startswith("/")) else ""
         link = call.name.startswith("readlink") and ok
         found = self.look(life, path, ok or call.error == "EINVAL", follow, READ if link else SEEN, base, plain)
-        is_begin = path == "." and life.looks == 0 and life.last_look == found.path  # as shells do when they start
+        self.note_search(life, found, ok)
+        is_begin = path == "." and life.looks == 0 and (life.last_look == found.path or self.is_place(life, life.last_look))  # as shells do when they start
         life.looks, life.last_look = life.looks + (path == "."), found.path if path.startswith("/") else ""
         traits = life.traits()
         if traits.looks_at_links:
@@ -118,6 +119,7 @@ class Calls(Started):
             is_folder = found.inode is not None and found.inode.kind == "d"
             is_of_text = path == "." and not is_begin and traits.is_shell and shellages.is_unread(life.argv, life.folder)
             if not is_folder or is_of_text or not self.is_own(life, path, found) or shelltext.names_here(life.argv):
+                life.sought = found.path if path == "." and (AGE_SEEN, found.path) not in life.events else ""
                 self.put(life, AGE_SEEN, found.path)
         elif traits.asks_size and found.inode is not None and found.inode.kind == "d":
             self.put(life, AGE_SEEN, found.path)
@@ -236,7 +238,7 @@ class Calls(Started):
             self.is_open_shell = self.is_open_shell or shelltext.sets_options_in(found.path)
         elif traits.is_shell:
             life.taken += (found.path,) if shelltext.takes_in(life.argv, found.path) else ()
-            life.compares_here = life.compares_here or shellages.tests_newer(found.path)
+            life.compares_here = life.compares_here or shellages.tests_newer(found.path, tuple(life.argv), life.folder)
         elif not traits.is_interpreter and (self.ages(life) or self.is_unknown(life)):
             self.put(life, AGE_SEEN if self.ages(life) else AGE_UNKNOWN, found.path)
 

@@ -14,7 +14,13 @@ from record.trace.opened import Opened
 from record.trace.processes import sets_others
 from record.trace.strace import Call, first_text, folders, is_cut, texts
 
+SH_IS_BASH = os.path.basename(os.path.realpath("/bin/sh")) == "bash"
 SCRIPTS = 5  # how many scripts may be the interpreter of one another; the kernel allows no more
+
+
+def is_bash(argv: List[str]) -> bool:
+    """Whether a process runs bash, perhaps by the name `sh`."""
+    return shelltext.base_name(argv) == "bash" or SH_IS_BASH and shelltext.base_name(argv) == "sh"
 
 
 class Started(Opened):
@@ -82,6 +88,18 @@ class Started(Opened):
         is_asked = traits.asks_input or not traits.is_interpreter and not traits.is_shell and self.is_unknown(life)
         for path in life.handed() if is_asked else ():
             self.put(life, AGE_SEEN if traits.asks_input or self.ages(life) else AGE_UNKNOWN, path)
+
+    def note_search(self, life: Life, found: Found, ok: bool) -> None:
+        """bash looks at `.` before it searches for a program, and then in the first folder of `PATH`, which is the recorder's: that was no
+        question for an age. It looks there without a search for what it has found before: so what is there does not count."""
+        if life.sought and not ok and found.path.startswith(self.spool + "/bin/") and is_bash(life.argv):
+            life.events.pop((AGE_SEEN, life.sought), None)
+        life.sought = ""
+
+    @staticmethod
+    def is_place(life: Life, path: str) -> bool:
+        """Whether a path may be what `PWD` says: the folder of who started a process, which that has left without a word to it, as `make -C` does."""
+        return bool(path) and (path == os.environ.get("PWD") or any(path == up.folder for up in life.up()))
 
     def first_words(self, path: str) -> List[str]:
         """The words of a script's first line, read once: the build has ended."""

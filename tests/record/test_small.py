@@ -26,6 +26,8 @@ class Small:
     lacks: str = ""
 
 
+# A library, a program that needs it, and a macro of several lines that a recipe prints.
+PRINTS = "all: libx.a p\nlibx.a: ; touch libx.a\np: m libx.a ; echo \"$$TEXT\" > p\nm: ; touch m\n"
 SMALL: Dict[str, Small] = {
     # devices, and folders that look like theirs
     "devices_are_no_files": Small("safe", "all: a b\na b: ; touch /dev/null; echo $@ > /dev/null; cat /dev/null > $@\n"),
@@ -71,6 +73,9 @@ SMALL: Dict[str, Small] = {
     "listing_that_nobody_else_asks_for": Small("safe", "all: a b c\na: ; echo 1 > d/n; touch a\nb: a ; echo '$(wildcard d/*)' > b\nc: ; echo > c\n", {"d/k": "k"}),
     "library_by_its_short_name": Small("race", "all: libx.a p\nlibx.a: ; touch libx.a\np: m -lx ; echo $^ > p\nm: ; touch m\n", says="not as -lNAME"),
     "library_by_a_macro": Small("race", "LIBS = -lx\nall: libx.a p\nlibx.a: ; touch libx.a\np: m $(LIBS) ; echo $^ > p\nm: ; touch m\n"),
+    "library_in_a_text_that_recipes_print": Small("safe", "define TEXT\nLibs: -l$(N)\nendef\nexport TEXT\nN = x\n" + PRINTS),
+    "library_in_a_text_that_makes_a_rule": Small("race", "define TEXT\np: -l$(N)\nendef\nexport TEXT\nN = x\n" + PRINTS.replace("m libx.a ;", "m ;") + "$(eval $(TEXT))\n"),
+    "library_in_a_text_by_a_name_that_is_put_together": Small("race", "define TEXT\np: -l$(N)\nendef\nexport TEXT\nN = x\nT = TEX\n" + PRINTS.replace("m libx.a ;", "m ;") + "$(eval $($(T)T))\n"),
     "library_that_a_recipe_links": Small("safe", "LIBS = -lx\nall: libx.a p\nlibx.a: ; touch libx.a\np: m libx.a ; echo $(LIBS) > p\nm: ; touch m\n"),
     "macro_that_keeps_its_value": Small("safe", "V = $(eval V := $$(shell echo 1))$(V)\nall: s a b\ns: ; touch s\na: s\na b: ; echo $(V) > $@\n"),
     "macro_that_keeps_what_it_read": Small("race", "V = $(eval V := $$(shell cat s))$(V)\nall: s a b\ns: ; echo 1 > s\na: s\na b: ; echo $(V) > $@\n"),

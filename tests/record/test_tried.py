@@ -19,6 +19,11 @@ FOLDER = "all: a b\na: ; %s\nb: ; mkdir -p d; touch b\n"
 SIDE = "all: c\nx: ; echo 1 > x\ny: ; echo 2 > y\nc: x y ; { %s; } > c || true\n"
 # A recipe that runs something in a folder, and another one that makes a name there.
 HERE = "all: a b\na: ; cd d && %s > ../a\nb: ; touch d/x b\n"
+# What a script of bash begins with, so that nobody reads all of its text.
+GETS = 'eval "$(echo x=1)"\n'
+# A script that makes a file, lets something read it, removes it and asks for a folder.
+INPUT = "# read\ndate -u -r s\ncp ../u ../i\n{ %s; } < ../i\nrm ../i\ntest -d . && echo here\n"
+ASKS = "[ . -nt s ] && echo newer\n"
 IN_FOLDER = {"t": "if [ . -nt s ]; then echo newer; fi\n", "d/s": ""}
 # Two recipes with a file of their own, whose name has the time in thousandths of a second.
 TIMED = "a b: ; t=t.$$(date +%s%N | cut -c1-13); echo $@ > $$t; mv $$t $@\n"
@@ -56,6 +61,18 @@ TRIED: Dict[str, Small] = {
     "age_of_a_folder_for_a_shell_that_looks_at_another_first": Small("race", HERE % "env -u PWD sh < ../t", {**IN_FOLDER, "t": "test -f $PWD/s && [ . -nt s ] && echo newer; true\n"},
                                                                      says="(the time of the folder"),
     "age_of_a_folder_for_a_shell_behind_a_look_at_it": Small("race", HERE % 'test -d "$$PWD" && unset PWD && exec sh < ../t', IN_FOLDER, says="(the time of the folder"),
+    "programs_that_bash_searches_for": Small("safe", HERE % "bash ../t", {"t": GETS + "x=$(cat s); date -u -d @0; cat s\n", "d/s": ""}),
+    "programs_that_bash_searches_for_in_a_script_with_ages": Small("safe", HERE % "bash ../t", {"t": "[ s -nt t ] && echo newer; x=$(cat s); date -u -d @0\n", "d/s": "", "d/t": ""}),
+    "input_that_is_gone": Small("safe", HERE % "sh ../t", {"t": INPUT % "cat", "u": ASKS, "d/s": ""}),
+    "input_that_is_gone_and_was_read": Small("race", HERE % "sh ../t", {"t": INPUT % "while read x; do eval \"$x\"; done", "u": ASKS, "d/s": ""}, says="(the time of the folder"),
+    "script_that_is_gone": Small("race", HERE % "sh ../t", {"t": INPUT.replace("{ %s; } <", "."), "u": ASKS, "d/s": ""}, says="(the time of the folder"),
+    "age_of_a_folder_between_searches": Small("race", HERE % "bash ../t", {"t": GETS + "cat s; [ . -nt s ] && echo newer; date -u -d @0\n", "d/s": ""}, says="(the time of the folder"),
+    "age_of_a_folder_before_a_search": Small("race", HERE % "bash ../t", {"t": GETS + "[ s -ot . ] && date -u -d @0; true\n", "d/s": ""}, says="(the time of the folder"),
+    "age_of_a_folder_before_a_program_that_is_known": Small("race", HERE % "bash -o posix ../t", {"t": GETS + "make -v > /dev/null; [ s -ot . ]; make -v\n", "d/s": ""}, says="(the time of the folder"),
+    "age_of_a_folder_before_a_search_of_dash": Small("race", HERE % "dash ../t", {"t": GETS + "[ s -ot . ]; cat s\n", "d/s": ""}, says="(the time of the folder"),
+    "text_that_eval_gets_in_a_make_inside": Small("safe", "all: a b\na: ; $(MAKE) -C d -f ../m\nb: ; touch d/x b\n", {"m": ".PHONY: all\nall: ; x=\"$$(cat ../t)\"; eval \"$$x\"\n", "t": "echo 1 > ../a\n", "d/s": ""}),
+    "age_of_a_folder_in_a_text_that_eval_gets_in_a_make_inside": Small("race", "all: a b\na: ; $(MAKE) -C d -f ../m\nb: ; touch d/x b\n",
+                                                                       {"m": ".PHONY: all\nall: ; x=\"$$(cat ../t)\"; eval \"$$x\"\n", "t": "[ . -nt s ] && echo 1 > ../a; true\n", "d/s": ""}, says="(the time of the folder"),
     "other_text_from_a_pipe": Small("safe", HERE % "cat ../t | sh", {"t": "[ s -nt t ] && echo newer; true\n", "d/s": "", "d/t": ""}),
     "script_that_a_shell_takes_in": Small("safe", "all: a b\na: ; . ./v; echo $$x > a\nb: ; touch b\n", {"v": "x=1\n"}),
     "script_that_bash_takes_in": Small("safe", "SHELL = /bin/bash\nall: a b\na: ; y=2; . ./v; echo $$x > a\nb: ; touch b\n", {"v": "x=1\n"}),
