@@ -15,7 +15,7 @@ SECOND = re.compile(EVAL.pattern + "|" + COMPUTED.pattern + r"|\$[({]call\s+(?:f
 GOES_ON = re.compile(r"(?<!\\)((?:\\\\)*)\\\n[ \t]*")  # a line of a makefile: two backslashes at its end are one sign of it
 BINDS = re.compile(r"\$[({](?:call[ \t]+)?(?:foreach|let)[ \t,]([^,]*),")  # a loop, and the macros that it gives a value
 SIGNS = re.compile(r"\$+")
-STEM = re.compile(r"\$(?:\*|\(\*[DF]?\)|\{\*[DF]?\})")  # what stands for `%`: its name is no pattern
+STEM = re.compile(r"\$(?:\*|\(\*[DF]?\)|\{\*[DF]?\})")  # what stands for `%`: its own name is no pattern, though one with it in is
 ENDS = " \t\n:=#,(){}"  # signs before which we cut a name: what stands behind them may be no part of it
 PLAIN = re.compile("[^$" + re.escape(ENDS) + "]+")
 NAME = r"[^\s:=#,(){}$]"  # one of any other signs
@@ -65,7 +65,7 @@ def read_again(text: str) -> str:
 
 def named(text: str) -> Set[str]:
     """The macros that a text refers to when it is read once; a name that is made of other macros is a pattern, with `*` for each of them."""
-    plain = STEM.sub(" ", text.replace("$$", "  "))
+    plain = STEM.sub("$@", text.replace("$$", "  "))
     found = {one.group(1).strip(ENDS) if one.group(1) else name_at(plain, one.end()) for one in BEGIN.finditer(plain)}
     return {ANY if fits(".VARIABLES", name) else name for name in found}
 

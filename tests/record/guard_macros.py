@@ -48,6 +48,8 @@ MACRO_GUARDS: List[Guard] = [
     Guard("eval: recipes of targets that nobody asks for", MACROS, " if name not in macros.idle}", "}", macro("macro_of_a_recipe_that_nobody_asks_for"), FALSE_RACE),
     Guard("eval: recipes of targets that somebody asks for", MACROS, "places = idle_in(self.base, {name for one in self.make.words.rounds for name in (*one.nodes, *one.must, *one.vpath.values())})",
           "places = idle_in(self.base, set())", macro("macro_of_a_recipe_that_somebody_asks_for"), YES),
+    Guard("names: the stem of a rule", REFERENCES, 'STEM.sub("$@", ', 'STEM.sub(" ", ', macro("macro_by_the_stem_of_a_rule"), YES),
+    Guard("names: the stem by itself", REFERENCES, 'STEM.sub("$@", text.replace("$$", "  "))', 'text.replace("$$", "  ")', macro("macro_by_the_stem_of_a_rule_that_sets_none"), FALSE_RACE),
     Guard("eval: one sweep over macros", MACROS, "                seen |= todo\n", "                seen |= {*todo}\n                [self.reached_by({name}, again) for name in todo if len(seen) > 1]\n", "test_macros.Sweeps.test_macros_in_a_row"),
     Guard("eval: what many macros may be", MACROS, "return self.given.get(ANY, []) if name == UNNAMED else [*known", "return [*self.given.get(ANY, []), *known", "test_macros.Sweeps.test_macros_that_may_be_any_text"),
     Guard("data base: what a macro of a target gets besides", BASE, "|\\+=|\\?=)", ")", macro("macro_of_a_target_that_gets_more"), YES),
