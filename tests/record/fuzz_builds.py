@@ -162,11 +162,11 @@ class Builder:
     def directed(self, holds: List[Holds]) -> Iterator[Outcome]:
         """Builds in each of which some targets are held back; of the build with its rules in another order too, and that one with one job."""
         turned = self.project.turned() if holds else None
-        yield from (self.held(one) for one in holds)
+        yield from (self.held(one) for one in holds if one.can_come(self.room))
         if turned is not None:
             self.builds += 1
             yield self.run(turned.serial(), project=turned)
-            yield from (self.held(one, turned) for one in holds)
+            yield from (self.held(one, turned) for one in holds if one.can_come(self.room))
 
     def held(self, holds: Holds, project: Optional[Project] = None) -> Outcome:
         """One parallel build in which some targets are held back."""

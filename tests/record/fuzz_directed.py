@@ -27,7 +27,7 @@ read line < "$0-$way"
 WAYS = ("early", "late")  # in the order in which they go on
 LOOKS, SECONDS = 3, 0.03  # so many looks at what runs, one after another, show that all waits
 LONGEST = 200  # looks after which what waits goes on in any case
-PAIRS, STEPS = 6, 4
+PAIRS, STEPS = 6, 8
 Steps = List[str]  # of each target its name and the number of a step
 
 
@@ -56,6 +56,15 @@ class Holds:
         path.chmod(0o755)
         for way in WAYS:
             os.mkfifo("%s-%s" % (path, way))
+
+    def can_come(self, room: Path) -> bool:
+        """Whether what waits longest may come to its step, as far as earlier builds have shown how many steps there are."""
+        return any(number == "1" or int(number) <= steps_of(room, name) for step in self.late for name, _, number in (step.rpartition(" "),))
+
+
+def steps_of(room: Path, name: str) -> int:
+    """The steps that a target had at most; each has left a line."""
+    return max((file.stat().st_size for file in room.glob("*.step." + name.replace("/", "_"))), default=0)
 
 
 class Watch:
@@ -107,7 +116,7 @@ def pairs(record: Path) -> Iterator[Tuple[Side, Side]]:
 
 def side(label: str, other: str, after: Dict[str, List[str]], kinds: Dict[str, str]) -> Side:
     """One side of a race. `after`: what each task waits for."""
-    if kinds.get(label) == "recipe":
+    if kinds.get(label) in ("recipe", "decision"):  # a recipe that did not run here may run in another order
         return Side(names_of(label), True)
     waits = below(label, after) - below(other, after) - {other}
     return Side(tuple(sorted(name for one in waits if kinds.get(one) == "recipe" for name in names_of(one))), False)
