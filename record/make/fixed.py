@@ -1,9 +1,11 @@
 """Looks of make that have no effect, whatever the schedule is, though recipes write the names."""
 
+from functools import lru_cache
 from typing import TYPE_CHECKING, Dict, List, Set
 
 from record.make.considered import LATER
 from record.make.graph import Node
+from record.make.owners import Make
 from record.make.words import numbers_of
 from record.trace.events import AGE_TAKEN, CREATED, REMOVED
 
@@ -86,13 +88,13 @@ def remembered(builder: "Builder", node: Node, own: int) -> Set[str]:
 def is_remembered(builder: "Builder", node: Node, is_own: bool) -> bool:
     """Whether make knows the age of a target from its first look, which is a task of its own. `is_own`: when it decides on that target."""
     graph, label = builder.graph, node.label
-    grouped = node.name in graph.base.also or any(node.name in others for others in graph.base.also.values())
-    if node.name in graph.base.double or label in graph.late() or grouped or node.name in graph.round.vpath or not is_own and (node.jobs or node.must):
-        return False
-    has_first = label in builder.first_of and node.path in builder.asked[label]
     at = -1 if is_own else builder.of_node.get(label, -1)
+    has_first = label in builder.first_of and node.path in builder.asked[label]
     has_leaf = at >= 0 and builder.build.tasks[at].kind == "decision" and builder.is_leaf(node) and label not in builder.ageless
-    return (has_first or has_leaf) and looks_once(builder, node)
+    if not (has_first or has_leaf) or not is_own and (node.jobs or node.must):
+        return False
+    grouped = node.name in graph.base.also or any(node.name in others for others in graph.base.also.values())
+    return not (grouped or node.name in graph.base.double or label in graph.late() or node.name in graph.round.vpath) and looks_once(builder, node)
 
 
 def looks_once(builder: "Builder", node: Node) -> bool:
@@ -100,4 +102,13 @@ def looks_once(builder: "Builder", node: Node) -> bool:
     make, start = builder.make, builder.graph.round.start
     works = [make.work[id(job)] for job in node.jobs if id(job) in make.work]
     end = min((life.born for work in works for life in work.lives), default=make.begin(start + 1))
-    return len({act.place for act in make.life.acts if act.word == node.name and make.begin(start) <= act.place < end}) == 1
+    return sum(make.begin(start) <= place < end for place in places_of(make).get(node.name, ())) == 1
+
+
+@lru_cache(maxsize=1)
+def places_of(make: Make) -> Dict[str, Set[int]]:
+    """By name as make spells it: when it looked at that."""
+    found: Dict[str, Set[int]] = {}
+    for act in make.life.acts:
+        found.setdefault(act.word, set()).add(act.place)
+    return found
