@@ -9,7 +9,7 @@ from record.assumptions import Assumptions
 from record.make.ages import add_ages
 from record.make.considered import Considered, is_row
 from record.make.elsewhere import Askers, Elsewhere, add_elsewhere, find_askers
-from record.make.fixed import asked_ages, fixed_looks, remade_anyway, unasked_ages, was_absent
+from record.make.fixed import asked_ages, fixed_looks, remade_anyway, remembered, unasked_ages, was_absent
 from record.make.folders import Events, add_folders
 from record.make.graph import Build, Graph, Node, Task, befores, drop_lonely, order_tasks
 from record.make.inner import add_inner
@@ -386,9 +386,9 @@ class Builder:
     def add_decision(self, looker: int, at: int, node: Node, is_asked: bool) -> None:
         """Make looks at a target and at its prerequisites. The age of a target alone counts where others ask for it."""
         task, writers = self.build.tasks[looker], self.build.writers
-        names = self.looked_at(node, at)
+        names, known = self.looked_at(node, at), remembered(self, node, at)
         for path in names:
-            if path in writers and writers[path] - {at, looker}:
+            if path in writers and path not in known and writers[path] - {at, looker}:
                 task.reads.add(path)
             if len(names) > 1 or is_asked:
                 self.timed.setdefault(path, set()).add(looker)

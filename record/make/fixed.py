@@ -1,8 +1,12 @@
 """Looks of make that have no effect, whatever the schedule is, though recipes write the names."""
 
+from functools import lru_cache
 from typing import TYPE_CHECKING, Dict, List, Set
 
+from record.make.considered import LATER
 from record.make.graph import Node
+from record.make.owners import Make
+from record.make.words import numbers_of
 from record.trace.events import AGE_TAKEN, CREATED, REMOVED
 
 if TYPE_CHECKING:
@@ -69,3 +73,42 @@ def fixed_looks(builder: "Builder") -> Set[str]:
     replaced = {path for task in tasks for kind, path in [*builder.events(task), *builder.acts_of(task.node)] if kind in (CREATED, REMOVED)}
     loose = (node for node in nodes if not (node.jobs or node.has_recipe or node.prerequisites or node.label in asked))
     return {node.label for node in loose if builder.before.get(node.path) == "f" and node.path not in replaced and set(builder.seen(node)) <= {node.path}}
+
+
+def remembered(builder: "Builder", node: Node, own: int) -> Set[str]:
+    """The paths at which make does not look again when it decides on a target: it keeps the age that it found when it first considered each of
+    them, and that look is one of its own. Only what its recipe has made is looked at anew."""
+    if builder.build.stage != "goals" or numbers_of(builder.make.words.version) >= LATER:
+        return set()
+    deciding = builder.deciding(node, own)
+    known = {one.path for one in deciding if is_remembered(builder, one, one is node)}
+    return known - {one.path for one in deciding if not is_remembered(builder, one, one is node)}
+
+
+def is_remembered(builder: "Builder", node: Node, is_own: bool) -> bool:
+    """Whether make knows the age of a target from its first look, which is a task of its own. `is_own`: when it decides on that target."""
+    graph, label = builder.graph, node.label
+    at = -1 if is_own else builder.of_node.get(label, -1)
+    has_first = label in builder.first_of and node.path in builder.asked[label]
+    has_leaf = at >= 0 and builder.build.tasks[at].kind == "decision" and builder.is_leaf(node) and label not in builder.ageless
+    if not (has_first or has_leaf) or not is_own and (node.jobs or node.must):
+        return False
+    grouped = node.name in graph.base.also or any(node.name in others for others in graph.base.also.values())
+    return not (grouped or node.name in graph.base.double or label in graph.late() or node.name in graph.round.vpath) and looks_once(builder, node)
+
+
+def looks_once(builder: "Builder", node: Node) -> bool:
+    """Whether the trace has one look of make at a target before its recipe."""
+    make, start = builder.make, builder.graph.round.start
+    works = [make.work[id(job)] for job in node.jobs if id(job) in make.work]
+    end = min((life.born for work in works for life in work.lives), default=make.begin(start + 1))
+    return sum(make.begin(start) <= place < end for place in places_of(make).get(node.name, ())) == 1
+
+
+@lru_cache(maxsize=1)
+def places_of(make: Make) -> Dict[str, Set[int]]:
+    """By name as make spells it: when it looked at that."""
+    found: Dict[str, Set[int]] = {}
+    for act in make.life.acts:
+        found.setdefault(act.word, set()).add(act.place)
+    return found

@@ -10,9 +10,11 @@ import stat
 import subprocess
 import sys
 import time
+from contextlib import nullcontext
 from dataclasses import dataclass, field, replace
+from itertools import chain
 from pathlib import Path
-from typing import Collection, Dict, List, Optional
+from typing import Collection, Dict, FrozenSet, Iterable, Iterator, List, Optional
 
 import forked
 from fuzz_projects import Project
@@ -22,6 +24,7 @@ sys.path.insert(0, str(HERE.parent.parent))
 
 import record.importing  # noqa: E402,F401  (once, for all recordings of this process)
 import record.main  # noqa: E402,F401
+from fuzz_directed import Holds, Watch, schedules  # noqa: E402
 from record.assumptions import TEXTS  # noqa: E402
 
 RECORDER = HERE.parent.parent / "record" / "race-record"
@@ -34,6 +37,7 @@ exit 0
 """
 # The shortest delay in seconds: one on an idle machine, and the part of a serial build that it is on a busy one.
 DELAY, PART = 0.01, 0.025
+JOBS = 16  # enough for all recipes at once
 OWN = (".ninja_log", ".ninja_deps", ".ninja_lock")
 Tree = Dict[str, str]
 
@@ -46,6 +50,7 @@ class Outcome:
     tree: Tree
     output: str = ""
     seconds: float = 0
+    apart: FrozenSet[str] = frozenset()  # files that it began with in another form
 
 
 @dataclass
@@ -103,10 +108,10 @@ class Builder:
         self.builds = 0
         self.delay = DELAY
 
-    def fresh(self) -> None:
+    def fresh(self, project: Optional[Project] = None) -> None:
         """The tree before the build."""
         shutil.rmtree(self.folder, ignore_errors=True)
-        for name, text in self.project.all_files().items():
+        for name, text in (project or self.project).all_files().items():
             path = self.folder / name
             path.parent.mkdir(parents=True, exist_ok=True)
             path.write_text(text)
@@ -115,20 +120,23 @@ class Builder:
         for name, age in self.project.ages.items():
             os.utime(self.folder / name, (age, age))
 
-    def run(self, words: List[str], nap: str = "") -> Outcome:
+    def run(self, words: List[str], nap: str = "", watch: Optional[Watch] = None, project: Optional[Project] = None) -> Outcome:
         """One build of a fresh tree."""
-        self.fresh()
+        self.fresh(project)
         env = environment()
         if nap:
             env.update(N=nap, J="-j%d" % self.random.choice((2, 4)))  # J: for a ninja inside of a command
         began = time.monotonic()
         with subprocess.Popen(words, cwd=self.folder, env=env, stdin=subprocess.DEVNULL, stdout=subprocess.PIPE, stderr=subprocess.STDOUT, start_new_session=True) as ran:
-            try:
-                output = ran.communicate(timeout=SECONDS)[0]
-            except subprocess.TimeoutExpired:
-                os.killpg(ran.pid, signal.SIGKILL)
-                output = ran.communicate()[0]
-        return Outcome(ran.returncode, tree_of(self.folder), output.decode("utf-8", "replace"), time.monotonic() - began)
+            with watch.over(ran.pid) if watch else nullcontext():
+                try:
+                    output = ran.communicate(timeout=SECONDS)[0]
+                except subprocess.TimeoutExpired:
+                    os.killpg(ran.pid, signal.SIGKILL)
+                    output = ran.communicate()[0]
+        own, other = self.project.all_files(), (project or self.project).all_files()
+        apart = frozenset(name for name, text in other.items() if text != own[name])
+        return Outcome(ran.returncode, tree_of(self.folder), output.decode("utf-8", "replace"), time.monotonic() - began, apart)
 
     def serial(self) -> Outcome:
         """A serial build, which says how long delays have to be."""
@@ -151,6 +159,22 @@ class Builder:
         words = self.project.parallel(self.random.choice((2, 3, 4, 8)), self.random.randint(1, 1 << 20) if shuffle else 0)
         return self.run(words, self.nap())
 
+    def directed(self, holds: List[Holds]) -> Iterator[Outcome]:
+        """Builds in each of which some targets are held back; of the build with its rules in another order too, and that one with one job."""
+        turned = self.project.turned() if holds else None
+        yield from (self.held(one) for one in holds if one.can_come(self.room))
+        if turned is not None:
+            self.builds += 1
+            yield self.run(turned.serial(), project=turned)
+            yield from (self.held(one, turned) for one in holds if one.can_come(self.room))
+
+    def held(self, holds: Holds, project: Optional[Project] = None) -> Outcome:
+        """One parallel build in which some targets are held back."""
+        self.builds += 1
+        path = self.room / ("hold%d" % self.builds)
+        holds.put(path)
+        return self.run(self.project.parallel(JOBS, 0), str(path), Watch(path), project)
+
     def recorded(self) -> Outcome:
         """The recorded build, judged: by the recorder of this process, in a child of it, or by another one."""
         args = ["--warm", "--", *self.project.words()]
@@ -169,7 +193,7 @@ def differences(first: Outcome, second: Outcome, others: Collection[str] = ()) -
     """What two builds differ in, other than some files; or nothing."""
     if bool(first.status) != bool(second.status):
         return "status %d for %d" % (second.status, first.status)
-    names = sorted(n for n in set(first.tree) | set(second.tree) if n not in others and first.tree.get(n) != second.tree.get(n))
+    names = sorted(n for n in set(first.tree) | set(second.tree) if n not in others and n not in second.apart and first.tree.get(n) != second.tree.get(n))
     return "; ".join("%s: %s for %s" % (n, second.tree.get(n), first.tree.get(n)) for n in names[:3])
 
 
@@ -198,22 +222,23 @@ def judge(project: Project, room: Path, runs: int, recorder: Path = RECORDER, sh
     if recorded.status not in VERDICTS:
         return Result(project.seed, "crash", about=recorded.output[-1500:])
     result = Result(project.seed, "", VERDICTS[recorded.status], assumed=assumptions(recorded.output))
+    holds = list(schedules(builder.folder / ".race")) if result.verdict == "race" else []
     changed = differences(serial[0], Outcome(0, recorded.tree))
     if changed and "asks for several jobs" not in recorded.output:  # then no serial build was recorded
         result.kind, result.about = "changed", changed
     elif result.verdict == "no verdict":
         result.kind, result.about = "no verdict", recorded.output[-600:]
     else:
-        shake(builder, serial[0], result, runs, shuffles)
+        shuffled = shuffles and result.verdict != "safe"
+        shake(builder, serial[0], result, chain((builder.parallel(shuffled) for _ in range(runs)), builder.directed(holds)))
     return result
 
 
-def shake(builder: Builder, serial: Outcome, result: Result, runs: int, shuffles: bool) -> None:
+def shake(builder: Builder, serial: Outcome, result: Result, builds: Iterable[Outcome]) -> None:
     """Parallel builds, until one differs in more than files of an assumption that was printed."""
     others = granted(builder.project, result.assumed)
     is_safe, is_broken = result.verdict == "safe", False
-    for _ in range(runs):
-        parallel = builder.parallel(shuffles and not is_safe)
+    for parallel in builds:
         about = differences(serial, parallel, others)
         is_broken = is_broken or bool(differences(serial, parallel))
         if about:

@@ -5,7 +5,7 @@ delays it, and `${J:--j1}` is the number of jobs of a ninja inside of a command;
 """
 
 import re
-from dataclasses import dataclass
+from dataclasses import dataclass, replace
 from typing import Callable, Dict, List, Optional
 
 from fuzz_projects import EXTRA, NEW, OLD, SHARED, STEPS, Block, Draw, Project
@@ -37,6 +37,11 @@ class NinjaProject(Project):
             found.update(block.files)
         return found
 
+    def turned(self) -> Optional[Project]:
+        """The order of statements settles only which of those that could start do so first: other versions of ninja take another one."""
+        blocks = [replace(block, text=turned(block.text), files={name: turned(text) for name, text in block.files.items()}) for block in self.blocks]
+        return replace(self, blocks=blocks[::-1])
+
     def words(self) -> List[str]:
         return ["ninja"]
 
@@ -45,6 +50,12 @@ class NinjaProject(Project):
 
     def parallel(self, jobs: int, shuffle: int) -> List[str]:
         return ["ninja", "-j%d" % jobs]
+
+
+def turned(text: str) -> str:
+    """A text with its statements in another order, where it has some; what stands in front of the first stays there."""
+    head, *statements = re.split(r"(?m)^(?=build )", text)
+    return head + "".join(statements[::-1])
 
 
 class NinjaDraw(Draw):

@@ -74,6 +74,10 @@ class Project:
         """A parallel build; `shuffle`, where it is not 0, says in which order make takes what it is asked for."""
         return self.command() + ["-j%d" % jobs] + (["--shuffle=%d" % shuffle] if shuffle else [])
 
+    def turned(self) -> Optional["Project"]:
+        """The same build with its rules in another order, where the order of rules settles nothing."""
+        return None
+
     def makefile(self) -> str:
         """The text of the makefile."""
         goals = [goal for block in self.blocks for goal in block.goals]

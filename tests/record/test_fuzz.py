@@ -7,6 +7,7 @@ from pathlib import Path
 
 import support  # noqa: F401
 from fuzz_builds import Outcome, Result, assumptions, differences, judge, parts
+from fuzz_directed import Side, side
 from fuzz_gadgets import COMMANDS, GadgetDraw
 from fuzz_ninja import NinjaDraw, NinjaProject
 from fuzz_projects import Block, Draw, Project, load
@@ -65,6 +66,42 @@ class Judges(unittest.TestCase):
 
     def test_recorder_that_stops(self) -> None:
         self.assertEqual(["crash", "no verdict"], [self.result(SAFE, "exit %d\n" % status).kind for status in (3, 2)])
+
+
+class Directed(unittest.TestCase):
+    """Builds that hold back what a verdict names show a race that no delay at random has shown."""
+
+    def kind(self, project: Project) -> str:
+        with tempfile.TemporaryDirectory() as room:
+            return judge(project, Path(room), 0).kind
+
+    def test_the_first_comes_last(self) -> None:
+        self.assertEqual("race seen", self.kind(Project(1, [Block(["a"], "a: ; $N $@; echo a > a\n"), Block(["b"], "b: ; $N $@; cat a > b || true\n")])))
+
+    def test_the_second_comes_between(self) -> None:
+        """What one recipe writes and removes, another one sees only in the middle of it."""
+        text = "a: ; $N $@; echo a > x; $N $@; rm x; touch a\n"
+        self.assertEqual("race seen", self.kind(Project(1, [Block(["a"], text), Block(["b"], "b: ; $N $@; cat x > b || true\n")])))
+
+    def test_a_race_that_changes_nothing(self) -> None:
+        blocks = [Block([name], "%s: ; $N $@; echo w > x; touch %s\n" % (name, name)) for name in "ab"]
+        self.assertEqual("race not seen", self.kind(Project(1, blocks)))
+
+    @unittest.skipUnless(shutil.which("ninja"), "ninja is missing (Debian: apt-get install ninja-build)")
+    def test_statements_in_another_order(self) -> None:
+        """Ninja makes the folder of the first statement before it starts the second, though nothing orders them."""
+        text = "build d/a: sh\n  c = touch d/a\nbuild u: sh\n  c = echo u > d/u || true; touch u\n"
+        self.assertEqual("race seen", self.kind(NinjaProject(1, [Block(["d/a", "u"], text)])))
+        self.assertEqual("safe", self.kind(NinjaProject(1, [Block(["d/a", "u"], text.replace("u: sh", "u: sh || d/a"))])))
+
+    def test_what_is_held_back(self) -> None:
+        """A recipe at each of its steps; a look by the recipes that it waits for and the other one does not."""
+        after = {"a": [], "b": ["a"], "c": ["b"], "c@look": ["b"], "w": ["a"]}
+        kinds = {**dict.fromkeys(after, "recipe"), "c@look": "look"}
+        self.assertEqual(Side(("w",), True), side("w", "c@look", after, kinds))
+        self.assertEqual(Side(("b",), False), side("c@look", "w", after, kinds))
+        self.assertEqual([["b 1"], []], [side("c@look", "w", after, kinds).at(step) for step in (1, 2)])
+        self.assertEqual(("t1a", "t1"), side("t1a", "w", after, {"t1a": "recipe"}).names)
 
 
 class Projects(unittest.TestCase):
