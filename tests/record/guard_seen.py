@@ -79,7 +79,7 @@ SEEN_GUARDS: List[Guard] = [
     Guard("ages: patterns of zsh", "tools/shellages.py", 'if name == "zsh":', "if False:", words("who_shows_ages")),
     Guard("lines: opens that a signal ends", "trace/strace.py", 'elif call.name.startswith("open"):', "elif False:", seen("named_pipe_that_nobody_writes"), YES),
     Guard("ages: stat without a format", "tools/shellages.py", "return not FORMAT_OF_STAT.search(text) or bool(TIME_OF_STAT.search(text))", "return bool(TIME_OF_STAT.search(text))", words("who_shows_ages")),
-    Guard("ages: of what is opened", "trace/calls.py", "AGE_SEEN if self.ages(life) else AGE_UNKNOWN", "AGE_UNKNOWN", seen("ages_by_a_file_that_tar_opens"), YES),
+    Guard("ages: of what is opened", "trace/calls.py", "AGE_SEEN if self.ages(life) else AGE_UNKNOWN", "AGE_UNKNOWN", "test_replay.Lives.test_ages_of_what_is_opened"),
     Guard("ages: of what an unknown program opens", "trace/calls.py", "(self.ages(life) or self.is_unknown(life))", "self.ages(life)", trace("what_an_unknown_program_opens")),
     Guard("folders: how large they are", "trace/calls.py", "elif traits.asks_size and", "elif False and", seen("size_of_a_folder"), YES),
     Guard("folders: errors that a shell above keeps", "make/quiet.py", " and not keeps_errors(life, argv)", "", seen("folder_made_or_true_in_another_shell"), YES),

@@ -161,7 +161,7 @@ GRAPH: List[Guard] = [
     Guard("decisions: files that were not there", "make/fixed.py", 'builder.before.get(node.path) == "f" and node.path not in replaced', "True", case("no-rule"), YES),
     Guard("decisions: cold targets depend on no age", "make/build.py", "([] if was_absent(self, node, own) else", "([] if False else", small("folder_as_prerequisite_cold"), FALSE_RACE),
     Guard("decisions: order-only has no age", "make/build.py", "p not in only and self.graph", "self.graph", small("folder_behind_a_bar"), FALSE_RACE),
-    Guard("looks of leaves", "make/build.py", "elif own >= 0 and self.is_leaf(node):", "elif False:", small("look_of_a_leaf"), FALSE_RACE),
+    Guard("looks of leaves", "make/build.py", "elif own >= 0 and self.is_leaf(node):", "elif False:", small("macro_of_leaves"), FALSE_RACE),
     Guard("looks at links: what the first look led to", "make/build.py", "return [path for path, place in self.seen(node).items() if place < began] or [node.path]", "return [node.path]", small("link_to_a_file_that_was_there"), FALSE_RACE),
     Guard("looks at links: what stood behind them", "make/build.py", "needed = self.looked_at(node, own) + self.followed(node, own)", "needed = self.looked_at(node, own)", small("link_of_a_target_that_is_kept"), YES),
     Guard("looks at links: they are read", "make/build.py", "        task.reads.update(path for path in self.followed(node, at)", "        set().update(path for path in self.followed(node, at)", small("link_that_is_replaced_later"), YES),

@@ -50,6 +50,7 @@ ELSEWHERE: Dict[str, Small] = {
     "ages_of_two_recipes_that_ask_apart": Small("safe", "all: q r\nq: ; $(MAKE) -f a.mk; find y -newer k > q\nr: q ; find x -newer k > r\n", {"a.mk": FIRST, "k": ""}),
     "ages_that_copies_keep": Small("race", "all: ; $(MAKE) -f a.mk; mkdir i; cp -p x y b.mk i; $(MAKE) -C i -f b.mk\n", {"a.mk": FIRST, "b.mk": AGAIN}),
     "ages_that_an_archive_keeps": Small("race", "all: ; $(MAKE) -f a.mk; tar cf t x y b.mk; mkdir i; tar xf t -C i; $(MAKE) -C i -f b.mk\n", {"a.mk": FIRST, "b.mk": AGAIN}),
+    "ages_that_an_archive_of_another_recipe_keeps": Small("race", "all: p u\np: ; $(MAKE) -f a.mk; tar cf t x y b.mk\nu: p ; mkdir i; tar xf t -C i; $(MAKE) -C i -f b.mk\n", {"a.mk": FIRST, "b.mk": AGAIN}),
     "ages_that_copies_do_not_keep": Small("safe", "all: ; $(MAKE) -f a.mk; mkdir i; cp y i; cp x b.mk i; $(MAKE) -C i -f b.mk\n", {"a.mk": FIRST, "b.mk": AGAIN}),
     "names_in_their_order_for_a_script": Small("safe", "all: a b\ns: ; touch s\na: s ; touch d/a\nb: ; touch d/b\n", {"d/k": ""}, says="programs that list a folder"),
     # folders and links

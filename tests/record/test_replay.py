@@ -57,6 +57,13 @@ class Lives(unittest.TestCase):
         self.assertIs(child.parent, lives_of(replay, 1)[0])
         self.assertIn(("W", "a"), events_of(child))
 
+    def test_ages_of_what_is_opened(self) -> None:
+        """A program that compares ages asks an open file for its age, without its name."""
+        opens = f'1 openat(AT_FDCWD<{TOP}>, "a.tar", O_RDONLY) = 3<{TOP}/a.tar>'
+        for words, wanted in (('"tar", "--keep-newer-files", "-xf", "a.tar"', True), ('"tar", "-xf", "a.tar"', False)):
+            replay = played(f'1 execve("/bin/tar", [{words}], 0x1 /* 1 var */) = 0', opens)
+            self.assertEqual(wanted, ("A", "a.tar") in events_of(lives_of(replay, 1)[-1]))
+
     def test_script_above_a_child_that_is_seen_first(self) -> None:
         replay = played('1 execve("/bin/sh", ["sh", "install-sh", "-d", "d"], 0x1 /* 1 var */) = 0', "1 vfork( <unfinished ...>",
                         '2 execve("/bin/mkdir", ["mkdir", "d"], 0x1 /* 1 var */) = 0', '2 mkdir("d", 0777) = 0', "1 <... vfork resumed>) = 2")
