@@ -19,16 +19,18 @@ READ_TIME_WORDS = re.compile(r"""
 READ_TIME_NAMES = re.compile(r"\b(?:st_|get)?atime\b|(?<!\S)-A\s")  # the same in a text of Python or Perl: `st_atime`, `getatime(x)`, `-A $x`
 # Words of a shell's text, or of a program, that compare which of two files is newer, or show ages. A macro may hold the word that does so.
 # `ar` with `u` is not among them: it compares a file with its archive alone (record/make/ages.py).
+GAP = r"(?:[ \t]|\\\n)+"  # between two words of a command
 AGE_WORDS = re.compile(r"""
       (^|\s|\[)[\"'\\]*-[\"'\\]*-?([no][\"'\\]*t|[ac]?newer[\w-]*|mtime|mmin|atime|amin|cmin|ctime|f?printf)[\"'\\]*[\s=]  # x -nt y, find -newer x, "-ot"
     | \b(cp|mv|rsync|tar)\s+([^;|&\n]*?\s)?(-\w*u|--update)                       # cp -pu x y
-    | (?:\btest|\[)\s+(?:!\s+)?(?![-!])\S+\s+\"?-?\$\S+\s+[^\s;&|\])]             # test x $how y
+    | (?:\btest|\[)GAP(?:!GAP)?(?![-!])(?:\\.|"(?:\\.|[^"\\])*"|'[^']*'|\$\([^()]*\)|`[^`]*`|[^\s"'\\`])+GAP
+      -?(?:"-?\$[^\s"]*"|\$[^\s"'`;&|]+)GAP[^\s;&|\])]                            # test x $how y
     | \btar\s+\w*u                                                                # tar uf x.tar y
     | \bls\s+([^;|&\n]*?\s)?-\w*[tlc]                                             # ls -t
     | \bstat\b[^;|&\n]*%[WXYZwxyz]                                                # stat -c %Y x
     | --sort[= ]t                                                                 # ls --sort=time
     | \bdate\s+[^;|&\n]*-r                                                        # date -r x
-    """, re.VERBOSE)
+    """.replace("GAP", GAP), re.VERBOSE)
 # The same of one program, by its name: these words would be others elsewhere.
 SHOWS_AGES = {
     "ls": re.compile(r"\s(-\w*[tlcugoni]|--(fu|fo|so|ti|in))"),  # --full-time, --format, --sort, --time, --inode

@@ -48,6 +48,10 @@ SEEN: Dict[str, Small] = {
     "ages_in_a_make_of_a_function": Small("race", PAIR + "echo '$(shell $(MAKE) -s -f in.mk)' > c\n", {"in.mk": "b: a ; touch b\n"}),
     "age_that_a_function_copies": Small("race", "all: d\na: ; touch a\nb: ; touch b\nc: a b ; $(shell cp -p a x)touch c\nd: c ; test x -nt b; touch d\n"),
     "ages_by_a_script_behind_if": Small("race", PAIR + "sh s; touch c\n", {"s": "if . ./t; then :; fi\n", "t": "test a -nt b\n"}),
+    "ages_by_a_script_whose_name_nobody_knows": Small("race", PAIR + "sh s; touch c\n", {"s": "f=t; . ./$f\n", "t": "test a -nt b\n"}),
+    "no_ages_by_words_in_quotes": Small("safe", PAIR + "sh s; touch c\n", {"s": "x=1\ntest \"x`expr $x + 1`\" = x2 && test -f a && test -f b; echo \"a test group: $x\" >&2\n# a test\n  $y\n  if :; then :; fi\n"}),
+    "ages_by_an_operator_behind_a_substitution": Small("race", PAIR + "sh s; touch c\n", {"s": "how=-nt\ntest $(echo a) $how `echo b` || :\n"}),
+    "ages_by_an_operator_behind_a_word_in_quotes": Small("race", PAIR + "sh s; touch c\n", {"s": "how=-nt\ntest \"a\" \"$how\" 'b' || :\n"}),
     "ages_by_a_text_that_is_printed": Small("race", PAIR + "sh s; touch c\n", {"s": 'eval "$(cat t)"\n', "t": "test a -nt b\n"}),
     "ages_by_a_script_that_is_changed_then": Small("safe", PAIR + "echo 'test a -nt b' > s; sh s; echo : > s; touch c\n", says="programs that nobody knows look"),
     # what make does itself
