@@ -24,7 +24,7 @@ AGE_WORDS = re.compile(r"""
       (^|\s|\[)[\"'\\]*-[\"'\\]*-?([no][\"'\\]*t|[ac]?newer[\w-]*|mtime|mmin|atime|amin|cmin|ctime|f?printf)[\"'\\]*[\s=]  # x -nt y, find -newer x, "-ot"
     | \b(cp|mv|rsync|tar)\s+([^;|&\n]*?\s)?(-\w*u|--update)                       # cp -pu x y
     | (?:\btest|\[)GAP(?:!GAP)?(?![-!])(?:\\.|"(?:\\.|[^"\\])*"|'[^']*'|\$\([^()]*\)|`[^`]*`|[^\s"'\\`])+GAP
-      -?(?:"-?\$[^\s"]*"|\$[^\s"'`;&|]+)GAP[^\s;&|\])]                            # test x $how y
+      -?(?:"-?\$[^"]*"|\$(?:\{[^{}]*\}|"[^"\s]*"|'[^'\s]*'|[^\s"'`;&|])+)GAP[^\s;&|\])]  # test x $how y
     | \btar\s+\w*u                                                                # tar uf x.tar y
     | \bls\s+([^;|&\n]*?\s)?-\w*[tlc]                                             # ls -t
     | \bstat\b[^;|&\n]*%[WXYZwxyz]                                                # stat -c %Y x

@@ -50,6 +50,8 @@ SEEN: Dict[str, Small] = {
     "ages_by_a_script_behind_if": Small("race", PAIR + "sh s; touch c\n", {"s": "if . ./t; then :; fi\n", "t": "test a -nt b\n"}),
     "ages_by_a_script_whose_name_nobody_knows": Small("race", PAIR + "sh s; touch c\n", {"s": "f=t; . ./$f\n", "t": "test a -nt b\n"}),
     "no_ages_by_words_in_quotes": Small("safe", PAIR + "sh s; touch c\n", {"s": "x=1\ntest \"x`expr $x + 1`\" = x2 && test -f a && test -f b; echo \"a test group: $x\" >&2\n# a test\n  $y\n  if :; then :; fi\n"}),
+    "ages_by_an_operator_with_quotes": Small("race", PAIR + "sh s; touch c\n", {"s": "test a ${how:-\"-nt\"} b || :\n"}),
+    "ages_by_an_operator_of_two_words": Small("race", PAIR + "sh s; touch c\n", {"s": "n=-n t=t\ntest a $n\"$t\" b || :\n"}),
     "ages_by_an_operator_behind_a_substitution": Small("race", PAIR + "sh s; touch c\n", {"s": "how=-nt\ntest $(echo a) $how `echo b` || :\n"}),
     "ages_by_an_operator_behind_a_word_in_quotes": Small("race", PAIR + "sh s; touch c\n", {"s": "how=-nt\ntest \"a\" \"$how\" 'b' || :\n"}),
     "ages_by_a_text_that_is_printed": Small("race", PAIR + "sh s; touch c\n", {"s": 'eval "$(cat t)"\n', "t": "test a -nt b\n"}),
