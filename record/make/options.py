@@ -3,13 +3,14 @@
 `race-record` puts this file in front of wrapper.py where it makes the program that stands in front of make.
 """
 
-import re
-from collections.abc import MutableMapping
+TYPE_CHECKING = False
+if TYPE_CHECKING:
+    from collections.abc import MutableMapping
 
 WORDS = ["--debug=v,j,m", "-p"]
 LONG_QUERIES = {"--version": "v", "--help": "h", "--just-print": "n", "--dry-run": "n", "--recon": "n", "--question": "q",
                 "--touch": "t", "--print-data-base": "p", "--debug": "d"}
-CLUSTER = re.compile(r"-([^-CfIoWjlOE][^CfIoWjlOE]*|)([CfIoWjlOE]?)(.*)$", re.S)
+TAKES_WORD = "CfIoWjlOE"  # letters with an argument
 LONG_WITH_WORD = ("--directory", "--file", "--makefile", "--include-dir", "--old-file", "--assume-old", "--what-if", "--new-file",
                   "--assume-new", "--eval")
 # What a locale settles besides the language of messages.
@@ -19,7 +20,8 @@ CATEGORIES = ["LC_" + name for name in "CTYPE NUMERIC TIME COLLATE MONETARY PAPE
 def speak_english(environment: "MutableMapping[str, str]") -> bool:
     """Lets make print English words where it may print others; whether that changed the environment."""
     spoken = next((environment[name] for name in ("LC_ALL", "LC_MESSAGES", "LANG") if environment.get(name)), "C")
-    if spoken in ("C", "POSIX") or re.match(r"(C|POSIX|en)\b|en_", spoken) and not environment.get("LANGUAGE"):
+    language = spoken.replace("_", ".").replace("@", ".").split(".")[0]
+    if spoken in ("C", "POSIX") or language in ("C", "POSIX", "en") and not environment.get("LANGUAGE"):
         return False
     if environment.get("LC_ALL"):
         environment.update(dict.fromkeys(CATEGORIES, environment.pop("LC_ALL")))
@@ -27,10 +29,11 @@ def speak_english(environment: "MutableMapping[str, str]") -> bool:
     return True
 
 
-def letters(word: str) -> str:
-    """The one-letter words that stand in one word of make's command line, up to one that takes an argument."""
-    match = re.match(r"-([^-CfIoWjlOE][^CfIoWjlOE]*|)", word)
-    return match.group(1) if match and not word.startswith("--") else ""
+def cluster(word: str) -> "tuple[str, str, str]":
+    """What is in a word such as `-kj4` of make's command line: letters without an argument, one that takes one, and that argument."""
+    letters = word[1:] if word.startswith("-") and not word.startswith("--") else ""
+    at = next((at for at, letter in enumerate(letters) if letter in TAKES_WORD), len(letters))
+    return letters[:at], letters[at:at + 1], letters[at + 1:]
 
 
 def asked(args: "list[str]", flags: str) -> "set[str]":
@@ -52,7 +55,7 @@ def asked(args: "list[str]", flags: str) -> "set[str]":
             found.update(letter for name, letter in LONG_QUERIES.items() if len(begun) > 3 and name.startswith(begun))
         else:
             skip = word in ("-C", "-f", "-I", "-o", "-W", "-E")
-            found.update(set(letters(word)) & set("vhnqtpd"))
+            found.update(set(cluster(word)[0]) & set("vhnqtpd"))
     return found
 
 
@@ -71,7 +74,8 @@ def without_words(flags: str) -> str:
 def without_letter(words: "list[str]") -> "list[str]":
     """Words without the last letter p that the recorder has put there."""
     for at in reversed(range(len(words))):
-        if re.fullmatch(r"-?[a-zA-Z]*p[a-zA-Z]*", words[at]):
+        letters = words[at][1:] if words[at].startswith("-") else words[at]
+        if "p" in letters and letters.isascii() and letters.isalpha():
             left = words[at].replace("p", "", 1)
             return words[:at] + ([left] if left not in ("", "-") else []) + words[at + 1:]
     return words
@@ -107,8 +111,7 @@ def own_jobs(args: "list[str]") -> str:
             is_jobs = len(begun) > 3 and "--jobs".startswith(begun)
             skip = not equals and len(begun) > 3 and any(name.startswith(begun) for name in LONG_WITH_WORD)
         else:
-            cluster = CLUSTER.match(word)
-            letter, value = cluster.group(2, 3) if cluster else ("", "")
+            _, letter, value = cluster(word)
             is_jobs = letter == "j"
             skip = letter != "" and letter in "CfIoWE" and value == ""
         if is_jobs:
@@ -128,4 +131,4 @@ def asks_jobs(args: "list[str]", flags: str) -> bool:
     """Whether a number of jobs is among make's words. The first word of MAKEFLAGS may be letters without a dash."""
     first = flags.split(" ")[0]
     letters = "" if first.startswith("-") or "=" in first else "-" + first
-    return bool(own_jobs(args)) or bool(own_jobs([letters])) or bool(re.search(r"(^| )-j|--jobserver", flags))
+    return bool(own_jobs(args)) or bool(own_jobs([letters])) or " -j" in " " + flags or "--jobserver" in flags

@@ -1,6 +1,6 @@
 """Stands in front of GNU make while a build is recorded.
 
-`race-record` compiles limits.py, options.py, outputs.py and this file for SPOOL/bin/make, first on PATH, a program of its own. It runs the real make (named
+`race-record` compiles limits.py, lines.py, options.py, outputs.py and this file for SPOOL/bin/make, first on PATH, a program of its own. It runs the real make (named
 in SPOOL/real) with words that let it say what it considers, takes make's own lines out of standard output again, into
 SPOOL/PID.make, and passes everything else on byte for byte. Queries (`make -n`, `-q`, `-t`, `-p`, `-v`, `-h`) and makes
 that were asked for debug words run untouched.
@@ -9,49 +9,23 @@ that were asked for debug words run untouched.
 import errno
 import fcntl
 import os
-import re
 import select
-import signal
 import sys
-from contextlib import suppress
+
+try:
+    import _signal as signal  # type: ignore  # what `signal` puts around it loads `enum`, which takes as long as Python's own start
+except ImportError:
+    import signal
 
 from record.make.limits import Kept, keep, note_cut
+from record.make.lines import TOKENS, VERSION, about_job, is_folder, is_included, is_look, is_word, may_go_on, named, place_of_end, place_of_start, remade, started
 from record.make.options import WORDS, asked, asks_jobs, jobs_of_call, plain_args, speak_english, without_words
 from record.make.outputs import file_of, goes_to, is_closed, is_one_file, note_output
 
-VERSION_LINE = re.compile(rb"# (GNU Make \d|Built for |Copyright \(C\)|License |This is free software|There is NO WARR)")
-QUOTED = rb"'[^\n]*'"
-WORD_LINE = re.compile(
-    rb" *(Reading makefiles\.\.\.$|Reading makefile " + QUOTED + rb"( \([^)]*\))*\.\.\.$|Updating makefiles\.\.\.\.$"
-    rb"|Updating goal targets\.\.\.\.$|(Considering target file|Pruning file|Finished prerequisites of target file"
-    rb"|Must remake target|Successfully remade target file|Failed to remake target file|Still updating file"
-    rb"|Finished updating file|Giving up on target file|Recently tried and failed to update file|Ignoring VPATH name) "
-    + QUOTED + rb"\.$|File " + QUOTED + rb" (does not exist|was considered already)\.$|No need to remake target "
-    + QUOTED + rb"\.$|Prerequisite " + QUOTED + rb" (is (newer than|older than|order-only for)|of) target " + QUOTED
-    + rb"( does not exist)?\.$|(The prerequisites|Recipe) of " + QUOTED + rb" (are being made|is being run)\.$"
-    rb"|No recipe for " + QUOTED + rb" and no prerequisites actually changed\.$|Target " + QUOTED
-    + rb" is double-colon and has no prerequisites\.$|Making " + QUOTED + rb" due to always-make flag\.$"
-    rb"|Makefile " + QUOTED + rb" might loop; not remaking it\.$|Re-executing\[\d+\]:"
-    rb"|Removing intermediate files\.\.\.$|Skipping UTF-8 BOM in makefile (?:buffer|" + QUOTED + rb")$|Loading symbol [^\n]* from [^\n]*$"
-    rb"|Got a SIGCHLD; \d+ unreaped|(Putting|Live|Reaping winning|Reaping losing|Removing) child 0x[0-9a-f]+ "
-    rb"|(Released|Obtained) token for child 0x|Need a job token; we |Jobserver (setup|client) \()")
 SIZE, SET_SIZE = 1 << 20, 1031  # bytes of the pipe, and what asks for them
 LONG = 4096  # bytes: a longer text comes in pieces
-BEGINS = re.compile(rb" *(?:(?:Reading|Considering|Pruning|Finished|Must|Successfully|Failed|Still|Giving|Recently|Ignoring|File|No|Prerequisite|The|Recipe|Target|Making|Makefile)"
-                    rb" [a-z ]*'|(?:Putting|Live|Reaping (?:winning|losing)) child 0x)")
-LOOKED = re.compile(rb" *(?:Considering target file|Pruning file) '[^\n]*'\.\n\Z")
-TOKEN = re.compile(rb"Need a job token; we |Obtained token for child 0x|Jobserver setup \(")
-RUNNING = re.compile(rb" *Recipe of '(.*)' is being run\.\n")  # make does not wait for it: with no bound on jobs it asks for no token
-MUST = re.compile(rb" *Must remake target '(.*)'\.\n")
-IGNORED = re.compile(rb"  Ignoring VPATH name '(.*)'\.\n")  # make says so next, where an old target stands in a folder of VPATH, and it makes another one here
-STARTED = re.compile(rb"(?:Putting|Live) child (0x[0-9a-f]+) \((.*)\) PID ")  # no line is put where the first names a program that is not there
-REMADE = re.compile(rb" *(?:Successfully remade|Failed to remake) target file '(.*)'\.\n")
-OF_JOB = re.compile(rb"(Live|Reaping winning|Reaping losing|Removing) child (0x[0-9a-f]+) |Got a SIGCHLD; \d+ unreaped")
 REAPING = b"Reaping winning child 0x"
-INCLUDED = re.compile(rb"Reading makefile " + QUOTED + rb"( \([^)]*\))+\.\.\.\n")
-ENDS_OF_RECIPE = re.compile(rb"(?:Got a SIGCHLD; \d+ unreaped children\.\n)*(?:Live|Reaping winning|Reaping losing|Removing)\Z")
 BASE = b"# Make data base, printed on"
-DIRECTORY = re.compile(rb"# ([^\n]*: (Entering|Leaving) (directory|an unknown directory))")
 
 
 class Splitter:
@@ -99,25 +73,25 @@ class Splitter:
 
     def is_of_recipe(self, packet: bytes) -> bool:
         """Whether a write comes while a recipe runs, and is not one of make's lines about it."""
-        running = RUNNING.match(packet) if self.job else None
-        if TOKEN.match(packet) or running and running.group(1) == self.target:
+        running = named(packet, b"Recipe of '", b"' is being run.\n") if self.job else None
+        if packet.startswith(TOKENS) or running is not None and running == self.target:  # make does not wait: with no bound on jobs it asks for no token
             self.several, self.job, self.next = True, b"", None
         if self.several:
             return False
         if not self.job:
             return self.is_early(packet)
-        about = OF_JOB.match(packet)
-        if about is None or about.group(2) not in (None, self.job):
+        about = about_job(packet)
+        if about is None or about[1] not in (b"", self.job):
             return not self.is_last(packet)
-        self.is_between = about.group(1) != b"Live"
-        if about.group(1) == b"Removing":
+        self.is_between = about[0] != b"Live"
+        if about[0] == b"Removing":
             self.job = b""
         return False
 
     def is_last(self, packet: bytes) -> bool:
         """Whether make goes on without a line about the end of the recipe: its last line names a program that is not there, and may fail."""
-        remade = REMADE.match(packet) if self.is_between else None
-        if remade is None or remade.group(1) != self.target:
+        made = remade(packet) if self.is_between else None
+        if made is None or made != self.target:
             return False
         self.job = b""
         return True
@@ -127,34 +101,34 @@ class Splitter:
 
         An included makefile is make's own word there: a recipe may include one while make expands it.
         """
-        must, begun, remade = MUST.match(packet), STARTED.match(packet), REMADE.match(packet)
+        must, begun = named(packet, b"Must remake target '"), started(packet)
         is_new, self.is_new = self.is_new, must is not None
         if self.next is None:
-            self.next, self.is_said = must.group(1) if must else None, False
+            self.next, self.is_said = must, False
         elif is_new and self.is_ignored(packet):
             return False
-        elif begun and begun.group(2) == self.next:
-            self.begin(begun.group(1))
-        elif remade and remade.group(1) == self.next:
+        elif begun is not None and begun[1] == self.next:
+            self.begin(begun[0])
+        elif remade(packet) == self.next:
             self.next = None
         else:
-            return bool(WORD_LINE.match(packet)) and not INCLUDED.match(packet)
+            return is_word(packet) and not is_included(packet)
         return False
 
     def is_ignored(self, packet: bytes) -> bool:
-        """Whether make says of the target that it is about to remake that it does not take the one in a folder of VPATH."""
-        ignored = IGNORED.match(packet)
-        return ignored is not None and self.next is not None and os.path.basename(ignored.group(1)) == os.path.basename(self.next)
+        """Whether make says of the target that it is about to remake that it does not take the one in a folder of VPATH: it says so next."""
+        ignored = named(packet, b"Ignoring VPATH name '") if packet.startswith(b"  I") else None
+        return ignored is not None and self.next is not None and os.path.basename(ignored) == os.path.basename(self.next)
 
     def take(self, data: bytes) -> None:
         """What was read: one write of make or of a recipe. Where a recipe has opened /dev/stdout anew, what make writes behind its words may
         come with them."""
-        if self.piece or len(data) >= LONG and data[-1:] != b"\n" and BEGINS.match(data):
+        if self.piece or len(data) >= LONG and data[-1:] != b"\n" and may_go_on(data):
             self.piece += data
             if data[-1:] != b"\n":
                 return
             data, self.piece = self.piece, b""
-        if self.next is None and not (self.job or self.unclear or self.base or self.blank) and LOOKED.match(data):  # as nearly all are
+        if self.next is None and not (self.job or self.unclear or self.base or self.blank) and is_look(data):
             self.start = self.tail = self.is_said = False
             self.log.write(data)
             return
@@ -171,19 +145,15 @@ class Splitter:
         if at > 0:
             return data[:at], data[at:]
         end = data.find(b"\n") + 1
-        is_own = not self.job and (goes_on or 0 < end < len(data) and not self.base and WORD_LINE.match(data[:end]))
+        is_own = not self.job and (goes_on or 0 < end < len(data) and not self.base and is_word(data[:end]))
         end = end if at == 0 or is_own else 0
         return (data[:end], data[end:]) if end else (data, b"")
 
     def own_line(self, data: bytes) -> int:
         """Where the first of make's lines about the recipe that runs stands, or its line about the one that it starts; -1 where there is none."""
         if self.job:
-            at = data.find(b" child " + self.job + b" ")
-            found = ENDS_OF_RECIPE.search(data[:at]) if at >= 0 else None
-            return -1 if found is None else found.start()
-        if self.next is not None:
-            return next((found.start() for found in STARTED.finditer(data) if found.group(2) == self.next), -1)
-        return -1
+            return place_of_end(data, self.job)
+        return -1 if self.next is None else place_of_start(data, self.next)
 
     def take_one(self, packet: bytes) -> None:
         """One write of make or of a recipe."""
@@ -203,11 +173,11 @@ class Splitter:
 
     def take_unclear(self, packet: bytes) -> None:
         """The data base is the last that make says: what looked like it was a recipe's where make starts that recipe now."""
-        begun = STARTED.match(packet)
-        if begun and begun.group(2) == self.next:
+        begun = started(packet)
+        if begun is not None and begun[1] == self.next:
             held, self.unclear = self.unclear, []
             self.pass_on(b"".join(held))
-            self.begin(begun.group(1))
+            self.begin(begun[0])
             self.log.write(packet)
             self.note_said()
         else:
@@ -227,15 +197,15 @@ class Splitter:
             self.tail = not self.base and not packet.endswith(b"\n\n")
         elif packet == b"\n":
             self.blank = not tail
-        elif self.start and VERSION_LINE.match(packet):
+        elif self.start and packet.startswith(VERSION):
             self.log.write(packet)
-        elif WORD_LINE.match(packet):
+        elif is_word(packet):
             self.start = packet.startswith(b"Re-executing[")
             self.log.write(packet)
         else:
             self.start = False
             self.note_said()
-            self.pass_on(packet[2:] if DIRECTORY.match(packet) else packet)
+            self.pass_on(packet[2:] if is_folder(packet) else packet)
 
     def release(self) -> None:
         """Passes on what is held back."""
@@ -333,8 +303,10 @@ def run_logged(spool: str, name: str, real: str, args: "list[str]", flags: str, 
     where, path, errors = goes_to(spool, 1), file_of(spool, 1), "joined" if is_one_file(1, 2) else goes_to(spool, 2)
     split = args.index("--") if "--" in args else len(args)
     reading, writing = os.pipe2(os.O_DIRECT | os.O_CLOEXEC)
-    with suppress(OSError):  # it may be as large as it is
+    try:
         fcntl.fcntl(writing, SET_SIZE, SIZE)
+    except OSError:  # it may be as large as it is
+        pass
     note_output(spool, writing, where, path)
     child = os.fork()
     if child == 0:

@@ -13,7 +13,7 @@ from pathlib import Path
 from typing import Dict, List, Optional, Set, Tuple
 
 from record.make.database import Base, cut, read_base
-from record.make.options import CLUSTER, LONG_WITH_WORD
+from record.make.options import LONG_WITH_WORD, cluster
 from record.make.owners import Make
 from record.make.words import makefiles
 
@@ -63,8 +63,7 @@ def named_by(args: List[str], option: str, long: Tuple[str, ...]) -> List[str]:
             is_file = len(begun) > 3 and any(name.startswith(begun) for name in long)
             skip = not equals and len(begun) > 3 and any(name.startswith(begun) for name in LONG_WITH_WORD)
         else:
-            cluster = CLUSTER.match(word)
-            letter, value = cluster.group(2, 3) if cluster else ("", "")
+            _, letter, value = cluster(word)
             is_file = letter == option
             skip = letter != "" and letter in "CfIoWE" and value == ""
         if is_file:

@@ -40,7 +40,7 @@ CALL_GUARDS: List[Guard] = [
     Guard("results in another base", "trace/strace.py", "|0x[0-9a-f]+|", "|", trace("locks_of_a_part_of_a_file")),
     Guard("long lines: in pieces", "make/wrapper.py", "            self.piece += data\n", "            self.piece = data\n", long("Lines.test_a_line_of_make_in_pieces")),
     Guard("long lines: a name of a target", "make/wrapper.py", "if self.piece or len(data) >= LONG", "if False and len(data) >= LONG", long("Recorded.test_name_of_a_target"), ""),
-    Guard("long lines: of a recipe", "make/wrapper.py", 'and data[-1:] != b"\\n" and BEGINS.match(data):', 'and data[-1:] != b"\\n" and False:', long("Lines.test_the_lines_of_a_recipe_with_a_long_name")),
+    Guard("long lines: of a recipe", "make/wrapper.py", 'and data[-1:] != b"\\n" and may_go_on(data):', 'and data[-1:] != b"\\n" and False:', long("Lines.test_the_lines_of_a_recipe_with_a_long_name")),
     Guard("long lines: at the end", "make/wrapper.py", "self.unclear + [self.piece] * bool(self.piece)", "self.unclear", long("Lines.test_a_line_without_an_end")),
     Guard("long lines: not whole: a hole", "make/words.py", "        elif BROKEN.match(text):\n", "        elif False:\n", long("Lines.test_a_line_that_is_not_whole_is_a_hole")),
     Guard("long commands: too many words: a hole", "trace/started.py", "        if life.cut:\n", "        if False:\n", long("Traces.test_too_many_words")),

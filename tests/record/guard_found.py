@@ -23,8 +23,8 @@ def later(name: str) -> str:
 FOUND_GUARDS: List[Guard] = [
     Guard("several jobs: processes that ran at once", "make/owners.py", "return any(second.born < first.died for", "return any(False for", several("processes_that_ran_at_once")),
     Guard("several jobs: with no number", "make/words.py", ' or RUNNING.match(text):', ":", found("jobs_with_no_number"), "", ("make/owners.py", "return any(second.born < first.died for", "return any(False for")),
-    Guard("several jobs: make's words about them", "make/wrapper.py", "or running and running.group(1) == self.target:", "or False:", several("words_of_make_that_does_not_wait")),
-    Guard("several jobs: not what a recipe prints", "make/wrapper.py", "or running and running.group(1) == self.target:", "or running:", several("words_about_another_recipe")),
+    Guard("several jobs: make's words about them", "make/wrapper.py", "or running is not None and running == self.target:", "or False:", several("words_of_make_that_does_not_wait")),
+    Guard("several jobs: not what a recipe prints", "make/wrapper.py", "or running is not None and running == self.target:", "or running is not None:", several("words_about_another_recipe")),
     Guard("several jobs: letters of the environment", "make/options.py", "bool(own_jobs([letters])) or ", "", several("letters_of_the_environment")),
     Guard("several jobs: letters that a recipe sets", "make/owners.py", "or asks_jobs([], self.words.flags))", 'or "-j" in self.words.flags)', found("jobs_by_letters_that_a_recipe_sets"), YES),
     Guard("at once: looks", "at_once.py", '"WCDFMTXRSNEx"', '"WCDFMTXR"', found("look_beside_a_process_that_makes"), UNSAID),

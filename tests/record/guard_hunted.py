@@ -25,7 +25,7 @@ HUNTED_GUARDS: List[Guard] = [
     Guard("holes: makes that are not understood", "make/words.py", "    if not words.read:\n", "    if False:\n", "test_hunted.Language.test_make_that_is_not_understood"),
     Guard("language: that of make", "make/options.py", '    environment["LC_MESSAGES"] = "C"\n', "", "test_hunted.Language.test_environment"),
     Guard("language: the rest of the locale stays", "make/options.py", "dict.fromkeys(CATEGORIES, ", "dict.fromkeys([], ", "test_hunted.Language.test_environment"),
-    Guard("output: a first line that starts nothing", "make/wrapper.py", "(?:Putting|Live) child", "Putting child", "test_hunted.Said.test_first_line"),
+    Guard("output: a first line that starts nothing", "make/lines.py", 'BEGINS_JOB, ENDS_JOB = (b"Putting", b"Live"),', 'BEGINS_JOB, ENDS_JOB = (b"Putting",),', "test_hunted.Said.test_first_line"),
     Guard("output: a last line that starts nothing", "make/wrapper.py", "return not self.is_last(packet)", "return True", "test_hunted.Said.test_last_line"),
     Guard("makefiles: written again", "make/owners.py", "        if make.stale:\n", "        if False:\n", hunted("makefile_that_is_written_again"), YES),
     Guard("makefiles: not those written before", "make/owners.py", "any(first < place < last", "any(first < place", hunted("makefile_that_is_written_once"), FALSE_RACE),

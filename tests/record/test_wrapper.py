@@ -2,10 +2,12 @@
 
 import io
 import os
+import subprocess
+import sys
 import unittest
 from typing import Tuple
 
-import support  # noqa: F401
+import support
 from record.make import wrapper
 
 MUST = b" Must remake target 'a'.\n"
@@ -92,6 +94,15 @@ class Splits(unittest.TestCase):
 
     def test_folder_that_make_enters_is_shown_as_without_data_base(self) -> None:
         self.assertEqual((b"make: Entering directory '/x'\n", b""), split(b"# make: Entering directory '/x'\n"))
+
+
+class Starts(unittest.TestCase):
+    """How the stand-in for make starts: a build may start many."""
+
+    def test_no_patterns_are_loaded(self) -> None:
+        text = "import sys; sys.path.insert(0, %r); import record.make.wrapper; print(*sorted({'re', 'enum', 'typing', 'collections'} & set(sys.modules)))" % str(support.TOP)
+        ran = subprocess.run([sys.executable, "-ISBc", text], capture_output=True, check=True)
+        self.assertEqual(b"\n", ran.stdout)
 
 
 class Said(unittest.TestCase):
