@@ -23,7 +23,8 @@ LISTS = re.compile(r"listdir|scandir|glob|walk|iterdir|\bPath\b|pathlib|\bexec\b
 SYSTEM = re.compile(r"/etc/|(?:/usr)?/lib(?:32|64)?/(?!python)")
 PACKAGES = re.compile(r"/(?:site|dist)-packages/(?!_distutils_hack/|apport_python_hook\.)")  # the exceptions are what setuptools and Ubuntu run at each start
 TEXTS = (".py", ".pyc", ".so", ".zip", ".egg", ".whl", ".pyz")  # how the names of files end that modules may come from
-OPTIONS, VALUED = re.compile(r"-[bBdEhiIOPqRsSuvVx]*c"), ("-W", "-X", "--check-hash-based-pycs")  # how `-c` is given; options with a value of their own
+OPTIONS, VALUED = re.compile(r"-[bBdEhiIOPqRsSuvVx]*([cm])"), ("-W", "-X", "--check-hash-based-pycs")  # how `-c` and `-m` are given; options with a value of their own
+QUIET = ("base64", "calendar", "gzip", "json.tool", "py_compile", "tokenize", "uuid")  # modules of Python itself that list no folder where `-m` runs them
 MODULES = ("*.py", "*.pyc", "*.so", "*.pth", "*/")  # what an import, or the start of Python, looks for in a list; the last is any folder
 
 
@@ -82,20 +83,27 @@ def settle_code(life: Life, others: Set[str]) -> None:
 def sources_of(life: Life) -> Dict[str, int]:
     """The modules that it reads; none where its script is not among them."""
     found = modules_of(life)
-    return found if script_of(life) in {os.path.basename(path) for path in found} else {}
+    return found if any(is_script(path, life) for path in found) else {}
+
+
+def way_of(life: Life) -> Tuple[str, str]:
+    """What its words let it run: `c` and a text, `m` and the name of a module, or nothing and the path of a script, which may be `-` or nothing."""
+    words = iter(life.argv[1:] if not life.cut else ())
+    for word in words:
+        option = OPTIONS.fullmatch(word)
+        if option is not None:
+            return option.group(1), next(words, "")
+        if word in VALUED:
+            next(words, "")
+        elif not word.startswith("-") or word in ("-", "--"):
+            return "", word
+    return "", ""
 
 
 def given_text(life: Life) -> str:
-    """The text of `python -c TEXT`, else nothing."""
-    words = iter(life.argv[1:] if not life.cut else ())
-    for word in words:
-        if OPTIONS.fullmatch(word):
-            return next(words, "")
-        if word in VALUED:
-            next(words, "")
-        elif not word.startswith("-") or word in ("-", "--", "-m"):
-            return ""
-    return ""
+    """The text of `python -c TEXT`, or that which a module of Python itself amounts to; else nothing."""
+    way, what = way_of(life)
+    return what if way == "c" else "import " + what if way == "m" and what in QUIET else ""
 
 
 def modules_of(life: Life) -> Dict[str, int]:
@@ -112,7 +120,7 @@ def modules_of(life: Life) -> Dict[str, int]:
 
 def read_at(life: Life, sources: Dict[str, int]) -> int:
     """When it read its script."""
-    return min((place for path, place in sources.items() if os.path.basename(path) == script_of(life)), default=life.begun)
+    return min((place for path, place in sources.items() if is_script(path, life)), default=life.begun)
 
 
 def own_sources(life: Life, sources: Dict[str, int]) -> List[str]:
@@ -142,7 +150,7 @@ def settle_lists(life: Life, sources: Dict[str, int], own: List[str], written: D
     is_all = not any(lists_folders(path) for path in sources if path not in own)
     for path, place in lists.items():
         folder = path.partition("\0")[0]
-        if (place > begun or is_all) and (text and folder == life.folder or any(os.path.dirname(source) == folder for source in sources)):
+        if (place > begun or is_all) and (way_of(life)[0] and folder == life.folder or any(os.path.dirname(source) == folder for source in sources)):
             del life.events[LISTED, path]
             for pattern in MODULES:
                 life.events.setdefault((LISTED, folder + "\0" + pattern), place)
@@ -156,6 +164,15 @@ def library_of(life: Life) -> str:
 def is_of_python(path: str, library: str) -> bool:
     """Whether a file comes with the system or with Python itself, and is of no package that was added: the text of one may list folders."""
     return bool(SYSTEM.match(path)) or path.startswith(library) and not PACKAGES.search(path)
+
+
+def is_script(path: str, life: Life) -> bool:
+    """Whether a file that it reads is the script, or the module of `-m`, that it runs."""
+    way, what = way_of(life)
+    if way == "m":
+        module = "/" + what.replace(".", "/")
+        return path.endswith((module + ".py", module + "/__main__.py"))
+    return not way and os.path.basename(path) == script_of(life)
 
 
 def script_of(life: Life) -> str:

@@ -43,8 +43,15 @@ class Python(unittest.TestCase):
             self.of(TEXT % (made, text), SCRIPT, status, files={"lib.py": "x = 1\n"})
         self.of(TEXT % ("x.txt", "import lib"), SCRIPT, 1, files={"lib.py": "import os\nprint(os.listdir('.'))\n"})
 
+    def test_module_by_its_name(self) -> None:
+        gen = "import sys\nopen(sys.argv[1], 'w').write('x')\n"
+        for made, text, status in (("x.txt", gen, 0), ("x.txt", gen + "import os; os.listdir('.')\n", 1), ("more.py", gen, 1)):
+            self.of("all: a b\na: ; touch %s a\nb: ; python3 -S -Bm t.gen b\n" % made, text, status, files={})
+        for words, status in (("json.tool i.json", 0), ("timeit -n1 -r1 'import lib; lib.os.listdir()'", 1)):
+            self.of("all: a b\na: ; touch x.txt a\nb: ; python3 -S -m %s > b\n" % words, "", status, files={"i.json": "{}\n", "lib.py": "import os\n"})
+
     def test_words_that_hold_a_text(self) -> None:
-        for words, text in ((["-c", "x"], "x"), (["-Ec", "x"], "x"), (["-W", "-c", "-c", "x"], "x"), (["-m", "m", "-c", "x"], ""), (["s.py", "-c", "x"], ""), (["-", "-c", "x"], ""), ([], "")):
+        for words, text in ((["-c", "x"], "x"), (["-Ec", "x"], "x"), (["-W", "-c", "-c", "x"], "x"), (["-m", "m", "-c", "x"], ""), (["s.py", "-c", "x"], ""), (["-", "-c", "x"], ""), ([], ""), (["-Bm", "gzip", "x"], "import gzip")):
             self.assertEqual(text, given_text(Life(1, argv=["python3", *words])), words)
 
     def test_script_that_lists_the_folder(self) -> None:
