@@ -11,8 +11,10 @@ from record.tools.texts import text_of as plain_text
 LINE = r"((?:[^\n]*\\\n)*[^\n]*)"  # of a makefile
 ASSIGNED = re.compile(r"(?<!" + NAME + ")(" + NAME + r"+?)[ \t]*(?:[+?!]|:{1,3})?=" + LINE)
 ASSIGNED_TO_ANY = re.compile(r"(?:[)}]|\$\w)[\w.-]*[ \t]*(?:[+?!]|:{1,3})?=" + LINE)  # the same of a macro whose name another one gives
+LATE = re.compile(r"(?:[)}]|\$\w)([\w.-]*)[ \t]*(?:[+?]|:::)?=" + LINE)  # the same, where make works out the value when somebody asks for it
 PUT_TOGETHER = re.compile(r"\$[({](?:call[ \t]+)?[\w.-]*\$")  # a reference whose name another one gives
 WHOLE = re.compile(r"(?ms)(?<!\\\n)^ *(?:(?:export|override)[ \t]+)*define[ \t]+([\w.-]+)[ \t]*=?[ \t]*\n.*?^[ \t]*endef\b")
+END_OF_NAME = re.compile(r"(?:[)}]|\$\w)([\w.-]*)[ \t]*(?:[:+?!]*=)?[ \t]*$")  # behind what another macro gives of it, in a line that begins with `define`
 DEFINED = re.compile(BEGINS + r"[ \t]*(" + NAME + r"*)([^\n]*)")
 
 
@@ -20,17 +22,25 @@ DEFINED = re.compile(BEGINS + r"[ \t]*(" + NAME + r"*)([^\n]*)")
 def assigned_in(text: str) -> List[Tuple[str, str]]:
     """What makefiles assign to macros: many makes may read the same ones."""
     lines = joined(text)
-    return [*((one.group(1), one.group(2)) for one in ASSIGNED.finditer(lines)), *((ANY, one.group(1)) for one in ASSIGNED_TO_ANY.finditer(lines)), *defined_in(text)]
+    defined = ((ANY if "$" in name else name, body) for name, body in defined_in(text))
+    return [*((one.group(1), one.group(2)) for one in ASSIGNED.finditer(lines)), *((ANY, one.group(1)) for one in ASSIGNED_TO_ANY.finditer(lines)), *defined]
+
+
+@lru_cache(8)
+def late_in(text: str) -> List[Tuple[str, str]]:
+    """What makefiles assign to macros whose names others give, and make works out when somebody asks for it: how the name ends, and the value."""
+    defined = ((END_OF_NAME.search(name), body) for name, body in defined_in(text) if "$" in name)
+    return [*((one.group(1), one.group(2)) for one in LATE.finditer(joined(text))), *((end.group(1) if end else "", body) for end, body in defined)]
 
 
 def defined_in(text: str) -> Iterator[Tuple[str, str]]:
-    """The macros of several lines, which may hold others."""
+    """The macros of several lines, which may hold others; of a name that is put together, all that stands behind `define`."""
     name, depth, previous = "", 0, ""
     body: List[str] = []
     for line in text.split("\n") if "define" in text else ():
         begins = DEFINED.match(line) if not depth else None
         if begins is not None:
-            name, depth, body = ANY if "$" in begins.group(2) else begins.group(1), 1, []
+            name, depth, body = begins.group(1) + (begins.group(2) if "$" in begins.group(2) else ""), 1, []
         elif depth:
             depth += level(line, previous)
             body.append(line)

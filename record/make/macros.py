@@ -6,7 +6,7 @@ from dataclasses import dataclass, field, replace
 from functools import cached_property
 from typing import Dict, FrozenSet, Iterable, Iterator, List, NamedTuple, Optional, Set, Tuple
 
-from record.make.assigned import assigned_in, text_of, without_printed
+from record.make.assigned import assigned_in, late_in, text_of, without_printed
 from record.make.database import LINES_TEXT, Base
 from record.make.exports import ALONE, WORD, Exports
 from record.make.globs import composes
@@ -92,6 +92,11 @@ class Macros:
         for name, value in [*assigned_in(self.text), *((name, "\n".join(lines)) for name, lines in self.base.bodies.items())]:
             found.setdefault(name, []).append(value)
         found.pop(ANY, None)
+        late = [(end, value) for end, value in late_in(self.text) if EVAL.search(value) or COMPUTED.search(value)]
+        names = {*found, *(name for text in [*self.base.values.values(), *map("\n".join, self.base.recipes.values())] for name in named(text))} if late else ()
+        for name in names:  # such a macro may give itself another value, which alone is left, or none
+            values = [value for end, value in late if name.endswith(end) and not NO_MACRO.fullmatch(name)]
+            found.update({name: found.get(name, []) + values} if values else {})
         return {name: list(map(with_functions, values)) for name, values in found.items()}
 
     @property

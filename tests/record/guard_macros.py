@@ -2,7 +2,7 @@
 
 from typing import List
 
-from guard_table import FALSE_RACE, LOST_HOLE, YES, Guard
+from guard_table import FALSE_RACE, LOST_HOLE, UNSAID, YES, Guard
 
 
 def macro(name: str) -> str:
@@ -17,6 +17,8 @@ def text(name: str) -> str:
 
 REFERENCES, MACROS, BASE, ASSIGNED = "make/references.py", "make/macros.py", "make/database.py", "make/assigned.py"
 EXPORTS, KEPT, UNFILED = "make/exports.py", "make/kept.py", "make/unfiled.py"
+# What turns off what is known of macros whose names are put together: they may be what they were when make has ended.
+LATE = (MACROS, "if name.endswith(end) and", "if False and")
 
 MACRO_GUARDS: List[Guard] = [
     Guard("eval: what it reads a second time", REFERENCES, 'SECOND = re.compile(EVAL.pattern + "|" + ', "SECOND = re.compile(", macro("macro_behind_two_signs_that_eval_gets"), YES),
@@ -30,10 +32,16 @@ MACRO_GUARDS: List[Guard] = [
     Guard("eval: texts that are read once", MACROS, "is_again = SECOND", 'is_again = "$" in text or SECOND', macro("macro_behind_two_signs_that_is_read_once"), FALSE_RACE),
     Guard("eval: what it gives a macro for a while", MACROS, "found.setdefault(one.name, []).append(text[one.start + 1:one.end])", "pass", macro("macro_that_asks_for_another_for_a_while"), YES),
     Guard("eval: macros that it gives another one for a while", MACROS, "given = [*self.given.get(name, ()), *", "given = [*", macro("macro_that_sets_another_for_a_while"), YES),
-    Guard("eval: what macros are that nobody can name", MACROS, "if self.given.get(ANY) else ())]", "if False else ())]", macro("macro_of_a_computed_name_for_a_while"), YES),
+    Guard("eval: what macros are that nobody can name", MACROS, "if self.given.get(ANY) else ())]", "if False else ())]", macro("macro_of_a_computed_name_for_a_while"), YES, LATE),
     Guard("eval: what macros are while nobody changes them", MACROS, "is_changed = ANY in self.changed or name in self.changed", "is_changed = ANY in self.changed", macro("macro_that_asks_for_another_for_a_while"), YES),
-    Guard("eval: assignments to computed names", ASSIGNED, "*((ANY, one.group(1)) for one in ASSIGNED_TO_ANY.finditer(lines)), ", "", macro("macro_of_a_makefile_for_a_while"), YES),
-    Guard("eval: lines of a computed name", ASSIGNED, 'ANY if "$" in begins.group(2) else begins.group(1)', "begins.group(1)", macro("macro_of_lines_for_a_while"), YES),
+    Guard("eval: assignments to computed names", ASSIGNED, "*((ANY, one.group(1)) for one in ASSIGNED_TO_ANY.finditer(lines)), ", "", macro("macro_of_a_makefile_for_a_while"), YES, LATE),
+    Guard("eval: values of computed names", MACROS, "[value for end, value in late if name.endswith(end)", "[value for end, value in late if False", macro("macro_of_a_computed_name_that_sets_itself"), YES),
+    Guard("eval: names that are gone", MACROS, "names = {*found, *(name for text", "names = {*found, *(name for text in () for text", macro("macro_of_a_computed_name_that_removes_itself"), YES),
+    Guard("eval: lines of computed names", ASSIGNED, ", *((end.group(1) if end else \"\", body) for end, body in defined)]", "]", macro("macro_of_lines_and_a_computed_name_that_sets_itself"), YES),
+    Guard("eval: the ends of computed names", MACROS, "if name.endswith(end)", "if True", macro("macro_beside_one_of_a_computed_name"), FALSE_RACE),
+    Guard("eval: values that are worked out at once", ASSIGNED, "(?:[+?]|:::)?=\" + LINE", "(?:[+?]|:{1,3})?=\" + LINE", macro("macro_of_a_computed_name_that_is_worked_out_at_once"), FALSE_RACE),
+    Guard("eval: what a yes says of it", UNFILED, "if builder.known.is_used:", "if False:", macro("macro_of_a_computed_name_that_is_worked_out_at_once"), UNSAID),
+    Guard("eval: lines of a computed name", ASSIGNED, 'ANY if "$" in name else name, body', "name, body", macro("macro_of_lines_for_a_while"), YES, LATE),
     Guard("eval: texts of several lines", MACROS, "or not self.may_have_lines(text[one.start + 2:one.end])", "or True", macro("eval_of_two_lines"), YES),
     Guard("eval: lines that a macro has for a while", MACROS, "any(map(self.has_lines, self.names))", "any(map(self.has_lines, self.texts))",
           macro("eval_of_lines_of_a_file_for_a_while"), YES),

@@ -48,6 +48,12 @@ MACROS: Dict[str, Small] = {
     "eval_by_a_macro_that_is_put_together_for_a_while": Small("race", N + WHILE.replace("$(V)", "$(X)") % (
         "$(eval $(n) = $$(subst x,a,evxl))", "$(eval V := done)", "$(call $(V),X := set)touch a")),
     "macro_with_another_value_for_a_while": Small("safe", WHILE % ("$(eval V = $$(Y))", "$(eval V := done)", SETS)),
+    # macros of names that are put together, which are other ones when make has ended
+    "macro_of_a_computed_name_that_sets_itself": Small("race", N + "$(n) = $(eval V := $@)$@\n" + BOTH),
+    "macro_of_a_computed_name_that_removes_itself": Small("race", "n := MY\n$(n)V = $(eval undefine MYV)$@\n" + BOTH.replace("$(V)", "$(MYV)")),
+    "macro_of_lines_and_a_computed_name_that_sets_itself": Small("race", "n := MY\ndefine $(n)V\n$(eval MYV := $@)$@\nendef\n" + BOTH.replace("$(V)", "$(MYV)")),
+    "macro_beside_one_of_a_computed_name": Small("safe", "n := MY\n$(n)V = $(eval X := set)$@\n" + PAIR % ("echo '$(W)' > a", SHOWS)),
+    "macro_of_a_computed_name_that_is_worked_out_at_once": Small("safe", N + "$(n) := $(eval X := set)1\n" + PAIR % ("echo '$(V)' > a", SHOWS), says="functions of make put together, or hand on,"),
     # names that the stem of a rule is a part of
     "macro_by_the_stem_of_a_rule": Small("race", "all: s x.a b\ns: ; touch s\ncmd_x = $(eval X := set)touch x.a\nx.a: %.a: s ; $(cmd_$*)\nb: s ; echo '$(X)' > b\n"),
     "macro_by_the_last_part_of_a_stem": Small("race", "all: s d/x.a b\ns: ; touch s\ncmd_x = $(eval X := set)touch d/x.a\nd/x.a: %.a: s ; $(cmd_$(*F))\nb: s ; echo '$(X)' > b\n", {"d/k": ""}),
