@@ -1,12 +1,10 @@
 """Which macros of make the processes of its recipes find in their environment: by `export` in makefiles, by words of make, and from its own environment."""
 
-import os
 import re
 from functools import cached_property
 from typing import TYPE_CHECKING, Iterator, List, Optional, Set
 
 from record.make.references import evals, joined, with_functions
-from record.tools.shelltext import shell_text
 
 if TYPE_CHECKING:
     from record.make.macros import Macros
@@ -22,8 +20,6 @@ ENDS = re.compile(r"[;&|'\"]")  # what stands behind these is about a shell
 GIVEN = re.compile(r"(?:^|[ \t])([\w.-]+)(?:[+?!]|:{1,3})?=")  # a macro that the words of make set
 EVALUATED = re.compile(r"--eval[= ](.*)")
 FLAGS = ("MAKEFLAGS", "GNUMAKEFLAGS", "MAKEOVERRIDES", "MFLAGS")  # macros with words of make: makefiles may set them too
-# A shell takes macros from a file, or from words that do not stand in its text.
-TAKES = re.compile(r"(?<![\w./-])(?:(?:\.|source|eval)\s|(?:export|read|readonly|declare|typeset|printf|env)\b[^;&|\n]*[$`*])")
 
 
 class Exports:
@@ -90,12 +86,5 @@ class Exports:
         return {*WORD.findall(plain)}.union(*(one or () for one in others))
 
     def is_inherited(self, name: str) -> bool:
-        """Whether make may have found a macro in its own environment: then it hands that on to each recipe."""
-        life = self.known.make.life
-        callers = [one.argv for one in life.up() if one is not life and not one.is_make and not one.is_wrapper]
-        return name in os.environ or any(gives(shell_text(argv), name) for argv in callers)
-
-
-def gives(text: str, name: str) -> bool:
-    """Whether the text of a shell may put a macro into the environment of what it starts; any program may that is no shell with a text."""
-    return not text or TAKES.search(text) is not None or re.search(r"(?<![\w.-])%s(?![\w.-])" % re.escape(name), text) is not None
+        """Whether make has found a macro in its own environment: then it hands that on to each recipe."""
+        return name in self.known.make.words.environment

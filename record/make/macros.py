@@ -355,7 +355,7 @@ class Macros:
     def implied(self) -> Use:
         """What each recipe does without a word: make works out the macros that it exports, and those that it reads itself, for each of them."""
         setting = {name for name in self.names if EVAL.search(self.text_of(name)) or COMPUTED.search(self.text_of(name))}
-        names = {name for name in self.reaching(setting) if name in IMPLIED or name in os.environ or self.is_lost or self.is_named_in_export(name)} if setting else set()
+        names = {name for name in self.reaching(setting) if self.is_exported(name)} if setting else set()
         return self.use("".join("$(%s)" % name for name in sorted(names))) if names else Use()
 
     def set_by_expansion(self) -> Set[str]:

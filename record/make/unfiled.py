@@ -26,7 +26,7 @@ TARGET = re.compile(r"\$(?:[@*]|[({][@*])")
 def add_macros(builder: "Builder", created: Created) -> None:
     """A recipe that changes a macro, and those that ask for it. Make expands the recipe of a leaf where it looks at the leaf."""
     if builder.known.is_used:
-        builder.assumed.add("evals", "make " + builder.build.words[:60])
+        builder.assumed.add("evals", ("make " + builder.build.words[:60]).strip())
     who: Dict[str, List[int]] = {}
     for label, at in builder.of_node.items():
         node = builder.graph.nodes[label]

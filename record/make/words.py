@@ -4,7 +4,7 @@ import re
 from dataclasses import dataclass, field
 from functools import cached_property, lru_cache
 from pathlib import Path
-from typing import Dict, Iterable, Iterator, List, Optional, Set, Tuple
+from typing import Dict, FrozenSet, Iterable, Iterator, List, Optional, Set, Tuple
 
 from record.make.database import Base, read_base
 
@@ -87,6 +87,7 @@ class Words:
     life: int
     args: str = ""
     flags: str = ""
+    environment: FrozenSet[str] = frozenset()  # the names of the variables that it found there
     below: bool = False  # the words of a make above came with MAKEFLAGS
     slots: str = ""  # how many jobs its own words ask for: digits, or `all`
     output: str = ""  # where its output goes, if that is not the build's own: `file` or `pipe`
@@ -226,6 +227,8 @@ class _Reader:
             words.args = value
         elif key == "FLAGS" and blank:
             words.flags = value
+        elif key == "NAMES" and blank:
+            words.environment = frozenset(value.split(" "))
         elif key == "BELOW" and blank:
             words.below = value == "1"
         elif key == "JOBS" and blank:

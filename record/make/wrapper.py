@@ -286,8 +286,8 @@ def serve(splitter: Splitter, child: int, reading: int, writing: int) -> int:
 
 
 def head_of(args: "list[str]", flags: str, below: bool, slots: str, where: str, path: str, errors: str, spoken: bool) -> bytes:
-    """The first lines of a log: the words of make, where its output goes, and whether it speaks English for the recorder alone."""
-    lines = (("ARGS", " ".join(args)), ("FLAGS", flags), ("BELOW", "%d" % below), ("JOBS", slots), ("OUTPUT", where), ("LOG", path), ("ERRORS", errors), ("SPOKEN", "%d" % spoken))
+    """The first lines of a log: the words of make, the names in its environment, where its output goes, and whether it speaks English for the recorder alone."""
+    lines = (("ARGS", " ".join(args)), ("FLAGS", flags), ("NAMES", " ".join(os.environ)), ("BELOW", "%d" % below), ("JOBS", slots), ("OUTPUT", where), ("LOG", path), ("ERRORS", errors), ("SPOKEN", "%d" % spoken))
     return "".join("%s %s\n" % (key, text.replace("\n", " ")) for key, text in lines).encode("utf-8", "surrogateescape")
 
 

@@ -124,7 +124,7 @@ MACRO_GUARDS: List[Guard] = [
     Guard("exports: quotes of a shell", EXPORTS, "[;&|'\\\"]", "[;&|]", macro("export_of_a_shell_with_quotes"), FALSE_RACE),
     Guard("exports: words of make in a makefile", EXPORTS, "(*self.words_of_make, *flags)", "self.words_of_make", macro("macro_among_the_words_of_make_in_a_makefile"), YES),
     Guard("exports: MAKEFILES", MACROS, '"MAKEFILES", ', "", macro("makefiles_that_a_recipe_sets"), YES),
-    Guard("exports: files that the caller reads", EXPORTS, " or TAKES.search(text) is not None", "", macro("macro_of_a_file_that_the_caller_reads"), YES),
-    Guard("exports: loops of the caller", EXPORTS, 're.search(r"(?<![\\w.-])%s(?![\\w.-])" % re.escape(name), text) is not None', 'name + "=" in text', macro("macro_of_a_loop_of_the_caller"), YES),
-    Guard("exports: other callers", EXPORTS, "return not text or TAKES", "return True or TAKES", macro("macro_that_the_caller_does_not_set"), FALSE_RACE),
+    Guard("exports: the environment", EXPORTS, "return name in self.known.make.words.environment", "return False", macro("macro_of_a_file_that_the_caller_reads"), YES),
+    Guard("exports: the environment of each make", EXPORTS, "return name in self.known.make.words.environment", "import os; return name in os.environ", macro("macro_that_a_make_above_exports"), YES),
+    Guard("exports: other names in the environment", EXPORTS, "return name in self.known.make.words.environment", "return True", macro("macro_that_the_caller_does_not_set"), FALSE_RACE),
 ]

@@ -126,6 +126,8 @@ MACROS: Dict[str, Small] = {
     "export_of_a_shell_with_quotes": Small("safe", "P := 1\nall: s a b\ns: ; touch s\na: s ; $(eval X := set)touch a\nb: s\n\texport \"A=$(P)\"; echo $$A > b\n"),
     "export_in_words_of_make": Small("race", SEES),
     "macro_of_a_file_that_the_caller_reads": Small("race", SEES, {"vars": "X=1; export X\n"}),
+    "macro_that_a_make_above_exports": Small("race", "export X := 1\nall: ; $(MAKE) -C d\n", {"d/Makefile": "X = $(if $(filter a,$@),$(eval Z := set))\n" + PAIR % ("touch a", "echo '$(Z)' > b")}),
+    "macro_that_a_make_above_sets_for_itself": Small("safe", "X := 1\nall: ; fail=; X=1; $(MAKE) -C d || eval $$fail\n", {"d/Makefile": "X = $(if $(filter a,$@),$(eval Z := set))\n" + PAIR % ("touch a", "echo '$(Z)' > b")}),
     "macro_of_a_loop_of_the_caller": Small("race", SEES),
     "macro_that_the_caller_does_not_set": Small("safe", SEES),
     "macro_among_the_words_of_make_in_a_makefile": Small("race", "MAKEFLAGS += X=1\n" + PAIR % ("$(eval override X := set)touch a", "echo $$X > b")),
