@@ -11,7 +11,6 @@ from record.make.owners import Make, Owners, Work
 from record.make.words import makefiles
 from record.ninja.runs import Ninja
 from record.tools import shelltext
-from record.tools.texts import text_of
 from record.trace.lives import Life
 from record.trace.names import Names
 from record.warm import is_beyond
@@ -65,10 +64,7 @@ def interpreters(work: Work, assumed: Assumptions) -> None:
 def named_flags(make: Make, works: List[Work], assumed: Assumptions, spool: str) -> None:
     """Makefiles and recipes that name what holds the recorder's words: MAKEFLAGS, and PATH; and makefiles that run programs inside of make."""
     for name in sorted(makefiles(make.words)):
-        try:
-            text = text_of(os.path.join(make.folder, name))
-        except OSError:
-            continue
+        text = make.known_text(name) or ""
         found = FLAGS.search(text)
         if found:
             assumed.add("flags", "%s in %s" % (found.group(), name))

@@ -6,7 +6,6 @@ from typing import Iterator, List, Tuple
 
 from record.make.database import BEGINS, level
 from record.make.references import ANY, NAME, joined
-from record.tools.texts import text_of as plain_text
 
 LINE = r"((?:[^\n]*\\\n)*[^\n]*)"  # of a makefile
 ASSIGNED = re.compile(r"(?<!" + NAME + ")(" + NAME + r"+?)[ \t]*(?:[+?!]|:{1,3})?=" + LINE)
@@ -49,14 +48,6 @@ def defined_in(text: str) -> Iterator[Tuple[str, str]]:
         previous = line
     if depth:
         yield name, "\n".join(body)
-
-
-def text_of(path: str) -> str:
-    """A makefile's text; nothing where it is gone."""
-    try:
-        return plain_text(path)
-    except OSError:
-        return ""
 
 
 def without_printed(text: str) -> str:

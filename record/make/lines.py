@@ -105,17 +105,17 @@ def about_job(text: bytes) -> "tuple[bytes, bytes] | None":
     return found[:2] if found else (SIGNALLED, b"") if number_in(text, SIGNALLED, UNREAPED) else None
 
 
-def is_read(line: bytes) -> bool:
-    """Whether a line, without its newline, says that make reads a makefile."""
-    name = between(line, READ, b"...") or b""
+def name_of_read(line: bytes) -> bytes:
+    """The name of the makefile that make reads, as a line says that may have its newline; nothing where it is another line."""
+    name = between(line[:-1] if line.endswith(b"\n") else line, READ, b"...") or b""
     while any(name.endswith(way) for way in HOW_READ):
         name = name[:name.rfind(b" (")]
-    return name.endswith(b"'")
+    return name[:-1] if name.endswith(b"'") else b""
 
 
 def is_included(packet: bytes) -> bool:
     """Whether a write says that make reads a makefile which another one includes."""
-    return is_read(packet[:-1]) and any(packet.endswith(way + b"...\n") for way in HOW_READ)
+    return name_of_read(packet) != b"" and any(packet.endswith(way + b"...\n") for way in HOW_READ)
 
 
 def is_about_names(line: bytes) -> bool:
@@ -134,7 +134,7 @@ def is_word(packet: bytes) -> bool:
     line = text[:-1] if text.endswith(b"\n") else text
     if b"\n" in line:
         return False
-    return line in WHOLE or is_about_names(line) or is_read(line) or line.startswith(SYMBOL) and b" from " in line[len(SYMBOL):]
+    return line in WHOLE or is_about_names(line) or name_of_read(line) != b"" or line.startswith(SYMBOL) and b" from " in line[len(SYMBOL):]
 
 
 def is_look(data: bytes) -> bool:

@@ -1,12 +1,11 @@
 """Macros that recipes change with `$(eval ..)`: make's own memory, by which one recipe can see another."""
 
-import os
 import re
 from dataclasses import dataclass, field, replace
 from functools import cached_property
 from typing import Dict, FrozenSet, Iterable, Iterator, List, NamedTuple, Optional, Set, Tuple
 
-from record.make.assigned import assigned_in, late_in, text_of, without_printed
+from record.make.assigned import assigned_in, late_in, without_printed
 from record.make.database import LINES_TEXT, Base
 from record.make.exports import ALONE, WORD, Exports
 from record.make.globs import composes
@@ -15,7 +14,6 @@ from record.make.kept import Kept, bound_in
 from record.make.owners import Make
 from record.make.references import ANY, COMPUTED, EVAL, SECOND, Eval, end_of, evals, joined, matching, named, outermost, read_again, with_functions
 from record.make.words import makefiles
-from record.tools.texts import is_plain
 
 UNNAMED = "\x01"  # stands for all texts of macros that nobody can name: each macro that recipes change may have any of them
 CHANGES = ("eval", "guile")  # functions of make that change macros
@@ -62,9 +60,9 @@ class Macros:
 
     def __init__(self, make: Make, base: Base) -> None:
         self.make, self.base = make, base
-        paths = [os.path.join(make.folder, name) for name in sorted(makefiles(make.words)) if not make.never_read(name)]
-        self.text = "\n".join(text_of(path) for path in paths)
-        self.is_lost = bool(make.stale) or not all(map(is_plain, paths))  # then macros of several lines may hold anything
+        known = [make.known_text(name) for name in sorted(makefiles(make.words)) if not make.never_read(name)]
+        self.text = "\n".join(text or "" for text in known)
+        self.is_lost = bool(make.stale) or None in known  # then macros of several lines may hold anything
         recipes = (line for lines in base.recipes.values() for line in lines)
         texts = [self.text, *base.values.values(), *recipes, *(line for lines in base.bodies.values() for line in lines)]
         self.is_used = self.is_lost and LINES_TEXT in base.values.values() or any(may_change(text) for text in [*texts, "\n".join(texts)])

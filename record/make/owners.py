@@ -85,6 +85,13 @@ class Make:
         first, last = written.get(path, (0, 0))
         return any(first < place < last for place in self.reads.get(path, ()))
 
+    def known_text(self, name: str) -> Optional[str]:
+        """What a makefile said when make read it; None where it is gone."""
+        try:
+            return "\n".join(map(text_of, self.words.copies_of(name) or [os.path.join(self.folder, name)]))
+        except OSError:
+            return None
+
     def never_read(self, name: str) -> bool:
         """Whether it looked for a makefile, as for `-include`, and found none: that one says nothing."""
         path = os.path.normpath(os.path.join(self.folder, name))
@@ -186,7 +193,7 @@ class Owners:
     def add_make(self, life: Life, words: Words) -> None:
         """One more make, with what it said; that it did not end, or failed, is a hole."""
         make = Make(words, life, self.folder_of(life, words))
-        make.stale = {name for name in makefiles(words) if make.is_stale(name, self.written)}
+        make.stale = {name for name in makefiles(words) if not words.copies_of(name) and make.is_stale(name, self.written)}
         make.globs, make.listed_first = ([], []) if is_of_linker(make.life) else self.patterns_of(make)
         make.by_links = any(act.kind == READ and act.path in self.links and not OF_SYSTEM.match(act.path) for act in life.acts)
         self.makes.append(make)
@@ -199,8 +206,7 @@ class Owners:
         """The folder that make works in: `-C` moves it before it reads."""
         folder = life.starts[0][1] if life.starts else life.folder
         for act in life.acts:
-            if act.kind == ENTERED:
-                folder = act.path
+            folder = act.path if act.kind == ENTERED else folder
             if act.kind == READ and any(act.path.endswith("/" + os.path.basename(n)) for n in makefiles(words)):
                 break
         return folder
@@ -208,15 +214,10 @@ class Owners:
     @staticmethod
     def patterns_of(make: Make) -> Tuple[List[Asked], List[Asked]]:
         """The patterns of `$(wildcard ..)` in the makefiles that were read, and those of rules."""
-        texts: Dict[str, str] = {}
-        if make.stale:
+        known = {name: make.known_text(name) for name in makefiles(make.words)}
+        texts = {name: text for name, text in known.items() if text is not None}
+        if make.stale or any(not make.never_read(name) for name in known.keys() - texts):
             return [EVERYTHING], []
-        for name in makefiles(make.words):
-            try:
-                texts[name] = text_of(os.path.join(make.folder, name))
-            except OSError:
-                if not make.never_read(name):
-                    return [EVERYTHING], []
         names = [name for one in make.words.rounds for name in one.nodes]
         idle, own = idle_of(make.words), [make.words.args, make.words.flags]
         if idle is not None and any(map(TAKES.search, (*own, *texts.values()))):

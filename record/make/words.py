@@ -1,6 +1,7 @@
 """The reader of make's words: rounds, the targets that it considered in each, and its jobs."""
 
 import re
+from collections import Counter
 from dataclasses import dataclass, field
 from functools import cached_property, lru_cache
 from pathlib import Path
@@ -102,8 +103,16 @@ class Words:
     processes: List[Tuple[int, Job]] = field(default_factory=list)  # of all jobs, in order: the number and the job
     read: List[List[str]] = field(default_factory=list)  # makefiles that each start read before it made anything
     included: List[str] = field(default_factory=list)  # makefiles that recipes include while make expands them
+    place: str = ""  # how the paths of its copies begin
+    times: "Counter[str]" = field(default_factory=Counter)  # by name of a makefile: how often make has read it
+    copies: Dict[str, List[str]] = field(default_factory=dict)  # those that the build had made: copies of what make has read
     loaded: List[str] = field(default_factory=list)  # objects that it has loaded into itself
     holes: List[str] = field(default_factory=list)
+
+    def copies_of(self, name: str) -> List[str]:
+        """All that a makefile said when make read it, as paths of copies; none where there is not one for each time."""
+        found = self.copies.get(name, [])
+        return found if len(found) == self.times[name] else []
 
     @property
     def sorts_names(self) -> bool:
@@ -216,7 +225,9 @@ class _Reader:
             words.loaded.append(text.partition(" from ")[2])
         elif READING.match(text) and words.read:
             is_making = self.round is not None and self.round.start == len(words.read) - 1
-            (words.included if is_making else words.read[-1]).append(READING.match(text).group(1))  # type: ignore[union-attr]
+            self.name = READING.match(text).group(1)  # type: ignore[union-attr]
+            words.times[self.name] += 1
+            (words.included if is_making else words.read[-1]).append(self.name)
         elif self.round is not None:
             self.target(text)
 
@@ -229,6 +240,8 @@ class _Reader:
             words.flags = value
         elif key == "NAMES" and blank:
             words.environment = frozenset(value.split(" "))
+        elif key == "COPY" and blank:
+            words.copies.setdefault(self.name, []).append("%s%s.read" % (words.place, value))
         elif key == "BELOW" and blank:
             words.below = value == "1"
         elif key == "JOBS" and blank:
@@ -301,9 +314,9 @@ def failures(words: Words) -> Iterator[str]:
                 yield "a recipe failed for a makefile that need not be there, and what stands behind it did not run: %s" % name
 
 
-def read_words(pid: int, life: int, lines: Iterable[str]) -> Words:
+def read_words(pid: int, life: int, lines: Iterable[str], place: str = "") -> Words:
     """What a make process said, of the lines that the wrapper kept: each of its starts ends in a data base."""
-    words = Words(pid, life)
+    words = Words(pid, life, place=place)
     reader = _Reader(words)
     bases = 0  # how many data bases it printed
     base: List[str] = []  # the lines of the one that has not ended
@@ -334,7 +347,7 @@ def read_logs(spool: Path) -> List[Words]:
     for path in sorted(spool.glob("*.make")):
         pid, life, _ = path.name.split(".")
         with open(path, encoding="utf-8", errors="surrogateescape", newline="\n") as lines:
-            logs.append(read_words(int(pid), int(life), lines))
+            logs.append(read_words(int(pid), int(life), lines, str(path)[:-len("make")]))
     return logs
 
 

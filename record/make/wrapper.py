@@ -1,6 +1,6 @@
 """Stands in front of GNU make while a build is recorded.
 
-`race-record` compiles limits.py, lines.py, options.py, outputs.py and this file for SPOOL/bin/make, first on PATH, a program of its own. It runs the real make (named
+`race-record` compiles limits.py, lines.py, copied.py, options.py, outputs.py and this file for SPOOL/bin/make, first on PATH, a program of its own. It runs the real make (named
 in SPOOL/real) with words that let it say what it considers, takes make's own lines out of standard output again, into
 SPOOL/PID.make, and passes everything else on byte for byte. Queries (`make -n`, `-q`, `-t`, `-p`, `-v`, `-h`) and makes
 that were asked for debug words run untouched.
@@ -17,6 +17,7 @@ try:
 except ImportError:
     import signal
 
+from record.make.copied import Copies, now
 from record.make.limits import Kept, keep, note_cut
 from record.make.lines import TOKENS, VERSION, about_job, is_folder, is_included, is_look, is_word, may_go_on, named, place_of_end, place_of_start, remade, started
 from record.make.options import WORDS, asked, asks_jobs, jobs_of_call, plain_args, speak_english, without_words
@@ -51,6 +52,7 @@ class Splitter:
         self.says = says  # the log says which recipes print something
         self.has_said = False  # it says so of the recipe that runs
         self.is_said = False  # make has printed something for the recipe that is about to run
+        self.copies: "Copies | None" = None  # of the makefiles that make reads
         self.piece = b""  # the beginning of a line of make that is longer than a packet
 
     def pass_on(self, data: bytes) -> None:
@@ -202,6 +204,8 @@ class Splitter:
         elif is_word(packet):
             self.start = packet.startswith(b"Re-executing[")
             self.log.write(packet)
+            if self.copies is not None:
+                self.copies.add(packet, self.log)
         else:
             self.start = False
             self.note_said()
@@ -299,6 +303,7 @@ def as_usual() -> None:
 
 def run_logged(spool: str, name: str, real: str, args: "list[str]", flags: str, below: bool, slots: str) -> int:
     """Runs make with the recorder's words and keeps what it says; gives its raw status."""
+    began = now()
     extra, spoken = WORDS + (["-j1"] if asks_jobs(args, flags) else []), speak_english(os.environ)
     where, path, errors = goes_to(spool, 1), file_of(spool, 1), "joined" if is_one_file(1, 2) else goes_to(spool, 2)
     split = args.index("--") if "--" in args else len(args)
@@ -320,7 +325,9 @@ def run_logged(spool: str, name: str, real: str, args: "list[str]", flags: str, 
         note_start(log.name, real, name, args)
         log.write(head_of(args, flags, below, slots, where, path, errors, spoken))
         try:
-            raw = serve(Splitter(log, 1, where != ""), child, reading, writing)
+            splitter = Splitter(log, 1, where != "")
+            splitter.copies = Copies(spool, child, began)
+            raw = serve(splitter, child, reading, writing)
         except OSError as error:  # nobody reads it, or the device is full: make finds that out by itself
             if error.errno == errno.EFBIG:
                 note_cut(log.name)

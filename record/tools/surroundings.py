@@ -168,10 +168,11 @@ class Surroundings:
     def makefiles(self, life: Life, words: Words) -> Iterator[str]:
         """The texts of the makefiles that a make read; one that is gone, or is another one now, may hold anything."""
         folder = Owners.folder_of(life, words)
-        for path in (os.path.normpath(os.path.join(folder, name)) for name in makefiles(words)):
+        for name in makefiles(words):
+            path, copies = os.path.normpath(os.path.join(folder, name)), words.copies_of(name)
             read, later = life.events.get((READ, path), 0), self.changed.get(path, 0)
-            is_other = not os.path.isfile(path) and read or read < later and not path.endswith(WRITTEN_AGAIN)
-            yield ANYTHING if is_other else shelltext.contents(path)
+            is_other = not copies and (not os.path.isfile(path) and read or read < later and not path.endswith(WRITTEN_AGAIN))
+            yield ANYTHING if is_other else "\n".join(map(shelltext.contents, copies or [path]))
         yield " ".join((words.args, words.flags))
 
 

@@ -26,6 +26,8 @@ SEES = PAIR % (SETS, "echo $$X > b")
 # `say` asks for a macro whose name is put together, which may be one that sets any.
 FUNCTIONS = 'say = echo $(1)="$($(1))"\neach = $(foreach t,all,$(eval $(call rule,$(t))))\n'
 
+WRITTEN = "all:\ninclude a.d\n"  # a makefile that the command of the build writes, and a recipe writes again
+
 MACROS: Dict[str, Small] = {
     # texts that are read a second time
     "macro_behind_two_signs_that_eval_gets": Small("race", "body = $$(X)\n" + PAIR % (SETS, "$(eval T := $(body))echo '$(T)' > b")),
@@ -128,6 +130,11 @@ MACROS: Dict[str, Small] = {
     "macro_of_a_file_that_the_caller_reads": Small("race", SEES, {"vars": "X=1; export X\n"}),
     "macro_that_a_make_above_exports": Small("race", "export X := 1\nall: ; $(MAKE) -C d\n", {"d/Makefile": "X = $(if $(filter a,$@),$(eval Z := set))\n" + PAIR % ("touch a", "echo '$(Z)' > b")}),
     "macro_that_a_make_above_sets_for_itself": Small("safe", "X := 1\nall: ; fail=; X=1; $(MAKE) -C d || eval $$fail\n", {"d/Makefile": "X = $(if $(filter a,$@),$(eval Z := set))\n" + PAIR % ("touch a", "echo '$(Z)' > b")}),
+    # makefiles that are other ones when make has ended
+    "macro_of_a_makefile_that_is_written_again": Small("safe", WRITTEN + PAIR % ("echo '# new' > a.d; echo $(eval T := 1) > a", "echo '$(Z)' > b")),
+    "macro_that_sets_one_in_a_makefile_that_is_written_again": Small("race", WRITTEN + PAIR % ("echo '# new' > a.d; echo '$(call Z,1)' > a", "echo '$(Y)' > b")),
+    "export_in_a_makefile_that_is_written_again": Small("race", WRITTEN + PAIR % ("echo '# new' > a.d; " + SETS, "echo $$X > b")),
+    "makefile_that_is_remade_and_written_again": Small("race", WRITTEN + "a.d: ; echo 'Z = $$(eval Y := $$(1))$$(Y)' > a.d\n" + PAIR % ("echo '# new' > a.d; echo '$(call Z,1)' > a", "echo '$(Y)' > b")),
     "macro_of_a_loop_of_the_caller": Small("race", SEES),
     "macro_that_the_caller_does_not_set": Small("safe", SEES),
     "macro_among_the_words_of_make_in_a_makefile": Small("race", "MAKEFLAGS += X=1\n" + PAIR % ("$(eval override X := set)touch a", "echo $$X > b")),
@@ -153,6 +160,9 @@ class Makefiles(unittest.TestCase):
 
 COMMANDS.update({
     "export_in_words_of_make": ["make", "--eval=export X"],
+    "macro_of_a_makefile_that_is_written_again": ["sh", "-c", "echo 'Z = 1' > a.d; make"],
+    "macro_that_sets_one_in_a_makefile_that_is_written_again": ["sh", "-c", "echo 'Z = $(eval Y := $(1))$(Y)' > a.d; make"],
+    "export_in_a_makefile_that_is_written_again": ["sh", "-c", "echo 'export X' > a.d; make"],
     "macro_of_a_file_that_the_caller_reads": ["sh", "-c", ". ./vars; make"],
     "macro_of_a_loop_of_the_caller": ["sh", "-c", "for X in 1; do export X; make; done"],
     "macro_that_the_caller_does_not_set": ["sh", "-c", "set -e; Y=1 make"],

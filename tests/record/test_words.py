@@ -10,6 +10,15 @@ HEAD = ["ARGS all", "FLAGS ", "BELOW 0", "Reading makefiles...", "Updating goal 
 BASE = ["# Make data base, printed on Monday", "# Files", "a:", "", "# files hash-table stats:", "# Finished Make data base on Monday"]
 
 
+class Copies(unittest.TestCase):
+    """Copies of makefiles that are written again."""
+
+    def test_one_for_each_time(self) -> None:
+        a, b = "Reading makefile 'a.d' (search path)...", "Reading makefile 'b.d' (search path)..."
+        words = read_words(7, 0, [*HEAD[:4], a, "COPY 1", b, *HEAD[4:], *BASE, *HEAD[3:4], a, "COPY 2", b, "COPY 3", *HEAD[4:], *BASE, "EXIT 0"], "/s/7.0.")
+        self.assertEqual(([], ["/s/7.0.1.read", "/s/7.0.2.read"], []), (words.holes, words.copies_of("a.d"), words.copies_of("b.d")))
+
+
 class Holes(unittest.TestCase):
     """A data base that is not make's own, whole, is a hole."""
 

@@ -4,11 +4,15 @@ import io
 import os
 import subprocess
 import sys
+import tempfile
+import time
 import unittest
+from pathlib import Path
 from typing import Tuple
 
 import support
 from record.make import wrapper
+from record.make.copied import SECOND, Copies, now
 
 MUST = b" Must remake target 'a'.\n"
 BEGIN = b"Putting child 0x5f (a) PID 7 on the chain.\n"
@@ -103,6 +107,31 @@ class Starts(unittest.TestCase):
         text = "import sys; sys.path.insert(0, %r); import record.make.wrapper; print(*sorted({'re', 'enum', 'typing', 'collections'} & set(sys.modules)))" % str(support.TOP)
         ran = subprocess.run([sys.executable, "-ISBc", text], capture_output=True, check=True)
         self.assertEqual(b"\n", ran.stdout)
+
+
+class Copied(unittest.TestCase):
+    """Which makefiles are kept as make has read them."""
+
+    def copy(self, folder: str, name: str, began: int) -> "bytes | None":
+        """What is kept of a file in a folder by the stand-in for a make that began then."""
+        copies = Copies(folder, os.getpid(), began)
+        return copies.read(os.fsencode(os.path.join(folder, name)))
+
+    def test_files_that_the_build_has_written_before(self) -> None:
+        with tempfile.TemporaryDirectory() as folder:
+            for name in ("old", "real", "new"):
+                Path(folder, name).write_text("x")
+                time.sleep(0.02)
+            os.symlink("new", folder + "/link")
+            begun = now()
+            for name, began, kept in (("new", begun + SECOND, b"x"), ("old", begun + SECOND, None), ("new", begun - SECOND, None), ("link", begun + SECOND, b"x"),
+                                      ("link", os.lstat(folder + "/link").st_ctime_ns, None), ("gone", begun + SECOND, None), (".", begun + SECOND, None)):
+                self.assertEqual(kept, self.copy(folder, name, began), (name, began - begun))
+            time.sleep(0.02)
+            between = now()
+            time.sleep(0.02)
+            Path(folder, "new").write_text("x")
+            self.assertEqual(None, self.copy(folder, "link", between))
 
 
 class Said(unittest.TestCase):
