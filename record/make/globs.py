@@ -32,7 +32,7 @@ NAMED_BY_MACRO = re.compile(r"\$[({][^(){}\s,:]*\$(?!\$)")
 # A line of a makefile that is a rule, up to its recipe, and one that includes makefiles: make looks for the names in them.
 RULE = re.compile(r"(?m)^(?!\t)((?:[^\n=#:;]*\\\n)*[^\n=#;]*?:(?![:=])(?:[^\n;#=]*\\\n)*[^\n;#]*)")
 INCLUDE = re.compile(r"(?m)^[ \t]*[-s]?include[ \t]+((?:[^\n#]*\\\n)*[^\n#]*)")
-LINE = re.compile(r"(?m)^(?:[^\n]*\\\n)*[^\n]+")
+LINE = re.compile(r"(?m)^(?:[^\n]*?(?<!\\)(?:\\\\)*\\\n)*[^\n]+")  # it goes on behind an odd number of backslashes
 SAYS = re.compile(r" *\$([({])(?:info|warning|error)[ \t]")
 COMES_TO_NOTHING = re.compile(SAYS.pattern.replace("info", "eval|info"))
 # Lines that are no rules whatever their references come to: recipes and words of make.
@@ -80,6 +80,8 @@ class Macros:
         ends: Dict[str, int] = {}  # where the last value of a name ends: what stands in it is no other one
         for head in HEAD.finditer(self.text):
             name = head.group(1)
+            if head.group() == name + "=" and self.text.startswith(("$(%s)" % name, "${%s}" % name), head.end()):
+                continue  # of a shell: a macro of make cannot ask for itself
             if head.start() >= ends.get(name, 0):
                 value = VALUE.match(self.text, head.end())
                 found.setdefault(name, []).append(value.group() if value else "")
@@ -213,7 +215,9 @@ def listed(texts: List[str], values: Dict[str, str], names: Iterable[str] = ("*"
     found: Set[Asked] = set()
     if any(macros.may_be_rule(line.group()) for line in LINE.finditer(macros.text)):
         found.add(EVERYTHING)
-    for text in [*(text for text in RULE.findall(macros.text) if not is_alone(text, SAYS)), *INCLUDE.findall(macros.text)]:
+    lines = (line.group() for line in LINE.finditer(macros.text))
+    rules = [found.group(1) for found in map(RULE.match, (line for line in lines if not is_alone(line, SAYS))) if found is not None]
+    for text in [*rules, *INCLUDE.findall(macros.text)]:
         if any(text.count(one) > text.count(other) for one, other in BRACKETS.items()):
             found.add(EVERYTHING)  # a function goes on behind what looks like the end of the rule
         if "$$" in text and macros.is_plain_later(text):

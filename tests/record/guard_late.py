@@ -31,7 +31,7 @@ LATE_GUARDS: List[Guard] = [
     Guard("makes inside: a macro that is no rule with a pattern", "make/globs.py", " and any(map(MAGIC.search, todo))", "", late("rule_that_is_a_macro_without_a_pattern"), FALSE_RACE),
     Guard("makes inside: a rule that begins with a macro", "make/globs.py", ' or re.search("[:=]", outside(text)):', ":", late("rule_that_begins_with_a_macro"), FALSE_RACE),
     Guard("makes inside: a line that only says something", "make/globs.py", " or is_alone(text, COMES_TO_NOTHING)", "", late("line_that_says_something"), FALSE_RACE),
-    Guard("makes inside: a line that says a rule", "make/globs.py", "for text in RULE.findall(macros.text) if not is_alone(text, SAYS)", "for text in RULE.findall(macros.text)", late("line_that_says_a_rule"), FALSE_RACE),
+    Guard("makes inside: a line that says a rule", "make/globs.py", "(line for line in lines if not is_alone(line, SAYS))", "lines", late("line_that_says_a_rule"), FALSE_RACE),
     Guard("makes inside: a line that says something and is a rule", "make/globs.py", ' and text[call.end() + len(words) + 1:].strip()[:1] in ("", "#")', "", late("line_that_says_something_before_a_rule"), YES),
     Guard("makes inside: a rule with a semicolon", "make/globs.py", "if any(text.count(one) > text.count(other) for", "if any(False for", late("rule_with_a_semicolon"), YES),
     Guard("wildcard: a macro in a loop", "make/memory.py", "*(name for one in texts for name in looped(one))", "", late("wildcard_of_a_macro_in_a_loop"), YES),

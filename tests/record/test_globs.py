@@ -30,14 +30,14 @@ class Globs(unittest.TestCase):
 
     def test_macros_without_a_pattern(self) -> None:
         for text in ("D := src\nD := lib\n", "D := src\nD += lib/$(E)\nE = $(notdir $(CURDIR))\n", "all: D = a\nD = src\n", "D ?= ./\n",
-                     "D := $(dir $(wildcard lib/x.c))\n", "D := $(E:.c=.o)\nE := $(sort x y)\n"):
+                     "D := $(dir $(wildcard lib/x.c))\n", "D := $(E:.c=.o)\nE := $(sort x y)\n", "D = src\nX = a; D=$(D); export D; ls *\n"):
             self.assertEqual({"*.c"}, patterns([text + "S := $(wildcard $(D)/*.c)\n"], {"D": "src"}), text)
         self.assertEqual({"*.c"}, patterns(["V := $(shell cat v)\nD = d.$(V)\nD += e\nS := $(wildcard $(D)/*.c)\n"], {"V": "1.2", "D": "d.$(V) e"}))
         self.assertEqual({"*.c"}, patterns(["S := $(wildcard *.c)\ninclude $(wildcard $(S:.c=.d))\n"], {"S": "a.c b.c"}))
 
     def test_macros_that_may_hold_a_pattern(self) -> None:
         for text in ("D := src\nD := lib*\n", "D := src\nD += $(shell ls)\n", "D := src\nD += $(E)\nE = [ab]\n", "D = $(call f,x)\nD += y\n",
-                     "$(foreach D,a* b*,$(wildcard $(D)/x))\n", "define D\na*\nendef\n", "$(eval D := a*)\n", "all: D = a*\nD = src\n"):
+                     "$(foreach D,a* b*,$(wildcard $(D)/x))\n", "define D\na*\nendef\n", "$(eval D := a*)\n", "all: D = a*\nD = src\n", "D = src\nD:=$(D)*\n", "D = src\nX = $(E); D=$(DIR)*\n"):
             self.assertIn("*", patterns([text + "S := $(wildcard $(D)/x)\n"], {"D": "src"}), text)
         self.assertEqual({"*"}, patterns(["S := $(wildcard $(D)/x)\nD := x\nD += y\n"], {"D": "$(lines)*"}))
 

@@ -171,6 +171,11 @@ class Texts(unittest.TestCase):
         for one, other in (("a", "O-b = *.c"), ("*", ""), ("$(X)", "X = a:p=*"), ("$(shell x)", ""), ("a", "O-b = $(shell x)")):
             self.assertIn("*", {part[:1] for _, part in listed([text % (one, other)], {})}, (one, other))
 
+    def test_rules_in_lines_that_go_on(self) -> None:
+        for text, wanted in (("X = a \\\n  b: *.c\n", set()), ("all:\n\tx \\\n  y: *.c\n", set()), ("X = a\\\\\nb: *.c\n", {"*.c"}), ("b: x \\\n *.c\n", {"*.c"}),
+                             ("$(info a: *.c; b)\n", set()), ("$(info a) b: *.c; b\n", {"*", "*.c"})):
+            self.assertEqual(wanted, {part for _, part in listed([text], {})}, text)
+
     def test_rules_that_nothing_asks_for(self) -> None:
         for text, asked, wanted in (("z: *.x", "y", ""), ("z: *.x", "z", "*.x"), ("z: *.x", "y w.x", "*.x"), ("z: d/*.x", "y w.x", ""), ("z: ./*.x", "y ./w.x", "*.x"), ("z: *.x", "*", "*.x"),
                                     (".z: *.x", "y", "*.x"), ("$(Z): *.x", "y", "*.x"), ("z%: *.x", "y", "*.x"), ("z: *.x $$(a)", "y", "*.x *"), ("include *.x", "y", "*.x"), ("a z: *.x", "z", "*.x")):
