@@ -16,7 +16,7 @@ from record.assumptions import Assumptions
 from record.cleaned import Cleaned
 from record.clock import named_by_time
 from record.configured import find_configured
-from record.failed import explained, failures, lacked
+from record.failed import explained, failures, lacked, tried
 from record.folder import Record, write_record
 from record.footprints import write_footprints
 from record.granted import add_granted, idle_targets, named_by_ninja
@@ -155,6 +155,8 @@ def import_record(spool: Path, names: Names, kept: Kept, real: str, folder: str,
         record.hints = lacked(owners.makes, names, folder)
     else:
         record.holes += ["a make failed: %s" % one for one in failures(owners.makes, [], folder)]
+    for make in tried(owners.makes):
+        assumed.add("tried", make.folder)
     if not owners.makes and not ninjas:
         record.holes.append("no make and no ninja ran")
     for name in unasked(owners.makes, ninjas):

@@ -159,8 +159,15 @@ SMALL: Dict[str, Small] = {
     "folder_that_is_copied": Small("race", "all: a b\na: ; mkdir -p d/s/t; touch a\nb: ; cp -r d e; touch b\n", {"d/x": "x"}),
     "folder_by_a_link": Small("race", "all: a b\na: ; echo new > l/x; touch a\nb: ; cat d/x > b\n", {"d/x": "x"}, "ln -s d l"),
     "many_recipes": Small("race", "T := $(shell seq 1500)\nall: $T last\n$T: ; @echo $@ > $@\nlast: $(filter-out 77,$T) ; @cat 77 > $@\n"),
+    "make_that_cmake_tries": Small("safe", "all: ; (cd CMakeFiles/CMakeTmp && $(MAKE)) || touch all\n", {"CMakeFiles/CMakeTmp/Makefile": "t: ; false\n"}, says="what CMake's try_compile builds"),
+    # two recipes that meet on a folder's time, and on files in it
+    "files_before_folders": Small("race", "all: a b\na: ; mkdir -p A; echo 1 > A/z; ls -ld A > a\nb: ; mkdir -p A; echo 2 > A/z; touch A/b\n", says="RACE  A/z\n"),
     # double colons
     "double_colon_holds_back": Small("safe", "all: dc\ndc:: ; echo 1 > x\ndc:: p ; echo 2 > y\np: ; cp x p\n"),
+    "double_colon_of_one_user": Small("safe", "all: y u\ny: ; touch y\nx:: ; echo 1 > one\nx:: ; echo 2 > two\nu: x ; cat two > u\n"),
+    "double_colon_of_two_users": Small("race", "all: y u v\ny: ; touch y\nx:: ; echo 1 > one\nx:: ; echo 2 > two\nu: x ; touch u\nv: x ; cat two > v\n", says="advice: write the rules of x as one"),
+    "double_colon_that_is_a_goal": Small("race", "x:: ; echo 1 > one\nx:: ; echo 2 > two\nu: x ; cat two > u\n", lacks="(checked"),
+    "double_colon_that_reads": Small("race", "all: gen x\ngen: ; echo > gen\nx:: ; touch one\nx:: ; cat gen > two\n", says="fix: x:: gen  (in that rule, at Makefile:4)"),
     "double_colon_ages": Small("safe", "all: p dc\np: ; touch p\ndc:: ; echo 1 >> dc\ndc:: p ; echo 2 >> dc\n", {"dc": "dc"}, OLD + "dc"),
     # the search for implicit rules
     "search_sees_a_name_that_goes": Small("race", "all: gen sub/z.t\n%.t: %.a ; cp $< $@\n%.t: %.b ; cp $< $@\ngen: ; rm sub/z.a; touch gen\n", {"sub/z.a": "a", "sub/z.b": "b"}),
@@ -278,6 +285,7 @@ SMALL: Dict[str, Small] = {
     "two_builds_at_once": Small("safe", "all: a\na: ; sleep 0.2; touch a\n", {"other.mk": "all: b\nb: ; sleep 0.2; touch b\n"}, says="two makes or ninjas that ran at once"),
 }
 COMMANDS: Dict[str, List[str]] = {
+    "double_colon_that_is_a_goal": ["make", "x", "u"],
     "value_that_looks_like_one_job": ["make", "X=-v -j1"],
     "script_of_make": ["./rules", "all"],
     "jobs_of_a_makefile_and_one_job": ["make", "-j1"],
