@@ -115,10 +115,11 @@ def lacked(makes: Sequence[Make], names: Names, folder: str) -> List[str]:
     failed = {id(make) for make in makes if make.words.status} - ignored(makes)
     jobs = [(make, found[1]) for make in makes if id(make) in failed for found in [failed_job(make)] if found is not None]
     missed = [(make, job, {path for kind, path in make.work.get(id(job), Work()).events if kind == "N"}) for make, job in jobs]
-    innermost = [paths for make, job, paths in missed if not failed.intersection(inner(make.work.get(id(job), Work())))]
-    made = unmade(makes, names, folder) if jobs else {}
+    own = [(make.life.died, paths) for make, job, paths in missed if not failed.intersection(inner(make.work.get(id(job), Work())))]
+    first = min(own, key=lambda one: one[0])[1] if own else set()
+    made = unmade(makes, names, folder) if first else {}
     lines = ["%s looks for %s, which %s makes, and does not wait for it" % (job.target, os.path.relpath(path, make.folder), made[path])
-             for make, job, paths in missed for path in paths.intersection(made, *innermost[:1])]
+             for make, job, paths in missed for path in paths & first & made.keys()]
     return sorted(set(lines))[:HINTS]
 
 

@@ -38,6 +38,7 @@ from record.tools.jvm import settle_machines
 from record.tools.modules import settle_modules
 from record.tools.python import settle
 from record.tools.scripts import settle_scripts
+from record.tools.tex import settle_tex
 from record.trace.calls import Calls
 from record.trace.lives import Life
 from record.trace.names import Names, mount_points
@@ -83,6 +84,7 @@ def settle_all(replay: Calls, spool: Path, assumed: Assumptions) -> Owners:
     for kind, example in chain(settle(replay.all, replay.tops), settle_modules(replay.all)):
         assumed.add(kind, example)
     settle_machines(replay.all)
+    settle_tex(replay.all)
     for words in settle_caches(replay.all, replay.tops):
         assumed.add("caches", words)
     markers = settle_exists(replay.all, logs)

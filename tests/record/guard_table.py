@@ -219,7 +219,7 @@ OWNERS: List[Guard] = [
     Guard("report: files before folders", "judge.py", "        verdict.races = on_files(verdict.races, tasks)\n", "", small("files_before_folders"), UNSAID),
     Guard("failures: what CMake tries", "failed.py", "found = {id(make) for make in tried(makes)}", "found: Set[int] = set()", small("make_that_cmake_tries"), WITHHELD),
     Guard("failures: what CMake tries, said", "importing.py", '        assumed.add("tried", make.folder)\n', "        pass\n", small("make_that_cmake_tries"), UNSAID),
-    Guard("report: what makes inside of a recipe look for", "failed.py", "paths.intersection(made, *innermost[:1])", "paths.intersection(made)",
+    Guard("report: what makes inside of a recipe look for", "failed.py", "paths & first & made.keys()", "paths & made.keys()",
           "test_failed.Failed.test_targets_of_makes_inside_are_not_lacked"),
     Guard("report: no fix is checked beside a look that no line orders", "report.py", " and not any(without_line(judged.about, one.path, one.first, one.second) for one in judged.verdict.races)", "",
           "test_messages.NoVerdict.test_no_fix_is_checked_beside_a_look_that_no_line_orders"),

@@ -44,7 +44,12 @@ class Failed(unittest.TestCase):
         _, hints = self.failed(loop, {**looks, "b/Makefile": "all: ; test -e ../a/r\n"})
         self.assertEqual(["all looks for %sa/r, which a/Makefile:3 makes, and does not wait for it" % up for up in ("../", "")], hints)
         by_hand = ["if `make -j1` fails without race-record too, repair that first; if not, report it"]
-        self.assertEqual(by_hand, self.failed(loop, {**looks, "b/Makefile": "all: ; false\n"})[1])
+        self.assertEqual(by_hand, self.failed(loop, {**looks, "b/Makefile": "all: ; test -e nothing\n"})[1])
+
+    def test_no_rule_inside(self) -> None:
+        inside = {"a/Makefile": "all: p q\np: ; test -e r || touch p\nr: ; touch r\n"}
+        holes, hints = self.failed("all: ; $(MAKE) -C a\n", inside)
+        self.assertEqual(([END + "; no rule makes q (make -C a)"], ["if `make -j1` fails without race-record too, repair that first; if not, report it"]), (holes, hints))
 
     def test_what_cmake_tries(self) -> None:
         holes, _ = self.failed("all:\n\t(cd CMakeFiles/CMakeTmp && $(MAKE)); false\n", {"CMakeFiles/CMakeTmp/Makefile": "t: ; false\n"})
