@@ -64,6 +64,9 @@ def replay_trace(spool: Path, names: Names, real: str, folder: str, tops: List[s
     return replay
 
 
+PRINTED = "a make that ran past the recorder prints the recorder's words, where a make started it: a file that keeps what it printed is not as without race-record, so clean the tree before you build again"
+
+
 @dataclass
 class Imported:
     """What a trace and the words of makes come to."""
@@ -108,6 +111,7 @@ def note_holes(spool: Path, replay: Calls, owners: Owners, names: Names, record:
     record.holes += ["--fresh copied %s, which has a name outside of the folder too, and the build writes it" % path for path in replay.hard_links if path in names.shared]
     record.holes += ["nobody knows who started a process: " + one for one in replay.strays()]
     record.holes += ["a make ran past the recorder: " + p for p in replay.past]
+    record.notes += [PRINTED] if replay.past and owners.makes else []
     for path in sorted(spool.glob("*.past")):
         record.holes += ["a make that prints its own words (-d, -p, --debug), or has nowhere to print them, ran past the recorder: " + t for t in path.read_text(errors="replace").splitlines()]
 

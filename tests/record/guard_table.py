@@ -217,6 +217,7 @@ OWNERS: List[Guard] = [
     Guard("report: a later rule with two colons has no line", "fixes.py", 'if early.get("colons", 0) > 1 else', "if False else", small("double_colon_of_two_users"), UNSAID),
     Guard("report: the line of a rule with two colons", "fixes.py", 'if late.get("colons") else', "if False else", small("double_colon_that_reads"), UNSAID),
     Guard("report: files before folders", "judge.py", "        verdict.races = on_files(verdict.races, tasks)\n", "", small("files_before_folders"), UNSAID),
+    Guard("notes: what a make past the recorder prints", "importing.py", "[PRINTED] if replay.past and owners.makes else []", "[]", small("make_by_its_path_whose_words_are_kept"), UNSAID),
     Guard("failures: what CMake tries", "failed.py", "found = {id(make) for make in tried(makes)}", "found: Set[int] = set()", small("make_that_cmake_tries"), WITHHELD),
     Guard("failures: what CMake tries, said", "importing.py", '        assumed.add("tried", make.folder)\n', "        pass\n", small("make_that_cmake_tries"), UNSAID),
     Guard("report: what makes inside of a recipe look for", "failed.py", "paths & first & made.keys()", "paths & made.keys()",
