@@ -20,7 +20,7 @@ def in_colons(labels: Dict[str, Any], first: str, second: str) -> str:
     """The line of a rule with two colons that waits for `first`, with its place: a line with one colon would be an error of the makefile, and
     one more rule with two would be another rule. Nothing where `second` is no such rule."""
     early, late = labels.get(first, {}), labels.get(second, {})
-    place = "  (in that rule, at %s:%d)" % (late["file"], late["line"]) if late.get("file") else ""
+    place = "  (in that rule, at %s:%d)" % (late["file"], late.get("line", 0)) if late.get("file") else ""
     return "%s:: %s%s" % (late.get("target") or second, early.get("target") or first, place) if late.get("colons") else ""
 
 

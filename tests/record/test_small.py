@@ -42,6 +42,10 @@ SMALL: Dict[str, Small] = {
     # numbers of jobs
     "folder_that_looks_like_one_job": Small("race", "all: ; $(MAKE) -Cobj1\n", {"obj1/Makefile": "all: a b\na: ; echo a > a\nb: ; cp a b\n"}),
     "value_that_looks_like_one_job": Small("race", "all: a b\na: ; echo a > a\nb: ; cp a b\n"),
+    "one_job_that_the_environment_says": Small("race", "all: ; ./run\n", {"run": "#!/bin/sh\nmake -j${JOBS:-1} -f in.mk\n", "in.mk": "all: a b\na: ; echo a > a\nb: ; cp a b\n"}, "chmod +x run"),
+    "one_job_that_a_program_says": Small("race", "all: ; env python3 run\n", {"run": "import os; os.execlp('make', 'make', '-j%d' % 1, '-f', 'in.mk')\n", "in.mk": "all: a b\na: ; echo a > a\nb: ; cp a b\n"}),
+    "one_job_of_a_script": Small("safe", "all: ; ./run\n", {"run": "#!/bin/sh\nmake -j 1 -f in.mk\n", "in.mk": "all: a b\na: ; echo a > a\nb: ; cp a b\n"}, "chmod +x run"),
+    "one_job_by_way_of_a_program": Small("safe", "all: ; env X=1 $(MAKE) -rj1 -f in.mk\n", {"in.mk": "all: a b\na: ; echo a > a\nb: ; cp a b\n"}),
     "jobs_in_two_words": Small("safe", "all: ; $(MAKE) -kj 1 -f in.mk\n", {"in.mk": "all: a b\na: ; echo a > a\nb: ; cp a b\n"}),
     "jobs_that_a_recipe_hands_on": Small("race", "all: ; env -u MAKEFLAGS $(MAKE) $(MFLAGS) -f in.mk\n", {"in.mk": "all: a b\na: ; echo a > a\nb: ; cp a b\n"}),
     "own_jobs_that_a_recipe_hands_on": Small("race", "all: ; env -u MAKEFLAGS $(MAKE) $(MFLAGS) -f in.mk\n", {"in.mk": "all: a b\na: ; echo a > a\nb: ; cp a b\n"}),
