@@ -12,7 +12,7 @@ from record.make.owners import Make, Work
 from record.make.words import Job, Round
 from record.ninja.manifest import Edge
 from record.ninja.runs import Job as NinjaJob
-from record.ninja.runs import Ninja
+from record.ninja.runs import TRIED, Ninja
 from record.trace.names import Names
 
 HINTS = 5
@@ -76,9 +76,14 @@ def inner(work: Work) -> Set[int]:
     return {id(one) for one in (*work.makes, *work.ninjas)}
 
 
+def tried(makes: Sequence[Make]) -> List[Make]:
+    """The makes that failed for CMake, which only tried what a compiler does, and goes on then."""
+    return [make for make in makes if make.words.status and TRIED.search(make.folder)]
+
+
 def ignored(makes: Sequence[Make]) -> Set[int]:
-    """What ran inside of other recipes than the one by which a make failed: whether it failed did not matter."""
-    found: Set[int] = set()
+    """What ran inside of other recipes than the one by which a make failed, and what CMake only tries: whether it failed did not matter."""
+    found = {id(make) for make in tried(makes)}
     for make in makes:
         failing = failed_job(make) if make.words.status else None
         if failing is not None:
@@ -95,23 +100,26 @@ def place(own: str, file: str, line: int, folder: str) -> str:
 def unmade(makes: Sequence[Make], names: Names, folder: str) -> Dict[str, str]:
     """The files that have a rule with a recipe which no make ran, by their paths, with the place of the rule."""
     found: Dict[str, str] = {}
+    ran = {names.find(make.folder, job.target, True).path for make in makes for one in make.words.rounds for job in one.jobs}
     for make in makes:
-        ran = {job.target for one in make.words.rounds for job in one.jobs}
         for base in (one.base for one in make.words.rounds if one.base):
-            for target in base.recipes.keys() - ran - base.phony:
+            for target in base.recipes.keys() - base.phony:
                 file, line = base.places.get(target, [("", 0)])[0]
                 found[names.find(make.folder, target, True).path] = place(make.folder, file, line, folder) or "another rule"
-    return found
+    return {path: where for path, where in found.items() if path not in ran}
 
 
 def lacked(makes: Sequence[Make], names: Names, folder: str) -> List[str]:
     """What the recipe that failed first looked for and did not find, where another rule makes it: had it waited for that, the file
-    would have been there."""
+    would have been there. The recipes around it look for what makes inside of them look for; there this file alone counts."""
     failed = {id(make) for make in makes if make.words.status} - ignored(makes)
     jobs = [(make, found[1]) for make in makes if id(make) in failed for found in [failed_job(make)] if found is not None]
-    made = unmade(makes, names, folder) if jobs else {}
+    missed = [(make, job, {path for kind, path in make.work.get(id(job), Work()).events if kind == "N"}) for make, job in jobs]
+    own = [(make.life.died, paths) for make, job, paths in missed if not failed.intersection(inner(make.work.get(id(job), Work())))]
+    first = min(own, key=lambda one: one[0])[1] if own else set()
+    made = unmade(makes, names, folder) if first else {}
     lines = ["%s looks for %s, which %s makes, and does not wait for it" % (job.target, os.path.relpath(path, make.folder), made[path])
-             for make, job in jobs for kind, path in make.work.get(id(job), Work()).events if kind == "N" and path in made]
+             for make, job, paths in missed for path in paths & first & made.keys()]
     return sorted(set(lines))[:HINTS]
 
 

@@ -16,7 +16,7 @@ from record.assumptions import Assumptions
 from record.cleaned import Cleaned
 from record.clock import named_by_time
 from record.configured import find_configured
-from record.failed import explained, failures, lacked
+from record.failed import explained, failures, lacked, tried
 from record.folder import Record, write_record
 from record.footprints import write_footprints
 from record.granted import add_granted, idle_targets, named_by_ninja
@@ -38,6 +38,7 @@ from record.tools.jvm import settle_machines
 from record.tools.modules import settle_modules
 from record.tools.python import settle
 from record.tools.scripts import settle_scripts
+from record.tools.tex import settle_tex
 from record.trace.calls import Calls
 from record.trace.lives import Life
 from record.trace.names import Names, mount_points
@@ -63,6 +64,9 @@ def replay_trace(spool: Path, names: Names, real: str, folder: str, tops: List[s
     return replay
 
 
+PRINTED = "a make that ran past the recorder prints the recorder's words, where a make started it: a file that keeps what it printed is not as without race-record, so clean the tree before you build again"
+
+
 @dataclass
 class Imported:
     """What a trace and the words of makes come to."""
@@ -83,6 +87,7 @@ def settle_all(replay: Calls, spool: Path, assumed: Assumptions) -> Owners:
     for kind, example in chain(settle(replay.all, replay.tops), settle_modules(replay.all)):
         assumed.add(kind, example)
     settle_machines(replay.all)
+    settle_tex(replay.all)
     for words in settle_caches(replay.all, replay.tops):
         assumed.add("caches", words)
     markers = settle_exists(replay.all, logs)
@@ -106,6 +111,7 @@ def note_holes(spool: Path, replay: Calls, owners: Owners, names: Names, record:
     record.holes += ["--fresh copied %s, which has a name outside of the folder too, and the build writes it" % path for path in replay.hard_links if path in names.shared]
     record.holes += ["nobody knows who started a process: " + one for one in replay.strays()]
     record.holes += ["a make ran past the recorder: " + p for p in replay.past]
+    record.notes += [PRINTED] if replay.past and owners.makes else []
     for path in sorted(spool.glob("*.past")):
         record.holes += ["a make that prints its own words (-d, -p, --debug), or has nowhere to print them, ran past the recorder: " + t for t in path.read_text(errors="replace").splitlines()]
 
@@ -155,6 +161,8 @@ def import_record(spool: Path, names: Names, kept: Kept, real: str, folder: str,
         record.hints = lacked(owners.makes, names, folder)
     else:
         record.holes += ["a make failed: %s" % one for one in failures(owners.makes, [], folder)]
+    for make in tried(owners.makes):
+        assumed.add("tried", make.folder)
     if not owners.makes and not ninjas:
         record.holes.append("no make and no ninja ran")
     for name in unasked(owners.makes, ninjas):

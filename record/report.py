@@ -8,7 +8,7 @@ from dataclasses import dataclass, field
 from pathlib import Path
 from typing import Any, Dict, List, Tuple
 
-from record.fixes import in_project
+from record.fixes import in_project, later_rule
 from record.judge import Race, Verdict, explained
 from record.ninja.fix import pool_text
 from record.pages import after_no_verdict
@@ -64,13 +64,14 @@ def target(about: Dict[str, Any], label: str) -> str:
     return about["labels"].get(label, {}).get("target") or label
 
 
-def first_look(about: Dict[str, Any], path: str, first: str, second: str) -> str:
-    """What to do where no line orders two tasks, since make itself looks for a name when it first considers a target; nothing where one does."""
+def without_line(about: Dict[str, Any], path: str, first: str, second: str) -> str:
+    """What to do where no line orders two tasks: make itself looks for a name when it first considers a target, or one is a later rule with two
+    colons. Nothing where a line does."""
     lookers = [target(about, one) for one in (first, second) if about["labels"].get(one, {}).get("kind") == "first"]
     if lookers and path not in lookers:
         name = file_of(path) if about["meanings"].get(path) else path
         return "name %s in a rule, and a library not as -lNAME: make looks for it when it first considers the target" % name
-    return "let one recipe alone write it; make asks whether it is there before that recipe has run" if lookers else ""
+    return "let one recipe alone write it; make asks whether it is there before that recipe has run" if lookers else later_rule(about["labels"], first)
 
 
 def race_text(about: Dict[str, Any], race: Race, fixes: List[str], is_fixed: bool) -> List[str]:
@@ -85,7 +86,7 @@ def race_text(about: Dict[str, Any], race: Race, fixes: List[str], is_fixed: boo
     own = race.path in (target(about, race.first), target(about, race.second))
     if race.first_does == race.second_does == "writes" and not meaning and not own:
         lines.append("  advice: give each recipe a name of its own for this file, such as %s.$@" % os.path.basename(name))
-    instead = first_look(about, race.path, race.first, race.second)
+    instead = without_line(about, race.path, race.first, race.second)
     if instead:
         return lines + ["  advice: " + instead]
     fix = in_project(about, race.first, race.second, name) or "%s: %s" % (target(about, race.second), target(about, race.first))
@@ -111,7 +112,7 @@ def races_text(judged: Judged, colour: Colours) -> Tuple[List[str], int, int]:
     for race in judged.verdict.races:
         groups.setdefault((race.path, race.first if race.first_does == "writes" else race.second), []).append(race)
     lines: List[str] = []
-    is_fixed = judged.verdict.is_fixed and not any(first_look(judged.about, one.path, one.first, one.second) for one in judged.verdict.races)
+    is_fixed = judged.verdict.is_fixed and not any(without_line(judged.about, one.path, one.first, one.second) for one in judged.verdict.races)
     for (_, _), races in list(groups.items())[:SHOWN_RACES]:
         text = race_text(judged.about, races[0], judged.verdict.fix, is_fixed)
         lines += [colour.bad + text[0] + colour.end] + text[1:]

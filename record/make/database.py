@@ -28,6 +28,8 @@ class Colons:
     prerequisites: List[str]
     order_only: List[str]
     is_empty: bool = True  # it has no recipe, or one that starts nothing
+    place: Tuple[str, int] = field(default=("", 0), compare=False)  # of its recipe
+    first_line: str = field(default="", compare=False)
 
 
 @dataclass
@@ -88,7 +90,8 @@ class _Files:
         """A line of a recipe. Each begins with a tab, or what `.RECIPEPREFIX` says; behind a backslash it goes on as it stands."""
         if self.name and text.strip():
             if self.name in self.base.double and text.strip().lstrip("@+-").strip() not in ("", ":"):  # make starts nothing for these
-                self.base.double[self.name][-1].is_empty = False
+                rule = self.base.double[self.name][-1]
+                rule.first_line, rule.is_empty = rule.first_line or text[1:], False
             self.base.recipes.setdefault(self.name, []).append(text if self.goes_on else text[1:])
         self.goes_on = is_continued(text)
 
@@ -103,6 +106,8 @@ class _Files:
         place = PLACE.match(text)
         if place and self.name:
             base.places.setdefault(self.name, []).append((place.group(1), int(place.group(2))))
+            for rule in base.double.get(self.name, [])[-1:]:
+                rule.place = base.places[self.name][-1]
         elif text.startswith("#  Implicit rule search has been done"):
             base.implicit.add(self.name)
         elif text.startswith("#  File is an intermediate prerequisite"):

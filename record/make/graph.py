@@ -51,6 +51,7 @@ class Graph:
         self.read_nodes()
         self.split_double_colons()
         self.join_grouped()
+        self.wait_for_all_rules()
         self.goals = [n for n in self.round.goals if n in self.nodes]
 
     # ---------------------------------------------------------------- nodes
@@ -71,7 +72,7 @@ class Graph:
             node.phony = name in base.phony
 
     def split_double_colons(self) -> None:
-        """The rules of one target run one after the other; who needs the target waits for the first alone."""
+        """The rules of one target run one after the other; who needs the target is only sure to wait for the first."""
         for name, rules in self.base.double.items():
             node = self.nodes.get(name)
             if node is None or len(rules) < 2:
@@ -104,6 +105,28 @@ class Graph:
             for node in self.nodes.values():
                 if first.label in node.prerequisites and node.name != first.name:
                     node.prerequisites.setdefault(parts[0].label)
+
+    def wait_for_all_rules(self) -> None:
+        """Who alone needs a double-colon target waits for all of its rules. Make passes over a target that it has met in the same pass, though the
+        first rule may have ended since and the second not begun; so this holds where it comes to the target by one way alone."""
+        for name, rules in self.base.double.items():
+            users = self.users(name) if name in self.nodes and len(rules) > 1 else set()
+            if len(users) == 1 and name not in self.round.goals and not self.has_more_ways({name, *users}):
+                last = [label for label, node in self.nodes.items() if node.name == name][-1]
+                for node in self.nodes.values():
+                    if node.name in users and name in node.prerequisites:
+                        node.prerequisites.setdefault(last)
+
+    def users(self, name: str) -> Set[str]:
+        """The other targets that need one, by make's words or by its data base."""
+        base = self.base
+        said = {one for one, seen in self.round.nodes.items() if name in seen.prerequisites}
+        return (said | {one for one in self.nodes if name in base.prerequisites.get(one, ()) or name in base.order_only.get(one, ())}) - {name}
+
+    def has_more_ways(self, names: Set[str]) -> bool:
+        """Whether make comes to the prerequisites of a target by another way than by that target: by one that is made with it, or as it is an intermediate file."""
+        grouped = {one for name, others in self.base.also.items() for one in (name, *others)}
+        return not names.isdisjoint(self.base.intermediate | grouped)
 
     def hold_back(self, parts: List[Node]) -> None:
         """What a later rule alone needs is looked at when the rule before it has ended."""
@@ -200,8 +223,11 @@ class Build:
         return len(self.graph.round.nodes)
 
     def about(self, at: int) -> Dict[str, Any]:
-        """Where the recipe of a task stands, and its first line."""
+        """Where the recipe of a task stands, and its first line; of a rule with two colons also which of the target's rules it is."""
         base, node = self.graph.base, self.tasks[at].node
+        if len(base.double.get(node.name, [])) > node.rule:
+            rule = base.double[node.name][node.rule]
+            return {"file": rule.place[0], "line": rule.place[1], "recipe": rule.first_line, "colons": node.rule + 1}
         places, recipe = base.places.get(node.name, []), base.recipes.get(node.name, [])
         file, line = places[node.rule] if node.rule < len(places) else ("", 0)
         return {"file": file, "line": line, "recipe": recipe[0] if recipe else ""}

@@ -13,6 +13,7 @@ from record.make.database import Base
 from record.make.globs import listed, patterns
 from record.make.idle import TAKES, idle_of, without_idle
 from record.make.options import asks_jobs
+from record.make.slots import says_one_job
 from record.make.programs import Programs
 from record.make.searches import asked_names
 from record.make.words import SEVERAL, Job, Round, Words, makefiles
@@ -123,7 +124,7 @@ class Make:
         a make that none is above are the user's own."""
         if not any(life.is_make or life.is_ninja for life in self.life.up() if life is not self.life):
             return False
-        return self.words.slots == "1" if self.words.slots else not (self.words.below or self.is_called or asks_jobs([], self.words.flags))
+        return self.words.slots == "1" and says_one_job(self.life) if self.words.slots else not (self.words.below or self.is_called or asks_jobs([], self.words.flags))
 
 
 def only_places(wanted: List[int], there: List[int]) -> Optional[List[int]]:

@@ -9,7 +9,7 @@ import os
 import re
 from dataclasses import dataclass, field
 from functools import lru_cache
-from typing import Dict, Iterable, Iterator, List, Set, Tuple
+from typing import Dict, Iterable, Iterator, List, Optional, Set, Tuple
 
 from record.trace.events import (
     ABSENT, AGE_SEEN, AGE_UNKNOWN, CREATED, FOLDER_REMOVED, LISTED, MADE_QUIETLY, MAKES, READ, REMOVED, SEEN, STRICT, WAY_ABSENT, WRITTEN,
@@ -103,7 +103,7 @@ def settle_lists(life: Life, part: Life, texts: List[str], disk: Disk) -> None:
 def look_for(life: Life, part: Life, folder: str, place: int, texts: List[str], disk: Disk) -> None:
     """A compiler looks for modules in a folder."""
     for name in sorted(disk.names.get(folder, ())):
-        if may_ask(life, name, texts) or kind_of(life) == "java" and (name.lower().endswith(PACKED) or fills(folder, texts, disk)):
+        if may_ask(life, name, texts) or kind_of(life) == "java" and (takes_jars(life) and name.lower().endswith(PACKED) or fills(folder, texts, disk)):
             part.events.setdefault((LISTED, folder + "\0" + glob.escape(name)), place)
 
 
@@ -120,15 +120,26 @@ def fills(folder: str, texts: List[str], disk: Disk) -> bool:
     return any(asked.search(contents(text, True)) for text in texts if text.endswith(".java"))
 
 
-def is_open(life: Life, parts: List[Life]) -> bool:
-    """Whether javac may do more than its sources say: by its words, those in files that they name, or by processors of annotations."""
+def words_of(life: Life) -> Optional[List[str]]:
+    """The words of javac, and those in files that they name; nothing where such a file is gone."""
     words = list(life.argv[1:])
     for word in life.argv[1:]:
         if word.startswith("@") and not os.path.isfile(os.path.join(life.folder, word[1:])):
-            return True
+            return None
         if word.startswith("@"):
             words += contents(os.path.join(life.folder, word[1:]), False).decode("utf-8", "replace").replace('"', " ").replace("'", " ").split()
-    if any(OPEN.match(word) for word in words):
+    return words
+
+
+def takes_jars(life: Life) -> bool:
+    """Whether javac takes each jar in a folder, which a class path asks for by a star (`-cp "lib/*"`)."""
+    return any("*" in word for word in words_of(life) or ["*"])
+
+
+def is_open(life: Life, parts: List[Life]) -> bool:
+    """Whether javac may do more than its sources say: by its words, or by processors of annotations."""
+    words = words_of(life)
+    if words is None or any(OPEN.match(word) for word in words):
         return True
     read = {path for part in parts for kind, path in part.events if kind == READ}
     home = os.path.dirname(os.path.dirname(os.path.realpath(life.program or "/")))

@@ -6,6 +6,7 @@ import re
 from functools import lru_cache
 from typing import Iterable, List, Optional, Set, Tuple
 
+from record.tools.golang import output_folder
 from record.tools.texts import text_of
 from record.trace.system import OF_SYSTEM
 
@@ -207,7 +208,7 @@ def makes(argv: List[str], folder: str) -> bool:
     """Whether such a script makes this folder for itself, and needs no more than that it is there."""
     at, words = maker_at(argv), argv[1:]
     if at < 0:
-        return False
+        return is_on_the_way(folder, output_folder(argv))
     if os.path.basename(words[at]) == "libtool":
         return os.path.basename(folder) in (".libs", "_libs")
     if os.path.basename(words[at]) == "install-sh" and "-d" not in words:
@@ -219,9 +220,9 @@ def makes(argv: List[str], folder: str) -> bool:
 
 
 def above(argv: List[str], folder: str) -> List[str]:
-    """The folders above one that Perl's makers ask for: they make these too, and ask for them only where it is not there."""
+    """The folders above one that Perl's makers, or Go, ask for: they make these too, and ask for them only where it is not there."""
     found = []
-    while base_name(argv) == "perl" and makes(argv, os.path.dirname(folder)):
+    while base_name(argv) in ("perl", "go") and makes(argv, os.path.dirname(folder)):
         folder = os.path.dirname(folder)
         found.append(folder)
     return found
@@ -389,7 +390,7 @@ class Traits:
 
     def __init__(self, argv: List[str]) -> None:
         self.argv = argv
-        self.makes_folders = maker_at(argv) >= 0
+        self.makes_folders = maker_at(argv) >= 0 or output_folder(argv) != ""
         self.looks_at_links = looks_at_links(argv)
         self.is_interpreter = is_interpreter(argv)
         self.is_tool = self.is_interpreter and TOOLS.match("".join(argv[1:2])) is not None

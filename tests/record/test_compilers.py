@@ -139,6 +139,8 @@ class Compilers(unittest.TestCase):
 
     def test_packages_and_jars(self) -> None:
         self.assertTrue(self.java("javac -cp p/* A.java", {"A.java": ""}, "p/b.jar"))
+        self.assertTrue(self.java("javac @w A.java", {"A.java": "", "w": "-cp 'p/*'"}, "p/b.jar"))
+        self.assertFalse(self.java("javac -cp p:q/x.jar A.java", {"A.java": ""}, "p/b.jar"))
         self.assertTrue(self.java("javac A.java", {"A.java": "import p . *;"}, "p/B.class"))
         self.assertTrue(self.java("javac A.java", {"A.java": "module m { exports p; }"}, "p/B.class"))
         self.assertFalse(self.java("javac A.java", {"A.java": "import r.*;"}, "p/B.class"))

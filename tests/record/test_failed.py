@@ -38,6 +38,23 @@ class Failed(unittest.TestCase):
         hints = self.failed("all: sub gen.h\nsub: ; $(MAKE) -C sub\ngen.h: ; echo > $@\n.PHONY: all sub\n", inner)[1]
         self.assertEqual([it + "gen.h, which Makefile:3 makes, and does not wait for it" for it in ("a looks for ../", "sub looks for ")], hints)
 
+    def test_targets_of_makes_inside_are_not_lacked(self) -> None:
+        loop = "all:\n\tfor i in a b; do $(MAKE) -C $$i || exit 1; done\n"
+        looks = {"a/Makefile": "all: p ; $(MAKE) q; test -e r || true\np q: ; touch $@\nr: ; touch r\n"}
+        _, hints = self.failed(loop, {**looks, "b/Makefile": "all: ; test -e ../a/r\n"})
+        self.assertEqual(["all looks for %sa/r, which a/Makefile:3 makes, and does not wait for it" % up for up in ("../", "")], hints)
+        by_hand = ["if `make -j1` fails without race-record too, repair that first; if not, report it"]
+        self.assertEqual(by_hand, self.failed(loop, {**looks, "b/Makefile": "all: ; test -e nothing\n"})[1])
+
+    def test_no_rule_inside(self) -> None:
+        inside = {"a/Makefile": "all: p q\np: ; test -e r || touch p\nr: ; touch r\n"}
+        holes, hints = self.failed("all: ; $(MAKE) -C a\n", inside)
+        self.assertEqual(([END + "; no rule makes q (make -C a)"], ["if `make -j1` fails without race-record too, repair that first; if not, report it"]), (holes, hints))
+
+    def test_what_cmake_tries(self) -> None:
+        holes, _ = self.failed("all:\n\t(cd CMakeFiles/CMakeTmp && $(MAKE)); false\n", {"CMakeFiles/CMakeTmp/Makefile": "t: ; false\n"})
+        self.assertEqual([END + "; the recipe of all failed first (Makefile:2, make)"], holes)
+
     def test_makes_inside_makes(self) -> None:
         sub = {"sub/Makefile": "all: ; $(MAKE) -C deep\n", "sub/deep/Makefile": "all: a b\na: ; touch a\nb: ; @false\n"}
         self.assertEqual([END + "; the recipe of b failed first (sub/deep/Makefile:3, make -C deep)"], self.failed("all: ; $(MAKE) -C sub\n", sub)[0])

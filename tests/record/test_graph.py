@@ -44,12 +44,20 @@ class Nodes(unittest.TestCase):
         self.assertEqual(["all", "other"], graph.goals)
 
     def test_rules_of_a_double_colon_target(self) -> None:
-        graph = graph_of("u\n d\n  p\n d\n  q", "u: d\n\nd:: p\n%s\nd:: q\n%s" % (RECIPE, RECIPE), ["d", "d"])
+        graph = graph_of("u\n d\n  p\n d\n  q\nv\n *d", "u: d\n\nv: d\n\nd:: p\n%s\nd:: q\n%s" % (RECIPE, RECIPE), ["d", "d"])
         self.assertEqual(["d"], sorted(graph.nodes["u"].prerequisites))
         self.assertEqual(["p"], sorted(graph.nodes["d"].prerequisites))
         self.assertEqual(["d", "q"], sorted(graph.nodes["d@rule2"].prerequisites))
         self.assertIn("d", graph.nodes["q"].prerequisites)
         self.assertEqual([1, 1], [len(graph.nodes[n].jobs) for n in ("d", "d@rule2")])
+
+    def test_double_colons_that_one_target_alone_needs(self) -> None:
+        rules, words = "\n\nd:: p\n" + RECIPE + "\nd:: q\n" + RECIPE, "u\n d\n  p\n d\n  q"
+        for considered, base, waits in ((words, "u: d", True), (words + "\n*d", "u: d", False), (words + "\nv\n *d", "u: d", False), (words + "\nv", "u: d\n\nv: d", False),
+                                        (words + "\nv", "u: d\n\nv: | d", False), (words, "u: d\n#  Also makes: v", False),
+                                        (words, "u: d\n#  File is an intermediate prerequisite.", False)):
+            graph = graph_of(considered, base + rules, ["d", "d"])
+            self.assertEqual(["d", "d@rule2"] if waits else ["d"], sorted(graph.nodes["u"].prerequisites), (considered, base))
 
     def test_double_colons_of_which_not_every_rule_ran(self) -> None:
         graph = graph_of("d\n p\nd\n q", "d:: p\n%s\nd:: q\n%s" % (RECIPE, RECIPE), ["d"])
@@ -57,7 +65,7 @@ class Nodes(unittest.TestCase):
         self.assertNotIn("d", graph.nodes["q"].prerequisites)
 
     def test_double_colons_without_a_recipe(self) -> None:
-        graph = graph_of("u\n d\n  p\n d\n  q\n d\n  r", "u: d\n\nd:: p\n\nd:: q\n%s\nd:: r\n%s" % (RECIPE, RECIPE), ["d", "d"])
+        graph = graph_of("u\n d\n  p\n d\n  q\n d\n  r\n*d", "u: d\n\nd:: p\n\nd:: q\n%s\nd:: r\n%s" % (RECIPE, RECIPE), ["d", "d"])
         self.assertEqual([0, 1, 1], [len(graph.nodes[n].jobs) for n in ("d", "d@rule2", "d@rule3")])
         self.assertEqual((["d", "d@rule2"], ["d@rule2", "r"]), tuple(sorted(graph.nodes[n].prerequisites) for n in ("u", "d@rule3")))
 

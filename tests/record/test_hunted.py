@@ -15,7 +15,7 @@ from record.trace.system import OF_SYSTEM
 from test_output import Output
 from test_small import Small, test_of
 
-COLONS = "all: u\ndc:: ; echo 1 >> dc\n%sdc:: ; echo 2 >> dc\nu: dc ; cat dc > u\nx: ; touch x\n"
+COLONS = "all: dc u\ndc:: ; echo 1 >> dc\n%sdc:: ; echo 2 >> dc\nu: dc ; cat dc > u\nx: ; touch x\n"
 ABSENT = "all: u a\nu: ; %s 2> /dev/null || echo no > u; touch u\na: ; mkdir d; touch a\n"
 TOOLS = {"t": "echo new > $1\n", "bin2/tool": "#!/bin/sh\necho old > $1\n", "bin/k": ""}
 SETUP = "sed -i '1i#!/bin/sh' t; chmod +x t bin2/tool"
@@ -80,7 +80,7 @@ HUNTED: Dict[str, Small] = {
     "rule_without_a_recipe": Small("race", COLONS % "dc:: x\n"),
     "rule_with_an_empty_recipe": Small("race", COLONS % "dc:: x ;\n"),
     "rule_whose_recipe_starts_nothing": Small("race", COLONS % "dc:: x ; $(file >y,w)\n"),
-    "first_rule_without_a_recipe": Small("safe", "all: u\ndc:: x\ndc:: ; echo 1 > dc\nu: dc ; cat dc > u\nx: ; touch x\n"),
+    "first_rule_without_a_recipe": Small("safe", "all: dc u\ndc:: x\ndc:: ; echo 1 > dc\nu: dc ; cat dc > u\nx: ; touch x\n"),
     # processes that the trace does not show
     "program_that_traces_another": Small("no verdict", "all: ; strace -o t true || true; touch all\n", says="a program traces another one (a debugger)"),
     "process_that_runs_unseen": Small("no verdict", "all: ; ./o; touch all\n", {"o.c": UNSEEN}, "cc -o o o.c", says="a process runs unseen (CLONE_UNTRACED"),

@@ -1,6 +1,7 @@
 """Small trees that have the shape of real projects: what their makefiles, scripts and generators do with folders and lists."""
 
 import os
+import shutil
 import sys
 import unittest
 from typing import Dict
@@ -206,6 +207,23 @@ class Tops(unittest.TestCase):
     def test_in_which_a_target_is_cold(self) -> None:
         self.of(0, "all: ../out/x\n../out/x: ; mkdir -p ../out; touch ../out/x\n", "../out")
         self.of(2, "all: ../out/x\n../out/x: ; touch ../out/x\n", "../out", "mkdir ../out; touch ../out/x")
+
+
+@unittest.skipUnless(shutil.which("go"), "go is missing (Debian: apt-get install golang-go)")
+class Go(unittest.TestCase):
+    """Programs that Go builds side by side, into a folder that it makes."""
+
+    def of(self, status: int, makefile: str) -> None:
+        go = {"go.mod": "module x\n\ngo 1.16\n", "a/a.go": "package main\nfunc main() {}\n", "b/b.go": "package main\nfunc main() {}\n"}
+        with support.Project({**go, "Makefile": "export GOCACHE := $(CURDIR)/../cache\n" + makefile}) as project:
+            project.sh("mkdir ../cache")
+            outcome = project.record()
+            self.assertEqual(status, outcome.status, outcome.text())
+
+    def test_folder_of_programs(self) -> None:
+        self.of(0, "all: out/bin/a out/bin/b\nout/bin/%: ; go build -o $@ ./$*\n")
+        self.of(1, "all: out/a c\nout/%: ; go build -o $@ ./$*\nc: ; test -d out && touch c\n")
+        self.of(1, "all: out x\nout: ; mkdir out\nx: ; go build -o out ./a && touch x\n")
 
 
 class Makefiles(unittest.TestCase):

@@ -86,8 +86,12 @@ class Folders(unittest.TestCase):
                                       (["sh", "install-sh", "-d", "a"], "/w/c", False), (["sh", "install-sh", "a", "b"], "/w/b", False),
                                       (["sh", "./mkinstalldirs", "x"], "/w/x", True), (["sh", "./libtool", "cc"], "/w/.libs", True),
                                       (["sh", "./libtool", "cc"], "/w/sub", False), (["cc", "libtool", ".libs"], "/w/.libs", False),
-                                      (["cmake", "-E", "make_directory", "x"], "/w/x", True), (["cmake", "-E", "touch", "x"], "/w/x", False)):
+                                      (["cmake", "-E", "make_directory", "x"], "/w/x", True), (["cmake", "-E", "touch", "x"], "/w/x", False),
+                                      (["go", "build", "-v", "-o", "a/b/c", "."], "/w/a/b", True), (["/usr/bin/go", "build", "--o=a/b/c"], "/w/a", True),
+                                      (["go", "build", "-o", "a", "."], "/w/a", False), (["go", "build", "-o", "a/", "."], "/w/a", True), (["go", "vet", "-o", "a/b"], "/w/a", False),
+                                      (["go", "build", "./a/b"], "/w/a", False), (["gone", "build", "-o", "a/b"], "/w/a", False)):
             self.assertEqual(wanted, shelltext.makes(words, folder), words)
+            self.assertTrue(shelltext.Traits(words).makes_folders or not wanted, words)
 
     def test_folder_of_the_process(self) -> None:
         self.assertEqual([True, True, False], [shelltext.names_here(w) for w in (["find", "."], ["ls", "./", "x"], ["ls", "d"])])

@@ -42,6 +42,10 @@ SMALL: Dict[str, Small] = {
     # numbers of jobs
     "folder_that_looks_like_one_job": Small("race", "all: ; $(MAKE) -Cobj1\n", {"obj1/Makefile": "all: a b\na: ; echo a > a\nb: ; cp a b\n"}),
     "value_that_looks_like_one_job": Small("race", "all: a b\na: ; echo a > a\nb: ; cp a b\n"),
+    "one_job_that_the_environment_says": Small("race", "all: ; ./run\n", {"run": "#!/bin/sh\nmake -j${JOBS:-1} -f in.mk\n", "in.mk": "all: a b\na: ; echo a > a\nb: ; cp a b\n"}, "chmod +x run"),
+    "one_job_that_a_program_says": Small("race", "all: ; env python3 run\n", {"run": "import os; os.execlp('make', 'make', '-j%d' % 1, '-f', 'in.mk')\n", "in.mk": "all: a b\na: ; echo a > a\nb: ; cp a b\n"}),
+    "one_job_of_a_script": Small("safe", "all: ; ./run\n", {"run": "#!/bin/sh\nmake -j 1 -f in.mk\n", "in.mk": "all: a b\na: ; echo a > a\nb: ; cp a b\n"}, "chmod +x run"),
+    "one_job_by_way_of_a_program": Small("safe", "all: ; env X=1 $(MAKE) -rj1 -f in.mk\n", {"in.mk": "all: a b\na: ; echo a > a\nb: ; cp a b\n"}),
     "jobs_in_two_words": Small("safe", "all: ; $(MAKE) -kj 1 -f in.mk\n", {"in.mk": "all: a b\na: ; echo a > a\nb: ; cp a b\n"}),
     "jobs_that_a_recipe_hands_on": Small("race", "all: ; env -u MAKEFLAGS $(MAKE) $(MFLAGS) -f in.mk\n", {"in.mk": "all: a b\na: ; echo a > a\nb: ; cp a b\n"}),
     "own_jobs_that_a_recipe_hands_on": Small("race", "all: ; env -u MAKEFLAGS $(MAKE) $(MFLAGS) -f in.mk\n", {"in.mk": "all: a b\na: ; echo a > a\nb: ; cp a b\n"}),
@@ -159,8 +163,16 @@ SMALL: Dict[str, Small] = {
     "folder_that_is_copied": Small("race", "all: a b\na: ; mkdir -p d/s/t; touch a\nb: ; cp -r d e; touch b\n", {"d/x": "x"}),
     "folder_by_a_link": Small("race", "all: a b\na: ; echo new > l/x; touch a\nb: ; cat d/x > b\n", {"d/x": "x"}, "ln -s d l"),
     "many_recipes": Small("race", "T := $(shell seq 1500)\nall: $T last\n$T: ; @echo $@ > $@\nlast: $(filter-out 77,$T) ; @cat 77 > $@\n"),
+    "make_that_cmake_tries": Small("safe", "all: ; (cd CMakeFiles/CMakeTmp && $(MAKE)) || touch all\n", {"CMakeFiles/CMakeTmp/Makefile": "t: ; false\n"}, says="what CMake's try_compile builds"),
+    "make_by_its_path_whose_words_are_kept": Small("no verdict", "all: ; %s -s -f in.mk > all\n" % shutil.which("make"), {"in.mk": "v: ; @echo 1\n"}, says="note: a make that ran past the recorder prints the recorder's words"),
+    # two recipes that meet on a folder's time, and on files in it
+    "files_before_folders": Small("race", "all: a b\na: ; mkdir -p A; echo 1 > A/z; ls -ld A > a\nb: ; mkdir -p A; echo 2 > A/z; touch A/b\n", says="RACE  A/z\n"),
     # double colons
     "double_colon_holds_back": Small("safe", "all: dc\ndc:: ; echo 1 > x\ndc:: p ; echo 2 > y\np: ; cp x p\n"),
+    "double_colon_of_one_user": Small("safe", "all: y u\ny: ; touch y\nx:: ; echo 1 > one\nx:: ; echo 2 > two\nu: x ; cat two > u\n"),
+    "double_colon_of_two_users": Small("race", "all: y u v\ny: ; touch y\nx:: ; echo 1 > one\nx:: ; echo 2 > two\nu: x ; touch u\nv: x ; cat two > v\n", says="advice: write the rules of x as one"),
+    "double_colon_that_is_a_goal": Small("race", "x:: ; echo 1 > one\nx:: ; echo 2 > two\nu: x ; cat two > u\n", lacks="(checked"),
+    "double_colon_that_reads": Small("race", "all: gen x\ngen: ; echo > gen\nx:: ; touch one\nx:: ; cat gen > two\n", says="fix: x:: gen  (in that rule, at Makefile:4)"),
     "double_colon_ages": Small("safe", "all: p dc\np: ; touch p\ndc:: ; echo 1 >> dc\ndc:: p ; echo 2 >> dc\n", {"dc": "dc"}, OLD + "dc"),
     # the search for implicit rules
     "search_sees_a_name_that_goes": Small("race", "all: gen sub/z.t\n%.t: %.a ; cp $< $@\n%.t: %.b ; cp $< $@\ngen: ; rm sub/z.a; touch gen\n", {"sub/z.a": "a", "sub/z.b": "b"}),
@@ -278,6 +290,7 @@ SMALL: Dict[str, Small] = {
     "two_builds_at_once": Small("safe", "all: a\na: ; sleep 0.2; touch a\n", {"other.mk": "all: b\nb: ; sleep 0.2; touch b\n"}, says="two makes or ninjas that ran at once"),
 }
 COMMANDS: Dict[str, List[str]] = {
+    "double_colon_that_is_a_goal": ["make", "x", "u"],
     "value_that_looks_like_one_job": ["make", "X=-v -j1"],
     "script_of_make": ["./rules", "all"],
     "jobs_of_a_makefile_and_one_job": ["make", "-j1"],
