@@ -10,6 +10,7 @@ from functools import cached_property
 from typing import TYPE_CHECKING, Dict, Iterator, List, Set, Tuple
 
 from record.make.asked import MAGIC
+from record.make.cached import Cached
 from record.make.database import Base
 from record.make.graph import Node
 from record.make.memory import first_birth
@@ -41,6 +42,7 @@ class Considered:
         self.first = {node.name: node.first for node in nodes if node.rule == 0}
         self.expanding = [node for node in nodes if node.rule == 0 and self.is_expanded(node)]
         self.searches, self.last_parts = Searches(self.base), {os.path.basename(path) for path in self.writers}
+        self.cached = Cached(builder, self.searched_late)
         self.named = {name for one in (".INTERMEDIATE", ".SECONDARY") for name in self.base.prerequisites.get(one, ())}
 
     def asked(self, node: Node) -> Set[str]:
@@ -51,7 +53,7 @@ class Considered:
         found = {path for path in self.searched(names) if self.is_open(path)}
         there = {path for name in {node.name, *names} for path in self.elsewhere(node, name)}
         found |= {path for path in there if self.builder.before.get(path) or self.is_open(path)}  # what it finds in a search path it looks at
-        found |= self.expanded(node)
+        found |= self.expanded(node) | self.cached.asked(node)
         return {path for path in found if self.writers.get(path, set()) - self.own(node)}
 
     def own(self, node: Node) -> Set[int]:
@@ -78,6 +80,10 @@ class Considered:
         found = self.searches.names(node.name, DEPTH if is_deep(self.base, node) else 1)
         written = (name for name in found if os.path.basename(name) in self.last_parts or MAGIC.search(name))
         return {name for name in written if not self.is_mentioned(name, node)}
+
+    def searched_late(self) -> Set[str]:
+        """The names for which make searches when recipes have ended, as for what a later rule with two colons needs."""
+        return {path for label in self.late for path in self.searched(self.searched_names(self.builder.graph.nodes[label]))}
 
     def searched(self, names: Set[str]) -> Iterator[str]:
         """The paths of names, and all that fit a pattern."""

@@ -11,7 +11,7 @@ from record.make.graph import Node
 from record.make.macros import Macros
 from record.make.owners import Make, Work
 from record.make.references import ANY, evals
-from record.trace.events import ASKS, LISTED, MAKE_LISTED, ORDER_SEEN
+from record.trace.events import ASKS, LISTED, MAKE_LISTED, MAKE_OPENED, MODE_CHANGED, ORDER_SEEN, SEEN
 from record.trace.names import Names
 
 if TYPE_CHECKING:
@@ -23,16 +23,25 @@ LOOP = re.compile(r"\$[({](?:foreach|let)\s+([^,$]+),")
 
 
 def place_listings(builder: "Builder") -> None:
-    """A folder that make lists while it makes a target is listed by the recipe, if that may ask for names there. Else make searches for a file."""
+    """A folder that make opens, or lists, while it makes a target is listed by the recipe, if that may ask for names there. Else make searches for a
+    file: whether the folder is there makes no difference then, except for the names in it."""
     acts = {name: work for (number, name), work in builder.make.acts.items() if number == builder.number}
     nodes = {node.name: node for node in builder.graph.nodes.values()}
     open_names = exported_lists(builder.known)
     for name, work in acts.items():
-        listed = [(path, place) for (kind, path), place in work.events.items() if kind == MAKE_LISTED]
+        listed = [(kind, path, place) for (kind, path), place in work.events.items() if kind in MAKE_LISTED + MAKE_OPENED]
         asked = own_folders(builder, nodes[name]) if listed and name in nodes and not open_names else None
-        for path, place in listed:
-            if asked is None or path in asked:
+        for kind, path, place in listed:
+            if kind == MAKE_LISTED and (asked is None or path in asked):
                 add_list(builder.make, work, path, place)
+            elif kind == MAKE_OPENED and (asked is None or path in asked or has_modes(builder.make)):
+                work.add(SEEN, path, place)
+
+
+@lru_cache(maxsize=4)
+def has_modes(make: Make) -> bool:
+    """Whether a recipe changes the mode of a folder: then make may not be able to open it."""
+    return any(kind == MODE_CHANGED for work in make.work.values() for kind, _ in work.events)
 
 
 def add_list(make: Make, work: Work, folder: str, place: int) -> None:

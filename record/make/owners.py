@@ -18,7 +18,7 @@ from record.make.programs import Programs
 from record.make.searches import asked_names
 from record.make.words import SEVERAL, Job, Round, Words, makefiles
 from record.tools.texts import text_of
-from record.trace.events import ABSENT, CHANGES, ENTERED, LISTED, LOOKS, MAKE_LISTED, ORDER_SEEN, READ, REMOVED
+from record.trace.events import ABSENT, CHANGES, ENTERED, LISTED, LOOKS, MAKE_LISTED, MAKE_OPENED, ORDER_SEEN, READ, REMOVED, SEEN
 from record.trace.lives import Key, Life
 from record.trace.system import OF_SYSTEM
 
@@ -295,7 +295,7 @@ class Owners:
                     if not self.is_sorted:
                         work.add(ORDER_SEEN, key[1], place)
                 elif work.events.get(key, place + 1) > place:
-                    work.events[key] = place
+                    work.add(SEEN if key[0] == MAKE_OPENED else key[0], key[1], place)
 
     def collect(self, make: Make) -> None:
         """The work of all jobs of a make, and of make itself."""

@@ -228,6 +228,8 @@ class Calls(Started):
         """A file or a folder is opened, and not to change it."""
         is_folder = found.inode is not None and found.inode.kind == "d"
         self.put_links(life, found)
+        if is_folder and life.is_make and life.number >= 0:
+            return self.open_by_make(life, found.path)
         self.put_look(life, found, True, SEEN if is_folder else READ)
         traits = life.traits()
         if traits.looks_at_links:

@@ -19,6 +19,7 @@ MAKER_SEEN = "K"  # a script looked at a folder that it makes for itself
 LISTED = "L"  # for names that fit a pattern: FOLDER\0PATTERN
 ORDER_SEEN = "l"  # in an order that the file system gives
 MAKE_LISTED = "Q"  # by a make
+MAKE_OPENED = "q"  # a make opened a folder: it asks for names there, or lists them
 
 # Changes.
 WRITTEN = "W"  # what a file holds, or what is known of it

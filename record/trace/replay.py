@@ -6,7 +6,7 @@ from typing import Dict, List, Set, Tuple
 
 from record.tools import shellages, shelltext
 from record.trace.events import (
-    ABSENT, AGE_SEEN, AGE_UNKNOWN, CHANGES, CREATED, ENTERED, FOLDER_REMOVED, MADE, MADE_QUIETLY, MAKER_SEEN, READ, REMOVED, SEEN,
+    ABSENT, AGE_SEEN, AGE_UNKNOWN, CHANGES, CREATED, ENTERED, FOLDER_REMOVED, MADE, MADE_QUIETLY, MAKE_OPENED, MAKER_SEEN, READ, REMOVED, SEEN,
     TREE_CHANGES, WAY_ABSENT, WRITTEN,
 )
 from record.trace.lives import Act, Life, Listed
@@ -221,6 +221,15 @@ class Replay:
             self.put(life, kind if ok else ABSENT, found.path, word)
         if not ok and found.missing and found.missing != found.path:
             self.put(life, WAY_ABSENT, found.missing)
+
+    def open_by_make(self, life: Life, path: str) -> None:
+        """A make opens a folder, at which it looked right before: both are one question for the names there."""
+        last = life.acts[-1] if life.acts else None
+        if last is not None and last.kind == SEEN and last.path == path:
+            last.kind = MAKE_OPENED
+            if life.events.get((SEEN, path)) == last.place:
+                del life.events[SEEN, path]
+        self.put(life, MAKE_OPENED, path)
 
     def put_absent(self, life: Life, found: Found, kind: str) -> None:
         """A name that could not be made: that its folder is absent counts too."""
