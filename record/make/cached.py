@@ -11,6 +11,7 @@ from typing import TYPE_CHECKING, Callable, Dict, Iterator, List, Optional, Set,
 
 from record.make.graph import Node
 from record.make.memory import first_birth, folders_listed
+from record.make.searches import DEPTH, names_asked, stems, tried
 from record.trace.events import MAKE_LISTED, MAKE_OPENED
 from record.trace.lives import Act
 from record.trace.names import join
@@ -20,17 +21,19 @@ if TYPE_CHECKING:
 
 
 class Cached:
-    """The folders that make asked for in a search, by the target that it considered then, and the names that matter there."""
+    """The folders that make asked for in a search, by the target that it considered then, and the names that matter there. Where a recipe was the first to
+    list a folder, each target counts for which make may search there."""
 
-    def __init__(self, builder: "Builder", searched_late: Callable[[], Set[str]]) -> None:
-        self.builder, self.make, self.searched_late = builder, builder.make, searched_late
-        self.start = builder.graph.round.start
+    def __init__(self, builder: "Builder", searched_late: Callable[[], Set[str]], is_expanded: Callable[[Node], bool]) -> None:
+        self.builder, self.make, self.searched_late, self.is_expanded = builder, builder.make, searched_late, is_expanded
+        self.start, self.base = builder.graph.round.start, builder.graph.base
         self.nodes = {name: node for name, node in builder.graph.nodes.items() if not node.rule}
         self.nodes.update((path, self.nodes[name]) for name, path in builder.graph.round.vpath.items() if name in self.nodes)
 
     def asked(self, node: Node) -> Set[str]:
         """The names on which it depends, when make considers a target, what a later recipe or search finds."""
-        return {path for folder in self.folders.get(node.name, ()) for path in self.names_in(folder)}
+        found = {*self.folders.get(node.name, ()), *(self.may_open(node) if self.unsettled and not node.phony else ())}
+        return {path for folder in found for path in self.names_in(folder)}
 
     @cached_property
     def created(self) -> Dict[str, Set[str]]:
@@ -71,8 +74,9 @@ class Cached:
         found: Dict[str, Set[str]] = {}
         for act, before in self.with_looks() if births else ():
             is_search = looks.get(before.word) == before.place and bisect.bisect(births, before.place) == bisect.bisect(births, act.place)
-            if is_search and self.counts(act):
-                found.setdefault(self.nodes[before.word].name, set()).add(act.path)
+            node = self.nodes[before.word]
+            if is_search and self.counts(act) and any(folder == act.path for folder, _ in self.searched(node)):
+                found.setdefault(node.name, set()).add(act.path)
         return found
 
     def with_looks(self) -> Iterator[Tuple[Act, Act]]:
@@ -89,3 +93,43 @@ class Cached:
         """Whether make keeps what it found: the names of a folder, or that one was there which recipes make. With one job a folder that it does not find
         is made by recipes that it considers later, in each schedule."""
         return act.kind == MAKE_LISTED or act.path in self.builder.made and self.builder.before.get(act.path) != "d"
+
+    # ---------------------------------------------------------------- searches that found all in the memory of make
+    @cached_property
+    def unsettled(self) -> Set[str]:
+        """The folders that a recipe was the first to list, though make may have searched there before if that recipe had run later: one that waits for
+        others. Names are asked for in each of them."""
+        began, last_ones = first_birth(self.builder), self.builder.graph.late()
+        settled = {folder for name, folders in self.folders.items() if name not in last_ones for folder in folders}
+        late = {folder for folder, (_, last) in self.builder.listed.items() if last > began} - settled
+        return {folder for folder in late if not self.is_of_leaf(folder) and self.names_in(folder)}
+
+    def is_of_leaf(self, folder: str) -> bool:
+        """Whether the first list of a folder is of recipes that wait for no other: in each schedule make lists it in its first pass."""
+        builder, place = self.builder, self.builder.listed[folder][0]
+        owners = [name for (number, name), work in self.make.acts.items() if number == builder.number and (work.events.get((MAKE_LISTED, folder)) == place)]
+        return bool(owners) and all(name in builder.acts_at for name in owners)
+
+    def may_open(self, node: Node) -> Set[str]:
+        """Those of them of which make may keep something when it considers a target."""
+        return {folder for folder, is_listed in self.searched(node) if folder in self.unsettled and (is_listed or self.builder.before.get(folder) != "d")}
+
+    def searched(self, node: Node) -> Iterator[Tuple[str, bool]]:
+        """The folders in which make may look for a name when it considers a target, and whether it lists them: for a name that a rule mentions it only opens
+        the folder."""
+        base, names = self.base, self.names_tried(node) if node.name in self.base.implicit else set()
+        for name in names:
+            yield self.path(os.path.dirname(name)), name not in base.prerequisites or name in base.implicit
+        for pattern, folders in base.search:
+            if any(pattern == "%" or any(stems("/" + pattern, "/" + name)) for name in (node.name, *names)):
+                yield from ((self.path(folder), True) for folder in folders)
+        yield from ((folder, True) for folder in (self.created if self.is_expanded(node) else ()))
+
+    def names_tried(self, node: Node) -> Set[str]:
+        """The names that a search for an implicit rule looks for: all, by way of others too, where it found none, or one by way of another file."""
+        is_deep = not node.has_recipe or not self.base.intermediate.isdisjoint(node.prerequisites)
+        return names_asked(self.base, node.name, DEPTH) if is_deep else {*tried(self.base, node.name, {*node.prerequisites})}
+
+    def path(self, name: str) -> str:
+        """Where a name leads now."""
+        return self.builder.names.find(self.make.folder, name or ".", True).path

@@ -42,7 +42,7 @@ class Considered:
         self.first = {node.name: node.first for node in nodes if node.rule == 0}
         self.expanding = [node for node in nodes if node.rule == 0 and self.is_expanded(node)]
         self.searches, self.last_parts = Searches(self.base), {os.path.basename(path) for path in self.writers}
-        self.cached = Cached(builder, self.searched_late)
+        self.cached = Cached(builder, self.searched_late, self.is_expanded)
         self.named = {name for one in (".INTERMEDIATE", ".SECONDARY") for name in self.base.prerequisites.get(one, ())}
 
     def asked(self, node: Node) -> Set[str]:

@@ -42,6 +42,17 @@ def step(base: Base, name: str, is_first: bool) -> Iterable[Tuple[str, bool]]:
             yield from ((filled(one, stem, folder), at in base.terminal) for one in base.patterns[at][1])
 
 
+def tried(base: Base, name: str, needs: Set[str]) -> Iterator[str]:
+    """The names that a search looks for up to the rule that it takes, the first one of which all prerequisites are among what the name needs: rules with
+    a shorter stem come first."""
+    fits = [(len(stem), at, stem, folder) for at, target, tail in base.tails if name.endswith(tail) for stem, folder in stems(target, name)]
+    for _, at, stem, folder in sorted(fits):
+        asked = [filled(one, stem, folder) for one in base.patterns[at][1]]
+        yield from asked
+        if asked and needs.issuperset(asked):
+            return
+
+
 def filled(word: str, stem: str, folder: str) -> str:
     """A prerequisite of an implicit rule, for a target."""
     return os.path.join(folder, word.replace("%", stem, 1)) if "%" in word else word

@@ -9,6 +9,8 @@ from test_small import Small, test_of
 OPENS = "z: first a.o gen/x1 ; %s > z\n%%.o: %%.c gen/g.h ; cp $< $@\nfirst: ; sleep 0.1; mkdir -p gen; touch gen/x0 first\ngen/g.h gen/x1: | first ; touch $@\n"
 # Make lists gen for a.o, when x1 is there with one job.
 LISTS = "z: gen/x1 a.o ; %s > z\n%%.o: %%.c gen/%%.h ; cp $< $@\ngen/x1: ; sleep 0.1; touch $@\n"
+# A recipe that waits for x1 lists gen before make considers a.o.
+KEPT = "z: y a.o ; cp y z\ny: %s ; echo $(wildcard gen/x*) > y\n%s\ngen/x1: ; sleep 0.1; touch $@\n"
 ALL, NAMES = "echo $(wildcard gen/x*)", "echo gen/x*"
 SOURCE, HEADER = {"a.c": ""}, {"a.c": "", "gen/a.h": ""}
 # The same, and a later rule needs a file whose source is in gen.
@@ -37,6 +39,13 @@ MUTANTS: Dict[str, Small] = {
     "list_of_a_search_and_a_list_of_the_shell": Small("safe", LISTS % NAMES, HEADER),
     "list_of_a_search_before_all_recipes": Small("safe", LISTS.replace("gen/x1 a.o", "a.o gen/x1") % ALL, HEADER),
     "list_of_a_search_for_other_names": Small("safe", LISTS % "echo $(wildcard gen/*.h)", HEADER),
+    # a recipe lists the folder first, with one job
+    "list_of_a_recipe_before_a_search": Small("race", KEPT % ("gen/x1", "%.o: %.c gen/%.h ; cp $< $@"), HEADER, says="a.o     Makefile:3  make looks at it"),
+    "list_of_a_recipe_before_a_search_elsewhere": Small("safe", "MAKEFLAGS += -r\n" + KEPT % ("gen/x1", "%.o: %.c ; cp $< $@\n%.o: gen/%.c ; cp $< $@"), HEADER),
+    "list_of_a_recipe_before_a_search_by_way_of_others": Small("race", "MAKEFLAGS += -r\n" + KEPT % ("gen/x1", "%.o: gen/%.c ; cp $< $@\n%.o: %.s ; cp $< $@\n%.s: %.c ; cp $< $@"), HEADER),
+    "list_of_a_recipe_before_a_search_in_a_path": Small("race", "MAKEFLAGS += -r\nvpath %.c gen\n" + KEPT % ("gen/x1", "%.o: %.c ; cp $< $@"), {"gen/a.c": ""}),
+    "list_of_a_recipe_that_waits_for_none": Small("safe", KEPT.replace("z: y", "z: k y gen/x1") % ("", "k: ; touch k\n%.o: %.c gen/%.h ; cp $< $@"), HEADER),
+    "list_of_a_folder_in_which_a_search_only_opens": Small("safe", "MAKEFLAGS += -r\n" + KEPT % ("gen/x1", "%.o: %.c gen/g.h ; cp $< $@\ngen/g.h: ; touch $@"), HEADER),
     "list_of_a_search_for_a_later_one": Small("race", LATER, HEADER),
 }
 
