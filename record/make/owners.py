@@ -199,8 +199,7 @@ class Owners:
         make.by_links = any(act.kind == READ and act.path in self.links and not OF_SYSTEM.match(act.path) for act in life.acts)
         self.makes.append(make)
         self.of_life[id(life)] = make
-        if words.status is None:
-            self.holes.append("a make did not end: make " + words.args)
+        self.holes += ["a make did not end: make " + words.args] if words.status is None else []
 
     @staticmethod
     def folder_of(life: Life, words: Words) -> str:

@@ -10,9 +10,7 @@ from record.tools.golang import output_folder
 from record.tools.texts import text_of
 from record.trace.system import OF_SYSTEM
 
-KEPT = 4096  # how many files are remembered
-LARGE = 1 << 22  # how much of a script is read
-
+KEPT, LARGE = 4096, 1 << 22  # how many files are remembered; how much of a script is read
 # Programs by their names.
 SHELLS = ("sh", "dash", "bash", "ksh", "zsh", "ash")
 NINJA = re.compile(r"(?:ninja|ninja-build|samu|samurai)(?:[-.\d]*)$")  # `ninja-1.11`
@@ -25,11 +23,11 @@ AGELESS = frozenset((
 VERSIONED = re.compile(r"(?:[\w.]+-linux-gnu-)?([a-z+\[.][a-z0-9+.]*?)(?:-[\d.]+)?$")  # one with a machine or a version: `x86_64-linux-gnu-gcc-12` is `gcc`
 TOOLS = re.compile(r"/usr/(?:local/)?bin/(?:makeinfo|texi2any|pod2man|pod2text|help2man)$")  # scripts of the system that compare no ages
 PROGRESS = ("cmake_progress_start", "cmake_progress_report", "cmake_echo_color")  # what `cmake -E` does to count what is built
-SORTERS = ("make", "gmake", "rm", "chmod", "chown", "rmdir", "git")  # a folder that `cp` or `mv` copies gets its names in that order
-NAMING = ("rm", "rmdir", "chmod", "chown")  # with `-v` or `-c` they say in which order they come to names
+# A folder that `cp` or `mv` copies gets its names in that order; with `-v` or `-c` the last four say in which order they come to names.
+SORTERS, NAMING = ("make", "gmake", "rm", "chmod", "chown", "rmdir", "git"), ("rm", "rmdir", "chmod", "chown")
 COMPRESSORS = ("gzip", "pigz", "bzip2", "xz", "lzma", "lzip", "zstd", "compress")  # they refuse a file that has two names
-MAKERS = ("install-sh", "mkinstalldirs", "libtool")  # scripts that make folders for themselves
-EXTUTILS = re.compile(r"-MExtUtils::Command -e mkpath$|-MExtUtils::Install -e pm_to_blib\(")  # what Perl's makefiles make folders by
+# Scripts that make folders for themselves, and what Perl's makefiles make folders by.
+MAKERS, EXTUTILS = ("install-sh", "mkinstalldirs", "libtool"), re.compile(r"-MExtUtils::Command -e mkpath$|-MExtUtils::Install -e pm_to_blib\(")
 PASSING = ("env", "nice", "ionice", "setsid", "timeout", "flock", "time", "stdbuf")  # they leave errors to who runs in their place
 
 # Words of programs.
@@ -61,8 +59,7 @@ MAGIC = re.compile(r"[*?\[]")  # what makes a word a pattern
 BRACKETS = re.compile(r"\[[!^]?\]?(?:\[[:.=][^\]]*[:.=]\]|[^\]/])*\]")  # one of several characters: `[a-z]`; what is quoted in it cuts a word
 DIRECTORY = r"(?:\"[^\"]*\"|'[^']*'|[^\s;|&<>()'\"`]+)"  # a word that names a folder, perhaps in quotes
 # What is thrown away (`2>/dev/null`), and errors that are not (`2>log`, `2>&1`): a folder that is there already is reported there.
-NOWHERE = re.compile(r"(?:\b2\s*|&)?>>?\s*/dev/null(?:\s*2>&1)?")
-KEPT_ERRORS = re.compile(r"\b2\s*>|&>|>\s*&|\|&")
+NOWHERE, KEPT_ERRORS = re.compile(r"(?:\b2\s*|&)?>>?\s*/dev/null(?:\s*2>&1)?"), re.compile(r"\b2\s*>|&>|>\s*&|\|&")
 REMOVES = re.compile(r"\s*rm\s[^;&|<>`$()\n]*$")  # a text that runs `rm` and nothing else
 
 
