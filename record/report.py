@@ -16,6 +16,7 @@ from record.tasks import OWN_NAME, file_of, shown
 
 SHOWN_RACES, SHOWN_HOLES = 30, 20
 SHOWN_SIGNS = 80  # of an example
+ONE_WRITER = "let one recipe alone write it; make asks whether it is there before that recipe has run"
 
 
 @dataclass
@@ -70,7 +71,31 @@ def first_look(about: Dict[str, Any], path: str, first: str, second: str) -> str
     if lookers and path not in lookers:
         name = file_of(path) if about["meanings"].get(path) else path
         return "name %s in a rule, and a library not as -lNAME: make looks for it when it first considers the target" % name
-    return "let one recipe alone write it; make asks whether it is there before that recipe has run" if lookers else ""
+    return ONE_WRITER if lookers else ""
+
+
+def own_look(about: Dict[str, Any], path: str, label: str) -> bool:
+    """Whether make asks here if a target with a recipe is there, and then runs none. It asks before it waits for what the target needs."""
+    found = about["labels"].get(label, {})
+    runs = found.get("recipe", "").strip().lstrip("@+-").strip() not in ("", ":", "true")
+    return about.get("tool", "make") == "make" and found.get("kind") == "decision" and runs and path == found.get("target")
+
+
+def two_colons(about: Dict[str, Any], first: str, second: str) -> str:
+    """What to do where a line with one colon is an error, or orders the first rule of a target alone; else nothing."""
+    early, late = (about["labels"].get(it, {}) for it in (first, second))
+    if early.get("colons") and first != early.get("target"):
+        return "write %s with one colon, as one rule: who needs it waits for its first rule alone" % target(about, first)
+    if late.get("colons"):
+        return "name %s behind the two colons of the rule at %s: a line with one colon is an error there" % (target(about, first), place(about, second))
+    return ""
+
+
+def no_line(about: Dict[str, Any], path: str, first: str, second: str) -> str:
+    """What to do where the line `second: first` does not order two tasks; nothing where it does."""
+    if any(own_look(about, path, it) for it in (first, second)):
+        return ONE_WRITER
+    return first_look(about, path, first, second) or two_colons(about, first, second)
 
 
 def race_text(about: Dict[str, Any], race: Race, fixes: List[str], is_fixed: bool) -> List[str]:
@@ -85,7 +110,7 @@ def race_text(about: Dict[str, Any], race: Race, fixes: List[str], is_fixed: boo
     own = race.path in (target(about, race.first), target(about, race.second))
     if race.first_does == race.second_does == "writes" and not meaning and not own:
         lines.append("  advice: give each recipe a name of its own for this file, such as %s.$@" % os.path.basename(name))
-    instead = first_look(about, race.path, race.first, race.second)
+    instead = no_line(about, race.path, race.first, race.second)
     if instead:
         return lines + ["  advice: " + instead]
     fix = in_project(about, race.first, race.second, name) or "%s: %s" % (target(about, race.second), target(about, race.first))
@@ -111,7 +136,7 @@ def races_text(judged: Judged, colour: Colours) -> Tuple[List[str], int, int]:
     for race in judged.verdict.races:
         groups.setdefault((race.path, race.first if race.first_does == "writes" else race.second), []).append(race)
     lines: List[str] = []
-    is_fixed = judged.verdict.is_fixed and not any(first_look(judged.about, one.path, one.first, one.second) for one in judged.verdict.races)
+    is_fixed = judged.verdict.is_fixed and not any(no_line(judged.about, one.path, one.first, one.second) for one in judged.verdict.races)
     for (_, _), races in list(groups.items())[:SHOWN_RACES]:
         text = race_text(judged.about, races[0], judged.verdict.fix, is_fixed)
         lines += [colour.bad + text[0] + colour.end] + text[1:]

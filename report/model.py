@@ -14,7 +14,7 @@ from typing import Any
 from record.entry import reason
 from record.fixes import in_project
 from record.missing.report import Question
-from record.report import first_look
+from record.report import no_line
 from record.tasks import file_of
 from report.kinds import Kind, kind_of
 
@@ -227,7 +227,7 @@ class Build:
         early, late = (Side(self.recipe(it), does, others(self.after.get(it, [])), others(self.users.get(it, []))) for it, does in (first, second))
         kind = kind_of(path, targets, (first[1], second[1]))
         change = in_project(self.about, first[0], second[0], path)
-        instead = first_look({"meanings": {}, **self.about}, path, first[0], second[0])
+        instead = no_line({"meanings": {}, **self.about}, path, first[0], second[0])
         return Race(self.number, path, self.about.get("meanings", {}).get(path, ""), early, late, kind, change, instead)
 
 

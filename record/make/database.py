@@ -28,6 +28,7 @@ class Colons:
     prerequisites: List[str]
     order_only: List[str]
     is_empty: bool = True  # it has no recipe, or one that starts nothing
+    recipe: str = ""  # its first line
 
 
 @dataclass
@@ -87,8 +88,10 @@ class _Files:
     def recipe(self, text: str) -> None:
         """A line of a recipe. Each begins with a tab, or what `.RECIPEPREFIX` says; behind a backslash it goes on as it stands."""
         if self.name and text.strip():
-            if self.name in self.base.double and text.strip().lstrip("@+-").strip() not in ("", ":"):  # make starts nothing for these
-                self.base.double[self.name][-1].is_empty = False
+            if self.name in self.base.double:
+                rule = self.base.double[self.name][-1]
+                rule.is_empty = rule.is_empty and text.strip().lstrip("@+-").strip() in ("", ":")  # make starts nothing for these
+                rule.recipe = rule.recipe or text[1:]
             self.base.recipes.setdefault(self.name, []).append(text if self.goes_on else text[1:])
         self.goes_on = is_continued(text)
 

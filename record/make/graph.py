@@ -204,7 +204,9 @@ class Build:
         base, node = self.graph.base, self.tasks[at].node
         places, recipe = base.places.get(node.name, []), base.recipes.get(node.name, [])
         file, line = places[node.rule] if node.rule < len(places) else ("", 0)
-        return {"file": file, "line": line, "recipe": recipe[0] if recipe else ""}
+        rules = base.double.get(node.name, [])
+        said = rules[node.rule].recipe if node.rule < len(rules) else recipe[0] if recipe else ""
+        return {"file": file, "line": line, "recipe": said, **({"colons": 2} if rules else {})}
 
     def is_before(self, first: int, second: int) -> bool:
         """Whether one task has ended before another starts."""

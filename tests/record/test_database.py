@@ -66,7 +66,7 @@ class Reads(unittest.TestCase):
 
     def test_rules_of_a_double_colon_target(self) -> None:
         base = self.base()
-        self.assertEqual([Colons(["one"], ["two"], False), Colons(["three"], [], False)], base.double["d"])
+        self.assertEqual([Colons(["one"], ["two"], False, "echo 1"), Colons(["three"], [], False, "echo 2")], base.double["d"])
         self.assertEqual([("Makefile", 3), ("Makefile", 5)], base.places["d"])
 
     def test_end_of_the_list(self) -> None:
