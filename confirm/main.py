@@ -143,7 +143,7 @@ def try_all(args: argparse.Namespace, report: Report, races: Sequence[Chosen], r
         findings.append(search(trial, race, args.runs, args.schedule))
         say("")
         show(heading(findings[-1], len(report.races)))
-        show(body(findings[-1], args.record, trial.unstable))
+        show(body(findings[-1], args.record, trial.unstable, args.prepare))
         show(iter([""]))
     if args.keep:
         keep(room, args.keep)

@@ -41,13 +41,13 @@ def besides(finding: Finding) -> Iterator[str]:
         yield from (f"    {it}" for it in finding.others[:SHOWN_FILES])
 
 
-def body(finding: Finding, record: Path, unstable: set[str]) -> Iterator[str]:
+def body(finding: Finding, record: Path, unstable: set[str], prepare: str | None = None) -> Iterator[str]:
     """What was found of one race."""
     if finding.why:
         yield f"CANNOT BE CONFIRMED  {finding.why}"
         yield from besides(finding)
     elif finding.schedule:
-        yield from confirmed(finding, finding.schedule, record)
+        yield from confirmed(finding, finding.schedule, record, prepare)
     elif not finding.builds:
         yield "NOT CONFIRMED in 0 tries: there is no such schedule. Without --schedule all are tried."
     else:
@@ -56,13 +56,14 @@ def body(finding: Finding, record: Path, unstable: set[str]) -> Iterator[str]:
         yield f"  The build is not reproducible: {some(unstable)} differ between serial builds already, and were not compared."
 
 
-def confirmed(finding: Finding, schedule: Schedule, record: Path) -> Iterator[str]:
+def confirmed(finding: Finding, schedule: Schedule, record: Path, prepare: str | None) -> Iterator[str]:
     """What the race does under a schedule."""
     yield f"CONFIRMED  {schedule.text(finding.race)}:"
     yield from how(finding)
     order = ", and not where the two ran in the order of the serial build" if finding.has_order else ""
     yield f"  Seen in 2 of 2 such builds{order}."
-    again = shlex.join([str(record), str(finding.race.number), "--schedule", str(finding.number), "--keep", "/tmp/kept"])
+    ready = ["--prepare", prepare] if prepare else []
+    again = shlex.join([str(record), str(finding.race.number), "--schedule", str(finding.number), *ready, "--keep", "/tmp/kept"])
     yield f"  see it again: race-confirm {again}"
     yield f"  fix: {finding.race.race.change}"
 

@@ -79,7 +79,7 @@ class Trial:
         if missing or not again.built.points.all:
             whose = " and ".join(missing) or race.race.first.recipe.target
             raise CannotConfirm(f"the recipe of {whose} cannot be held: in the copy it does not run, or starts no process that takes a "
-                                "preloaded library. If it does not run: --prepare 'make clean'")
+                                "preloaded library. If it does not run, such as where a folder that it makes is still there: --prepare 'make clean'")
         return again.built
 
     def differs(self, left: Left) -> set[str]:
@@ -114,7 +114,8 @@ def failed(what: str, built: Built) -> CannotConfirm:
     """A serial build that fails in the copy, with what it said."""
     ended = "did not end in time" if built.status is None else f"ends with status {built.status}"
     said = [it.strip() for it in built.output.splitlines() if it.strip()]
-    advice = "If it lacks files that were there before the recorded build: --prepare 'make clean'"
+    advice = ("If it lacks files that were there before the recorded build: --prepare 'make clean'. If the build changes its own sources: "
+              "--prepare 'git checkout . && make clean'")
     return CannotConfirm("\n    ".join([f"{what} {ended}. {advice}", *(errors_of(built) or said)[-3:]]))
 
 

@@ -16,6 +16,7 @@ from record.tasks import OWN_NAME, file_of, shown
 
 SHOWN_RACES, SHOWN_HOLES = 30, 20
 SHOWN_SIGNS = 80  # of an example
+ONE_WRITER = "let one recipe alone write it; make asks whether it is there before that recipe has run"
 
 
 @dataclass
@@ -67,11 +68,20 @@ def target(about: Dict[str, Any], label: str) -> str:
 def without_line(about: Dict[str, Any], path: str, first: str, second: str) -> str:
     """What to do where no line orders two tasks: make itself looks for a name when it first considers a target, or one is a later rule with two
     colons. Nothing where a line does."""
+    if any(own_look(about, path, one) for one in (first, second)):
+        return ONE_WRITER
     lookers = [target(about, one) for one in (first, second) if about["labels"].get(one, {}).get("kind") == "first"]
     if lookers and path not in lookers:
         name = file_of(path) if about["meanings"].get(path) else path
         return "name %s in a rule, and a library not as -lNAME: make looks for it when it first considers the target" % name
-    return "let one recipe alone write it; make asks whether it is there before that recipe has run" if lookers else later_rule(about["labels"], first)
+    return ONE_WRITER if lookers else later_rule(about["labels"], first)
+
+
+def own_look(about: Dict[str, Any], path: str, label: str) -> bool:
+    """Whether make asks here if a target with a recipe is there, and then runs none. It asks before it waits for what the target needs."""
+    found = about["labels"].get(label, {})
+    runs = found.get("recipe", "").strip().lstrip("@+-").strip() not in ("", ":", "true")
+    return about.get("tool", "make") == "make" and found.get("kind") == "decision" and runs and path == found.get("target")
 
 
 def race_text(about: Dict[str, Any], race: Race, fixes: List[str], is_fixed: bool) -> List[str]:

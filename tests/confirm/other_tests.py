@@ -45,6 +45,19 @@ class OtherTests:
         text = self.check(wanted, *says, words=("shared",))
         self.assertNotIn("\nCONFIRMED", text)
 
+    def test_sources_that_the_build_changes(self) -> None:
+        self.files({"Makefile": "all: a b\na: ; sed -i s/A/1/ conf && touch a\nb: ; sed -i s/B/2/ conf && touch b\n", "conf": "A B\n"})
+        self.record()
+        self.check(2, "the serial build of the copy ends with status 2.", "If the build changes its own sources: --prepare 'git checkout . && make clean'")
+        self.check(1, "\nCONFIRMED ", " 1 --schedule 2 --prepare 'rm -f a b; echo A B > conf' --keep /tmp/kept\n",
+                   words=("1", "--prepare", "rm -f a b; echo A B > conf"))
+
+    def test_folder_that_a_recipe_fills(self) -> None:
+        self.files({"Makefile": "all: gen inst\ngen: ; echo 1 > d/one; touch gen\ninst: ; cp -r d inst\n", "d/zero": ""})
+        self.record()
+        self.check(2, "the recipe of inst cannot be held:", "such as where a folder that it makes is still there: --prepare 'make clean'")
+        self.check(1, "\nCONFIRMED ", "inst/one: is missing\n", words=("1", "--prepare", "rm -rf inst gen d/one"))
+
     def test_reader_between_the_two(self) -> None:
         self.beside(READER, 0, "NOT CONFIRMED in 3 tries: what differs comes from other recipes.\n",
                     "  Another race shows, race 1:\n    y: line 1 is `none`, and `1` after a serial build\n")
