@@ -12,7 +12,7 @@ from record.make.limits import Kept, keep
 from record.make.lines import name_of_read
 
 MOST = 1 << 20  # bytes of one
-BEHIND = 10_000_000  # nanoseconds by which the times of files may be behind the clock
+BEHIND = 5_000_000  # nanoseconds by which the times of files may be behind the clock; a make takes longer until its first recipe writes
 SECOND = 1_000_000_000
 
 

@@ -303,7 +303,6 @@ def as_usual() -> None:
 
 def run_logged(spool: str, name: str, real: str, args: "list[str]", flags: str, below: bool, slots: str) -> int:
     """Runs make with the recorder's words and keeps what it says; gives its raw status."""
-    began = now()
     extra, spoken = WORDS + (["-j1"] if asks_jobs(args, flags) else []), speak_english(os.environ)
     where, path, errors = goes_to(spool, 1), file_of(spool, 1), "joined" if is_one_file(1, 2) else goes_to(spool, 2)
     split = args.index("--") if "--" in args else len(args)
@@ -313,6 +312,7 @@ def run_logged(spool: str, name: str, real: str, args: "list[str]", flags: str, 
     except OSError:  # it may be as large as it is
         pass
     note_output(spool, writing, where, path)
+    began = now()
     child = os.fork()
     if child == 0:
         as_usual()

@@ -3,7 +3,7 @@ test_hunted.py for the tests."""
 
 from typing import List
 
-from guard_table import FALSE_RACE, LOST_HOLE, UNSAID, YES, Guard
+from guard_table import COPIES, FALSE_RACE, LOST_HOLE, UNSAID, YES, Guard
 
 
 def hunted(name: str) -> str:
@@ -27,8 +27,8 @@ HUNTED_GUARDS: List[Guard] = [
     Guard("language: the rest of the locale stays", "make/options.py", "dict.fromkeys(CATEGORIES, ", "dict.fromkeys([], ", "test_hunted.Language.test_environment"),
     Guard("output: a first line that starts nothing", "make/lines.py", 'BEGINS_JOB, ENDS_JOB = (b"Putting", b"Live"),', 'BEGINS_JOB, ENDS_JOB = (b"Putting",),', "test_hunted.Said.test_first_line"),
     Guard("output: a last line that starts nothing", "make/wrapper.py", "return not self.is_last(packet)", "return True", "test_hunted.Said.test_last_line"),
-    Guard("makefiles: written again", "make/owners.py", "        if make.stale:\n", "        if False:\n", hunted("makefile_that_is_written_again"), YES),
-    Guard("makefiles: not those written before", "make/owners.py", "any(first < place < last", "any(first < place", hunted("makefile_that_is_written_once"), FALSE_RACE),
+    Guard("makefiles: written again", "make/owners.py", "if make.stale or any(", "if any(", hunted("makefile_that_is_written_again"), YES, COPIES),
+    Guard("makefiles: not those written before", "make/owners.py", "any(first < place < last", "any(first < place", hunted("makefile_that_is_written_once"), FALSE_RACE, COPIES),
     Guard("folders: in another way too", "make/quiet.py", "return found and all(is_of_form(life, folder, is_kept) for life in lives)", "return found", hunted("folder_that_a_script_makes_too"), YES),
     Guard("folders: twice in a text", "tools/shelltext.py", """, r"\\bmkdir\\s+(?!-p\\b|--p)[^;&|\\n]*?"))""", ",))", hunted("folder_that_a_text_makes_twice"), YES),
     Guard("folders: a word that is cut", "tools/shelltext.py", 'w.startswith("--v")', 'w == "--verbose"', hunted("folder_that_is_told"), YES),

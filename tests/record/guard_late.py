@@ -22,7 +22,7 @@ LATE_GUARDS: List[Guard] = [
     Guard("orders of names: that rm does not say", "tools/shelltext.py", "name in SORTERS and not is_loud", "name in SORTERS and name not in NAMING", late("order_that_rm_does_not_say"), "True is not false"),
     Guard("folders: how large ls shows them", "tools/shelltext.py", '"ls": re.compile(r"\\s(-\\w*[sS]|', '"ls": re.compile(r"\\s(-\\w*[S]|', late("size_of_a_folder_by_ls"), YES),
     Guard("folders: how large find finds them", "tools/shelltext.py", ', "find": re.compile(r"\\s-size\\s")', "", late("size_of_a_folder_by_find"), YES),
-    Guard("ages: at the end of a long script", "tools/shelltext.py", "LARGE = 1 << 22", "LARGE = 1 << 18", late("ages_at_the_end_of_a_long_script"), YES,
+    Guard("ages: at the end of a long script", "tools/shelltext.py", "KEPT, LARGE = 4096, 1 << 22", "KEPT, LARGE = 4096, 1 << 18", late("ages_at_the_end_of_a_long_script"), YES,
           ("tools/shellages.py", "if len(text) == LARGE or ", "if ")),
     Guard("makes inside: an include behind a tab", "make/globs.py", r"(?m)^[ \t]*[-s]?include", r"(?m)^ *[-s]?include", late("include_behind_a_tab"), YES),
     Guard("makes inside: a rule that is a macro", "make/globs.py", "if any(macros.may_be_rule(line.group()) for", "if any(False for", late("rule_that_is_a_macro"), YES),

@@ -62,7 +62,7 @@ MACRO_GUARDS: List[Guard] = [
     Guard("eval: what many macros may be", MACROS, "return self.given.get(ANY, []) if name == UNNAMED else [*known", "return [*self.given.get(ANY, []), *known", "test_macros.Sweeps.test_macros_that_may_be_any_text"),
     Guard("data base: what a macro of a target gets besides", BASE, "|\\+=|\\?=)", ")", macro("macro_of_a_target_that_gets_more"), YES),
     Guard("data base: names with a colon", BASE, 'r"*)(.*?) (?:=', 'r"+) (?:=', text("macros_of_a_data_base")),
-    Guard("names: with a colon", BASE, "            self.base.cut.add(self.name)\n            self.body(text)\n", "            pass\n", macro("macro_whose_name_has_a_colon"), YES),
+    Guard("names: with a colon", BASE, "            self.base.cut.add(self.name)\n            self.body(text)\n", "            pass\n", macro("macro_whose_name_has_a_colon"), YES, LATE),
     Guard("names: with a blank", BASE, "            self.base.cut.add(self.name)\n            self.body(text)\n", "            pass\n", macro("macro_whose_name_has_a_blank"), YES),
     Guard("names: of one sign", REFERENCES, "one.group(1).strip(ENDS) if one.group(1) else", "one.group(1) if one.group(1) else", macro("macro_whose_name_is_a_comma"), YES),
     Guard("names: signs of patterns", REFERENCES, 'map(re.escape, pattern.split("*"))', 'pattern.split("*")', macro("macro_whose_name_has_brackets_of_a_pattern"), YES),

@@ -2,7 +2,7 @@
 
 from typing import List
 
-from guard_table import FALSE_RACE, LOST_HOLE, LOST_RACE, UNSAID, YES, Guard
+from guard_table import COPIES, FALSE_RACE, LOST_HOLE, LOST_RACE, UNSAID, YES, Guard
 
 
 def project(name: str) -> str:
@@ -72,7 +72,7 @@ PROJECT_GUARDS: List[Guard] = [
     Guard("projects: shells that get exported macros", "make/ahead.py", "if builder.make.words.exports_to_shell and", "if False and",
           "test_projects.Ahead.test_macro_that_looks_at_the_folder", YES),
     Guard("projects: makes by which GCC optimises", "make/owners.py", "([], []) if is_of_linker(make.life) else self.patterns_of(make)", "self.patterns_of(make)",
-          project("programs_that_are_optimised_while_linked"), FALSE_RACE),
+          project("programs_that_are_optimised_while_linked"), FALSE_RACE, COPIES),
     *NUMBERS,
     *CONFIGURED_GUARDS,
     Guard("folders: those above the project", "trace/names.py", "self.above.update(path for path in above if os.path.isdir(path))", "pass", project("folders_by_a_whole_path"), FALSE_RACE),

@@ -54,7 +54,7 @@ SOUGHT_GUARDS: List[Guard] = [
     Guard("ninja: its log", "ninja/build.py", "        self.add_logs()\n", "", sought("log_of_ninja"), YES),
     Guard("folders: errors that a program gets", "make/quiet.py", 'found = kept == "pipe" and', "found =  False and", sought("folder_made_or_true_in_a_make_for_a_program"), FALSE_RACE),
     Guard("folders: errors that a program gets: said", "make/quiet.py", '        builder.assumed.add("output", "make " + builder.make.words.args)', "        pass", sought("folder_made_or_true_in_a_make_for_a_program"), UNSAID),
-    Guard("macros: that scripts may have exported", "make/macros.py", "or name in os.environ or self.is_lost or self.is_named_in_export(name)", "or self.is_exported(name)", sought("macros_that_set_others_in_a_script"), FALSE_RACE),
+    Guard("macros: that scripts may have exported", "make/exports.py", "return name in self.known.make.words.environment", "return True", sought("macros_that_set_others_in_a_script"), FALSE_RACE),
     Guard("ages: that another program looks at", "make/ages.py", " if any(map(shellages.shows_ages, life.ran)))", ")", sought("age_beside_a_script_that_looks"), FALSE_RACE),
     Guard("trace: folders with two names", "trace/names.py", "if known != path else []", "if False else []", "test_sought.Traces.test_folder_with_two_names"),
     Guard("trace: folders with two names, by a mount", "trace/names.py", "if not mounts.isdisjoint(pair)", "", "test_sought.Traces.test_folder_with_two_names"),

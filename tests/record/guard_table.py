@@ -18,6 +18,9 @@ WITHHELD = "0 != 2"
 # What turns off that recipes see the listings which make keeps.
 MEMORY = ("make/memory.py", "add_list(make, make.acts.setdefault((builder.number, node.name), Work()), folder, place)", "pass")
 
+# What turns off that makefiles are kept as they were read.
+COPIES = ("make/wrapper.py", "self.copies.add(packet, self.log)", "pass")
+
 
 @dataclass(frozen=True)
 class Guard:
@@ -125,7 +128,7 @@ NAMES: List[Guard] = [
     Guard("patterns of computed text are *", "tools/shelltext.py", 'cut or "$" in text or', "cut or", "test_shellvalues.Makefiles.test_loop_over_names_of_the_environment", YES),
     Guard("patterns of eval are *", "tools/shelltext.py", r' or re.search(r"\beval\b", text)', "", small("pattern_of_eval"), YES,
           ("tools/shelltext.py", 'OPTIONS.search(" ".join(argv)) or TAKES_IN.search(text)', "False")),
-    Guard("lists of make: a search", "make/memory.py", "            if asked is None or path in asked:\n", "            if True:\n", small("search_that_lists_a_folder"), FALSE_RACE),
+    Guard("lists of make: a search", "make/memory.py", "if kind == MAKE_LISTED and (asked is None or path in asked):", "if kind == MAKE_LISTED:", small("search_that_lists_a_folder"), FALSE_RACE),
     Guard("lists of make: makefiles that are not there", "make/owners.py", "return ABSENT in kinds", "return False and ABSENT in kinds", small("search_that_lists_a_folder"), FALSE_RACE),
     Guard("lists of make: exported macros", "make/memory.py", "open_names = exported_lists(builder.known)", "open_names = False", small("wildcard_that_a_target_exports"), YES),
     Guard("macros: exports of a target", "make/exports.py", r"(?:[^\t\n#][^\n]*?:)??", "", small("macro_that_a_target_exports"), YES),
@@ -211,7 +214,7 @@ OWNERS: List[Guard] = [
     Guard("acts: not the looks into archives", "make/owners.py", "self.removed_last(make) | self.read_archives(make, names)", "self.removed_last(make)", small("archive_beside_another_target"), FALSE_RACE),
     Guard("acts: what make lists", "make/build.py", "        place_listings(self)\n", "", case("make-wildcard"), YES, MEMORY),
     Guard("wildcards: computed patterns are *", "make/globs.py", '"(", "{")):\n            found.add(EVERYTHING)', '"(", "{")):\n            found.add(Asked("*", word))', small("wildcard_that_is_computed"), YES),
-    Guard("folder of make -C", "make/owners.py", '            if act.kind == ENTERED:\n                folder = act.path\n', "", small("decision_below_another_folder"), YES, LOOKS),
+    Guard("folder of make -C", "make/owners.py", '            folder = act.path if act.kind == ENTERED else folder\n', "", small("decision_below_another_folder"), YES, LOOKS),
     Guard("outer recipe has what its makes do", "make/owners.py", "        todo = [life]\n        while todo:\n            one = todo.pop()\n            yield one\n            todo.extend(one.children)", "        yield life", case("subdirs-parallel"), YES),
     Guard("holes: a make that failed", "importing.py", "for one in failures(owners.makes, [], folder)]", "for one in ()]", case("inner-failure-ignored"), LOST_HOLE),
     Guard("report: a later rule with two colons has no line", "fixes.py", 'if early.get("colons", 0) > 1 else', "if False else", small("double_colon_of_two_users"), UNSAID),
@@ -243,7 +246,7 @@ OWNERS: List[Guard] = [
     Guard("failed: it lacks no file that is there", "failed.py", ' if kind == "N"}) for make, job in jobs]', "}) for make, job in jobs]", "test_failed.Failed.test_prerequisite_that_was_forgotten"),
     Guard("failed: a hint where no better one is known", "main.py", "[by_hand(options.words)] if record.status != 0 else []", "[]", "test_failed.Failed.test_recipe"),
     Guard("holes: a build that failed", "main.py", '            record.holes.append("the build ended with status %d" % status + (": signal %d stopped it" % -status if status < 0 else ""))', "            pass", small("status_of_the_command"), LOST_HOLE),
-    Guard("holes: a make that did not end", "make/owners.py", 'self.holes.append("a make did not end: make " + words.args)', "pass", "test_owners.Holes.test_make_that_did_not_end"),
+    Guard("holes: a make that did not end", "make/owners.py", '        self.holes += ["a make did not end: make " + words.args] if words.status is None else []\n', "", "test_owners.Holes.test_make_that_did_not_end"),
     Guard("holes: jobs out of order", "make/owners.py", "elif births != sorted(births):", "elif False:", "test_owners.Holes.test_jobs_out_of_order"),
     Guard("holes: a make without words", "make/owners.py", '                    self.holes.append("a make has no words: " + " ".join(life.argv)[:100])', "                    pass", "test_owners.Holes.test_make_without_words"),
     Guard("holes: words without a make", "make/owners.py", '            self.holes.append("a make has no process in the trace: %d %s" % (pid, found.args))', "            pass", "test_owners.Holes.test_words_without_a_make"),
