@@ -38,6 +38,8 @@ COMES_TO_NOTHING = re.compile(SAYS.pattern.replace("info", "eval|info"))
 # Lines that are no rules whatever their references come to: recipes and words of make.
 OTHER = re.compile(r"\t| *(?:(?:ifn?eq|ifn?def|else|endif|define|endef|export|unexport|undefine|vpath|[-s]?include|-?load)(?![\w.-])|#)")
 COLON = re.compile(r":(?!=)")
+BODY = re.compile(r"(?ms)^ *(?:(?:override|export|private)[ \t]+)*define[ \t]+([\w.-]+)[ \t]*(?:(?:[+?!]|::?:?)?=)?[ \t]*\n.*?^ *endef\b[^\n]*")
+ONE_MACRO = re.compile(r" *(?:(?:override|export|private)[ \t]+)*[\w.-]+[ \t]*(?:[+?!]|::?:?)?=")  # a line that sets one
 INNERMOST = re.compile(r"\$\([^(){}]*\)|\$\{[^(){}]*\}")
 # The name of a macro; behind its beginning it may go on with another macro, and end with a text.
 NAMES = re.compile(r"\$(?:[({](?:(?:call|value)[ \t]+)?([\w.-]*)(?:(\$)(?:(?:\w|\([\w.-]+\)|\{[\w.-]+\})([\w.-]*)(?=[,)}\s]))?)?|(\w))")
@@ -215,7 +217,7 @@ def listed(texts: List[str], values: Dict[str, str], names: Iterable[str] = ("*"
     found: Set[Asked] = set()
     if any(macros.may_be_rule(line.group()) for line in LINE.finditer(macros.text)):
         found.add(EVERYTHING)
-    lines = (line.group() for line in LINE.finditer(macros.text))
+    lines = (line.group() for line in LINE.finditer(without_bodies(macros)))
     rules = [found.group(1) for found in map(RULE.match, (line for line in lines if not is_alone(line, SAYS))) if found is not None]
     for text in [*rules, *INCLUDE.findall(macros.text)]:
         if any(text.count(one) > text.count(other) for one, other in BRACKETS.items()):
@@ -227,6 +229,15 @@ def listed(texts: List[str], values: Dict[str, str], names: Iterable[str] = ("*"
             for word in (word for word in text.replace("\\\n", " ").split() if "$" not in word or not macros.is_plain(word)):
                 found |= parts(word, macros, is_odd) if "$" in word else {one for piece in pieces(word) for one in parts_of(piece, is_odd)}
     return found
+
+
+def without_bodies(macros: Macros) -> str:
+    """The text of makefiles without macros of several lines that no line asks for but those of recipes: nothing makes rules of them."""
+    outside = BODY.sub("", macros.text)
+    lines = (line.group() for line in LINE.finditer(outside) if not ONE_MACRO.match(line.group()))
+    reached = macros.texts_from("\n".join(line for line in lines if line[0] != "\t" and "$" in line))
+    names = {name for text in reached for found in NAMES.finditer(text) for name in macros.named(*found.groups())}
+    return macros.text if macros.is_open else BODY.sub(lambda one: one.group() if one.group(1) in names else "", macros.text)
 
 
 def is_unasked(text: str, macros: Macros, names: Callable[[], Set[str]]) -> bool:

@@ -18,6 +18,10 @@ RULE = re.compile(r"(\w(?:[\w.+/-]*[\w.+-])?)[ \t]*::?(?![:=])[^=]*$")  # of one
 # Of a macro by its name, other than those that make sets itself, and words of makefiles.
 ASSIGNED = re.compile(r" *(?:(?:override|export|private)[ \t]+)*(?!MAKE|(?:[-s]?include|vpath|load|override|private|export|unexport|define)[ \t])(\w[\w.-]*)[ \t]*(?:[+?!]|:{1,3})?=")
 
+INCLUDES, UNDEFINES = re.compile(r"(?m)^[ \t]*[-s]?include\b"), re.compile(r"(?m)^[ \t]*(?:override[ \t]+)?undefine\b")
+SETS = re.compile(r"(?m)^([\w.-]+)[ \t]*:{0,3}=[ \t]*([^\n]*)$")
+DEFAULT = re.compile(r"(?m)^ *([\w.-]+)[ \t]*\?=(?:[^\n]*?(?<!\\)(?:\\\\)*\\\n)*[^\n]*")  # `X ?= ..`, with the lines that go on
+
 
 @dataclass
 class Idle:
@@ -69,6 +73,22 @@ def without_idle(text: str, name: str, words: Words, idle: Optional[Idle]) -> st
         for (path, number), recipe in idle.recipes.items():
             left_out |= recipe_lines(lines, number - 1, recipe) if path == name and number - 1 not in held else set()
     return "\n".join("" if at in left_out else line for at, line in enumerate(lines))
+
+
+def without_defaults(texts: Dict[str, str], words: Words) -> List[str]:
+    """The texts of makefiles without lines `X ?= ..` that change nothing, since one that was read before has set the macro: once, and make still has
+    that value when it ends. What stands in front of the first `include` of a makefile was read before each later makefile."""
+    if len(words.read) != 1 or len({*words.read[0]}) != len(words.read[0]) or words.included or any(map(UNDEFINES.search, texts.values())):
+        return [*texts.values()]
+    whole, values = "\n".join(texts.values()), words.values()
+    known: Set[str] = set()
+    found: List[str] = []
+    for text in (texts[name] for name in words.read[0] if name in texts):
+        found.append(DEFAULT.sub(lambda one: "" if one.group(1) in known else one.group(), text))
+        first = INCLUDES.search(text)
+        set_here = {name for name, value in SETS.findall(text[:first.start()] if first else text) if "$" not in value and value.strip() == values.get(name)}
+        known |= {name for name in set_here if len(re.findall(r"(?<![\w$({.%%/-])%s[ \t]*(?:[+!]|:{1,3})?=" % re.escape(name), whole)) == 1}
+    return found
 
 
 def goes_on(line: str) -> bool:

@@ -11,7 +11,7 @@ from typing import TYPE_CHECKING, Container, Dict, Iterable, List, Optional, Set
 from record.make.asked import EVERYTHING, Asked, asked_in, is_of_linker
 from record.make.database import Base
 from record.make.globs import listed, patterns
-from record.make.idle import TAKES, idle_of, without_idle
+from record.make.idle import TAKES, idle_of, without_defaults, without_idle
 from record.make.options import asks_jobs
 from record.make.slots import says_one_job
 from record.make.programs import Programs
@@ -222,7 +222,7 @@ class Owners:
         idle, own = idle_of(make.words), [make.words.args, make.words.flags]
         if idle is not None and any(map(TAKES.search, (*own, *texts.values()))):
             idle.macros.clear()
-        used = own + [without_idle(text, name, make.words, idle) for name, text in texts.items()]
+        used = own + without_defaults({name: without_idle(text, name, make.words, idle) for name, text in texts.items()}, make.words)
         return sorted(patterns(used, make.words.values(), names)), sorted(listed(used, make.words.values(), names, lambda: asked_names(make.words)))
 
     def match_jobs(self, make: Make) -> None:

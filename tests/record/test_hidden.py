@@ -37,6 +37,7 @@ HIDDEN: Dict[str, Small] = {
     "pattern_of_a_rule_in_a_make_inside": Small("race", INNER % "echo n > d/n.c", {"d/k.c": "k", "in.mk": "out: d/*.c ; cat $^ > out\n"}),
     "pattern_of_a_rule_by_a_macro_inside": Small("race", INNER % "echo n > d/n.c", {"d/k.c": "k", "in.mk": "C = d/*.c\nout: $(C) ; cat $^ > out\n"}),
     "pattern_of_a_rule_by_a_macro_of_other_names_inside": Small("safe", INNER % "echo n > d/n.h", {"d/k.c": "k", "in.mk": "C = d/*.c k.c\nP = d\nout: $(C) | $(P) ; cat $< > out\n", "k.c": ""}),
+    "pattern_of_a_default_that_changes_nothing": Small("safe", INNER % "echo n > d/n.h", {"d/k.c": "k", "d/k.h": "k", "in.mk": "C = d/k.c\ninclude more.mk\n", "more.mk": "C ?= $(shell ls d/*)\nout: $(C) ; cat $^ > out\n"}),
     "pattern_of_a_rule_by_a_macro_of_two_values_inside": Small("race", INNER % "echo n > d/n.h", {"d/k.c": "k", "d/k.h": "k", "in.mk": "C = d/*.h\nout: $(C) ; cat $^ > out\nC = d/*.c\n"}),
     "pattern_behind_a_colon_inside": Small("race", INNER % "echo n > n.c", {"k.c": "k", "in.mk": "out:*.c ; cat $^ > out\n"}),
     "pattern_behind_a_bar_inside": Small("race", INNER % "echo n > n.c", {"k.c": "k", "in.mk": "out: |*.c ; echo '$|' > out\n"}),

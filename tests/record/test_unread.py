@@ -6,7 +6,7 @@ from typing import Dict, List
 import support
 from record.make.database import read_base
 from record.make.globs import Macros, listed, patterns
-from record.make.idle import Idle, idle_in, idle_of, recipe_lines, unread, without_idle
+from record.make.idle import Idle, idle_in, idle_of, recipe_lines, unread, without_defaults, without_idle
 from record.make.searches import asked_names
 from record.make.words import Considered, Round, Words
 from test_replay import TOP, played
@@ -175,6 +175,22 @@ class Texts(unittest.TestCase):
         for text, wanted in (("X = a \\\n  b: *.c\n", set()), ("all:\n\tx \\\n  y: *.c\n", set()), ("X = a\\\\\nb: *.c\n", {"*.c"}), ("b: x \\\n *.c\n", {"*.c"}),
                              ("$(info a: *.c; b)\n", set()), ("$(info a) b: *.c; b\n", {"*", "*.c"})):
             self.assertEqual(wanted, {part for _, part in listed([text], {})}, text)
+
+    def test_lines_of_a_macro(self) -> None:
+        body = "define q\nb: *.c\nendef\n"
+        for text, wanted in (("all:\n\t$(q)\n", set()), ("n = q\nall: $($(n)x)\n", set()), ("$(q)\n", {"*.c"}), ("X = $(q)\n$(X)\n", {"*.c"}), ("X = $(eval $(q))\n", {"*.c"}),
+                             ("n = q\n$($(n))\n", {"*.c"}), ("$(call q)\n", {"*.c"})):
+            self.assertEqual(wanted, {part for _, part in listed([body + text], {"q": "\x01"})}, text)
+
+    def test_defaults_that_change_nothing(self) -> None:
+        first = {"a": "P = x\ninclude b\n"}
+        for texts, there, left in ((first, "x", False), (first, "y", True), ({"a": "include b\nP = x\n"}, "x", True), ({"a": "P = x\ninclude b\nP = x\n"}, "x", True),
+                                   ({"a": "P = $(Q)\ninclude b\n"}, "$(Q)", True), ({"a": "P = x\ninclude b\nundefine P\n"}, "x", True)):
+            base = read_base(["# Variables", "# makefile (from 'a', line 1)", "P = " + there, "# Files"])
+            words = Words(1, 0, read=[["a", "b"]], rounds=[Round("goals", 0, base=base)])
+            self.assertEqual(left, "?=" in "".join(without_defaults({**texts, "b": "P ?= $(shell ls \\\n *)\nall: $(P)\n"}, words)), texts)
+        words.read.append(["a", "b"])
+        self.assertIn("?=", "".join(without_defaults({**first, "b": "P ?= 1\n"}, words)))
 
     def test_rules_that_nothing_asks_for(self) -> None:
         for text, asked, wanted in (("z: *.x", "y", ""), ("z: *.x", "z", "*.x"), ("z: *.x", "y w.x", "*.x"), ("z: d/*.x", "y w.x", ""), ("z: ./*.x", "y ./w.x", "*.x"), ("z: *.x", "*", "*.x"),
