@@ -44,8 +44,10 @@ def with_jobs(words: List[str], jobs: int, folder: str = "") -> List[str]:
 
 
 def by_name(words: List[str], real: str, folder: str = "") -> List[str]:
-    """A command that runs make by its whole path, so that it runs make by name: a script of make, such as debian/rules, and
-    `cmake --build` where CMake made makefiles. Any other as it is."""
+    """A command that runs make by its whole path, so that it runs make by name: that path itself, a script of make, such as debian/rules,
+    and `cmake --build` where CMake made makefiles. Any other as it is."""
+    if "/" in words[0] and os.path.realpath(os.path.join(folder, words[0])) == os.path.realpath(real):
+        return ["make", *words[1:]]
     script = words[0] if "/" in words[0] else shutil.which(words[0]) or words[0]
     first = first_words(os.path.join(folder, script))
     if first and os.path.realpath(first[0]) == os.path.realpath(real):

@@ -337,6 +337,7 @@ UNFILED: List[Guard] = [
     Guard("said: programs that may compare ages", "make/ages.py", 'builder.assumed.add(assumed', '(lambda *_: None)(assumed', small("ages_by_a_program"), UNSAID),
     Guard("said: the order of listings", "make/unfiled.py", 'builder.assumed.add("listings"', '(lambda *_: None)("listings"', small("order_of_a_listing"), UNSAID),
     Guard("interpreters are read", "trace/started.py", "self.look(life, words[0], True, True, READ)\n        self.look_at_interpreters(life, words[0])", "self.look(life, words[0], True, True, READ)", small("interpreter_that_a_recipe_makes"), YES),
+    Guard("entry: make by its whole path", "ninja/again.py", '        return ["make", *words[1:]]\n', "        pass\n", small("make_by_its_path"), "1 != 2"),
     Guard("interpreters: make", "trace/started.py", "if found.path == self.real:  # the kernel", "if False:  # the kernel", small("script_of_make_in_a_recipe"), LOST_HOLE),
     Guard("interpreters that are not there", "trace/started.py", "            self.look_at_interpreters(life, program)\n", "", small("interpreter_that_is_not_there_yet"), YES),
     Guard("folders: modes of those in which one is made", "make/folders.py", 'elif os.path.dirname(path.rstrip("/")) in (', "elif os.path.dirname(path) in (", small("folder_of_another_mode_in_which_one_is_made"), YES),

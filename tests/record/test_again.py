@@ -43,7 +43,7 @@ class Words(unittest.TestCase):
         with support.Project({"m/CMakeCache.txt": "CMAKE_GENERATOR:INTERNAL=Unix Makefiles\n", "rules": "#!%s -f\n" % real, "other": "#!/bin/sh\n"}) as project:
             project.sh("chmod +x rules other")
             build, rules, other = (str(project.folder / name) for name in ("m", "rules", "other"))
-            for words, wanted in (([rules, "build"], ["make", "-f", rules, "build"]), ([other], [other]), (["make", "all"], ["make", "all"]),
+            for words, wanted in (([rules, "build"], ["make", "-f", rules, "build"]), ([other], [other]), (["make", "all"], ["make", "all"]), ([real, "-k"], ["make", "-k"]),
                                   (["cmake", "--build", build], [*run, build]), (["cmake", "--build", build, "-j8", "-v"], [*run, build, "VERBOSE=1"]),
                                   (["cmake", "--build", build, "--target", "a", "b", "--parallel", "4"], [*run, build, "a", "b"]),
                                   (["cmake", "--build", build, "-t", "a", "--config", "Debug", "--", "-k", "X=1"], [*run, build, "a", "-k", "X=1"]),

@@ -107,6 +107,7 @@ SMALL: Dict[str, Small] = {
     "interpreter_that_is_not_there_yet": Small("race", "all: use interp\ninterp: ; cp /bin/cat interp\nuse: ; ./script > use || true\n", {"script": "#!./interp\nhello\n"}, "chmod +x script"),
     "interpreter_that_is_a_script": Small("race", "all: tool use\ntool: ; cp /bin/cat tool\nuse: ; ./script > use\n", {"script": "#!./between\nhello\n", "between": "#!./tool\n"}, "chmod +x script between"),
     "script_of_make_in_a_recipe": Small("no verdict", "all: ; +./rules all\n", {"rules": "#!%s -f\nall: a b\na: ; echo a > a\nb: ; cp a b\n" % shutil.which("make")}, "chmod +x rules", says="a make ran past the recorder"),
+    "make_by_its_path": Small("race", "all: a b\na: ; echo a > a\nb: ; $(MAKE) -f in.mk\n", {"in.mk": "b: ; cp a b\n"}),
     "script_of_make": Small("race", "", {"rules": "#!%s -f\nall: a b\na: ; echo a > a\nb: ; cp a b\n" % shutil.which("make")}, "chmod +x rules"),
     # modes of folders that several make
     "folder_of_two_masks": Small("race", "all: a b\na: ; umask 077; mkdir -p d; touch a\nb: ; mkdir -p d; touch b\n"),
@@ -295,6 +296,7 @@ SMALL: Dict[str, Small] = {
 COMMANDS: Dict[str, List[str]] = {
     "double_colon_that_is_a_goal": ["make", "x", "u"],
     "value_that_looks_like_one_job": ["make", "X=-v -j1"],
+    "make_by_its_path": [str(shutil.which("make"))],
     "script_of_make": ["./rules", "all"],
     "jobs_of_a_makefile_and_one_job": ["make", "-j1"],
     "own_jobs_that_a_recipe_hands_on": ["make", "-j1"],
