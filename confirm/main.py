@@ -100,7 +100,7 @@ def prepared(args: argparse.Namespace, folder: str, used: set[str], compiler: st
             prepare(room, args.prepare)
         else:
             with reading(args.record):
-                take_back(room.fresh, folder, args.record)
+                room.taken = take_back(room.fresh, folder, args.record)
         yield room
     finally:
         remove(room.top)

@@ -12,7 +12,7 @@ import shutil
 import subprocess
 import tempfile
 from collections.abc import Callable, Sequence
-from dataclasses import dataclass
+from dataclasses import dataclass, field
 from pathlib import Path
 
 from confirm.races import CannotConfirm, Chosen
@@ -105,6 +105,7 @@ class Room:
     folder: str
     has_ninja: bool = False
     is_in_place: bool = False
+    taken: set[str] = field(default_factory=set)  # files that the recorded build wrote, and that the copy does not have at first
 
     @property
     def tree(self) -> Path:

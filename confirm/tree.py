@@ -68,9 +68,9 @@ def made(record: Path, tree: Path, folder: str) -> Iterator[str]:
             yield from (os.path.normpath(os.path.join(about["folder"], it)) for it in of_ninja(tree, folder, about))
 
 
-def take_back(tree: Path, folder: str, record: Path) -> None:
-    """Takes away what the recorded build wrote, so that its recipes run again; of folders those that are empty then."""
-    folders = []
+def take_back(tree: Path, folder: str, record: Path) -> set[str]:
+    """Takes away what the recorded build wrote, so that its recipes run again; of folders those that are empty then. The names of these files."""
+    folders, files = [], set()
     for path in [*made(record, tree, folder)]:
         below = os.path.relpath(path, folder)
         if below == "." or below.startswith(".."):
@@ -80,9 +80,11 @@ def take_back(tree: Path, folder: str, record: Path) -> None:
             folders.append(it)
         elif it.is_symlink() or it.exists():
             it.unlink()
+            files.add(below)
     for it in sorted(set(folders), key=lambda path: -len(path.parts)):
         if it.is_dir() and not any(it.iterdir()):
             it.rmdir()
+    return files
 
 
 def digest(path: Path) -> str:

@@ -2,6 +2,7 @@
 
 from __future__ import annotations
 
+import os
 import re
 import time
 from collections.abc import Callable, Sequence
@@ -20,6 +21,7 @@ from report.model import Race
 APART = 1.1
 # The first serial build may take so long; the others may take ten times as long as it did, and a minute.
 LONGEST = 86400.0
+SOURCES = "If the build changes its own sources: --prepare 'git checkout . && make clean'"
 SHOWN_LINES = re.compile(r"(?i)\b(error|fatal|cannot|no such|not found|failed|no rule)\b|\*\*\*")
 
 
@@ -69,6 +71,9 @@ class Trial:
     def marked(self, race: Chosen) -> Built:
         """A second serial build, in which the two recipes say where they are; what it leaves in another way is left out."""
         assert self.serial
+        name = os.path.relpath(race.path, self.room.folder)
+        if name in self.room.taken - self.serial.files.keys():
+            raise CannotConfirm(f"the build changes {name}, and does not make it: what it was before nobody has kept. {SOURCES}")
         time.sleep(max(0.0, APART - self.serial.built.seconds))
         self.say("second serial build")
         again = self.left(race, None, self.serial.built)
@@ -114,8 +119,7 @@ def failed(what: str, built: Built) -> CannotConfirm:
     """A serial build that fails in the copy, with what it said."""
     ended = "did not end in time" if built.status is None else f"ends with status {built.status}"
     said = [it.strip() for it in built.output.splitlines() if it.strip()]
-    advice = ("If it lacks files that were there before the recorded build: --prepare 'make clean'. If the build changes its own sources: "
-              "--prepare 'git checkout . && make clean'")
+    advice = f"If it lacks files that were there before the recorded build: --prepare 'make clean'. {SOURCES}"
     return CannotConfirm("\n    ".join([f"{what} {ended}. {advice}", *(errors_of(built) or said)[-3:]]))
 
 

@@ -52,6 +52,11 @@ class OtherTests:
         self.check(1, "\nCONFIRMED ", " 1 --schedule 2 --prepare 'rm -f a b; echo A B > conf' --keep /tmp/kept\n",
                    words=("1", "--prepare", "rm -f a b; echo A B > conf"))
 
+    def test_source_that_the_build_changes_and_does_not_make(self) -> None:
+        self.files({"Makefile": "all: a b\na: ; sed -i s/A/1/ conf; touch a\nb: ; sed -i s/B/2/ conf; touch b\n", "conf": "A B\n"})
+        self.record()
+        self.check(2, "the build changes conf, and does not make it:", "If the build changes its own sources: --prepare 'git checkout . && make clean'")
+
     def test_folder_that_a_recipe_fills(self) -> None:
         self.files({"Makefile": "all: gen inst\ngen: ; echo 1 > d/one; touch gen\ninst: ; cp -r d inst\n", "d/zero": ""})
         self.record()
