@@ -83,7 +83,8 @@ class Considered:
 
     def searched_late(self) -> Set[str]:
         """The names for which make searches when recipes have ended, as for what a later rule with two colons needs."""
-        return {path for label in self.late for path in self.searched(self.searched_names(self.builder.graph.nodes[label]))}
+        nodes = self.builder.graph.nodes  # (an intermediate file may never be considered)
+        return {path for label in self.late & nodes.keys() for path in self.searched(self.searched_names(nodes[label]))}
 
     def searched(self, names: Set[str]) -> Iterator[str]:
         """The paths of names, and all that fit a pattern."""

@@ -36,6 +36,7 @@ MUTANTS: Dict[str, Small] = {
     "folder_of_objects_that_make_lists": Small("safe", "z: k b lib ; cp lib z\nlib: o/a.o o/b.o ; cat $(wildcard o/*.o) > lib\no/%.o: %.c | o ; cp $< $@\no: ; mkdir o\nk b: ; touch $@\n",
                                                {"a.c": "", "b.c": ""}),
     "list_of_a_search": Small("race", LISTS % ALL, HEADER),
+    "list_of_a_search_and_a_file_that_nobody_considers": Small("race", LISTS % ALL + "more: n.q\n.INTERMEDIATE: n.q\n", HEADER),
     "list_of_a_search_and_a_list_of_the_shell": Small("safe", LISTS % NAMES, HEADER),
     "list_of_a_search_before_all_recipes": Small("safe", LISTS.replace("gen/x1 a.o", "a.o gen/x1") % ALL, HEADER),
     "list_of_a_search_for_other_names": Small("safe", LISTS % "echo $(wildcard gen/*.h)", HEADER),
