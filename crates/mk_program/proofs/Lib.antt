@@ -1,4 +1,5 @@
 mod Answering
+mod Builds
 mod Failing
 mod Fixings
 mod MissingAnswers

@@ -1,17 +1,9 @@
 -- Lemmas on replies to questions about the jobs of a build.
-use Rattle.std.proofs.Common.{◌≡◌, ◌≢◌, ◌∙◌, List, [], Option, Result, Err, ap, inl, inr, subst, sym, ℕ}
-use Rattle.std.proofs.lemmas.Result.{IfOk-weaker}
+use Rattle.std.proofs.Common.{◌≡◌, ◌≢◌, ◌∙◌, List, Option, Result, ap, inl, subst, sym, ℕ}
 use Rattle.std.specs.Prelude.{IfErr, IfOk, IfSome}
-use Rattle.mk_name.specs.Reported.{Reported}
-use Rattle.mk_name.specs.Shown.{refused_text}
-use Rattle.mk_race.specs.Stages.{IsPrepared, Texts}
-use Rattle.mk_program.specs.Answers.{IsAnswerOver, IsInputFailure, IsJobAnswer, IsNoTextOf, IsNoTextOver, texts_for}
-use Rattle.mk_program.specs.Noting.{SaysNoting, SaysQuietly}
+use Rattle.mk_program.specs.Answers.{IsAnswerOver, IsInputFailure, IsNoTextOver}
 use Rattle.mk_program.specs.declared.noting.Reply.{Reply}
-use Rattle.mk_program.specs.declared.statuses.Status.{Status}
-use Rattle.mk_program.specs.declared.statuses.Status.TheVariants.{Refused}
-use Rattle.mk_program.proofs.Noted.{quiet_is, with_note}
-use Rattle.mk_files.specs.Builds.{IsReadAs, other_text}
+use Rattle.mk_files.specs.Builds.{IsReadAs}
 use Rattle.mk_files.specs.Files.{Files}
 use Rattle.mk_files.specs.Includes.{Pair}
 use Rattle.mk_files.specs.Inputs.{AreTexts, Hold, IsShortOr, IsUnread}
@@ -27,7 +19,6 @@ use Rattle.mk_request.specs.declared.requests.JobArgs.{JobArgs}
 use Rattle.mk_request.specs.declared.requests.JobQuestion.{JobQuestion}
 use Rattle.mk_request.specs.declared.requests.JobQuestion.TheVariants as jobs
 use Rattle.mk_request.specs.declared.requests.Request.{Request}
-use Rattle.mk_request.specs.declared.requests.Request.TheVariants as requests
 
 -- the further input of a question is no base
 pub no_base : (question : JobQuestion) → IfSome (other_input question) (λ (known : InputPath). known.input ≢ inputs.Base)
@@ -78,76 +69,3 @@ module _ (files : Files) (request : Request) (includes : List Pair) (result : Re
       → IfErr result (IsInputFailure files (inputs_of request) (IsNoTextOver request includes))
   own_failure paths same fails =
       unread_is files paths (inputs_of request) (IsNoTextOver request includes) result (same ∙ sym (ap inputs_of is)) fails
-
-module _ (files : Files) (args : JobArgs) (includes : List Pair) (result : Result Reply Failure) (asked : JobQuestion) (is : args.question ≡ asked) where
-  -- the texts of the build
-  abbrev pub texts : (InputFile → List ℕ) → Texts
-  texts text = texts_for args.build includes text
-
-  -- what is said of these jobs where the further input of a question has this text
-  abbrev pub Said : JobQuestion → ((InputFile → List ℕ) → List ℕ → Status → List ℕ → Type 0) → (InputFile → List ℕ) → Status → List ℕ → Type 0
-  Said question Says text status answer = Says text (other_text (other_input question) text) status answer
-
-  -- the inputs of these jobs hold some texts
-  abbrev pub Held : (InputFile → List ℕ) → Type 0
-  Held text = Hold files.text (inputs_of (requests.Jobs args)) text
-
-  -- the answer to the question that it is, with a note
-  pub noted_answer : (Says : (InputFile → List ℕ) → List ℕ → Status → List ℕ → Type 0)
-      → ((text : InputFile → List ℕ) (status : Status) (answer note : List ℕ)
-      → SaysNoting args.strict (texts text) (text inputs.Footprints) (Said asked Says text) status answer note
-      → IsJobAnswer asked args.strict (texts text) text status answer note)
-      → IfOk result (λ reply. (text : InputFile → List ℕ) → Held text
-      → SaysNoting args.strict (texts text) (text inputs.Footprints) (Said args.question Says text) reply.answer.status reply.answer.text.items reply.note.items)
-      → IfOk result (λ reply. (text : InputFile → List ℕ) → Held text
-      → IsAnswerOver (requests.Jobs args) includes text reply.answer.status reply.answer.text.items reply.note.items)
-  noted_answer Says more said = IfOk-weaker result _ _ (λ reply over text hold.
-      subst (λ (q : JobQuestion). IsJobAnswer q args.strict (texts text) text reply.answer.status reply.answer.text.items reply.note.items) (sym is)
-      (more text reply.answer.status reply.answer.text.items reply.note.items
-      (subst (λ (q : JobQuestion). SaysNoting args.strict (texts text) (text inputs.Footprints) (Said q Says text)
-      reply.answer.status reply.answer.text.items reply.note.items) is (over text hold)))) said
-
-  -- and without one
-  pub quiet_answer : (Says : (InputFile → List ℕ) → List ℕ → Status → List ℕ → Type 0)
-      → ((text : InputFile → List ℕ) (status : Status) (answer note : List ℕ) → Said asked Says text status answer × (note ≡ [])
-      → IsJobAnswer asked args.strict (texts text) text status answer note)
-      → ((text : InputFile → List ℕ) (reported : Reported) → IsPrepared (texts text) (text inputs.Footprints) (Err reported)
-      → Said asked Says text Refused (refused_text reported))
-      → IfOk result (λ reply. (text : InputFile → List ℕ) → Held text
-      → SaysQuietly (texts text) (text inputs.Footprints) (Said args.question Says text) reply.answer.status reply.answer.text.items)
-      → IfOk result (λ reply. reply.note.items ≡ [])
-      → IfOk result (λ reply. (text : InputFile → List ℕ) → Held text
-      → IsAnswerOver (requests.Jobs args) includes text reply.answer.status reply.answer.text.items reply.note.items)
-  quiet_answer Says more fault said none = with_note result _ _ _ (λ reply over empty text hold.
-      subst (λ (q : JobQuestion). IsJobAnswer q args.strict (texts text) text reply.answer.status reply.answer.text.items reply.note.items) (sym is)
-      (more text reply.answer.status reply.answer.text.items reply.note.items (
-        quiet_is (Said asked Says text) (texts text) (text inputs.Footprints) reply.answer.status reply.answer.text.items (fault text)
-            (subst (λ (q : JobQuestion). SaysQuietly (texts text) (text inputs.Footprints) (Said q Says text)
-            reply.answer.status reply.answer.text.items) is (over text hold)),
-        empty,
-      ))) said none
-
-  -- and of a question over the build that was read
-  pub build_answer : (Says : (InputFile → List ℕ) → Status → List ℕ → Type 0)
-      → ((text : InputFile → List ℕ) (status : Status) (answer note : List ℕ) → Says text status answer × (note ≡ [])
-      → IsJobAnswer asked args.strict (texts text) text status answer note)
-      → IfOk result (λ reply. (text : InputFile → List ℕ) → Held text → Says text reply.answer.status reply.answer.text.items × (reply.note.items ≡ []))
-      → IfOk result (λ reply. (text : InputFile → List ℕ) → Held text
-      → IsAnswerOver (requests.Jobs args) includes text reply.answer.status reply.answer.text.items reply.note.items)
-  build_answer Says more said = IfOk-weaker result _ _ (λ reply over text hold.
-      subst (λ (q : JobQuestion). IsJobAnswer q args.strict (texts text) text reply.answer.status reply.answer.text.items reply.note.items) (sym is)
-      (more text reply.answer.status reply.answer.text.items reply.note.items (over text hold))) said
-
-  -- a failure of the question that it is
-  pub job_failure : (No : (InputFile → List ℕ) → List ℕ → Type 0)
-      → ((text : InputFile → List ℕ) → No text (other_text (other_input asked) text) → IsNoTextOf asked (texts text) text)
-      → IfErr result (IsInputFailure files (inputs_of (requests.Jobs args)) (λ text. No text (other_text (other_input args.question) text)))
-      → IfErr result (IsInputFailure files (inputs_of (requests.Jobs args)) (IsNoTextOver (requests.Jobs args) includes))
-  job_failure No more fails = err_more _ _ result (λ failure failed. elim failed [
-    | inl unread ↦ inl unread
-    | inr no_text ↦ inr (
-      no_text.0,
-      λ text hold. subst (λ (q : JobQuestion). IsNoTextOf q (texts text) text) (sym is)
-          (more text (subst (λ (q : JobQuestion). No text (other_text (other_input q) text)) is (no_text.1 text hold))),
-    )
-  ]) fails

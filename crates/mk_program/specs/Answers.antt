@@ -37,6 +37,8 @@ use Rattle.mk_report.specs.RacesText.{IsRacesText}
 use Rattle.mk_report.specs.Reports.{IsReport}
 use Rattle.mk_report.specs.declared.answer.Answer.{Answer as Judged}
 use Rattle.mk_report.specs.declared.answer.Answer.TheVariants as judged
+use Rattle.mk_run.specs.declared.outcome.Outcome.{Outcome}
+use Rattle.mk_run.specs.declared.outcome.Outcome.TheVariants as outcomes
 use Rattle.mk_sched.specs.declared.refusal.Refusal.{Refusal}
 use Rattle.mk_sched.specs.declared.replay.Replayed.{Replayed}
 use Rattle.mk_program.specs.ChangeText.{change_text}
@@ -122,6 +124,12 @@ abbrev pub judged_status : Judged → Status
 judged_status (judged.Safe jobs chains) = statuses.Done
 judged_status (judged.Race jobs trace) = statuses.No
 judged_status (judged.Refused reported) = statuses.Refused
+
+-- and after a check of a build
+abbrev pub outcome_status : Outcome → Status
+outcome_status outcomes.Safe = statuses.Done
+outcome_status outcomes.Race = statuses.No
+outcome_status outcomes.Refused = statuses.Refused
 
 -- the text of a proof's judgement
 abbrev pub verdict_text : Bool → List ℕ

@@ -1,4 +1,5 @@
 pub mod Answers
+pub mod Builds
 pub mod ChangeText
 pub mod Noting
 pub mod OrderText

@@ -1,5 +1,5 @@
 //! The answers to requests.
-ghost use Rattle.std.specs.Prelude.{◌≡◌, ◌≢◌, [], IfErr, IfOk, List, OnOk, map, ℕ};
+ghost use Rattle.std.specs.Prelude.{◌≡◌, ◌≢◌, IfErr, IfOk, List, OnOk, map, ℕ};
 ghost use Rattle.mk_name.specs.Shown.{refused_text};
 ghost use Rattle.mk_name.specs.Reported.{Reported};
 ghost use Rattle.mk_name.specs.declared.fault.Halt.TheVariants as halts;
@@ -7,26 +7,20 @@ ghost use Rattle.mk_request.specs.Requests.{inputs_of};
 ghost use Rattle.mk_program.specs.Answers as spec;
 ghost use Rattle.mk_files.specs.Inputs.{Hold, InputsMayBeRead};
 
-use crate::build_questions::build_reply;
-use crate::checking::Checking;
-use crate::fixing::FixQuestion;
-use crate::listing::AllRaces;
-use crate::missing::MissingQuestion;
-use crate::noting::{Reply, noted_reply, quiet_reply};
+use crate::jobs::job_reply;
+use crate::noting::Reply;
 use crate::ordering::order_reply;
 use crate::posix_base::posix_base;
-use crate::replaying::Replaying;
-use crate::serialising::SerialOrder;
 use crate::statuses::Status;
 use crate::tasks::tasks_reply;
-use crate::verifying::Verifying;
 use mk_files::failures::Failure;
 use mk_files::includes::{pairs_of, read_includes};
 use mk_files::openers::Opener;
 use mk_name::fault::{Fault, Halt};
 use mk_name::report::refused_report;
+use mk_race::input::Settings;
 use mk_request::inputs::InputFile;
-use mk_request::requests::{BuildArgs, JobArgs, JobQuestion, Request, includes_path};
+use mk_request::requests::{BuildArgs, Request, includes_path};
 use std::alloc::{AllocError, Global};
 
 /// What the program says, and how it ends where that is written.
@@ -77,49 +71,21 @@ fn answer_with<P: Opener>(
     }
 }
 
-/// The answer to a question about the jobs of a build, and its note. A fix and a list of what is missing plan the build twice, so
-/// they are asked of what was read, and all others of its jobs.
-fn job_reply<P: Opener>(
-    alloc: Global,
-    opener: &mut P,
-    args: &JobArgs<'_>,
-    includes: &[(&[u8], &[u8])],
-) -> Result<Reply, Failure>
-    ensures status { IfOk result (λ reply. reply.answer.status ≢ Status.Failed) }
-    ensures read { OnOk result (InputsMayBeRead (P.files opener.old) (inputs_of (Request.Jobs args.now))) }
-    ensures failure { IfErr result (spec.IsInputFailure (P.files opener.old) (inputs_of (Request.Jobs args.now))
-        (spec.IsNoTextOver (Request.Jobs args.now) (map (λ pair. (pair.0.now, pair.1.now)) includes.now))) }
-    ensures answer { IfOk result (λ reply. (text : InputFile → List ℕ)
-        → Hold (P.files opener.old).text (inputs_of (Request.Jobs args.now)) text
-        → spec.IsAnswerOver (Request.Jobs args.now) (map (λ pair. (pair.0.now, pair.1.now)) includes.now) text
-        reply.answer.status reply.answer.text.items reply.note.items) }
+/// What the command line says of a build: its root and operands as they were given, and the texts for its include lines.
+pub(crate) fn settings_of<'a>(
+    build: &BuildArgs<'a>,
+    operands: &'a [&'a [u8]],
+    includes: &'a [(&'a [u8], &'a [u8])],
+) -> Settings<'a>
+    ensures root { result.root.now ≡ build.now.root.now }
+    ensures operands { result.operands.now ≡ operands.entry.now }
+    ensures includes { result.includes.now ≡ includes.entry.now }
 {
-    let strict = args.strict;
-    match args.question {
-        JobQuestion::Check { print_proof } => {
-            noted_reply(
-                alloc,
-                opener,
-                args,
-                includes,
-                &Checking { print_proof },
-                strict,
-            )
-        }
-        JobQuestion::Verify { .. } => {
-            noted_reply(alloc, opener, args, includes, &Verifying, strict)
-        }
-        JobQuestion::Replay(log) => {
-            noted_reply(alloc, opener, args, includes, &Replaying { log }, strict)
-        }
-        JobQuestion::Serialise(log) => {
-            quiet_reply(alloc, opener, args, includes, &SerialOrder { log })
-        }
-        JobQuestion::List => quiet_reply(alloc, opener, args, includes, &AllRaces),
-        JobQuestion::Fix { print_proof } => {
-            build_reply(alloc, opener, args, includes, &FixQuestion { print_proof })
-        }
-        JobQuestion::Missing => build_reply(alloc, opener, args, includes, &MissingQuestion),
+    Settings {
+        root: build.root.as_bytes(),
+        operands,
+        includes,
+        proof: false,
     }
 }
 

@@ -4,42 +4,38 @@ ghost use Rattle.mk_proof.specs.ProofText.{certificate_text};
 ghost use Rattle.mk_race.specs.Fixed.{HoldsOfFixed};
 ghost use Rattle.mk_race.specs.Stages.{Texts};
 ghost use Rattle.mk_program.specs.Answers as spec;
+ghost use Rattle.mk_program.specs.Builds.{IsReadFrom};
 
 use crate::answers::{Answer, refused};
-use crate::build_questions::BuildQuestion;
+use crate::build::Build;
 use crate::statuses::Status;
-use mk_foot::footprints::Footprints;
-use mk_name::fault::Fault;
 use mk_proof::certificate::Certificate;
 use mk_proof::writing::write_certificate;
 use mk_race::fixing::{Fixing, fix_parts};
-use mk_race::input::Settings;
 use mk_report::not_fixed::not_fixed_report;
-use mk_text::listing::Listing;
 use std::alloc::{AllocError, Global};
 
-/// The lines that fix a build or the proof with them, or the edges that no lines give it.
-#[derive(Clone, Copy)]
-pub(crate) struct FixQuestion {
-    pub(crate) print_proof: bool,
-}
-
-impl BuildQuestion for FixQuestion {
-    ghost says = { λ asked texts footprints. spec.IsFixAnswer texts footprints asked.print_proof };
-
-    fn answer(
-        &self,
-        alloc: Global,
-        settings: &Settings<'_>,
-        base: &[u8],
-        makefile: &[u8],
-        listing: Result<Listing, Fault>,
-        footprints: Result<Footprints, Fault>,
-    ) -> Result<Answer, AllocError> {
-        match fix_parts(alloc, settings, base, makefile, listing, footprints) {
-            Ok(fixing) => fixing_answer(alloc, &fixing, self.print_proof),
-            Err(halt) => refused(alloc, halt),
-        }
+/// The lines that fix a build that was read, or the proof of the build with them, or the edges that no lines give it; or the report of its
+/// first fault. The only error is out of memory.
+pub(crate) fn fix_answer(
+    alloc: Global,
+    build: Build<'_>,
+    print_proof: bool,
+) -> Result<Answer, AllocError>
+    ensures status { IfOk result (λ answer. answer.status ≢ Status.Failed) }
+    ensures answer { IfOk result (λ answer. (texts : Texts) (lines : List ℕ) → IsReadFrom build.entry texts lines
+        → spec.IsFixAnswer texts lines print_proof answer.status answer.text.items) }
+{
+    let Build {
+        settings,
+        base,
+        makefile,
+        listing,
+        footprints,
+    } = build;
+    match fix_parts(alloc, settings, base, makefile, listing, footprints) {
+        Ok(fixing) => fixing_answer(alloc, &fixing, print_proof),
+        Err(halt) => refused(alloc, halt),
     }
 }
 

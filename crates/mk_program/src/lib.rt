@@ -2,14 +2,15 @@
 //!
 //! [`race_words`] is the program: it reads its words, opens and reads files through an opener of `mk_files`, and writes one text. Read
 //! its contract first, then `specs/Answers.antt`. What the words ask for is in `mk_request`. A subcommand more is a variant of its
-//! `JobQuestion`, with a module of its own, and a line in `answers::job_reply`.
+//! `JobQuestion`, with a module of its own, and a line in `jobs::reply_to`.
 #![tactic(auto)]
 
 mod answers;
-mod build_questions;
+mod build;
 mod change_lines;
 mod checking;
 mod fixing;
+mod jobs;
 mod listing;
 mod missing;
 mod noting;

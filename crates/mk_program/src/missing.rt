@@ -1,42 +1,37 @@
 //! The answers to `race missing`.
-ghost use Rattle.std.specs.Prelude.{◌≡◌, ◌↔◌, IfOk, IsTrue, None};
+ghost use Rattle.std.specs.Prelude.{◌≡◌, ◌≢◌, ◌↔◌, IfOk, IsTrue, List, None, ℕ};
+ghost use Rattle.mk_race.specs.Stages.{Texts};
 ghost use Rattle.mk_missing.specs.Violations.{HasNone};
 ghost use Rattle.mk_program.specs.Answers as spec;
+ghost use Rattle.mk_program.specs.Builds.{IsReadFrom};
 
 use crate::answers::{Answer, refused};
-use crate::build_questions::BuildQuestion;
+use crate::build::Build;
 use crate::change_lines::push_change;
 use crate::statuses::Status;
-use mk_foot::footprints::Footprints;
 use mk_missing::violations::Violations;
-use mk_name::fault::Fault;
 use mk_race::again::Change;
-use mk_race::input::Settings;
 use mk_race::missing::{MissingList, missing_parts};
 use mk_report::missing::missing_report;
-use mk_text::listing::Listing;
 use std::alloc::{AllocError, Global};
 
-/// All races and violations of a build.
-#[derive(Clone, Copy)]
-pub(crate) struct MissingQuestion;
-
-impl BuildQuestion for MissingQuestion {
-    ghost says = { λ _ texts footprints. spec.IsMissingAnswer texts footprints };
-
-    fn answer(
-        &self,
-        alloc: Global,
-        settings: &Settings<'_>,
-        base: &[u8],
-        makefile: &[u8],
-        listing: Result<Listing, Fault>,
-        footprints: Result<Footprints, Fault>,
-    ) -> Result<Answer, AllocError> {
-        match missing_parts(alloc, settings, base, makefile, listing, footprints) {
-            Ok(listed) => listed_answer(alloc, &listed),
-            Err(halt) => refused(alloc, halt),
-        }
+/// All races and violations of a build that was read, and the change of a second build; or the report of its first fault. The only
+/// error is out of memory.
+pub(crate) fn missing_answer(alloc: Global, build: Build<'_>) -> Result<Answer, AllocError>
+    ensures status { IfOk result (λ answer. answer.status ≢ Status.Failed) }
+    ensures answer { IfOk result (λ answer. (texts : Texts) (lines : List ℕ) → IsReadFrom build.entry texts lines
+        → spec.IsMissingAnswer texts lines answer.status answer.text.items) }
+{
+    let Build {
+        settings,
+        base,
+        makefile,
+        listing,
+        footprints,
+    } = build;
+    match missing_parts(alloc, settings, base, makefile, listing, footprints) {
+        Ok(listed) => listed_answer(alloc, &listed),
+        Err(halt) => refused(alloc, halt),
     }
 }
 

@@ -7,8 +7,8 @@ ghost use Rattle.mk_program.specs.Answers as spec;
 ghost use Rattle.mk_program.specs.Answers.{texts_for};
 ghost use Rattle.mk_program.specs.PlanText.{plan_text as text_of_plan};
 
-use crate::answers::{Answer, base_of, bytes_of, refused};
-use crate::noting::{Reply, settings_of, without_note};
+use crate::answers::{Answer, base_of, bytes_of, refused, settings_of};
+use crate::noting::{Reply, without_note};
 use crate::plan_lines::plan_text;
 use crate::statuses::Status;
 use mk_files::builds::read_plan;

@@ -1,20 +1,17 @@
-//! From the texts of makefiles, and a listing and footprints that were read ahead, to the plan of a build and its answer.
+//! From the texts of makefiles, and a listing and footprints that were read ahead, to the plan of a build and its jobs.
 ghost use Rattle.std.specs.Prelude.{◌≡◌, [], IfOk, List, ℕ};
 ghost use Rattle.mk_name.specs.Gives.{Answers};
-ghost use Rattle.mk_race.specs.Judged.{HoldsOfRace, HoldsOfSafe, IsAnswered, IsSafe, NoScheduleShows};
 ghost use Rattle.mk_race.specs.Parts.{AreReadFrom, IsListedFrom, texts_with};
 ghost use Rattle.mk_race.specs.Stages.{AreListed, IsPlanned, texts_of};
 ghost use Rattle.mk_race.specs.Unused.{IsNoted};
 
 use crate::input::{Input, Settings};
-use crate::judging::judge_ahead;
 use crate::planning::{Planned, plan_ahead};
 use crate::unused::{Noted, noted_ahead};
 use mk_foot::footprints::Footprints;
 use mk_name::fault::{Fault, Halt};
-use mk_report::answer::Answer;
 use mk_text::listing::Listing;
-use std::alloc::{AllocError, Global};
+use std::alloc::Global;
 
 /// The plan of a build whose listing was read ahead, into what it says or its first fault. Footprints are not read.
 ///
@@ -33,35 +30,6 @@ pub fn plan_parts(
 {
     let input = input_without(settings, base, makefile);
     plan_ahead(alloc, &input, listing)
-}
-
-/// The answer of a build whose listing and footprints were read ahead, each into what it says or its first fault.
-///
-/// Where these are the results of two texts below the root of the settings, the answer is that of [`judge`](crate::judging::judge) for
-/// those texts: so a text may come in pieces, and need not be kept. Where the root is refused they count for nothing. The only
-/// error is out of memory.
-pub fn judge_parts(
-    alloc: Global,
-    settings: &Settings<'_>,
-    base: &[u8],
-    makefile: &[u8],
-    listing: Result<Listing, Fault>,
-    footprints: Result<Footprints, Fault>,
-) -> Result<Answer, AllocError>
-    ensures answer { IfOk result (λ answer. (listed lines : List ℕ)
-        → AreReadFrom (texts_with settings.now base.now makefile.now listed) lines listing footprints
-        → IsAnswered (texts_with settings.now base.now makefile.now listed) lines answer) }
-    // The headline: where the answer is that the build is safe, no schedule of its recipes shows in the files.
-    ensures headline { IfOk result (λ answer. IsSafe answer → (listed lines : List ℕ)
-        → AreReadFrom (texts_with settings.now base.now makefile.now listed) lines listing footprints
-        → NoScheduleShows (texts_with settings.now base.now makefile.now listed) lines) }
-    // The jobs that are handed out with it are then determinate.
-    ensures determinate { IfOk result HoldsOfSafe }
-    // Where it is a race, a run from any store that fits can follow the trace, and then both recipes run.
-    ensures holds { IfOk result HoldsOfRace }
-{
-    let input = input_without(settings, base, makefile);
-    judge_ahead(alloc, &input, listing, footprints)
 }
 
 /// The jobs of a build whose listing and footprints were read ahead, with its footprints that lie unused.

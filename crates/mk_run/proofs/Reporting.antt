@@ -1,21 +1,22 @@
--- What is reported of an answer to texts that were read in pieces.
-use Rattle.std.proofs.Common.{◌≡◌, ◌≢◌, ◌∙◌, ℕ, IfOk, List, Ok, Err, Result, ap, subst, sym}
-use Rattle.mk_name.specs.Names.{Name}
+-- What is reported of a build that was read in pieces.
+use Rattle.std.proofs.Common.{◌≡◌, ◌≢◌, ◌∙◌, ℕ, Bool, false, IfOk, List, Ok, Err, Result, ap, refl, subst, sym}
 use Rattle.mk_name.specs.Reported.{Reported}
-use Rattle.mk_foot.specs.Footprints.{Footprints}
 use Rattle.mk_report.specs.Reports.{IsReport}
 use Rattle.mk_report.specs.declared.answer.Answer.{Answer}
 use Rattle.mk_report.specs.declared.answer.Answer.TheVariants as answers
-use Rattle.mk_race.specs.Judged.{HoldsOfRace, HoldsOfSafe, IsAnswered, IsSafe, NoScheduleShows}
-use Rattle.mk_race.specs.Parts.{AreReadFrom, texts_with}
+use Rattle.mk_race.specs.Judged.{HoldsOfRace, HoldsOfSafe, IsDecided, IsSafe, NoScheduleShows}
+use Rattle.mk_race.specs.Parts.{texts_with}
+use Rattle.mk_race.specs.Stages.{IsPrepared, Texts}
+use Rattle.mk_race.specs.Unused.{IsNoted, IsNotedBy}
 use Rattle.mk_race.specs.declared.input.Settings.{Settings}
-use Rattle.mk_read.specs.Builds.{IsFootprinted, IsListed}
+use Rattle.mk_race.specs.declared.preparing.Prepared.{Prepared}
+use Rattle.mk_race.specs.declared.unused.Noted.{Noted}
 use Rattle.mk_read.specs.Builds as reading
 use Rattle.mk_read.specs.declared.builds.BuildStop.{BuildStop}
 use Rattle.mk_read.specs.declared.builds.BuildStop.TheVariants.{Broken, Memory}
 use Rattle.mk_read.specs.declared.builds.BuildText.TheVariants as texts
-use Rattle.mk_run.specs.Run.{Failed, Given, HasStopped, IsReported, none_failed, outcome_of, stopped, texts_given}
-use Rattle.mk_run.specs.declared.outcome.IoStop.{IoStop}
+use Rattle.mk_run.specs.Run.{Failed, Given, HasStopped, IsChecked, IsReported, IsReportedOf, none_failed, outcome_of, stopped, texts_given}
+use Rattle.mk_run.specs.declared.checking.Checked.{Checked}
 use Rattle.mk_run.specs.declared.outcome.IoStop.TheVariants as stops
 use Rattle.mk_run.specs.declared.outcome.IoStop.TheVariants.{Write}
 use Rattle.mk_run.specs.declared.outcome.Outcome.{Outcome}
@@ -27,28 +28,44 @@ safe_answer (answers.Safe jobs chains) is = tt
 safe_answer (answers.Race jobs trace) is = absurd (let e : Race ≡ Safe = is in cc)
 safe_answer (answers.Refused reported) is = absurd (let e : Refused ≡ Safe = is in cc)
 
-module _ (settings : Settings) (base makefile : List ℕ) (listed : Result (List Name) Reported) (read : Result Footprints Reported) (answer : Answer) where
-  pub reports : {X E : Type 0} (result : Result X E) (outcome : X → Outcome) (text : X → List ℕ)
-      → ((listing lines : List ℕ) → AreReadFrom (texts_with settings base makefile listing) lines listed read
-      → IsAnswered (texts_with settings base makefile listing) lines answer)
-      → (IsSafe answer → (listing lines : List ℕ) → AreReadFrom (texts_with settings base makefile listing) lines listed read
-      → NoScheduleShows (texts_with settings base makefile listing) lines)
-      → HoldsOfSafe answer → HoldsOfRace answer
-      → IfOk result (λ reported. (outcome reported ≡ outcome_of answer) × IsReport answer settings.proof (text reported))
-      → IfOk result (λ reported. (listing lines : List ℕ) → IsListed settings.root.now listing listed → IsFootprinted settings.root.now lines read
-      → IsReported settings (record { base = base; makefile = makefile; listing = listing; footprints = lines }) (outcome reported) (text reported))
-  reports (Ok reported) outcome text answered headline determinate holds said = λ listing lines listing_is lines_are.
-      let from : AreReadFrom (texts_with settings base makefile listing) lines listed read = record { listing = listing_is; footprints = lines_are } in
-      record {
-        answer = answer;
-        answered = answered listing lines from;
-        outcome_is = said.0;
-        report = said.1;
-        headline = λ safe. headline (safe_answer answer (sym said.0 ∙ safe)) listing lines from;
-        determinate = determinate;
-        holds = holds;
-      }
-  reports (Err error) outcome text answered headline determinate holds said = tt
+-- what is reported of an answer to a build's jobs is reported of the build
+pub reported_of : (proof : Bool) (texts : Texts) (lines : List ℕ) (prepared : Prepared) (answer : Answer) (outcome : Outcome) (text : List ℕ)
+    → IsPrepared texts lines (Ok prepared) → IsDecided prepared.jobs answer → (IsSafe answer → NoScheduleShows texts lines)
+    → HoldsOfSafe answer → HoldsOfRace answer → outcome ≡ outcome_of answer → IsReport answer proof text → IsReportedOf proof texts lines outcome text
+reported_of proof texts lines prepared answer outcome text is decided headline determinate holds kind report = record {
+  answer = answer;
+  answered = (Ok prepared, is, decided);
+  outcome_is = kind;
+  report = report;
+  headline = λ safe. headline (safe_answer answer (sym kind ∙ safe));
+  determinate = determinate;
+  holds = holds;
+}
+
+-- what is reported of jobs, and the footprints that lie unused with them
+pub with_unused : {X E : Type 0} (result : Result X E) (One Other Both : X → Type 0) → ((x : X) → One x → Other x → Both x)
+    → IfOk result One → IfOk result Other → IfOk result Both
+with_unused (Ok x) One Other Both both one other = both x one other
+with_unused (Err e) One Other Both both one other = tt
+
+-- a build that is not strict has a fault before its footprints lie unused
+fault_is : (texts : Texts) (lines : List ℕ) (reported : Reported) → IsNotedBy false texts lines (Err reported) → IsPrepared texts lines (Err reported)
+fault_is texts lines reported (Ok noted, is, same) = absurd (let e : ◌≡◌ {A = Result Noted Reported} (Err reported) (Ok noted) = same in cc)
+fault_is texts lines reported (Err first, is, same) = subst (λ (x : Result Noted Reported). IsNoted texts lines x) (sym same) is
+
+-- what comes of the check of a build that is not strict is reported of it
+pub reported_is : (proof : Bool) (texts : Texts) (lines : List ℕ) (checked : Checked) → IsChecked false proof texts lines checked
+    → IsReportedOf proof texts lines checked.outcome checked.text.items
+reported_is proof texts lines checked (Ok noted, is, said) = said.0
+reported_is proof texts lines checked (Err reported, is, refused) = record {
+  answer = answers.Refused reported;
+  answered = (Err reported, fault_is texts lines reported is, refl);
+  outcome_is = refused.outcome_is;
+  report = refused.report;
+  headline = λ safe. absurd (let e : Refused ≡ Safe = sym refused.outcome_is ∙ safe in cc);
+  determinate = tt;
+  holds = tt;
+}
 
 -- the headline of what devices gave is that of what they held
 pub headline_held : (settings : Settings) (given held : Given) (outcome : Outcome) (text : List ℕ) → IsReported settings given outcome text → outcome ≡ Safe

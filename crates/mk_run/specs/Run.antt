@@ -1,5 +1,7 @@
 -- What a run reads from its devices, and what it reports.
-use Rattle.std.specs.Prelude.{◌≡◌, ℕ, Bool, true, false, List}
+use Rattle.std.specs.Prelude.{◌≡◌, ℕ, Bool, true, false, List, None, Result, Ok, Err}
+use Rattle.mk_name.specs.Reported.{Reported}
+use Rattle.mk_name.specs.Shown.{refused_text}
 use Rattle.mk_name.specs.declared.fault.Source.{Source}
 use Rattle.mk_name.specs.declared.fault.Source.TheVariants as sources
 use Rattle.mk_read.specs.declared.builds.BuildStop.{BuildStop}
@@ -12,7 +14,10 @@ use Rattle.mk_report.specs.declared.answer.Answer.TheVariants as answers
 use Rattle.mk_race.specs.Judged.{HoldsOfRace, HoldsOfSafe, IsAnswered, NoScheduleShows}
 use Rattle.mk_race.specs.Parts.{texts_with}
 use Rattle.mk_race.specs.Stages.{Texts}
+use Rattle.mk_race.specs.Unused.{IsNotedBy}
 use Rattle.mk_race.specs.declared.input.Settings.{Settings}
+use Rattle.mk_race.specs.declared.unused.Noted.{Noted}
+use Rattle.mk_run.specs.declared.checking.Checked.{Checked}
 use Rattle.mk_run.specs.declared.outcome.IoStop.{IoStop}
 use Rattle.mk_run.specs.declared.outcome.IoStop.TheVariants.{Read, Write, Memory}
 use Rattle.mk_run.specs.declared.outcome.Outcome.{Outcome}
@@ -75,13 +80,34 @@ pub record Given : Type 0 where
 abbrev pub texts_given : Settings → Given → Texts
 texts_given settings given = texts_with settings given.base given.makefile given.listing
 
--- a text reports on these bytes: it is the report of an answer to them, of this kind; where that is that the build is safe,
--- no schedule of the build shows in its files, and its jobs are determinate; where it is a race, its trace holds
-pub record IsReported (settings : Settings) (given : Given) (outcome : Outcome) (text : List ℕ) : Type 0 where
+-- a text reports on a build of these texts and footprints: it is the report of its answer, of this kind; where that is that the
+-- build is safe, no schedule of it shows in its files, and its jobs are determinate; where it is a race, its trace holds
+pub record IsReportedOf (proof : Bool) (texts : Texts) (lines : List ℕ) (outcome : Outcome) (text : List ℕ) : Type 0 where
   pub answer : Answer
-  pub answered : IsAnswered (texts_given settings given) given.footprints answer
+  pub answered : IsAnswered texts lines answer
   pub outcome_is : outcome ≡ outcome_of answer
-  pub report : IsReport answer settings.proof text
-  pub headline : outcome ≡ Safe → NoScheduleShows (texts_given settings given) given.footprints
+  pub report : IsReport answer proof text
+  pub headline : outcome ≡ Safe → NoScheduleShows texts lines
   pub determinate : HoldsOfSafe answer
   pub holds : HoldsOfRace answer
+
+-- a text reports on these bytes
+abbrev pub IsReported : Settings → Given → Outcome → List ℕ → Type 0
+IsReported settings given = IsReportedOf settings.proof (texts_given settings given) given.footprints
+
+-- what is refused with a fault has its report, and no footprints are noted
+pub record IsRefused (reported : Reported) (checked : Checked) : Type 0 where
+  pub outcome_is : checked.outcome ≡ Refused
+  pub report : checked.text.items ≡ refused_text reported
+  pub none : checked.unused ≡ None
+
+-- what comes of jobs and of the footprints that lie unused, or of the fault that refuses a build
+abbrev pub IsCheckOf : Result Noted Reported → Bool → Texts → List ℕ → Checked → Type 0
+IsCheckOf (Ok noted) proof texts lines checked =
+    IsReportedOf proof texts lines checked.outcome checked.text.items × (checked.unused ≡ noted.unused)
+IsCheckOf (Err reported) proof texts lines checked = IsRefused reported checked
+
+-- what comes of the check of a build, which has the fault of footprints that lie unused where it is strict
+abbrev pub IsChecked : Bool → Bool → Texts → List ℕ → Checked → Type 0
+IsChecked strict proof texts lines checked =
+    (given : Result Noted Reported) × IsNotedBy strict texts lines given × IsCheckOf given proof texts lines checked

@@ -1,11 +1,14 @@
-//! From four devices to a written report, for callers without files.
+//! From four devices to a written report: `race check` without files.
 //!
-//! [`run`] reads the base, the makefile, the listing and the footprints of a build to their ends, judges them, and writes the
-//! report once; or it says which device failed, or that memory ran out. Read `specs/Run.antt` first.
+//! [`run`] reads the base, the makefile, the listing and the footprints of a build to their ends, checks the build, and writes the
+//! report once; or it says which device failed, or that memory ran out. `race check` opens files, reads them by the same
+//! `build_below` of `mk_read`, and hands what was read to [`check_parts`], as [`run`] does. Read `specs/Run.antt` first.
 #![tactic(auto)]
 
+pub mod checking;
 pub mod outcome;
 pub mod running;
 
+pub use crate::checking::{Checked, check_parts};
 pub use crate::outcome::{IoStop, Outcome};
 pub use crate::running::run;

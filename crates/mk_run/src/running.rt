@@ -3,26 +3,17 @@ ghost use Rattle.std.specs.Prelude.{◌≡◌, ◌≢◌, IfErr, IfOk, IsErrOf, 
 ghost use Rattle.std.specs.Io.KnownBytes.{Appends};
 ghost use Rattle.mk_device.specs.Device.{AppendsBeginning};
 ghost use Rattle.mk_race.specs.Judged.{NoScheduleShows};
-ghost use Rattle.mk_report.specs.Reports.{IsReport};
 ghost use Rattle.mk_read.specs.Builds.{IsFootprinted, IsListed};
 ghost use Rattle.mk_read.specs.Read.{GaveAll};
 ghost use Rattle.mk_run.specs.Run as spec;
 ghost use Rattle.mk_run.specs.Run.{Given, HasStopped, none_failed};
 
-use crate::outcome::{IoStop, Outcome, outcome_of};
+use crate::checking::{Checked, check_parts};
+use crate::outcome::{IoStop, Outcome};
 use mk_device::device::{Intake, Outlet, write_all};
 use mk_race::input::Settings;
-use mk_race::parts::judge_parts;
 use mk_read::builds::{ReadBuild, ReadPlan, build_below};
-use mk_report::answer::{Answer, report};
 use std::alloc::{AllocError, Global};
-
-/// What is reported of a build: the kind of its answer, and the report.
-#[derive(Debug, Drop)]
-struct Reported {
-    outcome: Outcome,
-    text: Vec<u8>,
-}
 
 /// Reads the base, the makefile, the listing and the footprints of a build to their ends, in this order, judges them, and
 /// writes the report of the answer, or its proof, once. The outcome is the kind of the answer.
@@ -93,32 +84,32 @@ pub fn run<B: Intake, M: Intake, L: Intake, F: Intake, O: Outlet>(
         × (outcome : Outcome) × (text : List ℕ) × spec.IsReported settings.now given outcome text
         × AppendsBeginning (O.written out.old) (O.written out.new) text }
 {
-    let reported = reported_of(alloc, base, makefile, listing, footprints, settings)?;
-    match write_all(out, reported.text.as_slice()) {
-        Ok(()) => Ok(reported.outcome),
+    let checked = checked_devices(alloc, base, makefile, listing, footprints, settings)?;
+    match write_all(out, checked.text.as_slice()) {
+        Ok(()) => Ok(checked.outcome),
         Err(_) => Err(IoStop::Write),
     }
 }
 
-/// What is reported of the build that four devices give.
-fn reported_of<B: Intake, M: Intake, L: Intake, F: Intake>(
+/// What comes of the check of the build that four devices give.
+fn checked_devices<B: Intake, M: Intake, L: Intake, F: Intake>(
     alloc: Global,
     base: &mut B,
     makefile: &mut M,
     listing: &mut L,
     footprints: &mut F,
     settings: &Settings<'_>,
-) -> Result<Reported, IoStop>
+) -> Result<Checked, IoStop>
     requires base_works { B.has_failed base.old ≡ false }
     requires makefile_works { M.has_failed makefile.old ≡ false }
     requires listing_works { L.has_failed listing.old ≡ false }
     requires footprints_work { F.has_failed footprints.old ≡ false }
-    ensures reported { IfOk result (λ reported. (given : Given)
+    ensures reported { IfOk result (λ checked. (given : Given)
         × GaveAll (B.left base.old) (B.left base.new) given.base
         × GaveAll (M.left makefile.old) (M.left makefile.new) given.makefile
         × GaveAll (L.left listing.old) (L.left listing.new) given.listing
         × GaveAll (F.left footprints.old) (F.left footprints.new) given.footprints
-        × spec.IsReported settings.now given reported.outcome reported.text.items) }
+        × spec.IsReported settings.now given checked.outcome checked.text.items) }
     ensures works { OnOk result (none_failed ≡ record none_failed {
       base = B.has_failed base.new;
       makefile = M.has_failed makefile.new;
@@ -138,13 +129,17 @@ fn reported_of<B: Intake, M: Intake, L: Intake, F: Intake>(
     ensures listing_next { L.has_failed listing.new ≡ true → footprints.new ≡ footprints.old }
 {
     let read = build_below(alloc, settings.root, base, makefile, listing, footprints)?;
-    let reported = judged(alloc, read, settings)?;
-    Ok(reported)
+    let checked = checked_build(alloc, read, settings)?;
+    Ok(checked)
 }
 
-/// What is reported of the build that was read.
-fn judged(alloc: Global, read: ReadBuild, settings: &Settings<'_>) -> Result<Reported, AllocError>
-    ensures { IfOk result (λ reported. (listed lines : List ℕ)
+/// What comes of the check of the build that was read.
+fn checked_build(
+    alloc: Global,
+    read: ReadBuild,
+    settings: &Settings<'_>,
+) -> Result<Checked, AllocError>
+    ensures { IfOk result (λ checked. (listed lines : List ℕ)
         → IsListed settings.now.root.now listed read.plan.listing
         → IsFootprinted settings.now.root.now lines read.footprints
         → spec.IsReported settings.now (record {
@@ -153,7 +148,7 @@ fn judged(alloc: Global, read: ReadBuild, settings: &Settings<'_>) -> Result<Rep
           listing = listed;
           footprints = lines;
         })
-        reported.outcome reported.text.items) }
+        checked.outcome checked.text.items) }
 {
     let ReadBuild { plan, footprints } = read;
     let ReadPlan {
@@ -163,17 +158,5 @@ fn judged(alloc: Global, read: ReadBuild, settings: &Settings<'_>) -> Result<Rep
     } = plan;
     let base = base.as_slice();
     let makefile = makefile.as_slice();
-    let answer = judge_parts(alloc, settings, base, makefile, listing, footprints)?;
-    reports(alloc, &answer, settings.proof)
-}
-
-/// What is reported of an answer.
-fn reports(alloc: Global, answer: &Answer, proof: bool) -> Result<Reported, AllocError>
-    ensures { IfOk result (λ reported. (reported.outcome ≡ spec.outcome_of answer.now)
-        × IsReport answer.now proof reported.text.items) }
-{
-    Ok(Reported {
-        outcome: outcome_of(answer),
-        text: report(alloc, answer, proof)?,
-    })
+    check_parts(alloc, settings, base, makefile, listing, footprints, false)
 }

@@ -1,36 +1,23 @@
-use Rattle.std.proofs.Common.{Option, inl, inr, subst}
-use Rattle.std.proofs.lemmas.Result.{IfOk-weaker, err_from_is_err_and}
-use Rattle.mk_request.specs.Requests.{job_inputs, other_input}
-use Rattle.mk_request.specs.declared.inputs.InputPath.{InputPath}
-use Rattle.mk_files.specs.Inputs.{IsShortOr, IsUnread}
+use Rattle.std.proofs.Common.{Ok, inl, inr}
 use Rattle.mk_files.proofs.Reported.{err_more}
-use Rattle.mk_program.proofs.Replies.{read_is}
+use Rattle.mk_program.proofs.Noted.{fault_noted, with_note}
 use Rattle.mk_program.proofs.noting.noted_reply.Goals as goal
 
-pub returns-in_err-read-clause-failure : goal.returns-in_err-read-clause-failure
-returns-in_err-read-clause-failure g c =
-    let p = err_from_is_err_and c.from_residual.result c.from_residual.ensures.1 in
-    let args = c.args.args.now in
-    rw (p.1, p.2) (inl (subst (λ (o : Option InputPath). IsShortOr (IsUnread (g.P.Opener.files c.args.opener.now) (job_inputs args.build args.footprints o))
-    c.in_err-read.field-0.0) c.other_input-other.ensures c.in_err-read.ensures.failure))
+pub returns-in-Ok-clause-answer : goal.returns-in-Ok-clause-answer
+returns-in-Ok-clause-answer g c =
+    with_note c.reply_on.result _ _ _ (λ reply said noting texts lines from.
+    (Ok c.in-Ok.noted, c.in-Ok.ensures.answer texts lines from, (said texts lines (c.in-Ok.ensures.prepared texts lines from), noting)))
+    c.reply_on.ensures.answer c.reply_on.ensures.note
 
-pub returns-clause-answer : goal.returns-clause-answer
-returns-clause-answer g c =
-    let args = c.args.args.now in
-    let files = (g.P.Opener.files c.args.opener.now).text in
-    IfOk-weaker c.reply_over.result _ _ (λ reply over text hold.
-    over text (other_input args.question) (read_is args files c.other_input-other.result c.other_input-other.ensures c.in_ok-read.read c.in_ok-read.ensures.reported text hold))
-    c.reply_over.ensures.answer
+pub returns-in-Ok-clause-failure : goal.returns-in-Ok-clause-failure
+returns-in-Ok-clause-failure g c =
+    err_more _ _ c.reply_on.result (λ failure failed. elim failed [
+      | inl memory ↦ inl memory
+      | inr no_text ↦ inr (no_text.0, λ texts lines from. no_text.1 texts lines (c.in-Ok.ensures.prepared texts lines from))
+    ]) c.reply_on.ensures.failure
 
-pub returns-clause-failure : goal.returns-clause-failure
-returns-clause-failure g c =
-    let args = c.args.args.now in
-    let files = (g.P.Opener.files c.args.opener.now).text in
-    err_more _ _ c.reply_over.result (λ failure fails. elim fails [
-      | inl memory ↦ inl (inl memory)
-      | inr no_text ↦ inr (
-        no_text.0,
-        λ text hold. no_text.1 text (other_input args.question)
-            (read_is args files c.other_input-other.result c.other_input-other.ensures c.in_ok-read.read c.in_ok-read.ensures.reported text hold),
-      )
-    ]) c.reply_over.ensures.failure
+pub returns-in_ok-refused_reply-in-Err-clause-answer : goal.returns-in_ok-refused_reply-in-Err-clause-answer
+returns-in_ok-refused_reply-in-Err-clause-answer g c = λ texts lines from.
+    let h = c.in_ok-refused_reply-in-Err.ensures in
+    fault_noted (g.Q.Question.says c.args.question.now texts lines c.args.other.now) c.args.strict texts lines c.in-Err.halt h.0 _ _ _
+    (c.in-Err.ensures.answer texts lines from) h.1 h.2 h.3 h.4
