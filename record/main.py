@@ -55,6 +55,7 @@ with open(%r, "rb") as file:
 module.main(%r)
 """
 PACKAGES = {"make": "make", "ninja": "ninja-build", "cmake": "cmake", "meson": "meson"}  # of Debian, by what builds
+SERIAL_FAILED = "the serial build failed"
 ASKED = min(4, os.cpu_count() or 1)  # how many builds `race` is asked about at once
 WARM = ("WARM: what was up to date did not run; record a clean tree (make clean, or --fresh for ninja), or, if builds start from this one, "
         "say race-record --warm: it judges this record again, and builds nothing")
@@ -248,7 +249,7 @@ def record_all(options: argparse.Namespace, tools: Dict[str, str], out: Path) ->
         number += 1
         print("race-record: the serial build failed; recording again with -j%d (%d of %d)" % (JOBS, number, TRIES), file=sys.stderr, flush=True)
         record, is_again = attempt(options, with_jobs(options.words, JOBS), tools, out, number == TRIES)
-        record.notes.append("the serial build failed; this is build %d with -j%d" % (number, JOBS))
+        record.notes.append(SERIAL_FAILED + "; this is build %d with -j%d" % (number, JOBS))
     record.hints = found or record.hints or ([by_hand(options.words)] if record.status != 0 else [])
     rewrite(out, record)
     return record

@@ -51,7 +51,7 @@ def place(about: Dict[str, Any], label: str) -> str:
 
 
 def verb(about: Dict[str, Any], label: str, does: str, path: str) -> str:
-    """What a task does to a path."""
+    """What a task does to a path, in the words of all companions."""
     kind = about["labels"].get(label, {}).get("kind", "")
     if OWN_NAME.search(path):
         return "settles it" if does == "writes" else "sees it"
@@ -173,7 +173,7 @@ def report(record: Dict[str, Any], judged: List[Judged], out: Path) -> List[str]
     for one in judged:
         if one.verdict.races:
             if len(judged) > 1:
-                lines.append("%s %s  in %s" % (one.about.get("tool", "make"), one.about["words"], one.about["folder"]))
+                lines.append("%s  in %s" % (("%s %s" % (one.about.get("tool", "make"), one.about["words"])).strip(), one.about["folder"]))
             text, count, paths = races_text(one, colour)
             lines += text
             races, files = races + count, files + paths
