@@ -73,7 +73,8 @@ def without_line(about: Dict[str, Any], path: str, first: str, second: str) -> s
     lookers = [target(about, one) for one in (first, second) if about["labels"].get(one, {}).get("kind") == "first"]
     if lookers and path not in lookers:
         name = file_of(path) if about["meanings"].get(path) else path
-        return "name %s in a rule, and a library not as -lNAME: make looks for it when it first considers the target" % name
+        return ("name %s in a rule, and a library not as -lNAME; where a recipe asks for it by $(wildcard ..), let the shell list it (ls): "
+                "make looks for it when it first considers the target, and keeps what it found" % name)
     return ONE_WRITER if lookers else later_rule(about["labels"], first)
 
 
