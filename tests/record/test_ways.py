@@ -22,6 +22,8 @@ WAYS: Dict[str, Small] = {
     "folder_that_a_link_leaves_again": Small("race", WAY % "l", {"f": ""}, "ln -s d/../f l", says=IS_THERE),
     "folder_that_a_path_by_way_of_proc_leaves_again": Small("race", WAY % "/proc/self/cwd/d/../f", {"f": ""}, says=IS_THERE),
     "folder_by_way_of_which_nothing_was_there": Small("race", "all: b a\na: ; mkdir d; touch a\nb: ; cat d/../f > b || echo none > b\n", {"f": ""}, says=IS_THERE),
+    "folder_that_the_way_to_an_interpreter_leaves_again": Small("race", "all: a b\na: ; mkdir d; touch a\nb: ; ./tool > b || echo none > b\n", {"tool": "#!d/../sh\necho x\n"},
+                                                                "chmod +x tool; cp /bin/sh sh", says=IS_THERE),
     "folder_that_make_leaves_again": Small("race", "all: a b\na: ; mkdir d; touch a\nb: d/../f ; cp f b\n", {"f": ""}, says=IS_THERE),
     "folder_that_a_path_leaves_again_in_order": Small("safe", (WAY % "d/../f").replace("b: ;", "b: a ;"), {"f": ""}),
     "folder_that_was_there_and_a_path_leaves_again": Small("safe", (WAY % "d/../f").replace("mkdir", "mkdir -p"), {"f": "", "d/x": ""}),
