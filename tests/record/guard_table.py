@@ -244,6 +244,7 @@ OWNERS: List[Guard] = [
     Guard("failed: not what was ignored", "failed.py", "if lost_jobs(ninja)}) - ignored(makes)", "if lost_jobs(ninja)})", "test_failed.Failed.test_what_failed_before_and_was_ignored"),
     Guard("failed: what the log of ninja lacks", "failed.py", "if not set(one[1].makes()) & set(ninja.logged))", ")", "test_failed.Failed.test_command_of_ninja"),
     Guard("failed: what the recipe lacked", "importing.py", "record.hints = lacked(owners.makes, names, folder)", "pass", "test_failed.Failed.test_prerequisite_that_was_forgotten"),
+    Guard("failed: the rule of the innermost make that has one", "failed.py", "            settled.update({path} if name else ())\n", "", "test_failed.Failed.test_rule_for_the_innermost_make_that_has_the_file"),
     Guard("failed: it lacks no file whose recipe ran", "failed.py", "for path, where in found.items() if path not in ran}", "for path, where in found.items()}", "test_failed.Failed.test_prerequisite_that_was_forgotten"),
     Guard("failed: it lacks no file that is there", "failed.py", ' if kind == "N"}) for make, job in jobs]', "}) for make, job in jobs]", "test_failed.Failed.test_prerequisite_that_was_forgotten"),
     Guard("failed: a hint where no better one is known", "main.py", "[by_hand(options.words)] if record.status != 0 else []", "[]", "test_failed.Failed.test_recipe"),

@@ -4,6 +4,9 @@ import os
 import unittest
 from typing import Dict
 
+from record.tools.listed import is_in_order
+from record.tools.shellages import compares_ages
+from record.trace.lives import Life
 from test_small import Small, test_of
 
 # b looks for a file by way of d, which a makes.
@@ -36,6 +39,17 @@ WAYS: Dict[str, Small] = {
     "ages_that_zsh_shows": Small("race", PAIR % "zsh -c 'zmodload zsh/stat; zstat +mtime a b' > c", {"d/x": ""}, says="is newer") if ZSH else LACKS_ZSH,
     "own_script_that_is_called_ls": Small("safe", PAIR % "t/ls d > c", {"t/ls": "#!/bin/sh\necho $1/*\n", "d/x": ""}, "chmod +x t/ls", lacks=LISTS),
 }
+
+
+class Zsh(unittest.TestCase):
+    """What zsh asks for by words of its own, also where there is none."""
+
+    def test_ages(self) -> None:
+        self.assertEqual([True, True, False], [compares_ages(["zsh", "-c", text], "/") for text in ("zstat +mtime a", "zmodload zsh/stat", "echo a")])
+
+    def test_orders(self) -> None:
+        lives = [Life(1, folder="/", argv=["zsh", "-c", text]) for text in ("echo *", "echo *(oN)")]
+        self.assertEqual([True, False], [is_in_order(life, True) for life in lives])
 
 
 class Makefiles(unittest.TestCase):
