@@ -113,7 +113,7 @@ TRACE: List[Guard] = [
 ]
 NAMES: List[Guard] = [
     Guard("links on the way are read", "trace/replay.py", "self.put(life, READ, link, word)", "pass", small("link_on_the_way"), YES),
-    Guard("folders that are absent on the way", "trace/replay.py", "self.put(life, WAY_ABSENT, found.missing)", "pass", small("absent_folder_on_the_way"), YES),
+    Guard("folders that are absent on the way", "trace/replay.py", "self.put(life, WAY_ABSENT if found.path.startswith(found.missing + \"/\") else ABSENT, found.missing)", "pass", small("absent_folder_on_the_way"), YES),
     Guard("hard links: a write is of all names", "trace/replay.py", "if found.inode is not None and len(found.inode.names) > 1:", "if False:", case("hard-link"), YES),
     Guard("hard links from before the build", "trace/names.py", "if found.st_nlink > 1:", "if False:", case("hard-link-before"), YES),
     Guard("hard links: texts of interpreters count them", "tools/shelltext.py", 'is_interpreter(argv) and "stat" in text', 'is_interpreter(argv) and "-c" not in argv and "stat" in text', small("links_counted_by_a_text_of_python"), YES),
