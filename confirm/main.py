@@ -20,7 +20,7 @@ from confirm.trial import Trial
 from record.entry import printable, reason
 from record.folder import NotWhole, reading
 from record.judge import find_race, no_race
-from record.main import Missing
+from record.main import SERIAL_FAILED, Missing
 from record.pages import after_no_verdict
 from record.tasks import shown
 from report.asking import judge
@@ -136,7 +136,8 @@ def try_all(args: argparse.Namespace, report: Report, races: Sequence[Chosen], r
     """Tries each race, and shows what is found of it."""
     with reading(args.record):
         tasks = Tasks.of(args.record, room.folder)
-    trial, findings = Trial(room, report.words, tasks, report.races, say), []
+    is_parallel = any(it.startswith(SERIAL_FAILED) for it in read_json(args.record / "record.json").get("notes", []))
+    trial, findings = Trial(room, report.words, tasks, report.races, say, is_parallel), []
     trial.begin()
     for race in races:
         trial.unstable.clear()

@@ -22,6 +22,7 @@ APART = 1.1
 # The first serial build may take so long; the others may take ten times as long as it did, and a minute.
 LONGEST = 86400.0
 SOURCES = "If the build changes its own sources: --prepare 'git checkout . && make clean'"
+BY_RACE = "It failed when it was recorded, too: with one job the race itself breaks the build. Write the line after fix: of race-report"
 SHOWN_LINES = re.compile(r"(?i)\b(error|fatal|cannot|no such|not found|failed|no rule)\b|\*\*\*")
 
 
@@ -48,6 +49,7 @@ class Trial:
     tasks: Tasks
     races: Sequence[Race]
     say: Callable[[str], None]
+    is_parallel: bool = False  # whether the record is of several jobs at once, since the serial build failed
     limit: float = 0.0
     serial: Left | None = None
     unstable: set[str] = field(default_factory=set)
@@ -63,7 +65,7 @@ class Trial:
         self.say("serial build")
         self.serial = self.left()
         if self.serial.status != 0:
-            raise failed("the serial build of the copy", self.serial.built)
+            raise failed("the serial build of the copy", self.serial.built, BY_RACE if self.is_parallel else "")
         remove(self.room.top / "serial")
         copy(self.room.tree, self.room.top / "serial")
         self.limit = 60 + 10 * self.serial.built.seconds
@@ -115,11 +117,11 @@ def errors_of(built: Built) -> list[str]:
     return lines[:6]
 
 
-def failed(what: str, built: Built) -> CannotConfirm:
+def failed(what: str, built: Built, advice: str = "") -> CannotConfirm:
     """A serial build that fails in the copy, with what it said."""
     ended = "did not end in time" if built.status is None else f"ends with status {built.status}"
     said = [it.strip() for it in built.output.splitlines() if it.strip()]
-    advice = f"If it lacks files that were there before the recorded build: --prepare 'make clean'. {SOURCES}"
+    advice = advice or f"If it lacks files that were there before the recorded build: --prepare 'make clean'. {SOURCES}"
     return CannotConfirm("\n    ".join([f"{what} {ended}. {advice}", *(errors_of(built) or said)[-3:]]))
 
 

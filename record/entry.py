@@ -100,6 +100,9 @@ def reason(error: OSError) -> str:
 def ended(name: str, module: str, without: str) -> int:
     """Runs `main` of a module; the status of the program. `without` says what there is not where it breaks."""
     speak_utf8()
+    if sys.stdout is None:  # another file may then have its number, and nobody would see the answer
+        print("%s: its standard output is closed, so %s: leave it open, such as by > /dev/null" % (name, without), file=sys.stderr)
+        return FAILED
     try:
         hear()
         status: int = import_module(module).main()

@@ -118,9 +118,21 @@ def lacked(makes: Sequence[Make], names: Names, folder: str) -> List[str]:
     own = [(make.life.died, paths) for make, job, paths in missed if not failed.intersection(inner(make.work.get(id(job), Work())))]
     first = min(own, key=lambda one: one[0])[1] if own else set()
     made = unmade(makes, names, folder) if first else {}
-    lines = ["%s looks for %s, which %s makes, and does not wait for it" % (job.target, os.path.relpath(path, make.folder), made[path])
-             for make, job, paths in missed for path in paths & first & made.keys()]
-    return sorted(set(lines))[:HINTS]
+    lines: Dict[str, None] = {}
+    settled: Set[str] = set()  # for these a line is known, so the recipes around do not matter
+    for make, job, paths in sorted(missed, key=lambda one: one[0].life.died):
+        for path in sorted(paths & first & made.keys() - settled):
+            name = name_in_rules(make, names, path)
+            settled.update({path} if name else ())
+            lines["%s looks for %s, which %s makes, and does not wait for it" % (job.target, os.path.relpath(path, make.folder), made[path])
+                  + (". Write the rule %s: %s" % (job.target, name) if name else "")] = None
+    return list(lines)[:HINTS]
+
+
+def name_in_rules(make: Make, names: Names, path: str) -> str:
+    """The target by which a make itself has a recipe for a path, or nothing: then no line of its makefile can name it."""
+    targets = (target for one in make.words.rounds if one.base for target in one.base.recipes)
+    return next((target for target in targets if names.find(make.folder, target, True).path == path), "")
 
 
 def failures(makes: Sequence[Make], ninjas: Sequence[Ninja], folder: str) -> List[Failure]:

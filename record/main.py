@@ -34,6 +34,7 @@ from record.trace.names import Names
 from record.trace.newer import Older
 from record.trace.pipe import Pipe
 from record.trace.skips import sift
+from record.users import other_user
 
 STRACE = ["strace", "-f", "-q", "-y", "--seccomp-bpf", "-s", str(32 * os.sysconf("SC_PAGE_SIZE")), "-e", "signal=hup,int,quit,abrt,kill,segv,pipe,term,xfsz", "-e", "trace=" + traced()]
 EXAMPLE = """examples:
@@ -45,7 +46,7 @@ statuses: 0 safe, with --missing also nothing missing, 1 races or missing inputs
           2 no verdict on one of the two, 3 usage or a tool that is missing"""
 NOT_TRACED = ("strace may not follow processes here, so nothing was built (see its lines above). In a container allow it, such as docker run --cap-add=SYS_PTRACE; "
               "on a machine /proc/sys/kernel/yama/ptrace_scope must be less than 3")
-WRAPPER = ("record.make.limits", "record.make.lines", "record.make.copied", "record.make.options", "record.make.outputs", "record.make.wrapper")
+WRAPPER = ("record.make.limits", "record.make.lines", "record.make.options", "record.make.given", "record.make.copied", "record.make.outputs", "record.make.wrapper")
 PROGRAM = """#!%s -ISBXutf8
 import marshal, sys
 with open(%r, "rb") as file:
@@ -55,6 +56,7 @@ with open(%r, "rb") as file:
 module.main(%r)
 """
 PACKAGES = {"make": "make", "ninja": "ninja-build", "cmake": "cmake", "meson": "meson"}  # of Debian, by what builds
+SERIAL_FAILED = "the serial build failed"
 ASKED = min(4, os.cpu_count() or 1)  # how many builds `race` is asked about at once
 WARM = ("WARM: what was up to date did not run; record a clean tree (make clean, or --fresh for ninja), or, if builds start from this one, "
         "say race-record --warm: it judges this record again, and builds nothing")
@@ -248,7 +250,7 @@ def record_all(options: argparse.Namespace, tools: Dict[str, str], out: Path) ->
         number += 1
         print("race-record: the serial build failed; recording again with -j%d (%d of %d)" % (JOBS, number, TRIES), file=sys.stderr, flush=True)
         record, is_again = attempt(options, with_jobs(options.words, JOBS), tools, out, number == TRIES)
-        record.notes.append("the serial build failed; this is build %d with -j%d" % (number, JOBS))
+        record.notes.append(SERIAL_FAILED + "; this is build %d with -j%d" % (number, JOBS))
     record.hints = found or record.hints or ([by_hand(options.words)] if record.status != 0 else [])
     rewrite(out, record)
     return record
@@ -282,6 +284,9 @@ def run(options: argparse.Namespace) -> int:
         return judge_warm(out, race) if out.exists() else stop("there is no record in %s: which command builds the project? (race-record --warm -- make)" % out)
     if shutil.which(options.words[0]) is None:
         return stop(no_command(options.words[0]))
+    other = other_user(options.words)
+    if other is not None:
+        return stop(other)
     try:
         with alone(out):
             return record_and_judge(options, tools, out, race)

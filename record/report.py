@@ -51,7 +51,7 @@ def place(about: Dict[str, Any], label: str) -> str:
 
 
 def verb(about: Dict[str, Any], label: str, does: str, path: str) -> str:
-    """What a task does to a path."""
+    """What a task does to a path, in the words of all companions."""
     kind = about["labels"].get(label, {}).get("kind", "")
     if OWN_NAME.search(path):
         return "settles it" if does == "writes" else "sees it"
@@ -73,7 +73,8 @@ def without_line(about: Dict[str, Any], path: str, first: str, second: str) -> s
     lookers = [target(about, one) for one in (first, second) if about["labels"].get(one, {}).get("kind") == "first"]
     if lookers and path not in lookers:
         name = file_of(path) if about["meanings"].get(path) else path
-        return "name %s in a rule, and a library not as -lNAME: make looks for it when it first considers the target" % name
+        return ("name %s in a rule, and a library not as -lNAME; where a recipe asks for it by $(wildcard ..), let the shell list it (ls): "
+                "make looks for it when it first considers the target, and keeps what it found" % name)
     return ONE_WRITER if lookers else later_rule(about["labels"], first)
 
 
@@ -173,7 +174,7 @@ def report(record: Dict[str, Any], judged: List[Judged], out: Path) -> List[str]
     for one in judged:
         if one.verdict.races:
             if len(judged) > 1:
-                lines.append("%s %s  in %s" % (one.about.get("tool", "make"), one.about["words"], one.about["folder"]))
+                lines.append("%s  in %s" % (("%s %s" % (one.about.get("tool", "make"), one.about["words"])).strip(), one.about["folder"]))
             text, count, paths = races_text(one, colour)
             lines += text
             races, files = races + count, files + paths

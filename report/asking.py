@@ -18,7 +18,8 @@ def judge(folder: Path, program: Path) -> Report:
     if record.get("version") != VERSION:
         raise BadRecord(f"{folder} is of another version of race-record: record again")
     project = shown(record.get("folder", ""))
-    report = Report(record.get("folder", ""), [*map(shown, record.get("words", []))], "safe", is_fixed=True, holes=[*record.get("holes", [])])
+    report = Report(record.get("folder", ""), [*map(shown, record.get("words", []))], "safe", is_fixed=True, holes=[*record.get("holes", [])],
+                    hints=[*record.get("hints", [])])
     report.assumptions = [Assumption(it["text"], it["count"], it["example"]) for it in record.get("assumptions", [])]
     report.is_of_ninja = bool(record.get("builds"))
     for number in record.get("builds", []):

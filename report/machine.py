@@ -63,7 +63,7 @@ def as_json(report: Report) -> str:
         "races": [race_object(it, report) for it in report.races],
         "fixes": {"lines": report.fixes if report.races else [], "checked": report.is_checked},
         "assumptions": [{"text": it.text, "count": it.count, "example": it.example} for it in report.assumptions],
-        "holes": report.holes, "gone": report.gone,
+        "holes": report.holes, "hints": report.hints, "gone": report.gone,
         **({"missing": missing_object(report.missing, report.known)} if report.missing else {}),
     }
     return json.dumps(text, indent=1, ensure_ascii=True) + "\n"

@@ -14,7 +14,7 @@ from typing import Any
 from record.entry import reason
 from record.fixes import in_project
 from record.missing.report import Question
-from record.report import without_line
+from record.report import verb, without_line
 from record.tasks import file_of
 from report.kinds import Kind, kind_of
 
@@ -52,11 +52,7 @@ class Side:
     does: str  # reads or writes
     needs: tuple[str, ...] = ()
     needed_by: tuple[str, ...] = ()
-
-    @property
-    def verb(self) -> str:
-        """What it does to the path, in words."""
-        return "make looks at it" if self.recipe.is_look and self.does == "reads" else f"{self.does} it"
+    verb: str = ""  # what it does to the path, in words
 
 
 @dataclass(frozen=True)
@@ -136,6 +132,7 @@ class Report:
     is_fixed: bool = False
     assumptions: list[Assumption] = field(default_factory=list)
     holes: list[str] = field(default_factory=list)
+    hints: list[str] = field(default_factory=list)  # what to try where the build failed
     builds: int = 0
     recipes: int = 0
     pairs: int = 0
@@ -214,8 +211,9 @@ class Build:
         return Recipe(label, found.get("target") or label, file, found.get("line", 0), found.get("recipe", "").strip(), is_look)
 
     def targets(self, labels: list[str]) -> tuple[str, ...]:
-        """The targets of some labels, each once, at most four."""
-        return tuple(dict.fromkeys(self.recipe(it).target for it in labels))
+        """The targets of some labels, each once. Where make only looks at a target, before it runs the recipe, the target is not made yet."""
+        made = (it for it in labels if self.about["labels"].get(it, {}).get("kind") not in ("look", "first"))
+        return tuple(dict.fromkeys(self.recipe(it).target for it in made))
 
     def race(self, path: str, first: tuple[str, str], second: tuple[str, str]) -> Race:
         """A race between two labels, each with what it does to the path."""
@@ -224,7 +222,8 @@ class Build:
         def others(labels: list[str]) -> tuple[str, ...]:
             return tuple(it for it in self.targets(labels) if it not in targets)
 
-        early, late = (Side(self.recipe(it), does, others(self.after.get(it, [])), others(self.users.get(it, []))) for it, does in (first, second))
+        early, late = (Side(self.recipe(it), does, others(self.after.get(it, [])), others(self.users.get(it, [])), verb(self.about, it, does, path))
+                       for it, does in (first, second))
         kind = kind_of(path, targets, (first[1], second[1]))
         change = in_project(self.about, first[0], second[0], path)
         instead = without_line({"meanings": {}, **self.about}, path, first[0], second[0])

@@ -170,7 +170,7 @@ def as_html(report: Report) -> str:
     body = [
         f'<header class="verdict {report.verdict}"><h1>{HEADLINES[report.verdict]}</h1><p>{escape(summary(report))}</p>'
         f'<div class="where"><code>{escape(" ".join(report.words))}</code> in <code>{escape(shown(report.folder))}</code></div></header>',
-        listed("Why there is no verdict", [escape(it) for it in report.holes]), fixes(report), *races(report),
+        listed("Why there is no verdict", [escape(it) for it in report.holes]), listed("What to try", [escape(it) for it in report.hints]), fixes(report), *races(report),
         listed("Fixed since the baseline", [escape(it) for it in report.gone]), assumptions(report), missing(report),
     ]
     return ('<!DOCTYPE html><html lang="en"><head><meta charset="utf-8"/><meta name="viewport" content="width=device-width,initial-scale=1"/>'

@@ -62,6 +62,7 @@ def text(report: Report) -> str:
         lines += [f"All fixes, {checked}:", *(f"    {it}" for it in report.fixes), ""]
     what_to_do = [] if report.is_direct else [after_no_verdict()]
     lines += ["Why there is no verdict:", *(f"  - {it}" for it in report.holes), *what_to_do, ""] if report.holes else []
+    lines += [*(f"HINT  {it}" for it in report.hints), ""] if report.hints else []
     lines += ["Fixed since the baseline:", *(f"  - {it}" for it in report.gone), ""] if report.gone else []
     if report.assumptions:
         lines.append("safe, if:" if report.verdict == "safe" else "Assumed:")
@@ -108,6 +109,7 @@ def github(report: Report) -> str:
         lines.append(annotation(level, f"race on {race.shown}", message, late.file, late.line))
     lines += missing_annotations(report)
     lines += [annotation("error", "race: no verdict", it) for it in report.holes]
+    lines += [annotation("notice", "race: hint", it) for it in report.hints]
     lines += [annotation("notice", "race: fixed since the baseline", it) for it in report.gone]
     lines.append(annotation("notice", f"race: {HEADLINES[report.verdict].lower()}", summary(report)))
     return "\n".join(lines) + "\n"

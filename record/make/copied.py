@@ -8,6 +8,7 @@ import os
 import stat
 import time
 
+from record.make.given import is_input
 from record.make.limits import Kept, keep
 from record.make.lines import name_of_read
 
@@ -19,21 +20,25 @@ SECOND = 1_000_000_000
 class Copies:
     """Those of one make. What it reads was written last between the begin of the recording and its own: so nobody has changed it since make read it."""
 
-    def __init__(self, spool: str, child: int, began: int) -> None:
+    def __init__(self, spool: str, child: int, began: int, given: "tuple[str, bytes] | None" = None) -> None:
         self.since, self.until = os.stat(spool + "/real").st_ctime_ns, began - BEHIND
         self.folder, self.count = b"/proc/%d/cwd" % child, 0
+        self.given = given  # what stands on standard input
 
     def add(self, line: bytes, log: Kept) -> None:
         """Takes a line of make. Where it says that make reads such a makefile, the log says behind it which copy that is."""
         name = name_of_read(line)
-        data = self.read(os.path.join(self.folder, name)) if name else None
+        data = self.read(name) if name else None
         if data is not None:
             self.count += 1
             keep("%s%d.read" % (log.name[:-len("make")], self.count), data)
             log.write(b"COPY %d\n" % self.count)
 
-    def read(self, path: bytes) -> "bytes | None":
+    def read(self, name: bytes) -> "bytes | None":
         """What such a makefile says; None where it is another file."""
+        path = os.path.join(self.folder, name)
+        if self.given is not None and is_input(path, self.given):
+            return self.given[1]
         try:
             found = os.stat(path)
             if not self.is_own(found) or os.lstat(path).st_ctime_ns >= self.until:

@@ -1,6 +1,6 @@
 """Stands in front of GNU make while a build is recorded.
 
-`race-record` compiles limits.py, lines.py, copied.py, options.py, outputs.py and this file for SPOOL/bin/make, first on PATH, a program of its own. It runs the real make (named
+`race-record` compiles limits.py, lines.py, options.py, given.py, copied.py, outputs.py and this file for SPOOL/bin/make, first on PATH, a program of its own. It runs the real make (named
 in SPOOL/real) with words that let it say what it considers, takes make's own lines out of standard output again, into
 SPOOL/PID.make, and passes everything else on byte for byte. Queries (`make -n`, `-q`, `-t`, `-p`, `-v`, `-h`) and makes
 that were asked for debug words run untouched.
@@ -18,6 +18,7 @@ except ImportError:
     import signal
 
 from record.make.copied import Copies, now
+from record.make.given import take_input
 from record.make.limits import Kept, keep, note_cut
 from record.make.lines import TOKENS, VERSION, about_job, is_folder, is_included, is_look, is_word, may_go_on, named, place_of_end, place_of_start, remade, started
 from record.make.options import WORDS, asked, asks_jobs, jobs_of_call, plain_args, speak_english, without_words
@@ -312,7 +313,7 @@ def run_logged(spool: str, name: str, real: str, args: "list[str]", flags: str, 
     except OSError:  # it may be as large as it is
         pass
     note_output(spool, writing, where, path)
-    began = now()
+    given, began = take_input(args), now()
     child = os.fork()
     if child == 0:
         as_usual()
@@ -326,7 +327,7 @@ def run_logged(spool: str, name: str, real: str, args: "list[str]", flags: str, 
         log.write(head_of(args, flags, below, slots, where, path, errors, spoken))
         try:
             splitter = Splitter(log, 1, where != "")
-            splitter.copies = Copies(spool, child, began)
+            splitter.copies = Copies(spool, child, began, given)
             raw = serve(splitter, child, reading, writing)
         except OSError as error:  # nobody reads it, or the device is full: make finds that out by itself
             if error.errno == errno.EFBIG:

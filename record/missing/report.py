@@ -147,7 +147,7 @@ def groups_of(judged: Judged) -> List[List[Found]]:
 def build_text(judged: Judged, is_alone: bool, colour: Colours) -> List[str]:
     """All that one build misses."""
     groups = groups_of(judged)
-    lines = [] if is_alone or not groups else ["make %s  in %s" % (judged.about["words"], judged.about["folder"])]
+    lines = [] if is_alone or not groups else ["%s  in %s" % (("make " + judged.about["words"]).strip(), judged.about["folder"])]
     for found in groups[:SHOWN_FILES]:
         lines.append("%s%s%s  %s" % (colour.bad, found[0].kind.upper(), colour.end, judged.name(found[0].path)))
         lines += [*rows_of(judged, found), *add_line(judged, found), ""]

@@ -49,3 +49,14 @@ def libtool_patterns(life: Life) -> List[str]:
     for word in life.argv[1:]:
         found.update(shelltext.loose(part) for part in word.split("/") if re.search(r"[*?\[]", part))
     return sorted("*" if re.search(r"[{}]", one) else one for one in found)
+
+
+def is_in_order(life: Life, is_own: bool) -> bool:
+    """Whether a program that lists a folder sorts what it finds: not one of the project (`is_own`) that has the name of one that does, and not zsh where a
+    pattern of it may ask for the order of the folder, `*(oN)`."""
+    if is_own and not life.traits().is_shell or not shelltext.sorts_names(life.argv):
+        return False
+    if shelltext.base_name(life.argv) != "zsh":
+        return True
+    text, script = shelltext.shell_words(life.argv)
+    return "oN" not in text + (shelltext.contents(os.path.join(life.folder, script)) if script else "")

@@ -30,6 +30,7 @@ AGE_WORDS = re.compile(r"""
     | \bstat\b[^;|&\n]*%[WXYZwxyz]                                                # stat -c %Y x
     | --sort[= ]t                                                                 # ls --sort=time
     | \bdate\s+[^;|&\n]*-r                                                        # date -r x
+    | \bzstat\b|\bzsh/stat\b|\benable\s+-\w*f                                     # zmodload zsh/stat, enable -f finfo finfo
     """.replace("GAP", GAP), re.VERBOSE)
 # The same of one program, by its name: these words would be others elsewhere.
 SHOWS_AGES = {

@@ -17,6 +17,7 @@ from record.trace.events import (
 from record.trace.lives import Life
 from record.trace.names import Found, Inode
 from record.trace.opened import CHANGING, OF_KERNEL, READING, requests
+from record.trace.proc import plain_path
 from record.trace.replay import DEVICES
 from record.trace.started import Started
 from record.trace.strace import BARE, MAKES_PROCESS, Call, first_text, folders, texts, unescape
@@ -162,6 +163,8 @@ class Calls(Started):
             if not call.opened.startswith("/") or DEVICES.match(call.opened) and not self.is_inside(call.opened):
                 self.note_watcher(life, path)
                 return  # a pipe, a terminal or the like
+            if "/.." in path:
+                self.put_left(life, plain_path(life, path, self.lives), life.folder)
             base, path = "", call.opened
         if not ok and "RESOLVE_IN_ROOT" in call.args:
             self.holes.append("files that are opened after openat2 (RESOLVE_IN_ROOT) are not seen: " + " ".join(life.argv)[:100])
@@ -255,7 +258,7 @@ class Calls(Started):
             self.watchers.append(" ".join(life.argv)[:100])
         else:
             self.put_lists(life, where[0], listed.patterns(life, where[0], self.is_open_shell), call.result == 0)
-            if not shelltext.sorts_names(life.argv):
+            if not listed.is_in_order(life, self.is_inside(life.program)):
                 self.put(life, ORDER_SEEN, where[0])
 
     def on_mkdir(self, life: Life, call: Call, ok: bool) -> None:

@@ -13,6 +13,7 @@ from record.trace.lives import Act, Life, Listed
 from record.trace.names import Found, Inode, Names
 from record.trace.proc import NUMBER, is_hidden, plain_path
 from record.trace.strace import Begun, Call, Event, Unread
+from record.trace.system import OF_SYSTEM
 
 DEVICES = re.compile(r"/dev/(null|zero|full|u?random|tty\w*|ptmx|console|std(in|out|err)|fd(/.*)?|pts(/.*)?)$|/proc(/|$)|/sys(/|$)")
 
@@ -191,18 +192,35 @@ class Replay:
     def found(self, life: Life, path: str, follow: bool, base: str = "", word: str = "") -> Found:
         """Where a path leads a process, from its folder or from `base`; the links on the way are read. `follow`: also a link at the end."""
         if path.startswith(KERNEL):
-            plain = plain_path(life, path, self.lives)
-            found = Found(plain, None, None, "") if NUMBER.match(plain) else self.names.find(base or life.folder, plain, follow)
+            path = plain_path(life, path, self.lives)
+            found = Found(path, None, None, "") if NUMBER.match(path) else self.names.find(base or life.folder, path, follow)
         else:
             found = self.names.find(base or life.folder, path, follow)
         if found.links:
             self.put_links(life, found, word)
+        if "/.." in path and (not OF_SYSTEM.match(path) or self.is_inside(os.path.normpath(path))):
+            self.put_left(life, path, base or life.folder)
         return found
+
+    def put_left(self, life: Life, path: str, base: str) -> None:
+        """Folders that a path enters and leaves again by `..`: `d/../f` is not there without d."""
+        if NUMBER.match(path):
+            self.holes.append("a file is known by the number of its descriptor alone: %s of %s" % (path, " ".join(life.argv)[:100]))
+            return
+        parts = [part for part in path.split("/") if part not in ("", ".")]
+        for at, part in enumerate(parts[1:], 1):
+            if part == ".." != parts[at - 1]:
+                left = self.names.find("/" if path.startswith("/") else base, "/".join(parts[:at]), True)
+                if left.inode is not None and left.inode.kind == "d":
+                    self.put(life, SEEN, left.path)
 
     def put_links(self, life: Life, found: Found, word: str = "") -> None:
         """Links on the way are read."""
         for link in found.links:
             self.put(life, READ, link, word)
+            inode = self.names.find("/", link, False).inode
+            if inode is not None and "/.." in inode.target:
+                self.put_left(life, inode.target, os.path.dirname(link))
 
     def look(self, life: Life, path: str, ok: bool, follow: bool, kind: str = SEEN, base: str = "", word: str = "") -> Found:
         """A look at a path, which is an event of this kind where something is there (`ok`); what was found."""
@@ -220,7 +238,7 @@ class Replay:
         else:
             self.put(life, kind if ok else ABSENT, found.path, word)
         if not ok and found.missing and found.missing != found.path:
-            self.put(life, WAY_ABSENT, found.missing)
+            self.put(life, WAY_ABSENT if found.path.startswith(found.missing + "/") else ABSENT, found.missing)  # (`d/../f` is there where d is)
 
     def open_by_make(self, life: Life, path: str) -> None:
         """A make opens a folder, at which it looked right before: both are one question for the names there."""

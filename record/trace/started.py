@@ -121,10 +121,9 @@ class Started(Opened):
             if not words:
                 return
             program = words[0]
-            found = self.names.find(life.folder, program, True)
+            found = self.found(life, program, True)
             if found.path == self.real:  # the kernel runs make in the script's place
                 self.past.append(" ".join(life.argv)[:200])
-            self.put_links(life, found)
             self.put_look(life, found, found.inode is not None, READ)
 
     def begin_make(self, life: Life, was_wrapper: bool, was_make: bool, forked: bool) -> None:

@@ -51,7 +51,7 @@ SEEN_GUARDS: List[Guard] = [
     Guard("proc: numbers: a hole", "trace/replay.py", "if is_hidden(kind, path):", "if False:", seen("file_by_its_number"), LOST_HOLE),
     Guard("proc: numbers that stand for a name", "trace/proc.py", "return life.handle[1] + match.group(2)", "return path", trace("a_number_that_stands_for_a_name")),
     Guard("proc: numbers of open files", "trace/calls.py", 'if "O_PATH" in flags else (-1, "")', "", trace("a_number_of_an_open_file_is_a_hole")),
-    Guard("proc: not by the recorder's own numbers", "trace/replay.py", 'Found(plain, None, None, "") if NUMBER.match(plain) else ', "", seen("file_by_its_number"), LOST_HOLE),
+    Guard("proc: not by the recorder's own numbers", "trace/replay.py", 'Found(path, None, None, "") if NUMBER.match(path) else ', "", seen("file_by_its_number"), LOST_HOLE),
     Guard("lines: files that are gone", "trace/strace.py", r"(?:\(deleted\))?", "", seen("file_that_had_no_name"), "0 != 2"),
     Guard("patterns: behind a word", "tools/shelltext.py", 'ends = "*" if', 'ends = "" if', words("words_that_go_on")),
     Guard("patterns: before a word", "tools/shelltext.py", 'begins = "*" if', 'begins = "" if', words("words_that_go_on")),

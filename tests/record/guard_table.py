@@ -113,7 +113,7 @@ TRACE: List[Guard] = [
 ]
 NAMES: List[Guard] = [
     Guard("links on the way are read", "trace/replay.py", "self.put(life, READ, link, word)", "pass", small("link_on_the_way"), YES),
-    Guard("folders that are absent on the way", "trace/replay.py", "self.put(life, WAY_ABSENT, found.missing)", "pass", small("absent_folder_on_the_way"), YES),
+    Guard("folders that are absent on the way", "trace/replay.py", "self.put(life, WAY_ABSENT if found.path.startswith(found.missing + \"/\") else ABSENT, found.missing)", "pass", small("absent_folder_on_the_way"), YES),
     Guard("hard links: a write is of all names", "trace/replay.py", "if found.inode is not None and len(found.inode.names) > 1:", "if False:", case("hard-link"), YES),
     Guard("hard links from before the build", "trace/names.py", "if found.st_nlink > 1:", "if False:", case("hard-link-before"), YES),
     Guard("hard links: texts of interpreters count them", "tools/shelltext.py", 'is_interpreter(argv) and "stat" in text', 'is_interpreter(argv) and "-c" not in argv and "stat" in text', small("links_counted_by_a_text_of_python"), YES),
@@ -234,6 +234,8 @@ OWNERS: List[Guard] = [
     Guard("report: no line orders a look of a target's own rule", "report.py", "    if any(own_look(about, path, one) for one in (first, second)):\n", "    if False:\n",
           small("look_of_a_rule_that_makes_both")),
     Guard("report: an empty recipe may wait", "report.py", " and runs and path ==", " and path ==", small("look_of_an_empty_recipe")),
+    Guard("users: a command that changes the user", "main.py", "    if other is not None:\n", "    if False:\n", "test_command.Users.test_command_that_changes_the_user"),
+    Guard("entry: closed output", "entry.py", "    if sys.stdout is None:  # another file may then have its number, and nobody would see the answer", "    if False:", "test_entry.Closed.test_closed_output"),
     Guard("entry: nobody may trace", "main.py", "    if status != 0 and not has_calls(pipe.file):", "    if False:", "test_entry.Untraced.test_nobody_may_trace"),
     Guard("entry: a command that cannot be run", "main.py", "    if status != 0 and not has_calls(pipe.file):", "    if status != 0:", "test_entry.Untraced.test_command_that_cannot_be_run"),
     Guard("failed: which recipe", "failed.py", "if one.base and job.target in one.base.failed)", "if one.base)", "test_failed.Failed.test_recipe"),
@@ -242,6 +244,7 @@ OWNERS: List[Guard] = [
     Guard("failed: not what was ignored", "failed.py", "if lost_jobs(ninja)}) - ignored(makes)", "if lost_jobs(ninja)})", "test_failed.Failed.test_what_failed_before_and_was_ignored"),
     Guard("failed: what the log of ninja lacks", "failed.py", "if not set(one[1].makes()) & set(ninja.logged))", ")", "test_failed.Failed.test_command_of_ninja"),
     Guard("failed: what the recipe lacked", "importing.py", "record.hints = lacked(owners.makes, names, folder)", "pass", "test_failed.Failed.test_prerequisite_that_was_forgotten"),
+    Guard("failed: the rule of the innermost make that has one", "failed.py", "            settled.update({path} if name else ())\n", "", "test_failed.Failed.test_rule_for_the_innermost_make_that_has_the_file"),
     Guard("failed: it lacks no file whose recipe ran", "failed.py", "for path, where in found.items() if path not in ran}", "for path, where in found.items()}", "test_failed.Failed.test_prerequisite_that_was_forgotten"),
     Guard("failed: it lacks no file that is there", "failed.py", ' if kind == "N"}) for make, job in jobs]', "}) for make, job in jobs]", "test_failed.Failed.test_prerequisite_that_was_forgotten"),
     Guard("failed: a hint where no better one is known", "main.py", "[by_hand(options.words)] if record.status != 0 else []", "[]", "test_failed.Failed.test_recipe"),

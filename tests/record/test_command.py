@@ -2,15 +2,18 @@
 
 import os
 import re
+import shutil
 import subprocess
 import sys
 import tempfile
 import unittest
 from pathlib import Path
 from typing import Dict, List, Tuple
+from unittest import mock
 
 import forked
 import support
+from record.users import other_user
 
 RACE = "all: a b\na: ; echo a > a\nb: ; cp a b\n"
 SAFE = "all: a b\na: ; echo a > a; echo said; echo aside >&2\nb: a ; cp a b\n"
@@ -52,6 +55,47 @@ class Command(unittest.TestCase):
         for name, status in wanted.items():
             with self.subTest(name), support.Project({"Makefile": RUNS[name][0]}) as project:
                 self.assertEqual(status, project.run(["--race", support.race_program(), *RUNS[name][1]], dict(os.environ)).status)
+
+
+AS_NOBODY = ["setpriv", "--reuid=65534", "--regid=65534", "--clear-groups"]
+
+
+def python_of_nobody() -> str:
+    """Where this is root: a Python with which another user may run the recorder where it stands."""
+    if os.geteuid() == 0 and shutil.which("setpriv"):
+        for python in (sys.executable, "/usr/bin/python3"):
+            words = [*AS_NOBODY, "sh", "-c", '"$@"; exit', "sh", python, os.fspath(support.RECORDER), "--help"]
+            if subprocess.run(words, capture_output=True, check=False).returncode == 0:
+                return python
+    return ""
+
+
+class Users(unittest.TestCase):
+    """Builds of another user."""
+
+    def test_command_that_changes_the_user(self) -> None:
+        says = "race-record: %s starts make as another user, or with a PATH of its own, where the recorder does not see it. Nothing was built. Let %s start race-record: %s\n"
+        text = "su .. -c 'race-record -- make'"
+        for words, inner in ((AS_NOBODY + ["make"], "setpriv .. race-record -- make"), (["/usr/bin/su", "nobody", "-c", "make"], text)):
+            with self.subTest(words[0]), support.Project({"Makefile": RACE}) as project, mock.patch("record.main.shutil.which", lambda name, path=None: name):
+                outcome = project.record(words)
+                self.assertEqual(["Makefile"], os.listdir(project.folder))
+            name = os.path.basename(words[0])
+            self.assertEqual((3, says % (name, name, inner)), (outcome.status, outcome.stderr.decode()))
+
+    def test_setpriv_that_keeps_the_user(self) -> None:
+        self.assertIsNone(other_user(["setpriv", "--no-new-privs", "make"]))
+
+    def test_recorder_as_another_user(self) -> None:
+        python = python_of_nobody()
+        if not python:
+            return  # this is not root, or another user may not run the recorder where it stands
+        with support.Project({"Makefile": RACE}) as project:
+            for folder in (project.folder.parent, project.folder):
+                folder.chmod(0o777)
+            words = [*AS_NOBODY, python, os.fspath(support.RECORDER), "--race", support.race_program(), "--", "make"]
+            self.assertEqual(1, subprocess.run(words, cwd=project.folder, capture_output=True, check=False).returncode)
+            self.assertEqual(65534, os.stat(project.folder / ".race" / "record.json").st_uid)
 
 
 class Load(unittest.TestCase):

@@ -66,6 +66,18 @@ class Entry(unittest.TestCase):
         self.assertEqual(3, ran.returncode)
 
 
+class Closed(unittest.TestCase):
+    """Companions without a standard output."""
+
+    def test_closed_output(self) -> None:
+        with Project({"Makefile": "all: ; touch built\n"}) as project:
+            for name, line in ((name, line) for name, line in LINES.items() if (TOP / name).is_dir()):
+                words = [sys.executable, os.fspath(TOP / name / ("race-" + name)), *(["--", "make"] if name == "record" else [])]
+                ran = subprocess.run(words, stdout=None, stderr=subprocess.PIPE, cwd=project.folder, text=True, timeout=60, check=False, preexec_fn=lambda: os.close(1))
+                self.assertEqual((3, "race-%s: its standard output is closed, so %s: leave it open, such as by > /dev/null\n" % (name, line)), (ran.returncode, ran.stderr))
+            self.assertEqual(["Makefile"], sorted(os.listdir(project.folder)))
+
+
 class Untraced(unittest.TestCase):
     """Where strace may not follow a process, as in a container: a process that is traced already starts none that can be."""
 

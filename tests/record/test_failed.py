@@ -29,14 +29,19 @@ class Failed(unittest.TestCase):
 
     def test_prerequisite_that_was_forgotten(self) -> None:
         lacks = "all: sub/a.o gen.h\nsub/a.o: ; cat gen.h > $@\n"
-        self.assertEqual(["sub/a.o looks for gen.h, which Makefile:4 makes, and does not wait for it"], self.failed(lacks + "gen.h:\n\techo > $@\n", {"sub/x": ""})[1])
+        self.assertEqual(["sub/a.o looks for gen.h, which Makefile:4 makes, and does not wait for it. Write the rule sub/a.o: gen.h"], self.failed(lacks + "gen.h:\n\techo > $@\n", {"sub/x": ""})[1])
         by_hand = ["if `make -j1` fails without race-record too, repair that first; if not, report it"]
         self.assertEqual(by_hand, self.failed(lacks + "other.h: ; echo > $@\n", {"sub/x": "", "gen.h/x": ""})[1])
         self.assertEqual(by_hand, self.failed("all: a gen.h\na: ; cat gen.h && false\ngen.h: ; echo > $@\n", {"gen.h": ""})[1])
         self.assertEqual(by_hand, self.failed("all: gen.h a\ngen.h: ; true\na: ; cat gen.h > $@\n")[1])
         inner = {"sub/Makefile": "a: ; cat ../gen.h > $@\n"}
         hints = self.failed("all: sub gen.h\nsub: ; $(MAKE) -C sub\ngen.h: ; echo > $@\n.PHONY: all sub\n", inner)[1]
-        self.assertEqual([it + "gen.h, which Makefile:3 makes, and does not wait for it" for it in ("a looks for ../", "sub looks for ")], hints)
+        waits = "gen.h, which Makefile:3 makes, and does not wait for it"
+        self.assertEqual(["a looks for ../" + waits, "sub looks for " + waits + ". Write the rule sub: gen.h"], hints)
+
+    def test_rule_for_the_innermost_make_that_has_the_file(self) -> None:
+        hints = self.failed("all: ; $(MAKE) sub\nsub: a.o gen.h\na.o: ; cat gen.h > $@\ngen.h: ; echo > $@\n")[1]
+        self.assertEqual(["a.o looks for gen.h, which Makefile:4 makes, and does not wait for it. Write the rule a.o: gen.h"], hints)
 
     def test_targets_of_makes_inside_are_not_lacked(self) -> None:
         loop = "all:\n\tfor i in a b; do $(MAKE) -C $$i || exit 1; done\n"

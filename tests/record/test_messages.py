@@ -73,7 +73,8 @@ class NoVerdict(unittest.TestCase):
         for count, checked in ((1, 1), (2, 0)):
             lines = report(written([]), [Judged("001", about, Verdict(1, races[:count], count))], Path("/r"))
             self.assertEqual(checked, sum("(checked: " in line for line in lines))
-        self.assertIn("  advice: name g in a rule, and a library not as -lNAME: make looks for it when it first considers the target", lines)
+        self.assertIn("  advice: name g in a rule, and a library not as -lNAME; where a recipe asks for it by $(wildcard ..), let the shell list it (ls): "
+                      "make looks for it when it first considers the target, and keeps what it found", lines)
 
     def test_ends_without_an_answer(self) -> None:
         self.assertEqual(("ended with status 3", "was stopped by signal 9: race-report asks it again"), (ended(3), ended(-9)))

@@ -13,6 +13,7 @@ from typing import Tuple
 import support
 from record.make import wrapper
 from record.make.copied import SECOND, Copies, now
+from record.make.given import is_input, names_of_makefiles
 
 MUST = b" Must remake target 'a'.\n"
 BEGIN = b"Putting child 0x5f (a) PID 7 on the chain.\n"
@@ -132,6 +133,36 @@ class Copied(unittest.TestCase):
             time.sleep(0.02)
             Path(folder, "new").write_text("x")
             self.assertEqual(None, self.copy(folder, "link", between))
+
+
+class Given(unittest.TestCase):
+    """A makefile on standard input."""
+
+    MAKEFILE = "all: b a\na: ; echo %s > a\nb: ; echo b > b; cat > c\n"
+
+    def test_makefile_on_standard_input(self) -> None:
+        for text, status in ((self.MAKEFILE % "a", 0), (self.MAKEFILE % "`cat b`", 1), (self.MAKEFILE % "a" + "# %s\n" % ("x" * 999) * 80, 0)):
+            for command in ("make -f - < m", "cat m | make -kf-", "cat m | make --makefile /dev/stdin"):
+                with self.subTest(text[:40], command=command), support.Project({"m": text}) as project:
+                    outcome = project.record(["sh", "-c", command])
+                    self.assertEqual((status, b""), (outcome.status, (project.folder / "c").read_bytes()), outcome.text())
+
+    def test_text_that_make_may_not_have_read_as_it_stands(self) -> None:
+        eats = {"e": "X := $(shell head -c 1)\n", "m": self.MAKEFILE % "a"}
+        with support.Project(eats) as project:
+            self.assertEqual(1, project.record(["sh", "-c", "(echo; cat m) | make -f e -f /dev/stdin all"]).status)
+
+    def test_words_that_name_it(self) -> None:
+        for words, names in ((["-f", "-"], ["-"]), (["-kf-", "--", "-f", "x"], ["-"]), (["-C", "-f", "--fil=x", "-W", "-f", "--eval", "-f"], ["x"]), (["-j4", "--makefile", "m", "a"], ["m"])):
+            self.assertEqual(names, names_of_makefiles(words))
+
+    def test_names_of_what_make_copies(self) -> None:
+        with tempfile.TemporaryDirectory() as folder:
+            path = os.fsencode(folder) + b"/Gm123456"
+            self.assertEqual((True, False, False), tuple(is_input(one, ("-", b"a")) for one in (path, path + b"7", path[:-8] + b"makefile")))
+            Path(os.fsdecode(path)).write_text("b")
+            self.assertEqual((False, True), (is_input(path, ("-", b"a")), is_input(path, ("-", b"b"))))
+        self.assertEqual((True, False), (is_input(b"/dev/stdin", ("/dev/stdin", b"")), is_input(path, ("/dev/stdin", b""))))
 
 
 class Said(unittest.TestCase):
