@@ -117,6 +117,12 @@ def has_calls(trace: Path) -> bool:
         return any(b"(" in line for line in islice(lines, 9))
 
 
+def enter(cover: Cover, older: Older, heard: object) -> None:
+    """What the process does first that becomes strace."""
+    cover.enter()
+    older.enter(heard)
+
+
 def run_build(words: List[str], spool: Path, tops: List[str], cover: Cover) -> Tuple[int, float]:
     """The build under strace; meanwhile its trace is sifted, and the modules are loaded that read it. Its status and seconds; `Missing` where nobody may trace."""
     env = dict(os.environ)
@@ -132,7 +138,7 @@ def run_build(words: List[str], spool: Path, tops: List[str], cover: Cover) -> T
     older, pipe = Older(), Pipe(spool)
     with ThreadPoolExecutor(3) as pool:
         words = STRACE + ["-o", str(pipe.path), "--"] + words
-        process = subprocess.Popen(words, env=env, preexec_fn=lambda: (cover.enter(), older.enter(heard)))
+        process = subprocess.Popen(words, env=env, preexec_fn=lambda: enter(cover, older, heard))
         ended, filled = threading.Event(), threading.Event()
         filling = pool.submit(pipe.fill, ended.wait, Standstill(process.pid).see)
         filling.add_done_callback(lambda _: filled.set())

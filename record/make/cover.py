@@ -15,6 +15,7 @@ from record.tools.shelltext import first_words
 
 OWN_MOUNTS = 0x20000  # for unshare
 BIND, BELOW, FOLLOWS = 1 << 12, 1 << 14, 1 << 19  # for mount: a second name, all that is mounted below, and mounts that come from outside alone
+ROOM, RAN = "race-make-", "real.new"
 PAST = "past"  # the folder of the make for who may not read the recorder's program
 
 
@@ -23,7 +24,7 @@ class Cover:
 
     def __init__(self, spool: Path, real: str, rooms: Optional[str]) -> None:
         self.spool, self.real = spool, os.path.realpath(real)
-        self.room = Path(tempfile.mkdtemp(prefix="race-make-", dir=rooms))
+        self.room = Path(tempfile.mkdtemp(prefix=ROOM, dir=rooms))
         self.copy, self.past = self.room / "make", self.room / PAST / "make"
         self.libc = ctypes.CDLL(None)
         self.is_ready = False
@@ -53,12 +54,24 @@ class Cover:
         target = os.fsencode(self.real)
         if not self.mount(os.fsencode(self.spool / "bin" / "make"), target, BIND):
             return
-        if os.access(target, os.X_OK) and os.access(self.copy, os.X_OK):  # the folder may be one in which nothing runs
-            (self.spool / "real").write_text(str(self.copy))
-        else:
-            self.libc.umount(target)
+        try:
+            if os.access(target, os.X_OK) and os.access(self.copy, os.X_OK):  # the folder may be one in which nothing runs
+                (self.spool / RAN).write_text(str(self.copy))
+                os.replace(self.spool / RAN, self.spool / "real")
+                return
+        except OSError:  # the disk is full
+            pass
+        self.libc.umount(target)
 
     def remove(self) -> None:
         """Takes the copy away, when the build has ended."""
         shutil.rmtree(self.room, ignore_errors=True)
 
+
+def copy_of(spool: Path) -> str:
+    """The copy of the make that ran, by its real path; nothing where the make itself ran."""
+    try:
+        path = (spool / "real").read_text()
+    except FileNotFoundError:
+        return ""
+    return os.path.realpath(path) if os.path.basename(os.path.dirname(path)).startswith(ROOM) else ""

@@ -28,7 +28,7 @@ class Replay:
         self.mask = mask
         self.names, self.spool, self.real, self.tops = names, spool, real, tops
         self.covered = ""  # the make over which the recorder's lies: `real` is a copy of it then
-        self.unread: List[Life] = []  # who runs that make, and has not read the recorder's program yet
+        self.unread: List[Life] = []  # who runs the recorder's make, and has not read its program yet
         self.below_tops = tuple(top.rstrip("/") + "/" for top in tops)
         self.first_folder = folder
         self.lives: Dict[int, Life] = {}

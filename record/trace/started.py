@@ -94,11 +94,10 @@ class Started(Opened):
         else:
             self.look(life, program, True, True, READ)
             self.look_at_interpreters(life, program)
-        if life.program == self.covered:
-            self.unread.append(life)
+        self.unread.append(life)
 
-    def unread_covers(self) -> List[str]:
-        """Who ran the make below the recorder's, but not the recorder's: the mount was gone, or the process may not read the recorder's program."""
+    def without_program(self) -> List[str]:
+        """Who ran the recorder's make by its path, but not its program: the mount was gone, or the user of the process may not read it."""
         return [" ".join(life.argv)[:200] for life in self.unread]
 
     def fail_to_run(self, life: Life, program: str, error: str) -> None:
