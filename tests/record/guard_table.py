@@ -133,7 +133,7 @@ NAMES: List[Guard] = [
     Guard("lists of make: exported macros", "make/memory.py", "open_names = exported_lists(builder.known)", "open_names = False", small("wildcard_that_a_target_exports"), YES),
     Guard("macros: exports of a target", "make/exports.py", r"(?:[^\t\n#][^\n]*?:)??", "", small("macro_that_a_target_exports"), YES),
     Guard("patterns keep other names out", "make/build.py", " and fits(pattern, join(folder, name), self.names):", ":", case("glob-other-names"), FALSE_RACE),
-    Guard("scripts are of their interpreter", "trace/started.py", "argv = argv if life.is_wrapper else shelltext.with_interpreter(argv, found.path, self.first_words(found.path))", "pass", small("script_that_compares_ages"), YES),
+    Guard("scripts are of their interpreter", "trace/started.py", "argv = argv if own == found.path else shelltext.with_interpreter(argv, found.path, self.first_words(found.path))", "pass", small("script_that_compares_ages"), YES),
 ]
 FOLDERS: List[Guard] = [
     Guard("folders: strict makers meet", "make/folders.py", "    for at in folder.strict & makers:\n", "    for at in ():\n", small("folder_made_by_two_who_fail"), YES),
