@@ -31,7 +31,7 @@ AGE_WORDS = re.compile(r"""
     | --sort[= ]t                                                                 # ls --sort=time
     | \bdate\s+[^;|&\n]*-r                                                        # date -r x
     """.replace("GAP", GAP), re.VERBOSE)
-OUTPUT = re.compile(r"(\s-o\s+)(?:\S*/)?(?:cp|mv|rsync|tar)(?=\s)")  # what a compiler writes: `gcc -o tar buffer.o -lunistring`; `xargs -o` runs a program
+OUTPUT = re.compile(r"(\s-o\s+)(?:\S*/)?(?:cp|mv|rsync|tar|ls|stat|date|test)(?=\s)")  # what a compiler writes: `gcc -o tar buffer.o -lunistring`; `xargs -o` runs a program
 # The same of one program, by its name: these words would be others elsewhere.
 SHOWS_AGES = {
     "ls": re.compile(r"\s(-\w*[tlcugoni]|--(fu|fo|so|ti|in))"),  # --full-time, --format, --sort, --time, --inode
@@ -55,9 +55,14 @@ EVAL = re.compile(r"\beval\b")
 COMPUTED = re.compile(r"\beval[ \t]+[\"']?(?:\$\(|`)")  # `eval "$(..)"`: the text that a program prints
 
 
+def without_outputs(text: str) -> str:
+    """A text in which no program that a compiler writes has the name of a tool."""
+    return text if "xargs" in text else OUTPUT.sub(r"\1x", text)
+
+
 def has_age_words(text: str) -> bool:
     """Whether a text has words that compare ages."""
-    return AGE_WORDS.search(text if "xargs" in text else OUTPUT.sub(r"\1x", text)) is not None
+    return AGE_WORDS.search(without_outputs(text)) is not None
 
 
 def script_compares(path: str, folder: str, depth: int = 0) -> bool:
@@ -118,7 +123,7 @@ def asks_reads(argv: List[str], folder: str) -> bool:
     if is_interpreter(argv):
         script = next((word for word in argv[1:] if not word.startswith("-")), "")
         return bool(READ_TIME_NAMES.search(" ".join(argv)) or READ_TIME_NAMES.search(contents(os.path.join(folder, script))))
-    return is_known and (bool(READ_TIME_WORDS.search(" ".join(argv) + " ")) or bool(script_of(argv)) and asks_reads_in(os.path.join(folder, script_of(argv))))
+    return is_known and (bool(READ_TIME_WORDS.search(without_outputs(" ".join(argv) + " "))) or bool(script_of(argv)) and asks_reads_in(os.path.join(folder, script_of(argv))))
 
 
 @lru_cache(KEPT)
