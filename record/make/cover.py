@@ -34,9 +34,10 @@ class Cover:
         if first_words(self.real) or any(self.real.startswith(top.rstrip("/") + "/") for top in tops):
             return
         try:
-            self.room.chmod(0o755)
-            shutil.copy2(self.real, self.copy)
             self.past.parent.mkdir()
+            for folder in (self.room, self.past.parent):  # each user may run it
+                folder.chmod(0o755)
+            shutil.copy2(self.real, self.copy)
             os.link(self.copy, self.past)
         except OSError:
             return
