@@ -38,7 +38,17 @@ def find_configured(makes: List[Make], lives: List[Life], names: Names) -> Set[s
     there = {path for path, kind in names.before.items() if kind == "f"} | changed.keys()
     found = [status_of(path) for path in sorted(there) if os.path.basename(path) == STATUS]
     statuses = [status for status in found if status is not None and is_configured(status, changed, [born for born, paths in read if not paths.isdisjoint(status.made)])]
-    return {path for status in statuses for path in status.made}
+    ran = made_by_makes(makes, names)
+    return {path for status in statuses for path in status.made if path not in changed or ran.get(path, changed[path]) >= changed[path]}
+
+
+def made_by_makes(makes: List[Make], names: Names) -> Dict[str, int]:
+    """The targets whose recipes ran, and where the first make of them began: one that makes a template before configure runs is judged as any other."""
+    found: Dict[str, int] = {}
+    for make in makes:
+        for path in {names.find(make.folder, job.target, True).path for one in make.words.rounds for job in one.jobs}:
+            found[path] = min(found.get(path, make.life.born), make.life.born)
+    return found
 
 
 def last_changes(lives: List[Life]) -> Dict[str, int]:

@@ -56,16 +56,16 @@ def configuring(name: str) -> str:
 
 
 CONFIGURED_GUARDS: List[Guard] = [
-    Guard("configured: what it made", "configured.py", "return {path for status in statuses for path in status.made}", "return set()", configured("what_configure_made")),
+    Guard("configured: what it made", "configured.py", "return {path for status in statuses for path in status.made if", "return {path for status in () for path in status.made if", configured("what_configure_made")),
     Guard("configured: said", "importing.py", 'found.assumed.add("configured", name)', "pass", configured("what_configure_made"), UNSAID),
     Guard("configured: texts of autoconf", "configured.py", 'if text.split("\\n", 2)[1:2] != [WRITTEN] or not found:', "if not found:", configured("text_of_somebody_else"), LOST_HOLE),
     Guard("configured: the makefile that is read", "configured.py", " if not paths.isdisjoint(status.made)]", "]", configured("other_makefiles"), LOST_HOLE),
     Guard("configured: names that it says", "configured.py", "status.made.add(made)", 'status.made.update((made, os.path.join(folder, "config.h")))', configured("header_that_it_does_not_make"), LOST_HOLE),
     Guard("configured: names of commands", "configured.py", 'if kind != "commands" or name == "libtool":', "if True:", configured("commands_are_no_files"), LOST_HOLE),
-    Guard("configured: what the build changes", "configured.py", "not places or status.path in changed and max(places) < min(readers)", "True", configured("header_that_is_made_again"), LOST_HOLE),
+    Guard("configured: what the build changes", "configured.py", "not places or status.path in changed and max(places) < min(readers)", "True", configured("status_that_the_build_changes"), LOST_HOLE),
     Guard("configured: by the command", "configured.py", "status.path in changed and max(places) < min(readers)", "False", configuring("release"), "0 != 2"),
-    Guard("configured: before make began", "configured.py", "status.path in changed and max(places) < min(readers)", "status.path in changed", configuring("make_before_that"), LOST_HOLE),
     Guard("configured: what recipes change", "configured.py", "status.path in changed and max(places) < min(readers)", "status.path in changed", configuring("template_that_a_recipe_changes"), LOST_HOLE),
+    Guard("configured: templates of another make", "configured.py", "ran.get(path, changed[path]) >= changed[path]", "True", configuring("template_of_another_make"), LOST_HOLE),
     Guard("configured: later changes of one file", "configured.py", "life.changed.get(path, 0))", "0)", configuring("file_that_is_changed_later"), LOST_HOLE),
 ]
 NUMBERS: List[Guard] = [

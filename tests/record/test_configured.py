@@ -122,6 +122,10 @@ class Configuring(unittest.TestCase):
         """A make that reads these files has begun before configure ran."""
         self.status(2, before="cp in Makefile; ./configure; ", command="make a; ./configure; make")
 
+    def test_template_of_another_make(self) -> None:
+        """Its recipe ran, and the file was there before."""
+        self.status(2, before="printf 'config.in: s ; cp s config.in\\n' > t.mk; touch s; ", command="make -f t.mk; ./configure && make")
+
     def test_file_that_is_changed_later(self) -> None:
         """The same process changes it before make and behind it."""
         self.status(2, command="echo > config.h; ./configure; make a; echo >> config.h; make")
