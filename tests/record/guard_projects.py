@@ -62,7 +62,7 @@ CONFIGURED_GUARDS: List[Guard] = [
     Guard("configured: the makefile that is read", "configured.py", " if not paths.isdisjoint(status.made)]", "]", configured("other_makefiles"), LOST_HOLE),
     Guard("configured: names that it says", "configured.py", "status.made.add(made)", 'status.made.update((made, os.path.join(folder, "config.h")))', configured("header_that_it_does_not_make"), LOST_HOLE),
     Guard("configured: names of commands", "configured.py", 'if kind != "commands" or name == "libtool":', "if True:", configured("commands_are_no_files"), LOST_HOLE),
-    Guard("configured: what the build changes", "configured.py", "not places or status.path in changed and max(places) < min(readers)", "True", configured("status_that_the_build_changes"), LOST_HOLE),
+    Guard("configured: what the build changes", "configured.py", "not places or status.path in changed and max(places) < min(readers)", "True", configuring("template_that_a_recipe_changes"), LOST_HOLE),
     Guard("configured: by the command", "configured.py", "status.path in changed and max(places) < min(readers)", "False", configuring("release"), "0 != 2"),
     Guard("configured: what recipes change", "configured.py", "status.path in changed and max(places) < min(readers)", "status.path in changed", configuring("template_that_a_recipe_changes"), LOST_HOLE),
     Guard("configured: templates of another make", "configured.py", "ran.get(path, changed[path]) >= changed[path]", "True", configuring("template_of_another_make"), LOST_HOLE),
