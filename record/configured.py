@@ -1,13 +1,14 @@
 """What was there before the first make of a project, since `./configure` of autoconf made it.
 
 A `config.status` says what it makes: makefiles, headers, and the stamps of these. They count as configured only where the build changes
-none of them, and where a makefile that make reads is among them: who has not configured cannot run this make.
+none of them, and where a makefile that make reads is among them: who has not configured cannot run this make. Where the command itself configures,
+as `./configure && make` does, all of it is there and up to date when make begins, and so is what configure is made of.
 """
 
 import os
 import re
 from dataclasses import dataclass, field
-from typing import Iterator, List, Optional, Set
+from typing import Dict, Iterator, List, Optional, Set
 
 from record.make.owners import Make
 from record.make.words import makefiles
@@ -32,11 +33,39 @@ class Status:
 
 def find_configured(makes: List[Make], lives: List[Life], names: Names) -> Set[str]:
     """What configuring made, as a recorded build shows it."""
-    changed = {path for life in lives for kind, path in life.events if kind in CHANGES}
-    read = {names.find(make.folder, name, True).path for make in makes for name in makefiles(make.words)}
-    found = [status_of(path) for path, kind in names.before.items() if kind == "f" and os.path.basename(path) == STATUS]
-    statuses = [status for status in found if status is not None and changed.isdisjoint(status.made) and not read.isdisjoint(status.made)]
-    return {path for status in statuses for path in status.made}
+    changed = last_changes(lives)
+    read = [(make.life.born, {names.find(make.folder, name, True).path for name in makefiles(make.words)}) for make in makes]
+    there = {path for path, kind in names.before.items() if kind == "f"} | changed.keys()
+    found = [status_of(path) for path in sorted(there) if os.path.basename(path) == STATUS]
+    statuses = [status for status in found if status is not None and is_configured(status, changed, [born for born, paths in read if not paths.isdisjoint(status.made)])]
+    ran = made_by_makes(makes, names)
+    return {path for status in statuses for path in status.made if path not in changed or ran.get(path, changed[path]) >= changed[path]}
+
+
+def made_by_makes(makes: List[Make], names: Names) -> Dict[str, int]:
+    """The targets whose recipes ran, and where the first make of them began: one that makes a template before configure runs is judged as any other."""
+    found: Dict[str, int] = {}
+    for make in makes:
+        for path in {names.find(make.folder, job.target, True).path for one in make.words.rounds for job in one.jobs}:
+            found[path] = min(found.get(path, make.life.born), make.life.born)
+    return found
+
+
+def last_changes(lives: List[Life]) -> Dict[str, int]:
+    """Where each name was changed last."""
+    found: Dict[str, int] = {}
+    for life in lives:
+        for (kind, path), place in life.events.items():
+            if kind in CHANGES:
+                found[path] = max(found.get(path, 0), place, life.changed.get(path, 0))
+    return found
+
+
+def is_configured(status: Status, changed: Dict[str, int], readers: List[int]) -> bool:
+    """Whether what a `config.status` says is there when the first make begins that reads a makefile of it: nobody changes any of it, or the command makes
+    the `config.status` itself, and nobody changes any of it later."""
+    places = [changed[path] for path in status.made if path in changed]
+    return bool(readers) and (not places or status.path in changed and max(places) < min(readers))
 
 
 def status_of(path: str) -> Optional[Status]:

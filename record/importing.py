@@ -21,6 +21,7 @@ from record.folder import Record, write_record
 from record.footprints import write_footprints
 from record.granted import add_granted, idle_targets, named_by_ninja
 from record.make.build import Builder
+from record.make.cover import copy_of
 from record.make.elsewhere import Elsewhere
 from record.make.graph import Build
 from record.make.owners import Owners
@@ -55,7 +56,9 @@ def replay_trace(spool: Path, names: Names, real: str, folder: str, tops: List[s
     """The trace, played in the name space."""
     mask = os.umask(0)
     os.umask(mask)
-    replay = Calls(names, str(spool), os.path.realpath(real), folder, tops, mask)
+    real, ran = os.path.realpath(real), copy_of(spool)
+    replay = Calls(names, str(spool), ran or real, folder, tops, mask)
+    replay.covered = real if ran else ""
     trace = spool / ("sifted" if (spool / "sifted").exists() and not names.leads_to(SYSTEM) else "trace")
     with open(trace, encoding="latin-1", newline="\n") as lines:
         for event in read_trace(watched(lines, trace.stat().st_size)):
@@ -110,8 +113,8 @@ def note_holes(spool: Path, replay: Calls, owners: Owners, names: Names, record:
     record.holes += replay.holes + owners.holes + names.mounted(mount_points()) + names.too_long()
     record.holes += ["--fresh copied %s, which has a name outside of the folder too, and the build writes it" % path for path in replay.hard_links if path in names.shared]
     record.holes += ["nobody knows who started a process: " + one for one in replay.strays()]
-    record.holes += ["a make ran past the recorder: " + p for p in replay.past]
-    record.notes += [PRINTED] if replay.past and owners.makes else []
+    record.holes += ["a make ran past the recorder: " + p for p in replay.past + replay.without_program()]
+    record.notes += [PRINTED] if (replay.past or replay.unread) and owners.makes else []
     for path in sorted(spool.glob("*.past")):
         record.holes += ["a make that prints its own words (-d, -p, --debug), or has nowhere to print them, ran past the recorder: " + t for t in path.read_text(errors="replace").splitlines()]
 

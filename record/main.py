@@ -22,6 +22,7 @@ from record import VERSION
 from record.entry import Stopped, end_traced, printable
 from record.folder import ROOMS, NotWhole, Record, Taken, accept_warm, alone, aside, is_record, reading, rewrite, what_stands
 from record.judge import find_race, judge, no_race
+from record.make.cover import Cover
 from record.make.outputs import note_output
 from record.make.unwrapped import name_real_makes
 from record.ninja.again import JOBS, TRIES, by_hand, by_name, hints, tops_of, undo, with_jobs
@@ -48,8 +49,12 @@ NOT_TRACED = ("strace may not follow processes here, so nothing was built (see i
               "on a machine /proc/sys/kernel/yama/ptrace_scope must be less than 3")
 WRAPPER = ("record.make.limits", "record.make.lines", "record.make.options", "record.make.given", "record.make.copied", "record.make.outputs", "record.make.wrapper")
 PROGRAM = """#!%s -ISBXutf8
-import marshal, sys
-with open(%r, "rb") as file:
+import marshal, os, sys
+try:
+    file = open(%r, "rb")
+except OSError:  # of another user: it runs past the recorder
+    os.execv(%r, sys.argv)
+with file:
     for name, code in marshal.load(file):
         sys.modules[name] = module = type(sys)(name)
         exec(code, module.__dict__)
@@ -91,7 +96,7 @@ def versions() -> Dict[str, str]:
     return found
 
 
-def prepare_spool(spool: Path, real: str) -> None:
+def prepare_spool(spool: Path, real: str, past: Path) -> None:
     """The wrapper under the names of make. It is compiled once: a build may start many."""
     (spool / "bin").mkdir(parents=True)
     (spool / "real").write_text(real)
@@ -100,7 +105,7 @@ def prepare_spool(spool: Path, real: str) -> None:
         note_output(str(spool), stream, "")
     codes = [(name, find_spec(name).loader.get_code(name)) for name in WRAPPER]  # type: ignore[union-attr]
     (spool / "wrapper").write_bytes(marshal.dumps(codes))
-    text = PROGRAM % (sys.executable, str(spool / "wrapper"), str(spool))
+    text = PROGRAM % (sys.executable, str(spool / "wrapper"), str(past), str(spool))
     for name in ("make", "gmake"):
         if shutil.which(name):
             path = spool / "bin" / name
@@ -114,7 +119,13 @@ def has_calls(trace: Path) -> bool:
         return any(b"(" in line for line in islice(lines, 9))
 
 
-def run_build(words: List[str], spool: Path, tops: List[str]) -> Tuple[int, float]:
+def enter(cover: Cover, older: Older, heard: object) -> None:
+    """What the process does first that becomes strace."""
+    cover.enter()
+    older.enter(heard)
+
+
+def run_build(words: List[str], spool: Path, tops: List[str], cover: Cover) -> Tuple[int, float]:
     """The build under strace; meanwhile its trace is sifted, and the modules are loaded that read it. Its status and seconds; `Missing` where nobody may trace."""
     env = dict(os.environ)
     if "MAKELEVEL" in env:
@@ -129,7 +140,7 @@ def run_build(words: List[str], spool: Path, tops: List[str]) -> Tuple[int, floa
     older, pipe = Older(), Pipe(spool)
     with ThreadPoolExecutor(3) as pool:
         words = STRACE + ["-o", str(pipe.path), "--"] + words
-        process = subprocess.Popen(words, env=env, preexec_fn=lambda: older.enter(heard))
+        process = subprocess.Popen(words, env=env, preexec_fn=lambda: enter(cover, older, heard))
         ended, filled = threading.Event(), threading.Event()
         filling = pool.submit(pipe.fill, ended.wait, Standstill(process.pid).see)
         filling.add_done_callback(lambda _: filled.set())
@@ -218,11 +229,13 @@ def attempt(options: argparse.Namespace, words: List[str], tools: Dict[str, str]
     kept = Kept.of(names)
     room = Path(tempfile.mkdtemp(prefix="race-record-", dir=ROOMS))
     spool = Path(os.path.realpath(room))
+    cover = Cover(spool, real, ROOMS)
     try:
-        prepare_spool(spool, real)
+        prepare_spool(spool, real, cover.past)
+        cover.prepare(names.tops)
         if options.missing:
             (spool / "again").touch()
-        status, seconds = run_build(by_name(words, real), spool, names.tops)
+        status, seconds = run_build(by_name(words, real), spool, names.tops, cover)
         record = Record(options.words, folder, status, round(seconds, 2), dict(tools))
         if status != 0:
             record.holes.append("the build ended with status %d" % status + (": signal %d stopped it" % -status if status < 0 else ""))
@@ -240,6 +253,7 @@ def attempt(options: argparse.Namespace, words: List[str], tools: Dict[str, str]
         return record, words != options.words and not changed
     finally:
         shutil.rmtree(room, ignore_errors=True)
+        cover.remove()
 
 
 def record_all(options: argparse.Namespace, tools: Dict[str, str], out: Path) -> Record:

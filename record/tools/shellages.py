@@ -25,13 +25,14 @@ AGE_WORDS = re.compile(r"""
     | \b(cp|mv|rsync|tar)\s+([^;|&\n]*?\s)?(-\w*u|--update)                       # cp -pu x y
     | (?:\btest|\[)GAP(?:!GAP)?(?![-!])(?:\\.|"(?:\\.|[^"\\])*"|'[^']*'|\$\([^()]*\)|`[^`]*`|[^\s"'\\`])+GAP
       -?(?:"-?\$[^"]*"|\$(?:\{[^{}]*\}|"[^"\s]*"|'[^'\s]*'|[^\s"'`;&|])+)GAP[^\s;&|\])]  # test x $how y
-    | \btar\s+\w*u                                                                # tar uf x.tar y
+    | \btar\s+\w*u\w*(?![\w./])                                                   # tar uf x.tar y, and no file: tar buffer.o
     | \bls\s+([^;|&\n]*?\s)?-\w*[tlc]                                             # ls -t
     | \bstat\b[^;|&\n]*%[WXYZwxyz]                                                # stat -c %Y x
     | --sort[= ]t                                                                 # ls --sort=time
     | \bdate\s+[^;|&\n]*-r                                                        # date -r x
     | \bzstat\b|\bzsh/stat\b|\benable\s+-\w*f                                     # zmodload zsh/stat, enable -f finfo finfo
     """.replace("GAP", GAP), re.VERBOSE)
+OUTPUT = re.compile(r"(\s-o\s+)(?:\S*/)?(?:cp|mv|rsync|tar|ls|stat|date|test)(?=\s)")  # what a compiler writes: `gcc -o tar buffer.o -lunistring`; `xargs -o` runs a program
 # The same of one program, by its name: these words would be others elsewhere.
 SHOWS_AGES = {
     "ls": re.compile(r"\s(-\w*[tlcugoni]|--(fu|fo|so|ti|in))"),  # --full-time, --format, --sort, --time, --inode
@@ -55,13 +56,23 @@ EVAL = re.compile(r"\beval\b")
 COMPUTED = re.compile(r"\beval[ \t]+[\"']?(?:\$\(|`)")  # `eval "$(..)"`: the text that a program prints
 
 
+def without_outputs(text: str) -> str:
+    """A text in which no program that a compiler writes has the name of a tool."""
+    return text if "xargs" in text else OUTPUT.sub(r"\1x", text)
+
+
+def has_age_words(text: str) -> bool:
+    """Whether a text has words that compare ages."""
+    return AGE_WORDS.search(without_outputs(text)) is not None
+
+
 def script_compares(path: str, folder: str, depth: int = 0) -> bool:
     """Whether the text of a script compares ages, or that of a script that it takes in; so may one that cannot be read."""
     try:
         text = text_of(path, LARGE)
     except OSError:
         return True
-    if len(text) == LARGE or AGE_WORDS.search(text) or COMPUTED.search(text) or depth > DEPTH:
+    if len(text) == LARGE or has_age_words(text) or COMPUTED.search(text) or depth > DEPTH:
         return True
     return any("$" in name or script_compares(os.path.join(folder, name), folder, depth + 1) for name in sourced(text))
 
@@ -113,7 +124,7 @@ def asks_reads(argv: List[str], folder: str) -> bool:
     if is_interpreter(argv):
         script = next((word for word in argv[1:] if not word.startswith("-")), "")
         return bool(READ_TIME_NAMES.search(" ".join(argv)) or READ_TIME_NAMES.search(contents(os.path.join(folder, script))))
-    return is_known and (bool(READ_TIME_WORDS.search(" ".join(argv) + " ")) or bool(script_of(argv)) and asks_reads_in(os.path.join(folder, script_of(argv))))
+    return is_known and (bool(READ_TIME_WORDS.search(without_outputs(" ".join(argv) + " "))) or bool(script_of(argv)) and asks_reads_in(os.path.join(folder, script_of(argv))))
 
 
 @lru_cache(KEPT)
@@ -130,5 +141,5 @@ def compares_ages(argv: List[str], folder: str) -> bool:
     if base_name(argv) in SHELLS and not text and not script:
         return True  # its script comes from standard input, and nobody can read it
     if script and "libtool" not in script:
-        return script_compares(os.path.join(folder, script), folder) or bool(AGE_WORDS.search(" ".join(argv[1:]) + " "))
-    return bool(AGE_WORDS.search(" ".join(argv) + " ")) or bool(TAKES_IN.search(text))
+        return script_compares(os.path.join(folder, script), folder) or has_age_words(" ".join(argv[1:]) + " ")
+    return has_age_words(" ".join(argv) + " ") or bool(TAKES_IN.search(text))

@@ -57,6 +57,8 @@ class Calls(Started):
         name, ok = call.name, not call.error
         handler = HANDLERS.get(name)
         if life.is_wrapper and name not in OF_WRAPPER:
+            if life in self.unread and ok and first_text(call.args) == self.spool + "/wrapper":
+                self.unread.remove(life)
             return
         if handler is not None:
             if ok and call.args[:1].isdigit() and name not in NUMBERED and BARE.match(call.args):

@@ -28,6 +28,8 @@ class Replay:
     def __init__(self, names: Names, spool: str, real: str, folder: str, tops: List[str], mask: int = 0o22) -> None:
         self.mask = mask
         self.names, self.spool, self.real, self.tops = names, spool, real, tops
+        self.covered = ""  # the make over which the recorder's lies: `real` is a copy of it then
+        self.unread: List[Life] = []  # who runs the recorder's make, and has not read its program yet
         self.below_tops = tuple(top.rstrip("/") + "/" for top in tops)
         self.first_folder = folder
         self.lives: Dict[int, Life] = {}

@@ -41,7 +41,7 @@ class Started(Opened):
         self.take_words(life, call, words, found)
         self.begin_program(life, words, self.first_words(found.path))
         if life.is_wrapper:
-            self.put_links(life, found)
+            self.begin_stand_in(life, words[0], found)
             return
         self.note_rights(life, found.path)
         self.is_open_shell = self.is_open_shell or shelltext.sets_options(life.argv, life.folder)
@@ -64,9 +64,10 @@ class Started(Opened):
         argv = words[1:]
         life.taken, life.compares_here, life.looks = (), False, 0
         life.last_look = ""
-        life.is_wrapper = found.path.startswith(self.spool + "/bin/")
-        argv = argv if life.is_wrapper else shelltext.with_interpreter(argv, found.path, self.first_words(found.path))
-        life.program = found.path
+        own = self.stand_in(life, found.path)
+        life.is_wrapper = own != ""
+        argv = argv if own == found.path else shelltext.with_interpreter(argv, found.path, self.first_words(found.path))
+        life.program = own or found.path
         life.is_ninja = argv == words[1:] and bool(shelltext.NINJA.match(os.path.basename(found.path)))
         if life.is_ninja:
             life.starts.append((self.place, life.folder))
@@ -75,10 +76,36 @@ class Started(Opened):
             self.holes.append("the words of a program are too many to be seen: " + " ".join(argv)[:100])
         life.ran.append(argv)
 
+    def stand_in(self, life: Life, path: str) -> str:
+        """The recorder's make that the kernel runs for a program, by its own name or that of the make below it; nothing where it runs another one."""
+        for _ in range(SCRIPTS):
+            if path.startswith(self.spool + "/bin/") or path == self.covered:
+                return path
+            words = self.first_words(path)
+            if not words:
+                break
+            path = self.names.find(life.folder, words[0], True).path
+        return ""
+
+    def begin_stand_in(self, life: Life, program: str, found: Found) -> None:
+        """A process runs the recorder's make: by name, by that of the make which lies below it, or by the first line of a script, which the kernel reads."""
+        if found.path == life.program:
+            self.put_links(life, found)
+        else:
+            self.look(life, program, True, True, READ)
+            self.look_at_interpreters(life, program)
+        self.unread.append(life)
+
+    def without_program(self) -> List[str]:
+        """Who ran the recorder's make by its path, but not its program: the mount was gone, or the user of the process may not read it."""
+        return [" ".join(life.argv)[:200] for life in self.unread]
+
     def fail_to_run(self, life: Life, program: str, error: str) -> None:
         """A program did not start. Where the kernel does not know what kind of file it is, bash reads it itself, as a script."""
         if not life.is_wrapper:
             found = self.look(life, program, False, True)
+            if self.stand_in(life, found.path) == self.covered != "":  # it lies over the make, and its interpreter does not let each user in
+                self.past.append(program)
             self.look_at_interpreters(life, program)
             life.taken += (found.path,) if error == "ENOEXEC" and life.traits().is_shell else ()
 

@@ -50,17 +50,23 @@ def configured(name: str) -> str:
     return "test_configured.Configured.test_" + name
 
 
+def configuring(name: str) -> str:
+    """A test of a command that configures, and then runs make."""
+    return "test_configured.Configuring.test_" + name
+
+
 CONFIGURED_GUARDS: List[Guard] = [
-    Guard("configured: what it made", "configured.py", "return {path for status in statuses for path in status.made}", "return set()", configured("what_configure_made")),
+    Guard("configured: what it made", "configured.py", "return {path for status in statuses for path in status.made if", "return {path for status in () for path in status.made if", configured("what_configure_made")),
     Guard("configured: said", "importing.py", 'found.assumed.add("configured", name)', "pass", configured("what_configure_made"), UNSAID),
     Guard("configured: texts of autoconf", "configured.py", 'if text.split("\\n", 2)[1:2] != [WRITTEN] or not found:', "if not found:", configured("text_of_somebody_else"), LOST_HOLE),
-    Guard("configured: the makefile that is read", "configured.py", " and not read.isdisjoint(status.made)]", "]", configured("other_makefiles"), LOST_HOLE),
+    Guard("configured: the makefile that is read", "configured.py", " if not paths.isdisjoint(status.made)]", "]", configured("other_makefiles"), LOST_HOLE),
     Guard("configured: names that it says", "configured.py", "status.made.add(made)", 'status.made.update((made, os.path.join(folder, "config.h")))', configured("header_that_it_does_not_make"), LOST_HOLE),
     Guard("configured: names of commands", "configured.py", 'if kind != "commands" or name == "libtool":', "if True:", configured("commands_are_no_files"), LOST_HOLE),
-    Guard("configured: what the build changes", "configured.py", "and changed.isdisjoint(status.made) and", "and", configured("header_that_is_made_again"), LOST_HOLE),
-    Guard("configured: what was there before", "configured.py", 'for path, kind in names.before.items() if kind == "f" and os.path.basename(path) == STATUS]',
-          'for path, kind in {**names.before, **{os.path.join(make.folder, STATUS): "f" for make in makes}}.items() if kind == "f" and os.path.basename(path) == STATUS]',
-          configured("status_that_the_build_makes"), LOST_HOLE, ("configured.py", "and changed.isdisjoint(status.made) and", "and")),
+    Guard("configured: what the build changes", "configured.py", "not places or status.path in changed and max(places) < min(readers)", "True", configuring("template_that_a_recipe_changes"), LOST_HOLE),
+    Guard("configured: by the command", "configured.py", "status.path in changed and max(places) < min(readers)", "False", configuring("release"), "0 != 2"),
+    Guard("configured: what recipes change", "configured.py", "status.path in changed and max(places) < min(readers)", "status.path in changed", configuring("template_that_a_recipe_changes"), LOST_HOLE),
+    Guard("configured: templates of another make", "configured.py", "ran.get(path, changed[path]) >= changed[path]", "True", configuring("template_of_another_make"), LOST_HOLE),
+    Guard("configured: later changes of one file", "configured.py", "life.changed.get(path, 0))", "0)", configuring("file_that_is_changed_later"), LOST_HOLE),
 ]
 NUMBERS: List[Guard] = [
     Guard("numbers: that come again", "make/owners.py", "return first if len(first) == len(wanted) and first == [len(there) - 1 - place for place in last[::-1]] else None", "return first if len(there) == len(wanted) == len(first) else None",
@@ -80,6 +86,9 @@ PROJECT_GUARDS: List[Guard] = [
     Guard("folders: those above are not made", "trace/replay.py", " and not (kind == MADE_QUIETLY and path in self.names.above)", "", project("folders_by_a_whole_path")),
     Guard("tops: those that are not there", "trace/names.py", "if not os.path.isdir(top):", "if False:", tops("that_is_not_there"), YES),
     Guard("tops: what was not there", "trace/names.py", "if path in self.absent:", "if False:", tops("that_is_not_there"), YES),
+    Guard("ages: files behind the name of tar", "tools/shellages.py", r"(?![\w./])", "", "test_ages.Ages.test_words_that_do_not", "True is not false"),
+    Guard("ages: what a compiler writes", "tools/shellages.py", r'OUTPUT.sub(r"\1x", text)', "text", project("tool_that_is_linked_with_a_library"), FALSE_RACE),
+    Guard("ages: what xargs runs", "tools/shellages.py", 'text if "xargs" in text else ', "", "test_ages.Ages.test_words_that_compare", "False is not true"),
     Guard("ages: of targets without a recipe", "make/build.py", "self.ageless = unasked_ages(self)", "pass", project("age_of_a_target_without_a_recipe"), FALSE_RACE),
     Guard("ages: all who need such a target", "make/fixed.py", "if all(one.label in found or is_remade(builder, one) for one in users[label])}", "if any(one.label in found or is_remade(builder, one) for one in users[label])}",
           project("age_of_a_target_without_a_recipe_that_counts_for_one")),

@@ -19,7 +19,6 @@ SHAPES: Dict[str, str] = {
     "wrapper: intermediate files": "prints",
     "wrapper: order-only prerequisites": "prints",
     "interpreters are read": "interpreter",
-    "interpreters: make": "interpreter",
     "interpreters that are not there": "interpreter",
     "folders: modes of several makers": "modes",
     "folders: masks": "modes",

@@ -45,7 +45,7 @@ SOUGHT_GUARDS: List[Guard] = [
     Guard("macros: that each recipe works out", "make/macros.py", ".joined(implied) for", ".joined(Use()) for", sought("macro_that_an_exported_one_sets"), YES),
     Guard("macros: that a second expansion sets", "make/unfiled.py", "(builder.known.changed or is_set_late(builder))", "builder.known.changed", sought("macro_that_a_second_expansion_sets"), LOST_HOLE),
     Guard("macros: that a second expansion sets for nobody", "make/unfiled.py", "not names.isdisjoint(asked)", "bool(names)", sought("macro_that_a_second_expansion_sets_for_nobody"), "0 != 2"),
-    Guard("ages: by the words of a script", "tools/shellages.py", ' or bool(AGE_WORDS.search(" ".join(argv[1:]) + " "))', "", sought("ages_by_words_of_a_script"), YES),
+    Guard("ages: by the words of a script", "tools/shellages.py", ' or has_age_words(" ".join(argv[1:]) + " ")', "", sought("ages_by_words_of_a_script"), YES),
     Guard("ages: by words that nobody knows", "tools/computed.py", "if COMMAND.search(text) or ", "if ", sought("ages_by_words_that_a_script_reads"), UNSAID),
     Guard("ages: by a text of which nobody sees that it is taken in", "tools/computed.py", " or TAKES.search(text) or", " or", sought("ages_by_a_script_behind_a_bracket"), UNSAID),
     Guard("ages: by words of a script that is taken in", "tools/computed.py", "depth < DEPTH and any(", "False and any(", sought("ages_by_a_script_in_a_script"), UNSAID),

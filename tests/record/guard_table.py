@@ -133,7 +133,7 @@ NAMES: List[Guard] = [
     Guard("lists of make: exported macros", "make/memory.py", "open_names = exported_lists(builder.known)", "open_names = False", small("wildcard_that_a_target_exports"), YES),
     Guard("macros: exports of a target", "make/exports.py", r"(?:[^\t\n#][^\n]*?:)??", "", small("macro_that_a_target_exports"), YES),
     Guard("patterns keep other names out", "make/build.py", " and fits(pattern, join(folder, name), self.names):", ":", case("glob-other-names"), FALSE_RACE),
-    Guard("scripts are of their interpreter", "trace/started.py", "argv = argv if life.is_wrapper else shelltext.with_interpreter(argv, found.path, self.first_words(found.path))", "pass", small("script_that_compares_ages"), YES),
+    Guard("scripts are of their interpreter", "trace/started.py", "argv = argv if own == found.path else shelltext.with_interpreter(argv, found.path, self.first_words(found.path))", "pass", small("script_that_compares_ages"), YES),
 ]
 FOLDERS: List[Guard] = [
     Guard("folders: strict makers meet", "make/folders.py", "    for at in folder.strict & makers:\n", "    for at in ():\n", small("folder_made_by_two_who_fail"), YES),
@@ -224,7 +224,6 @@ OWNERS: List[Guard] = [
     Guard("one job: the words of the make itself", "make/slots.py", "up.ran[:-1] if up is life or up.is_wrapper else", "up.ran if up is life or up.is_wrapper else", small("one_job_that_a_program_says"), YES),
     Guard("one job: scripts", "make/slots.py", "    if script:\n", "    if False:\n", small("one_job_of_a_script"), FALSE_RACE),
     Guard("one job: words of others", "make/slots.py", "any(ONE_JOB.search(text) for text in texts)", "False", small("one_job_by_way_of_a_program"), FALSE_RACE),
-    Guard("notes: what a make past the recorder prints", "importing.py", "[PRINTED] if replay.past and owners.makes else []", "[]", small("make_by_its_path_whose_words_are_kept"), UNSAID),
     Guard("failures: what CMake tries", "failed.py", "found = {id(make) for make in tried(makes)}", "found: Set[int] = set()", small("make_that_cmake_tries"), WITHHELD),
     Guard("failures: what CMake tries, said", "importing.py", '        assumed.add("tried", make.folder)\n', "        pass\n", small("make_that_cmake_tries"), UNSAID),
     Guard("report: what makes inside of a recipe look for", "failed.py", "paths & first & made.keys()", "paths & made.keys()",
@@ -341,7 +340,6 @@ UNFILED: List[Guard] = [
     Guard("said: the order of listings", "make/unfiled.py", 'builder.assumed.add("listings"', '(lambda *_: None)("listings"', small("order_of_a_listing"), UNSAID),
     Guard("interpreters are read", "trace/started.py", "self.look(life, words[0], True, True, READ)\n        self.look_at_interpreters(life, words[0])", "self.look(life, words[0], True, True, READ)", small("interpreter_that_a_recipe_makes"), YES),
     Guard("entry: make by its whole path", "ninja/again.py", '        return ["make", *words[1:]]\n', "        pass\n", small("make_by_its_path"), "1 != 2"),
-    Guard("interpreters: make", "trace/started.py", "if found.path == self.real:  # the kernel", "if False:  # the kernel", small("script_of_make_in_a_recipe"), LOST_HOLE),
     Guard("interpreters that are not there", "trace/started.py", "            self.look_at_interpreters(life, program)\n", "", small("interpreter_that_is_not_there_yet"), YES),
     Guard("folders: modes of those in which one is made", "make/folders.py", 'elif os.path.dirname(path.rstrip("/")) in (', "elif os.path.dirname(path) in (", small("folder_of_another_mode_in_which_one_is_made"), YES),
     Guard("folders: modes that makers have not", "make/folders.py", "first[path] != modes}", "False}", small("folder_of_the_mode_that_only_one_gives_it"), YES),

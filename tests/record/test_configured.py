@@ -88,6 +88,49 @@ class Configured(unittest.TestCase):
         self.status(2, MAKEFILE + "all: c\nc: ; cat a.c > t; cp t config.status; touch c\n", says="WARM  4 files")
 
 
+class Configuring(unittest.TestCase):
+    """The command configures, and then runs make."""
+
+    # Configure makes all but the templates, which came with the release.
+    RUN = "#!/bin/sh\nset -e\ncp old config.status; cp in Makefile; cp config.in config.h; sleep 0.01; echo > stamp-h1\n"
+
+    def status(self, wanted: int, more: str = "", before: str = "", command: str = "./configure && make") -> None:
+        """Records `./configure && make` in a tree as a release has it, and compares the status."""
+        tree = {**{name: text for name, text in TREE.items() if name not in ("config.h", "sub/other.h", "stamp-h1", "config.status")}, "old": STATUS, "configure": self.RUN, "in": MAKEFILE + more}
+        with support.Project(tree) as project:
+            project.sh(OLD + "chmod +x configure; " + before)
+            outcome = project.record(["sh", "-c", command])
+        self.assertEqual(wanted, outcome.status, outcome.text())
+        self.assertIn("when ./configure has run: what it makes is there and up to" if wanted == 0 else "WARM", outcome.text())
+
+    def test_release(self) -> None:
+        self.status(0)
+
+    def test_tree_that_was_built(self) -> None:
+        self.status(0, before="cp in Makefile; ./configure; ")
+
+    def test_template_that_is_made_before(self) -> None:
+        self.status(0, before="sed -i '2s/^/touch config.in;/' configure; ")
+
+    def test_other_files_of_a_release(self) -> None:
+        self.status(2, "all: lex.c\n" + PARSER, "touch lex.c; ")
+
+    def test_template_that_a_recipe_changes(self) -> None:
+        self.status(2, "all: c\nc: b ; echo >> config.in; touch c\n")
+
+    def test_make_before_that(self) -> None:
+        """A make that reads these files has begun before configure ran."""
+        self.status(2, before="cp in Makefile; ./configure; ", command="make a; ./configure; make")
+
+    def test_template_of_another_make(self) -> None:
+        """Its recipe ran, and the file was there before."""
+        self.status(2, before="printf 'config.in: s ; cp s config.in\\n' > t.mk; touch s; ", command="make -f t.mk; ./configure && make")
+
+    def test_file_that_is_changed_later(self) -> None:
+        """The same process changes it before make and behind it."""
+        self.status(2, command="echo > config.h; ./configure; make a; echo >> config.h; make")
+
+
 def again(project: support.Project, *options: str) -> support.Outcome:
     """Asks for the verdict on the record that is there."""
     return project.run(["--race", support.race_program(), *options])

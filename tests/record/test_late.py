@@ -183,7 +183,8 @@ class Texts(unittest.TestCase):
             self.assertRaises(OSError, text_of, room + "/no")
 
     def test_words_about_read_times(self) -> None:
-        for argv, wanted in ((["perl", "-e", "print -A $f"], True), (["python3", "-c", "x.st_atime"], True), (["python3", "-c", "x.st_mtime"], False)):
+        for argv, wanted in ((["perl", "-e", "print -A $f"], True), (["python3", "-c", "x.st_atime"], True), (["python3", "-c", "x.st_mtime"], False),
+                             (["sh", "-c", "cc -o ls ls.o -lutil"], False), (["sh", "-c", "cc -o ls ls.o; ls -lu"], True)):
             self.assertEqual(wanted, asks_reads(argv, "/"), argv)
 
 

@@ -33,6 +33,9 @@ ONCE = "V := $(wildcard e/$(shell echo \\*))\nX = $(eval X := %s)$(X)\nall: a d/
 AHEAD = "$(if $(wildcard $(@D)),,%s$(shell mkdir -p $(@D)))"
 FIRST = "F = " + AHEAD + "\nall: out/a out/b\ns: ; touch s\nout/a: s ; $(F)\n\techo a > $@\n"
 
+# A program of two objects, as GNU tar has them.
+LINKED = "T = %s\nall: $T\n$T: buffer.o names.o ; cc -r -nostdlib -o $@ buffer.o names.o%s\nbuffer.o names.o: ; as -o $@ /dev/null\n"
+
 PROJECTS: Dict[str, Small] = {
     # `.exists` files of Perl's makefiles
     "programs_that_are_optimised_while_linked": Small("safe", "all: a b\na b: ; cc -O1 -flto=2 -o $@ $@.c\n", {"a.c": MAIN, "b.c": MAIN}),
@@ -49,6 +52,10 @@ PROJECTS: Dict[str, Small] = {
     "mode_of_a_folder_that_is_found_by_no_bits": Small("race", "all: x y\nx: ; umask 022; install -d out; touch x\ny: ; umask 0; test -d out || mkdir -p out; touch y\n"),
     "mode_of_a_folder_that_is_installed": Small("safe", "all: x y\nx: ; umask 022; install -d out; touch x\ny: ; umask 022; test -d out || mkdir -p out; touch y\n"),
     "mode_of_a_folder_that_is_found_by_the_same_bits": Small("safe", PAIR % "(umask 077; touch k); test -d out || mkdir -p out"),
+    # programs by the names of tools that compare ages
+    "tool_that_is_linked": Small("safe", LINKED % ("tar", "")),
+    "tool_that_is_linked_with_a_library": Small("safe", LINKED % ("cp", " -u main")),
+    "tool_that_is_linked_and_used": Small("race", LINKED % ("tar", "; tar uf t.tar buffer.o names.o")),
     # a make that has nowhere to print
     "make_with_its_output_closed": Small("no verdict", "all: sub\nsub: ; $(MAKE) -f in.mk >&-\n", {"in.mk": "a: ; @touch a\n"}, says="in.mk (its standard output is closed)"),
     "make_with_its_errors_closed": Small("safe", "all: sub\nsub: ; $(MAKE) -f in.mk 2>&-\n", {"in.mk": "a: ; @touch a\n"}),

@@ -106,7 +106,6 @@ SMALL: Dict[str, Small] = {
     "interpreter_that_a_recipe_makes": Small("race", "all: interp use\ninterp: ; cp /bin/cat interp\nuse: ; ./script > use\n", {"script": "#!./interp\nhello\n"}, "chmod +x script"),
     "interpreter_that_is_not_there_yet": Small("race", "all: use interp\ninterp: ; cp /bin/cat interp\nuse: ; ./script > use || true\n", {"script": "#!./interp\nhello\n"}, "chmod +x script"),
     "interpreter_that_is_a_script": Small("race", "all: tool use\ntool: ; cp /bin/cat tool\nuse: ; ./script > use\n", {"script": "#!./between\nhello\n", "between": "#!./tool\n"}, "chmod +x script between"),
-    "script_of_make_in_a_recipe": Small("no verdict", "all: ; +./rules all\n", {"rules": "#!%s -f\nall: a b\na: ; echo a > a\nb: ; cp a b\n" % shutil.which("make")}, "chmod +x rules", says="a make ran past the recorder"),
     "make_by_its_path": Small("race", "all: a b\na: ; echo a > a\nb: ; $(MAKE) -f in.mk\n", {"in.mk": "b: ; cp a b\n"}),
     "script_of_make": Small("race", "", {"rules": "#!%s -f\nall: a b\na: ; echo a > a\nb: ; cp a b\n" % shutil.which("make")}, "chmod +x rules"),
     # modes of folders that several make
@@ -165,7 +164,6 @@ SMALL: Dict[str, Small] = {
     "folder_by_a_link": Small("race", "all: a b\na: ; echo new > l/x; touch a\nb: ; cat d/x > b\n", {"d/x": "x"}, "ln -s d l"),
     "many_recipes": Small("race", "T := $(shell seq 1500)\nall: $T last\n$T: ; @echo $@ > $@\nlast: $(filter-out 77,$T) ; @cat 77 > $@\n"),
     "make_that_cmake_tries": Small("safe", "all: ; (cd CMakeFiles/CMakeTmp && $(MAKE)) || touch all\n", {"CMakeFiles/CMakeTmp/Makefile": "t: ; false\n"}, says="what CMake's try_compile builds"),
-    "make_by_its_path_whose_words_are_kept": Small("no verdict", "all: ; %s -s -f in.mk > all\n" % shutil.which("make"), {"in.mk": "v: ; @echo 1\n"}, says="note: a make that ran past the recorder prints the recorder's words"),
     # two recipes that meet on a folder's time, and on files in it
     "files_before_folders": Small("race", "all: a b\na: ; mkdir -p A; echo 1 > A/z; ls -ld A > a\nb: ; mkdir -p A; echo 2 > A/z; touch A/b\n", says="RACE  A/z\n"),
     # double colons

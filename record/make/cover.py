@@ -1,0 +1,78 @@
+"""Lays the recorder's make over the make itself, for the processes of a recorded build alone: by its whole path call it scripts whose first line is
+`#!/usr/bin/make -f`, such as `debian/rules` that dh calls, and CMake.
+
+That takes a list of mounts of one's own, which the system gives to root (CAP_SYS_ADMIN). Where it does not, such a make runs past the recorder.
+"""
+
+import ctypes
+import os
+import shutil
+import tempfile
+from pathlib import Path
+from typing import List, Optional
+
+from record.tools.shelltext import first_words
+
+OWN_MOUNTS = 0x20000  # for unshare
+BIND, BELOW, FOLLOWS = 1 << 12, 1 << 14, 1 << 19  # for mount: a second name, all that is mounted below, and mounts that come from outside alone
+ROOM, RAN = "race-make-", "real.new"
+PAST = "past"  # the folder of the make for who may not read the recorder's program
+
+
+class Cover:
+    """A copy of the make, which the recorder's make runs, and the mount that lays that over the make."""
+
+    def __init__(self, spool: Path, real: str, rooms: Optional[str]) -> None:
+        self.spool, self.real = spool, os.path.realpath(real)
+        self.room = Path(tempfile.mkdtemp(prefix=ROOM, dir=rooms))
+        self.copy, self.past = self.room / "make", self.room / PAST / "make"
+        self.libc = ctypes.CDLL(None)
+        self.is_ready = False
+
+    def prepare(self, tops: List[str]) -> None:
+        """Makes the copy. A make of the project is not covered, and no script."""
+        if first_words(self.real) or any(self.real.startswith(top.rstrip("/") + "/") for top in tops):
+            return
+        try:
+            self.past.parent.mkdir()
+            for folder in (self.room, self.past.parent):  # each user may run it
+                folder.chmod(0o755)
+            shutil.copy2(self.real, self.copy)
+            os.link(self.copy, self.past)
+        except OSError:
+            return
+        self.is_ready = True
+
+    def mount(self, source: bytes, target: bytes, flags: int) -> bool:
+        """Whether the system did what was asked."""
+        done: bool = self.libc.mount(source, target, None, ctypes.c_ulong(flags), None) == 0
+        return done
+
+    def enter(self) -> None:
+        """For the process that becomes strace: it, and all that it starts, have mounts of their own. SPOOL/real says which make runs then."""
+        if not self.is_ready or self.libc.unshare(OWN_MOUNTS) != 0 or not self.mount(b"none", b"/", BELOW | FOLLOWS):
+            return
+        target = os.fsencode(self.real)
+        if not self.mount(os.fsencode(self.spool / "bin" / "make"), target, BIND):
+            return
+        try:
+            if os.access(target, os.X_OK) and os.access(self.copy, os.X_OK):  # the folder may be one in which nothing runs
+                (self.spool / RAN).write_text(str(self.copy))
+                os.replace(self.spool / RAN, self.spool / "real")
+                return
+        except OSError:  # the disk is full
+            pass
+        self.libc.umount(target)
+
+    def remove(self) -> None:
+        """Takes the copy away, when the build has ended."""
+        shutil.rmtree(self.room, ignore_errors=True)
+
+
+def copy_of(spool: Path) -> str:
+    """The copy of the make that ran, by its real path; nothing where the make itself ran."""
+    try:
+        path = (spool / "real").read_text()
+    except FileNotFoundError:
+        return ""
+    return os.path.realpath(path) if os.path.basename(os.path.dirname(path)).startswith(ROOM) else ""

@@ -1,3 +1,0 @@
-all: a b
-a: ; echo a > a
-b: ; cat a > b

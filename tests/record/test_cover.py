@@ -1,0 +1,124 @@
+"""Makes that are called by their whole path: the recorder's lies over the make where the system lets it, and else there is no verdict."""
+
+import ctypes
+import os
+import shutil
+import sys
+import unittest
+from pathlib import Path
+from typing import Dict, Sequence, Tuple
+from unittest import mock
+
+import support
+from support import races_of
+
+from record.make.cover import OWN_MOUNTS, Cover
+
+MAKE = str(shutil.which("make"))
+RACE, ORDERED = "all: a b\na: ; echo a > a\nb: ; cat a > b\n", "all: a b\na: ; echo a > a\nb: a ; cat a > b\n"
+RULES = "#!%s -f\n" % MAKE
+PAST = "a make ran past the recorder: "
+
+
+def may_cover() -> bool:
+    """Whether the system gives a process mounts of its own."""
+    child = os.fork()
+    if child == 0:
+        os._exit(ctypes.CDLL(None).unshare(OWN_MOUNTS) != 0)
+    return os.waitpid(child, 0)[1] == 0
+
+
+class Recorded(unittest.TestCase):
+    """A makefile `in.mk` or a script `rules`, with a race and in order, and the makefile above it."""
+
+    def outcome(self, recipe: str, text: str, words: Sequence[str] = ("make",), more: Sequence[Tuple[str, str]] = ()) -> support.Outcome:
+        """What a recorded build says whose one recipe calls a make."""
+        files: Dict[str, str] = {"Makefile": "all: ; +%s\n" % recipe, "in.mk": text, "rules": RULES + text, **dict(more)}
+        with support.Project(files) as project:
+            project.sh("chmod +x rules %s" % " ".join(name for name, _ in more))
+            return project.record(words)
+
+    def wants(self, recipe: str, words: Sequence[str] = ("make",), more: Sequence[Tuple[str, str]] = ()) -> None:
+        """The race is found, and the same project in order is safe."""
+        for text, wanted in ((RACE, (1, ["a"])), (ORDERED, (0, []))):
+            found = self.outcome(recipe, text, words, more)
+            self.assertEqual(wanted, (found.status, races_of(found.text())), found.text()[-1500:] + found.stderr.decode()[-800:])
+
+
+@unittest.skipUnless(may_cover(), "the system gives no mounts of one's own (root has them)")
+class Covered(Recorded):
+    """The recorder's make runs in the place of the make."""
+
+    def test_path(self) -> None:
+        self.wants(MAKE + " -f in.mk")
+
+    def test_script(self) -> None:
+        self.wants("./rules all")
+
+    def test_script_that_a_program_calls(self) -> None:
+        self.wants("python3 -c 'import subprocess; subprocess.check_call([\"./rules\", \"all\"])'")
+
+    def test_search_without_the_folder_of_the_recorder(self) -> None:
+        self.wants("env PATH=/usr/bin:/bin make -f in.mk")
+
+    def test_script_as_the_command(self) -> None:
+        """A script calls itself, as `debian/rules` does by way of dh."""
+        self.wants("true", ["./build"], [("build", "#!/bin/sh\n%s -s -f in.mk\n" % MAKE)])
+
+    def test_what_a_recipe_sees(self) -> None:
+        """$(MAKE) is what it is without the recorder, and nothing is left behind."""
+        files = {"Makefile": "all: ; +@./rules -s\n\t+@%s -s -f in.mk\n" % MAKE, "in.mk": "all: ; @echo $(MAKE) in.mk\n", "rules": RULES + "all: ; @echo $(MAKE)\n"}
+        with support.Project(files) as project:
+            project.sh("chmod +x rules")
+            plain, found = project.plain(["make"]), project.record()
+        self.assertEqual(0, found.status, found.text())
+        self.assertEqual(plain.stdout, found.stdout[:len(plain.stdout)])
+        self.assertEqual(b"\x7fELF", Path(MAKE).read_bytes()[:4])
+
+    def test_script_whose_interpreter_a_recipe_makes(self) -> None:
+        """The kernel goes by a link that nothing else reads."""
+        with support.Project({"Makefile": "all: mk use\nmk: ; ln -s %s mk\nuse: ; +./rules > /dev/null || true\n" % MAKE, "rules": "#!./mk -f\nall: ; echo x > x\n"}) as project:
+            project.sh("chmod +x rules")
+            found = project.record()
+        self.assertEqual((1, ["mk"]), (found.status, races_of(found.text())), found.text())
+
+    def test_cover_that_is_gone(self) -> None:
+        found = self.outcome("umount %s; %s -f in.mk > log" % (os.path.realpath(MAKE), MAKE), ORDERED)
+        self.assertEqual(2, found.status, found.text())
+        self.assertIn(PAST + MAKE, found.text())
+
+    def test_another_user(self) -> None:
+        """It may not read the recorder's program, or not even run its interpreter."""
+        found = self.outcome("%s -c \"import os; os.setuid(65534); os.execvp('make', ['make', '-f', 'in.mk'])\" || true" % sys.executable, "all: ; true\n")
+        self.assertEqual(2, found.status, found.text())
+        self.assertIn(PAST, found.text())
+
+
+class Uncovered(Recorded):
+    """The system gives no mounts: such a make is seen, and there is no verdict."""
+
+    def setUp(self) -> None:
+        patched = mock.patch.object(Cover, "prepare")
+        patched.start()
+        self.addCleanup(patched.stop)
+
+    def test_path(self) -> None:
+        found = self.outcome(MAKE + " -f in.mk > log", ORDERED)
+        self.assertEqual(2, found.status, found.text())
+        self.assertIn(PAST + MAKE, found.text())
+        self.assertIn("note: a make that ran past the recorder prints the recorder's words", found.text())
+
+    def test_script(self) -> None:
+        found = self.outcome("./rules all > log", ORDERED)
+        self.assertEqual(2, found.status, found.text())
+        self.assertIn(PAST, found.text())
+
+
+@unittest.skipUnless(os.geteuid() == 0 and shutil.which("setpriv"), "setpriv is missing (Debian: apt-get install util-linux), or not root runs this")
+class Closed(Recorded):
+    """A make by name, which loses its rights when it begins: it may not read the recorder's program."""
+
+    def test_program(self) -> None:
+        found = self.outcome("setpriv --reuid 65534 --clear-groups make -f in.mk || true", "all: ; true\n")
+        self.assertEqual(2, found.status, found.text())
+        self.assertIn(PAST, found.text())
