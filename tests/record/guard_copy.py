@@ -19,6 +19,7 @@ from typing import Callable, Dict, Iterable, Iterator, List, Optional, Set, Tupl
 
 import forked
 from guard_table import Guard
+from kept import may_replay
 from patched import Loaded, Patch, apply
 
 HERE = Path(__file__).resolve().parent
@@ -81,6 +82,7 @@ class Copy:
         (self.top / "examples").symlink_to(TOP / "examples")
         self.users = self.find_users()
         self.loaded = Loaded()
+        self.kept: Optional[Path] = None  # where recordings of the recorder as it is are kept
 
     def __enter__(self) -> "Copy":
         return self
@@ -144,9 +146,10 @@ class Copy:
 
     def test(self, names: List[str], edited: Iterable[str] = ()) -> str:
         """What the tests of these names say, on the modules of the copy, of which these were edited."""
-        changed = {name_of(Path(self.packages[0], module)): module for module in edited}
-        patches = self.patches([*changed.values()])
-        work = tests_of(names, self.uses(changed) if patches is None else set(), [] if patches is None else patches, changed)
+        modules = {name_of(Path(self.packages[0], module)): module for module in edited}
+        patches = self.patches([*modules.values()])
+        kept = self.kept if may_replay(modules.values()) else None
+        work = tests_of(names, self.uses(modules) if patches is None else set(), patches or [], modules, kept)
         ran = forked.run(work, self.tests, SECONDS)
         return (ran.stdout + ran.stderr).decode("utf-8", "replace")
 
@@ -176,7 +179,19 @@ def forget(names: Iterable[str]) -> None:
             vars(sys.modules[package]).pop(last, None)
 
 
-def tests_of(names: List[str], stale: Set[str], patches: List[Patch], changed: Iterable[str]) -> Callable[[], int]:
+class Result(unittest.TextTestResult):
+    """The results of tests, which take the recordings that are kept in a folder."""
+
+    kept: Optional[Path] = None
+
+    def startTest(self, test: unittest.TestCase) -> None:
+        """A test begins."""
+        if self.kept is not None:
+            importlib.import_module("kept").CURRENT.begin(test.id(), self.kept, False)
+        super().startTest(test)
+
+
+def tests_of(names: List[str], stale: Set[str], patches: List[Patch], changed: Iterable[str], kept: Optional[Path]) -> Callable[[], int]:
     """What a child does that runs these tests, where some modules were edited: either some are no longer those that were loaded, or functions have
     other codes."""
 
@@ -186,7 +201,9 @@ def tests_of(names: List[str], stale: Set[str], patches: List[Patch], changed: I
         main = sys.modules.get("record.main")
         if main is not None and not set(main.WRAPPER).isdisjoint(changed):
             main.wrapper.cache_clear()
-        return 0 if unittest.TextTestRunner(sys.stderr).run(unittest.defaultTestLoader.loadTestsFromNames(names)).wasSuccessful() else 1
+        Result.kept = kept
+        runner = unittest.TextTestRunner(sys.stderr, resultclass=Result)
+        return 0 if runner.run(unittest.defaultTestLoader.loadTestsFromNames(names)).wasSuccessful() else 1
 
     return work
 
