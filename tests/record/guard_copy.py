@@ -34,7 +34,9 @@ def compile_all() -> None:
     for path in [*(TOP / "record").rglob("*.py"), *HERE.glob("*.py")]:
         text = path.read_bytes()
         COMPILED[text] = compile(text, str(path), "exec", dont_inherit=True)
-    import support  # noqa: F401  (with all modules of the recorder)
+    import support  # (with all modules of the recorder)
+
+    support.warm()
 
 
 class Loader(SourceFileLoader):

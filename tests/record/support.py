@@ -2,6 +2,7 @@
 
 import contextlib
 import gc
+import io
 import json
 import os
 import re
@@ -38,6 +39,20 @@ if shutil.which("strace"):
     with contextlib.suppress(record.main.Missing):
         record.main.versions()
 gc.freeze()  # a child need not go over what was loaded
+
+
+def warm() -> None:
+    """Records once in this process itself, so that its children find the modules, patterns and texts that each recording asks for."""
+    import pkgutil  # noqa: F401  (`runpy` asks for it)
+
+    here = os.getcwd()
+    with Project({"Makefile": "all: a b\na: ; @echo > a\nb: ; @cat a > b\n"}) as project, contextlib.redirect_stdout(io.StringIO()):
+        os.chdir(project.folder)
+        try:
+            record.main.main(["--race", race_program(), "--", "make", "-s"])
+        finally:
+            os.chdir(here)
+    gc.freeze()
 
 
 def race_program() -> str:
