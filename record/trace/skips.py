@@ -12,6 +12,7 @@ from record.trace.arguments import read_ahead
 from record.trace.strace import KEPT, unescape
 
 PIECE, WAIT = 1 << 18, 0.05  # bytes of a piece; seconds until more may be there
+SMALL = 1 << 16  # bytes that are read in a hundredth of a second
 SYSTEM = ["usr", "lib", "lib32", "lib64", "etc", "bin", "sbin"]
 AT = r"(?:AT_FDCWD<[^>\n]*>, |)"
 RESULT = r"(?:\d|-1 E(?:NO|INVAL))[^\n]*"
@@ -118,7 +119,7 @@ def pieces(trace: Path, has_ended: Callable[[float], object]) -> Iterator[bytes]
 
 def sift(trace: Path, tops: List[str], to: Path, has_ended: Callable[[float], object] = lambda seconds: True) -> None:
     """Writes what has to be read of a trace, also while that is written, and then reads ahead in it. No file is there where somebody
-    changes a name of the system's folders: then all of the trace has to be read."""
+    changes a name of the system's folders: then all of the trace has to be read. A small one is read at once when the build has ended."""
     skip, part = skipping(tops), to.with_suffix(".part")
     if skip is None:
         return
@@ -128,6 +129,6 @@ def sift(trace: Path, tops: List[str], to: Path, has_ended: Callable[[float], ob
             if has_change(left, skip.changes):
                 return
             file.write(left)
-            if not has_ended(0):
+            if file.tell() > SMALL and not has_ended(0):
                 read_ahead(left.decode("latin-1").split("\n"))
     part.rename(to)
