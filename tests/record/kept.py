@@ -32,7 +32,15 @@ def may_replay(modules: Iterable[str]) -> bool:
 
 
 def tree_of(folder: str, left_out: "set[str] | frozenset[str]" = frozenset()) -> Optional[List[Entry]]:
-    """All that is below a folder, folders first; None where that cannot be put there again as it was."""
+    """All that is below a folder, folders first; None where that cannot be read, or put there again as it was."""
+    try:
+        return entries_of(folder, left_out)
+    except OSError:  # such as a path that is too long
+        return None
+
+
+def entries_of(folder: str, left_out: "set[str] | frozenset[str]") -> Optional[List[Entry]]:
+    """The same, where all can be read."""
     found, todo, size = [], [""], 0
     while todo:
         at = todo.pop()
