@@ -123,12 +123,13 @@ def sift(trace: Path, tops: List[str], to: Path, has_ended: Callable[[float], ob
     skip, part = skipping(tops), to.with_suffix(".part")
     if skip is None:
         return
+    size = 0
     with open(part, "wb") as file:
         for piece in pieces(trace, has_ended):
             left = skip.rest(b"\n" + piece.rstrip(b"\n"))
             if has_change(left, skip.changes):
                 return
-            file.write(left)
-            if file.tell() > SMALL and not has_ended(0):
+            size += file.write(left)
+            if size > SMALL and not has_ended(0):
                 read_ahead(left.decode("latin-1").split("\n"))
     part.rename(to)

@@ -13,7 +13,7 @@ import sys
 import tempfile
 from dataclasses import dataclass, field
 from pathlib import Path
-from typing import Any, Callable, Iterable, List, Optional, Sequence, Tuple
+from typing import Any, Callable, Dict, Iterable, List, Optional, Sequence, Tuple
 
 # Modules that act before the build has ended. A guard of theirs builds anew; test_kept.py wants each one that does to stand here, or among those that
 # also read the kept trace.
@@ -104,6 +104,7 @@ class Recording:
     """One build of a test, and what it left."""
 
     args: List[str]
+    environment: Dict[str, str]
     rooms: List[str] = field(default_factory=list)  # the folders that the recorder made for itself, in order
     asked: Any = None  # the words and the tops of the build
     before: bytes = b""  # the digest of the tree before
@@ -151,7 +152,7 @@ class Place:
         self.count += 1
         path = self.folder / ("%s.%d" % (self.name, self.count))
         if self.keeps:
-            return lambda: keep(work, Recording(list(args)), self.room, path)
+            return lambda: keep(work, Recording(list(args), dict(os.environ)), self.room, path)
         return (lambda: replay(work, list(args), self.room, path)) if path.exists() else work
 
     def end(self, stdout: bytes, stderr: bytes) -> None:
@@ -207,6 +208,8 @@ def replay(work: Callable[[], int], args: List[str], room: str, path: Path) -> i
     kept: Recording = pickle.loads(path.read_bytes())
     if kept.args != args:
         return work()
+    os.environ.clear()  # the recorder reads it too, such as where its own shell was
+    os.environ.update(kept.environment)
     build, make, rooms, used = main.run_build, tempfile.mkdtemp, list(kept.rooms), []
 
     def run_build(words: List[str], spool: Path, tops: List[str]) -> Tuple[int, float]:
@@ -222,7 +225,7 @@ def replay(work: Callable[[], int], args: List[str], room: str, path: Path) -> i
         return kept.given  # type: ignore[no-any-return]
 
     def mkdtemp(suffix: Any = None, prefix: Any = None, dir: Any = None) -> str:  # noqa: A002
-        return prefix == PREFIX and rooms and made(rooms.pop(0)) or make(suffix, prefix, dir)
+        return prefix == PREFIX and rooms and made(rooms[0]) and rooms.pop(0) or make(suffix, prefix, dir)  # (one that is there stays in the list: then it builds)
 
     main.run_build, tempfile.mkdtemp = run_build, mkdtemp  # type: ignore[assignment]
     return work()

@@ -58,7 +58,7 @@ def codes(code: CodeType) -> List[CodeType]:
 
 
 def alike(old: CodeType, new: CodeType) -> bool:
-    """Whether two codes do the same, but for what is in their functions and classes. Their lines may be other ones."""
+    """Whether two codes do the same, except what is in their functions and classes. Their lines may be other ones."""
     constants = [[None if isinstance(one, CodeType) else plain(one) for one in code.co_consts] for code in (old, new)]
     return constants[0] == constants[1] and all(getattr(old, name) == getattr(new, name) for name in SAME)
 
