@@ -4,12 +4,13 @@ import re
 import time
 from datetime import datetime, timezone
 from itertools import combinations
-from typing import Dict, Iterator, List, Pattern, Set, Tuple
+from typing import Dict, Iterator, List, Optional, Pattern, Set, Tuple
 
 from record.make.graph import Build
 
 DAYS = 3  # how long a recording may have taken
 DAY = 86400
+NUMBER = re.compile(r"\d{4}")  # each such time has one: a year or more
 
 
 def clock(now: float) -> Pattern[str]:
@@ -22,10 +23,13 @@ def clock(now: float) -> Pattern[str]:
 
 def named_by_time(builds: List[Build]) -> Iterator[str]:
     """Names of two recipes that nothing orders, which differ in the time alone: of each two the first one."""
-    found = clock(time.time())
+    found: Optional[Pattern[str]] = None
     for build in builds:
         alike: Dict[str, List[Tuple[str, Set[int]]]] = {}
         for path, writers in build.writers.items():
+            if not NUMBER.search(path):
+                continue
+            found = found or clock(time.time())
             bare = found.sub("@", path)
             if bare != path:
                 alike.setdefault(bare, []).append((path, writers))

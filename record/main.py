@@ -12,6 +12,7 @@ import tempfile
 import threading
 import time
 from concurrent.futures import ThreadPoolExecutor
+from functools import lru_cache
 from importlib import import_module
 from importlib.util import find_spec
 from itertools import islice
@@ -55,7 +56,7 @@ try:
 except OSError:  # of another user: it runs past the recorder
     os.execv(%r, sys.argv)
 with file:
-    for name, code in marshal.load(file):
+    for name, code in marshal.loads(file.read()):
         sys.modules[name] = module = type(sys)(name)
         exec(code, module.__dict__)
 module.main(%r)
@@ -75,12 +76,18 @@ class Missing(Exception):
     """A tool is not there, too old, or may not do its work."""
 
 
+@lru_cache(maxsize=None)
+def said_of_itself(path: str, _: int) -> str:
+    """What a program prints of its version, which was written at some time."""
+    return subprocess.run([path, "--version"], capture_output=True, text=True, errors="replace", env=dict(os.environ, LC_ALL="C")).stdout
+
+
 def version_of(program: str, pattern: str, least: Tuple[int, int], package: str) -> str:
     """The version that a program reports of itself."""
     path = shutil.which(program)
     if path is None:
         raise Missing("%s is missing (Debian: apt-get install %s)" % (program, package))
-    output = subprocess.run([path, "--version"], capture_output=True, text=True, errors="replace", env=dict(os.environ, LC_ALL="C")).stdout
+    output = said_of_itself(path, os.stat(path).st_mtime_ns)
     match = re.search(pattern, output)
     if not match or (int(match.group(1)), int(match.group(2))) < least:
         needed = "%s %d.%d" % ("GNU make" if program == "make" else program, *least)
@@ -96,6 +103,12 @@ def versions() -> Dict[str, str]:
     return found
 
 
+@lru_cache(maxsize=None)
+def wrapper() -> bytes:
+    """The modules of the wrapper as it loads them, compiled."""
+    return marshal.dumps([(name, find_spec(name).loader.get_code(name)) for name in WRAPPER])  # type: ignore[union-attr]
+
+
 def prepare_spool(spool: Path, real: str, past: Path) -> None:
     """The wrapper under the names of make. It is compiled once: a build may start many."""
     (spool / "bin").mkdir(parents=True)
@@ -103,8 +116,7 @@ def prepare_spool(spool: Path, real: str, past: Path) -> None:
     (spool / "outputs").mkdir()
     for stream in (1, 2):
         note_output(str(spool), stream, "")
-    codes = [(name, find_spec(name).loader.get_code(name)) for name in WRAPPER]  # type: ignore[union-attr]
-    (spool / "wrapper").write_bytes(marshal.dumps(codes))
+    (spool / "wrapper").write_bytes(wrapper())
     text = PROGRAM % (sys.executable, str(spool / "wrapper"), str(past), str(spool))
     for name in ("make", "gmake"):
         if shutil.which(name):
@@ -161,8 +173,9 @@ def run_build(words: List[str], spool: Path, tops: List[str], cover: Cover) -> T
     return status, seconds
 
 
-def parse(args: List[str]) -> argparse.Namespace:
-    """The words of the command line."""
+@lru_cache(maxsize=None)
+def parser_of_words() -> argparse.ArgumentParser:
+    """What reads the words of the command line."""
     parser = argparse.ArgumentParser(prog="race-record", usage="race-record [options] -- COMMAND ..", epilog=EXAMPLE,
                                      description="Builds once, and says whether make -j, or ninja, is safe.", formatter_class=argparse.RawDescriptionHelpFormatter)
     parser.add_argument("-o", "--output", default=".race", metavar="DIR", help="the folder of the record (.race)")
@@ -176,6 +189,12 @@ def parse(args: List[str]) -> argparse.Namespace:
     parser.add_argument("--missing", action="store_true", help="report missing inputs too: files whose edit does not make a target again")
     parser.add_argument("words", nargs=argparse.REMAINDER, metavar="-- COMMAND ..", help="what builds the project")
     parser.set_defaults(linked=[])  # files of a copy that have names outside of it, in the folder itself
+    return parser
+
+
+def parse(args: List[str]) -> argparse.Namespace:
+    """The words of the command line."""
+    parser = parser_of_words()
     found, unknown = parser.parse_known_args(args)
     if unknown:
         parser.error("no option of race-record: %s; what belongs to the build stands behind --, such as race-record -- make -j4" % " ".join(unknown))

@@ -227,7 +227,7 @@ class Macros:
         """Whether a word of some text is the name of a macro with a colon behind it: `X:s=` in a reference changes the value of X."""
         return any(found.group(1) in self.texts for text in self.all_texts() for found in COLON.finditer(text))
 
-    def named_in(self, text: str, again: bool) -> Set[str]:
+    def named_in(self, text: str, again: bool) -> FrozenSet[str]:
         """The macros that a text refers to, also where it is read again."""
         text = self.with_loops(text)
         return named(read_again(text) if again else text)

@@ -2,7 +2,9 @@
 
 import re
 from functools import lru_cache
-from typing import Iterable, Iterator, List, NamedTuple, Set
+from typing import FrozenSet, Iterable, Iterator, List, NamedTuple, Set
+
+from record.trace.strace import remembered
 
 BEGIN = re.compile(r"\$(?:[({](?:(?:call|value|origin|flavor)\s+)?|([^\s$({]))")
 EVAL = re.compile(r"\$([({])(?:eval|guile)[ \t]")  # a program in Guile may change any macro
@@ -63,11 +65,12 @@ def read_again(text: str) -> str:
     return SIGNS.sub("$", text)
 
 
-def named(text: str) -> Set[str]:
+@remembered
+def named(text: str) -> FrozenSet[str]:
     """The macros that a text refers to when it is read once; a name that is made of other macros is a pattern, with `*` for each of them."""
     plain = STEM.sub("$@", text.replace("$$", "  "))
     found = {one.group(1).strip(ENDS) if one.group(1) else name_at(plain, one.end()) for one in BEGIN.finditer(plain)}
-    return {ANY if fits(".VARIABLES", name) else name for name in found}
+    return frozenset(ANY if fits(".VARIABLES", name) else name for name in found)
 
 
 def outermost(text: str) -> Set[int]:

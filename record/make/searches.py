@@ -1,12 +1,14 @@
 """The names that make's search for an implicit rule looks for, by the rules of its data base."""
 
 import os
-from typing import Dict, Iterable, Iterator, Set, Tuple
+from functools import lru_cache
+from typing import Dict, FrozenSet, Iterable, Iterator, NamedTuple, Set, Tuple
 
 from record.make.database import Base
 from record.make.words import Words
 
 DEPTH = 8  # how many implicit rules one file may go through
+KEPT = 1 << 10  # how many searches are remembered
 ANY = "\x01"  # what stands for the first part of a name
 
 
@@ -20,8 +22,27 @@ def stems(target: str, name: str) -> Iterator[Tuple[str, str]]:
         yield last[len(head): len(last) - len(tail)], folder
 
 
+class Rules(NamedTuple):
+    """The implicit rules of a data base. Most makes have the same ones."""
+
+    patterns: Tuple[Tuple[Tuple[str, ...], Tuple[str, ...]], ...]
+    tails: Tuple[Tuple[int, str, str], ...]
+    terminal: FrozenSet[int]
+
+    @classmethod
+    def of(cls, base: Base) -> "Rules":
+        """Those of a data base."""
+        return cls(tuple((tuple(targets), tuple(asked)) for targets, asked in base.patterns), tuple(base.tails), frozenset(base.terminal))
+
+
 def names_asked(base: Base, name: str, depth: int) -> Set[str]:
     """The names that a search looks for, by way of at most so many rules; that for a member of an archive is about the member too."""
+    return {*asked_by(Rules.of(base), name, depth)}
+
+
+@lru_cache(KEPT)
+def asked_by(base: Rules, name: str, depth: int) -> Set[str]:
+    """The same, by the rules alone."""
     found: Set[str] = set()
     archive, opening, member = name.partition("(")
     todo, level = [name, *([opening + member] if archive and member.endswith(")") else [])], 0
@@ -32,7 +53,7 @@ def names_asked(base: Base, name: str, depth: int) -> Set[str]:
     return found
 
 
-def step(base: Base, name: str, is_first: bool) -> Iterable[Tuple[str, bool]]:
+def step(base: Rules, name: str, is_first: bool) -> Iterable[Tuple[str, bool]]:
     """The names that one step of the search looks for, and whether it ends there, as by a rule with two colons. A rule for all names is
     not for those that another rule fits, nor for those of a further step, unless the search ends there."""
     fits = [(at, stem, folder, target) for at, target, tail in base.tails if name.endswith(tail) for stem, folder in stems(target, name)]

@@ -27,7 +27,7 @@ from record.make.outputs import file_of, goes_to, is_closed, is_one_file, note_o
 SIZE, SET_SIZE = 1 << 20, 1031  # bytes of the pipe, and what asks for them
 LONG = 4096  # bytes: a longer text comes in pieces
 REAPING = b"Reaping winning child 0x"
-BASE = b"# Make data base, printed on"
+BASE, END_OF_BASE = b"# Make data base, printed on", b"# Finished Make data base on"
 
 
 class Splitter:
@@ -126,6 +126,9 @@ class Splitter:
     def take(self, data: bytes) -> None:
         """What was read: one write of make or of a recipe. Where a recipe has opened /dev/stdout anew, what make writes behind its words may
         come with them."""
+        if self.is_of_base(data):
+            self.log.write(data)
+            return
         if self.piece or len(data) >= LONG and data[-1:] != b"\n" and may_go_on(data):
             self.piece += data
             if data[-1:] != b"\n":
@@ -140,6 +143,11 @@ class Splitter:
         while data:
             first, data = self.cut(data, True)
             self.take_one(first)
+
+    def is_of_base(self, data: bytes) -> bool:
+        """Whether it is one of the many whole lines of the data base, and not its last one."""
+        is_inside = self.base and self.next is None and not (self.job or self.piece or self.unclear or self.blank or self.tail)
+        return is_inside and data[-1:] == b"\n" and not data.lstrip(b"\n").startswith(END_OF_BASE)
 
     def cut(self, data: bytes, goes_on: bool) -> "tuple[bytes, bytes]":
         """The first part of what was read, and the rest: the words of a recipe end where make names its own number of it, and what make
@@ -196,7 +204,7 @@ class Splitter:
         tail, self.tail = self.tail, False
         if self.base:
             self.log.write(packet)
-            self.base = not packet.lstrip(b"\n").startswith(b"# Finished Make data base on")
+            self.base = not packet.lstrip(b"\n").startswith(END_OF_BASE)
             self.tail = not self.base and not packet.endswith(b"\n\n")
         elif packet == b"\n":
             self.blank = not tail
@@ -262,20 +270,20 @@ def serve(splitter: Splitter, child: int, reading: int, writing: int) -> int:
     """Reads what make writes until it has ended; gives its raw status. A recipe may have asked the pipe not to wait: then make would fail where
     that is full, which it hardly is without the recorder's words."""
     watch = os.pidfd_open(child)
-    poller = select.poll()
-    poller.register(reading, select.POLLIN)
-    poller.register(watch, select.POLLIN)
+    end, both = select.poll(), select.poll()
+    end.register(watch, select.POLLIN)
+    both.register(watch, select.POLLIN)
+    both.register(reading, select.POLLIN)
     os.set_blocking(reading, False)
     ended = False
     while True:
-        if not ended:
-            ended = watch in [fd for fd, _ in poller.poll()]
-            if ended:
-                os.close(writing)
         try:
             packet = os.read(reading, 65536)
         except BlockingIOError:
-            if not ended:
+            if not ended:  # no recipe writes behind the begin of the data base: its many lines come together
+                ended = watch in [fd for fd, _ in (end.poll(1) if splitter.base else both.poll())]
+                if ended:
+                    os.close(writing)
                 continue
             splitter.end()
             os.set_blocking(reading, True)

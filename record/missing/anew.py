@@ -8,7 +8,7 @@ import glob
 import os
 import re
 from fnmatch import fnmatchcase
-from typing import Callable, Iterator, List, Set, Tuple
+from typing import Callable, Iterable, Iterator, List, Set, Tuple
 
 from record.make.asked import MAGIC
 from record.make.considered import is_deep
@@ -104,7 +104,7 @@ class Anew:
         found, texts = self.asked_by(text, named)
         return self.asked_by(text, lambda one: named(read_again(one)))[0] if any(map(SECOND.search, map(with_functions, texts))) else found
 
-    def asked_by(self, text: str, named_in: Callable[[str], Set[str]]) -> Tuple[Set[str], List[str]]:
+    def asked_by(self, text: str, named_in: Callable[[str], Iterable[str]]) -> Tuple[Set[str], List[str]]:
         """The same where texts name macros in one way, and all of these texts."""
         values, found, texts = self.first.values, set(), [text]
         for part in texts:

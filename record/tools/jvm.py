@@ -17,6 +17,8 @@ READERS = {"jps", "jcmd", "jstat", "jstatd", "jstack", "jinfo", "jmap", "jhsdb",
 
 def settle_machines(lives: List[Life]) -> None:
     """Leaves out what Java virtual machines do there."""
+    if not any(path.startswith(PLACE) for life in lives for _, path in life.events):
+        return
     machines = [part for life in lives if life.ran for part in machine_of(life)]
     known = {id(part) for part in machines}
     if any(os.path.basename(argv[0]) in READERS for life in lives for argv in life.ran if argv):

@@ -4,13 +4,15 @@ a time and by bytes: most of its lines are such looks, and one regular expressio
 
 import os
 import re
+from functools import lru_cache
 from pathlib import Path
 from typing import Callable, Iterable, Iterator, List, Optional, Set, Tuple
 
 from record.trace.arguments import read_ahead
-from record.trace.strace import unescape
+from record.trace.strace import KEPT, unescape
 
 PIECE, WAIT = 1 << 18, 0.05  # bytes of a piece; seconds until more may be there
+SMALL = 1 << 16  # bytes that are read in a hundredth of a second
 SYSTEM = ["usr", "lib", "lib32", "lib64", "etc", "bin", "sbin"]
 AT = r"(?:AT_FDCWD<[^>\n]*>, |)"
 RESULT = r"(?:\d|-1 E(?:NO|INVAL))[^\n]*"
@@ -46,6 +48,19 @@ def has_change(lines: bytes, changes: "re.Pattern[bytes]") -> bool:
     return any(changes.match(line_at(lines, mark.end() - 1)) for marks in MARKS for mark in marks.finditer(lines))
 
 
+@lru_cache(KEPT)
+def real_folder(path: str) -> str:
+    """Where a folder of the system is. Where somebody changes a name there, nothing is sifted."""
+    return os.path.realpath(path)
+
+
+def real_path(path: str) -> str:
+    """Where a name leads: most names are in few folders."""
+    folder, _, name = path.rpartition("/")
+    whole = real_folder(folder) + "/" + name
+    return os.path.realpath(path) if folder in ("", "/") or name in ("", ".", "..") or os.path.islink(whole) else whole
+
+
 class Skip:
     """Looks at the system's folders by names of which no link leads elsewhere, and not at modules that Python or OCaml may take in."""
 
@@ -56,7 +71,7 @@ class Skip:
 
     def counts(self, spelling: bytes) -> bool:
         """Whether a look by a name is read all the same: the name leads out of these folders, or Python or OCaml may take in what is there."""
-        real = os.path.realpath(unescape(spelling.decode("latin-1")))
+        real = real_path(unescape(spelling.decode("latin-1")))
         return any((real + "/").startswith(top.rstrip("/") + "/") for top in self.tops) or not (real + "/").startswith(self.inside) or bool(MODULES.match(spelling))
 
     def rest(self, lines: bytes) -> bytes:
@@ -104,16 +119,17 @@ def pieces(trace: Path, has_ended: Callable[[float], object]) -> Iterator[bytes]
 
 def sift(trace: Path, tops: List[str], to: Path, has_ended: Callable[[float], object] = lambda seconds: True) -> None:
     """Writes what has to be read of a trace, also while that is written, and then reads ahead in it. No file is there where somebody
-    changes a name of the system's folders: then all of the trace has to be read."""
+    changes a name of the system's folders: then all of the trace has to be read. A small one is read at once when the build has ended."""
     skip, part = skipping(tops), to.with_suffix(".part")
     if skip is None:
         return
+    size = 0
     with open(part, "wb") as file:
         for piece in pieces(trace, has_ended):
             left = skip.rest(b"\n" + piece.rstrip(b"\n"))
             if has_change(left, skip.changes):
                 return
-            file.write(left)
-            if not has_ended(0):
+            size += file.write(left)
+            if size > SMALL and not has_ended(0):
                 read_ahead(left.decode("latin-1").split("\n"))
     part.rename(to)

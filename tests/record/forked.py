@@ -14,7 +14,7 @@ import sys
 import time
 import traceback
 from pathlib import Path
-from typing import Callable, Dict, Mapping, NoReturn, Optional, Sequence
+from typing import Any, Callable, Dict, Mapping, NoReturn, Optional, Sequence
 
 Ran = subprocess.CompletedProcess  # what a command left: its status and its streams
 
@@ -83,10 +83,22 @@ def be_command(work: Callable[[], int], folder: Path, out: int, err: int) -> NoR
         os._exit(status)
 
 
+class Counted(io.FileIO):
+    """A stream that knows how many bytes went to it."""
+
+    written = 0
+
+    def write(self, data: Any) -> int:
+        """Writes some bytes."""
+        count = super().write(data) or 0
+        self.written += count
+        return count
+
+
 def stream_of(number: int) -> io.TextIOWrapper:
     """Standard output or error, as Python opens it for a new command."""
     usual = sys.__stdout__ if number == 1 else sys.__stderr__
-    file = io.BufferedWriter(io.FileIO(number, "w", closefd=False))
+    file = io.BufferedWriter(Counted(number, "w", closefd=False))
     return io.TextIOWrapper(file, usual.encoding, usual.errors, line_buffering=number == 2, write_through="PYTHONUNBUFFERED" in os.environ)
 
 

@@ -1,7 +1,7 @@
 """A copy of the recorder and its tests, in which one guard after the other is turned off; the tests run in a child of the process that has the copy.
 
-That process has loaded the copy as it is. A child loads again what is another one where the guard is off: the edited module, and those that import
-it, from what was compiled once for all copies.
+That process has loaded the copy as it is. In a child the edited functions get their other code (patched.py). Where that is not enough, it loads again what
+is another one where the guard is off: the edited module, and those that import it, from what was compiled once for all copies.
 """
 
 import importlib
@@ -15,10 +15,12 @@ from contextlib import contextmanager
 from importlib.machinery import FileFinder, SourceFileLoader
 from pathlib import Path
 from types import CodeType
-from typing import Callable, Dict, Iterable, Iterator, List, Set, Tuple
+from typing import Callable, Dict, Iterable, Iterator, List, Optional, Set, Tuple
 
 import forked
 from guard_table import Guard
+from kept import may_replay
+from patched import Loaded, Patch, apply
 
 HERE = Path(__file__).resolve().parent
 TOP = HERE.parent.parent
@@ -32,7 +34,9 @@ def compile_all() -> None:
     for path in [*(TOP / "record").rglob("*.py"), *HERE.glob("*.py")]:
         text = path.read_bytes()
         COMPILED[text] = compile(text, str(path), "exec", dont_inherit=True)
-    import support  # noqa: F401  (with all modules of the recorder)
+    import support  # (with all modules of the recorder)
+
+    support.warm()
 
 
 class Loader(SourceFileLoader):
@@ -79,6 +83,8 @@ class Copy:
         (self.tests / "cases").symlink_to(HERE / "cases")
         (self.top / "examples").symlink_to(TOP / "examples")
         self.users = self.find_users()
+        self.loaded = Loaded()
+        self.kept: Optional[Path] = None  # where recordings of the recorder as it is are kept
 
     def __enter__(self) -> "Copy":
         return self
@@ -96,14 +102,15 @@ class Copy:
                 users[one].add(name)
         return users
 
-    def load(self) -> None:
-        """Takes the modules of the copy, as they are, in the place of those that this process has."""
+    def load(self, tests: Iterable[str] = ()) -> None:
+        """Takes the modules of the copy, as they are, in the place of those that this process has; also those of tests that children need."""
         sys.path[:] = [str(self.tests), str(self.top), *(path for path in sys.path if not path.startswith(str(TOP)))]
         sys.path_hooks.insert(0, self.finder)
         sys.dont_write_bytecode, os.environ["PYTHONDONTWRITEBYTECODE"] = True, "1"
         forget(self.users)
-        for name in self.shared:
-            importlib.import_module(name)
+        with self.loaded.watching():
+            for name in (*self.shared, *sorted({test.split(".")[0] for test in tests})):
+                importlib.import_module(name)
 
     def finder(self, folder: str) -> FileFinder:
         """What finds the modules of this copy."""
@@ -141,9 +148,24 @@ class Copy:
 
     def test(self, names: List[str], edited: Iterable[str] = ()) -> str:
         """What the tests of these names say, on the modules of the copy, of which these were edited."""
-        modules = [name_of(Path(self.packages[0], module)) for module in edited]
-        ran = forked.run(tests_of(names, self.uses(modules)), self.tests, SECONDS)
+        modules = {name_of(Path(self.packages[0], module)): module for module in edited}
+        patches = self.patches([*modules.values()])
+        kept = self.kept if may_replay(modules.values()) else None
+        work = tests_of(names, self.uses(modules) if patches is None else set(), patches or [], modules, kept)
+        ran = forked.run(work, self.tests, SECONDS)
         return (ran.stdout + ran.stderr).decode("utf-8", "replace")
+
+    def patches(self, edited: List[str]) -> Optional[List[Patch]]:
+        """The functions of edited modules that have another code now; None where that is not all."""
+        found: List[Patch] = []
+        for module in edited:
+            path = self.top / self.packages[0] / module
+            old = COMPILED.get((TOP / self.packages[0] / module).read_bytes())
+            patches = None if old is None else self.loaded.patches(old, compile(path.read_bytes(), old.co_filename, "exec", dont_inherit=True))
+            if patches is None:
+                return None
+            found += patches
+        return found
 
     def stops(self, output: str) -> bool:
         """Whether tests show that the companion itself stops: one of its modules is in a traceback."""
@@ -159,12 +181,31 @@ def forget(names: Iterable[str]) -> None:
             vars(sys.modules[package]).pop(last, None)
 
 
-def tests_of(names: List[str], stale: Set[str]) -> Callable[[], int]:
-    """What a child does that runs these tests, where some modules are no longer those that were loaded."""
+class Result(unittest.TextTestResult):
+    """The results of tests, which take the recordings that are kept in a folder."""
+
+    kept: Optional[Path] = None
+
+    def startTest(self, test: unittest.TestCase) -> None:
+        """A test begins."""
+        if self.kept is not None:
+            importlib.import_module("kept").CURRENT.begin(test.id(), self.kept, False)
+        super().startTest(test)
+
+
+def tests_of(names: List[str], stale: Set[str], patches: List[Patch], changed: Iterable[str], kept: Optional[Path]) -> Callable[[], int]:
+    """What a child does that runs these tests, where some modules were edited: either some are no longer those that were loaded, or functions have
+    other codes."""
 
     def work() -> int:
         forget(stale)
-        return 0 if unittest.TextTestRunner(sys.stderr).run(unittest.defaultTestLoader.loadTestsFromNames(names)).wasSuccessful() else 1
+        apply(patches)
+        main = sys.modules.get("record.main")
+        if main is not None and not set(main.WRAPPER).isdisjoint(changed):
+            main.wrapper.cache_clear()
+        Result.kept = kept
+        runner = unittest.TextTestRunner(sys.stderr, resultclass=Result)
+        return 0 if runner.run(unittest.defaultTestLoader.loadTestsFromNames(names)).wasSuccessful() else 1
 
     return work
 

@@ -1,6 +1,8 @@
 """What the tests of the recorder share: the tools that they need, a project in a folder of its own, a recorded build."""
 
+import contextlib
 import gc
+import io
 import json
 import os
 import re
@@ -14,6 +16,7 @@ from pathlib import Path
 from typing import Any, Callable, Dict, Iterable, List, Mapping, Optional, Sequence, Type
 
 import forked
+from kept import CURRENT
 
 HERE = Path(__file__).resolve().parent
 TOP = HERE.parent.parent
@@ -28,10 +31,28 @@ import record.main  # noqa: E402,F401
 from record.trace.newer import first_unknown  # noqa: E402
 from record.trace.skips import skipping  # noqa: E402
 
-skipping([])  # what is found here is kept for all children
+# What is found here is kept for all children.
+skipping([])
+record.main.wrapper(), record.main.parser_of_words()
 if shutil.which("strace"):
     first_unknown()
+    with contextlib.suppress(record.main.Missing):
+        record.main.versions()
 gc.freeze()  # a child need not go over what was loaded
+
+
+def warm() -> None:
+    """Records once in this process itself, so that its children find the modules, patterns and texts that each recording asks for."""
+    import pkgutil  # noqa: F401  (`runpy` asks for it)
+
+    here = os.getcwd()
+    with Project({"Makefile": "all: a b\na: ; @echo > a\nb: ; @cat a > b\n"}) as project, contextlib.redirect_stdout(io.StringIO()):
+        os.chdir(project.folder)
+        try:
+            record.main.main(["--race", race_program(), "--", "make", "-s"])
+        finally:
+            os.chdir(here)
+    gc.freeze()
 
 
 def race_program() -> str:
@@ -58,7 +79,8 @@ class Project:
     """A folder with files, gone again at the end of the `with`."""
 
     def __init__(self, files: Optional[Mapping[str, str]] = None, below: Optional[str] = None) -> None:
-        self.room = tempfile.TemporaryDirectory(prefix="race-test-", dir=below)
+        self.place = CURRENT.place()
+        self.room = self.place.room_of("race-test-", below) if self.place else tempfile.TemporaryDirectory(prefix="race-test-", dir=below)
         self.folder = Path(self.room.name) / "project"
         self.folder.mkdir()
         for name, text in (files or {}).items():
@@ -92,7 +114,10 @@ class Project:
     def run(self, args: Sequence[str], env: Optional[Dict[str, str]] = None) -> Outcome:
         """Runs `race-record` with these words: in a child of the tests or, with an environment, as the command that it is."""
         if env is None:
-            ran = forked.run(forked.script(RECORDER, args), self.folder, SECONDS)
+            work = forked.script(RECORDER, args)
+            ran = forked.run(self.place.watched(work, args) if self.place else work, self.folder, SECONDS)
+            if self.place:
+                self.place.end(ran.stdout, ran.stderr)
         else:
             ran = subprocess.run([str(RECORDER), *args], cwd=self.folder, capture_output=True, stdin=subprocess.DEVNULL, timeout=SECONDS, check=False, env=env)
         record, builds = self.left()

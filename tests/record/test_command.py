@@ -8,7 +8,7 @@ import sys
 import tempfile
 import unittest
 from pathlib import Path
-from typing import Dict, List, Tuple
+from typing import Dict, List, Optional, Tuple
 from unittest import mock
 
 import forked
@@ -75,9 +75,13 @@ class Users(unittest.TestCase):
 
     def test_command_that_changes_the_user(self) -> None:
         says = "race-record: %s starts make as another user, or with a PATH of its own, where the recorder does not see it. Nothing was built. Let %s start race-record: %s\n"
-        text = "su .. -c 'race-record -- make'"
+        text, which = "su .. -c 'race-record -- make'", shutil.which
+
+        def there(name: str, path: Optional[str] = None) -> str:
+            return which(name, path=path) or name
+
         for words, inner in ((AS_NOBODY + ["make"], "setpriv .. race-record -- make"), (["/usr/bin/su", "nobody", "-c", "make"], text)):
-            with self.subTest(words[0]), support.Project({"Makefile": RACE}) as project, mock.patch("record.main.shutil.which", lambda name, path=None: name):
+            with self.subTest(words[0]), support.Project({"Makefile": RACE}) as project, mock.patch("record.main.shutil.which", there):
                 outcome = project.record(words)
                 self.assertEqual(["Makefile"], os.listdir(project.folder))
             name = os.path.basename(words[0])
