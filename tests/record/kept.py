@@ -21,6 +21,7 @@ BUILDING = {"main.py", "entry.py", "standstill.py", "trace/pipe.py", "trace/newe
             "users.py", "make/cover.py", "make/limits.py", "make/lines.py", "make/given.py", "make/copied.py", "make/options.py", "make/outputs.py", "make/wrapper.py"}
 READING = {"trace/arguments.py", "trace/strace.py"}  # what reads a trace ahead, too
 PREFIX = "race-record-"  # of the folders that the recorder makes for itself
+MAKES = "race-make-"  # of those in which it copies make (record/make/cover.py)
 LEFT_OUT = {"bin", "wrapper", "lines", "sifted", "sifted.part"}  # what the recorder makes there anew
 MOST = 1 << 22  # bytes of a tree
 Entry = Tuple[str, int, int, bytes]  # a name below a folder, its mode and time, and what it holds or leads to
@@ -109,6 +110,7 @@ class Recording:
     asked: Any = None  # the words and the tops of the build
     before: bytes = b""  # the digest of the tree before
     given: Any = None  # the status and the seconds
+    make: str = ""  # the make that ran
     spool: List[Entry] = field(default_factory=list)
     tree: List[Entry] = field(default_factory=list)
     printed: List[Tuple[int, int]] = field(default_factory=list)  # of each stream: what the recorder itself had printed before, and then in all
@@ -183,7 +185,7 @@ def keep(work: Callable[[], int], kept: Recording, room: str, path: Path) -> int
         left = tree_of(room), tree_of(str(spool), LEFT_OUT)
         whole.append(tree is not None and left[0] is not None and left[1] is not None)
         if whole[-1]:
-            kept.before, kept.tree, kept.spool = digest(tree or []), left[0] or [], left[1] or []
+            kept.before, kept.tree, kept.spool, kept.make = digest(tree or []), left[0] or [], left[1] or [], (spool / "real").read_text()
         return kept.given  # type: ignore[no-any-return]
 
     def mkdtemp(suffix: Any = None, prefix: Any = None, dir: Any = None) -> str:  # noqa: A002
@@ -214,7 +216,7 @@ def replay(work: Callable[[], int], args: List[str], room: str, path: Path) -> i
 
     def run_build(words: List[str], spool: Path, tops: List[str], cover: Any) -> Tuple[int, float]:
         tree = tree_of(room)
-        if used or rooms or (words, tops) != kept.asked or tree is None or digest(tree) != kept.before:
+        if used or rooms or (words, tops) != kept.asked or tree is None or digest(tree) != kept.before or not moved(cover, kept.make):
             return build(words, spool, tops, cover)
         used.append(True)
         put(str(spool), kept.spool)
@@ -229,6 +231,19 @@ def replay(work: Callable[[], int], args: List[str], room: str, path: Path) -> i
 
     main.run_build, tempfile.mkdtemp = run_build, mkdtemp  # type: ignore[assignment]
     return work()
+
+
+def moved(cover: Any, make: str) -> bool:
+    """Whether the make that ran is there: a copy of it, where the recorder's own lay over it, gets the name that it had."""
+    room = os.path.dirname(make)
+    if not os.path.basename(room).startswith(MAKES):
+        return True
+    try:
+        os.rename(cover.room, room)
+    except OSError:  # another process takes the same recording
+        return False
+    cover.room = Path(room)
+    return True
 
 
 def show(kept: Recording, path: Path) -> None:

@@ -13,6 +13,7 @@ from typing import Any, Dict, List, Set
 import forked
 import kept
 import record.main
+import record.make.cover
 import support
 from patched import IS_FUNCTION, Loaded, apply
 
@@ -61,6 +62,7 @@ class Recordings(unittest.TestCase):
         self.assertEqual(0, ran.returncode, ran.stderr)
         self.assertLess({"main.py", "trace/pipe.py", "trace/skips.py"}, acting)
         self.assertEqual(set(), acting - kept.BUILDING - kept.READING)
+        self.assertEqual(record.make.cover.ROOM, kept.MAKES)
         self.assertLess({name.replace(".", "/").partition("/")[2] + ".py" for name in record.main.WRAPPER}, kept.BUILDING)
 
     def watched(self) -> int:
