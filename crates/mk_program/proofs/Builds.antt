@@ -4,7 +4,6 @@ use Rattle.std.proofs.lemmas.Result.{IfOk-weaker}
 use Rattle.mk_name.specs.Reported.{Reported}
 use Rattle.mk_name.specs.Shown.{refused_text}
 use Rattle.mk_race.specs.Judged.{IsAnswered, IsSafe, NoScheduleShows}
-use Rattle.mk_race.specs.Parts.{AreReadFrom, texts_with}
 use Rattle.mk_race.specs.Stages.{IsPrepared, Texts}
 use Rattle.mk_report.specs.Reports.{IsReport}
 use Rattle.mk_report.specs.declared.answer.Answer.{Answer as Judged}
@@ -14,11 +13,11 @@ use Rattle.mk_run.specs.declared.checking.Checked.{Checked}
 use Rattle.mk_run.specs.declared.outcome.Outcome.{Outcome}
 use Rattle.mk_run.specs.declared.outcome.Outcome.TheVariants as outcomes
 use Rattle.mk_program.specs.Answers.{IsCheckAnswer, IsJobAnswer, IsNoTextOf, base_of, judged_status, outcome_status, texts_for}
-use Rattle.mk_program.specs.Builds.{IsReadFrom}
+use Rattle.mk_run.specs.Builds.{IsReadFrom}
 use Rattle.mk_program.specs.Noting.{SaysNoting, SaysQuietly, note_of}
 use Rattle.mk_program.specs.OrderText.{IsUnreported}
 use Rattle.mk_program.specs.declared.answers.Answer.{Answer}
-use Rattle.mk_program.specs.declared.build.Build.{Build}
+use Rattle.mk_run.specs.declared.build.Build.{Build}
 use Rattle.mk_program.specs.declared.noting.Reply.{Reply}
 use Rattle.mk_program.specs.declared.statuses.Status.{Status}
 use Rattle.mk_program.specs.declared.statuses.Status.TheVariants.{Failed, Refused}
@@ -34,15 +33,6 @@ use Rattle.mk_request.specs.declared.inputs.InputFile.{InputFile}
 use Rattle.mk_request.specs.declared.inputs.InputFile.TheVariants as inputs
 use Rattle.mk_request.specs.declared.requests.BuildArgs.{BuildArgs}
 use Rattle.mk_request.specs.declared.requests.JobQuestion.{JobQuestion}
-
--- what holds of all texts from which the parts of a build were read holds of those from which the build was
-pub of_texts : (P : Texts → List ℕ → Type 0) (build : Build)
-    → ((listed lines : List ℕ) → AreReadFrom (texts_with build.settings.now build.base.now build.makefile.now listed) lines build.listing build.footprints
-    → P (texts_with build.settings.now build.base.now build.makefile.now listed) lines)
-    → (texts : Texts) (lines : List ℕ) → IsReadFrom build texts lines → P texts lines
-of_texts P build holds texts lines is =
-    subst (λ (x : Texts). P x lines) (sym is.texts_are)
-    (holds texts.listing lines (subst (λ (x : Texts). AreReadFrom x lines build.listing build.footprints) is.texts_are is.read))
 
 -- a check of a build ends as what was judged
 kind_is : (answer : Judged) → outcome_status (outcome_of answer) ≡ judged_status answer

@@ -1,5 +1,4 @@
 pub mod Answers
-pub mod Builds
 pub mod ChangeText
 pub mod Noting
 pub mod OrderText

@@ -3,16 +3,14 @@ ghost use Rattle.std.specs.Prelude.{◌≡◌, ◌≢◌, IfOk, List, ℕ};
 ghost use Rattle.mk_race.specs.Stages.{Texts};
 ghost use Rattle.mk_report.specs.Reports.{IsReport};
 ghost use Rattle.mk_program.specs.Answers as spec;
-ghost use Rattle.mk_program.specs.Builds.{IsReadFrom};
+ghost use Rattle.mk_run.specs.Builds.{IsReadFrom};
 ghost use Rattle.mk_program.specs.Noting.{SaysNoting, note_of};
 
 use crate::answers::Answer;
-use crate::build::Build;
 use crate::noting::{Reply, with_note};
 use crate::statuses::Status;
-use mk_race::input::Settings;
 use mk_report::answer::{Answer as Judged, report};
-use mk_run::{Checked, Outcome, check_parts};
+use mk_run::{Build, Checked, Outcome, check};
 use std::alloc::{AllocError, Global};
 
 /// Whether a build that was read is safe: by the report, or by its proof; and the note. It is what `run` of `mk_run` reports of what its
@@ -28,22 +26,7 @@ pub(crate) fn check_reply(
         → SaysNoting strict texts lines (spec.IsCheckAnswer texts lines print_proof)
         reply.answer.status reply.answer.text.items reply.note.items) }
 {
-    let Build {
-        settings,
-        base,
-        makefile,
-        listing,
-        footprints,
-    } = build;
-    let settings = Settings {
-        root: settings.root,
-        operands: settings.operands,
-        includes: settings.includes,
-        proof: print_proof,
-    };
-    let checked = check_parts(
-        alloc, &settings, base, makefile, listing, footprints, strict,
-    )?;
+    let checked = check(alloc, build, print_proof, strict)?;
     reply_of(alloc, checked)
 }
 

@@ -4,15 +4,15 @@ ghost use Rattle.mk_proof.specs.ProofText.{certificate_text};
 ghost use Rattle.mk_race.specs.Fixed.{HoldsOfFixed};
 ghost use Rattle.mk_race.specs.Stages.{Texts};
 ghost use Rattle.mk_program.specs.Answers as spec;
-ghost use Rattle.mk_program.specs.Builds.{IsReadFrom};
+ghost use Rattle.mk_run.specs.Builds.{IsReadFrom};
 
 use crate::answers::{Answer, refused};
-use crate::build::Build;
 use crate::statuses::Status;
 use mk_proof::certificate::Certificate;
 use mk_proof::writing::write_certificate;
 use mk_race::fixing::{Fixing, fix_parts};
 use mk_report::not_fixed::not_fixed_report;
+use mk_run::Build;
 use std::alloc::{AllocError, Global};
 
 /// The lines that fix a build that was read, or the proof of the build with them, or the edges that no lines give it; or the report of its
@@ -26,13 +26,8 @@ pub(crate) fn fix_answer(
     ensures answer { IfOk result (λ answer. (texts : Texts) (lines : List ℕ) → IsReadFrom build.entry texts lines
         → spec.IsFixAnswer texts lines print_proof answer.status answer.text.items) }
 {
-    let Build {
-        settings,
-        base,
-        makefile,
-        listing,
-        footprints,
-    } = build;
+    let (settings, base, makefile) = (build.settings, build.base, build.makefile);
+    let (listing, footprints) = (build.listing, build.footprints);
     match fix_parts(alloc, settings, base, makefile, listing, footprints) {
         Ok(fixing) => fixing_answer(alloc, &fixing, print_proof),
         Err(halt) => refused(alloc, halt),

@@ -5,11 +5,10 @@ ghost use Rattle.mk_request.specs.Requests.{inputs_of, other_input as other_of};
 ghost use Rattle.mk_files.specs.Builds.{IsReadAs, other_text};
 ghost use Rattle.mk_files.specs.Inputs.{Hold, InputsMayBeRead};
 ghost use Rattle.mk_program.specs.Answers as spec;
-ghost use Rattle.mk_program.specs.Builds.{IsReadFrom};
+ghost use Rattle.mk_run.specs.Builds.{IsReadFrom};
 ghost use Rattle.mk_program.specs.OrderText.{IsUnreported};
 
 use crate::answers::{base_of, bytes_of, settings_of};
-use crate::build::Build;
 use crate::checking::check_reply;
 use crate::fixing::fix_answer;
 use crate::listing::AllRaces;
@@ -25,6 +24,7 @@ use mk_files::openers::Opener;
 use mk_read::builds::{ReadBuild, ReadPlan};
 use mk_request::inputs::InputFile;
 use mk_request::requests::{JobArgs, JobQuestion, Request, other_input};
+use mk_run::Build;
 use std::alloc::Global;
 
 /// Reads a build and the further input of what is asked about its jobs, and gives the answer and its note. `Failure::Read` names the

@@ -6,7 +6,6 @@
 #![tactic(auto)]
 
 mod answers;
-mod build;
 mod change_lines;
 mod checking;
 mod fixing;

@@ -3,16 +3,16 @@ ghost use Rattle.std.specs.Prelude.{◌≡◌, ◌≢◌, ◌↔◌, IfOk, IsTru
 ghost use Rattle.mk_race.specs.Stages.{Texts};
 ghost use Rattle.mk_missing.specs.Violations.{HasNone};
 ghost use Rattle.mk_program.specs.Answers as spec;
-ghost use Rattle.mk_program.specs.Builds.{IsReadFrom};
+ghost use Rattle.mk_run.specs.Builds.{IsReadFrom};
 
 use crate::answers::{Answer, refused};
-use crate::build::Build;
 use crate::change_lines::push_change;
 use crate::statuses::Status;
 use mk_missing::violations::Violations;
 use mk_race::again::Change;
 use mk_race::missing::{MissingList, missing_parts};
 use mk_report::missing::missing_report;
+use mk_run::Build;
 use std::alloc::{AllocError, Global};
 
 /// All races and violations of a build that was read, and the change of a second build; or the report of its first fault. The only
@@ -22,13 +22,8 @@ pub(crate) fn missing_answer(alloc: Global, build: Build<'_>) -> Result<Answer, 
     ensures answer { IfOk result (λ answer. (texts : Texts) (lines : List ℕ) → IsReadFrom build.entry texts lines
         → spec.IsMissingAnswer texts lines answer.status answer.text.items) }
 {
-    let Build {
-        settings,
-        base,
-        makefile,
-        listing,
-        footprints,
-    } = build;
+    let (settings, base, makefile) = (build.settings, build.base, build.makefile);
+    let (listing, footprints) = (build.listing, build.footprints);
     match missing_parts(alloc, settings, base, makefile, listing, footprints) {
         Ok(listed) => listed_answer(alloc, &listed),
         Err(halt) => refused(alloc, halt),

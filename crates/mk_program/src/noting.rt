@@ -6,19 +6,19 @@ ghost use Rattle.mk_name.specs.Reported.{Reported};
 ghost use Rattle.mk_name.specs.declared.fault.Halt.TheVariants as halts;
 ghost use Rattle.mk_race.specs.Stages.{AreListed, IsPrepared, Texts};
 ghost use Rattle.mk_race.specs.Unused.{IsNotedBy};
-ghost use Rattle.mk_program.specs.Builds.{IsReadFrom};
+ghost use Rattle.mk_run.specs.Builds.{IsReadFrom};
 ghost use Rattle.mk_program.specs.Noting as spec;
 ghost use Rattle.mk_program.specs.OrderText.{IsUnreported};
 ghost use Rattle.mk_program.specs.declared.statuses.Status.{Status as Ending};
 
 use crate::answers::{Answer, refused};
-use crate::build::Build;
 use crate::statuses::Status;
 use mk_files::failures::Failure;
 use mk_name::fault::Halt;
 use mk_name::report::push_shown;
 use mk_race::preparing::Prepared;
 use mk_race::unused::{Noted, Unused, note_parts};
+use mk_run::Build;
 use std::alloc::{AllocError, Global};
 
 /// What the program says: an answer, and the note that is written on the standard error then, or nothing.
@@ -97,13 +97,8 @@ fn noted_of(alloc: Global, build: Build<'_>, strict: bool) -> Result<Noted, Halt
         → IsPrepared texts lines (Ok noted.prepared)) }
     ensures listed { IfOk result (λ noted. AreListed noted.prepared) }
 {
-    let Build {
-        settings,
-        base,
-        makefile,
-        listing,
-        footprints,
-    } = build;
+    let (settings, base, makefile) = (build.settings, build.base, build.makefile);
+    let (listing, footprints) = (build.listing, build.footprints);
     note_parts(alloc, settings, base, makefile, listing, footprints, strict)
 }
 

@@ -2,19 +2,17 @@
 ghost use Rattle.std.specs.Prelude.{◌≡◌, IfOk, List, None, Ok, ℕ};
 ghost use Rattle.mk_name.specs.Reported.{Reported};
 ghost use Rattle.mk_name.specs.declared.fault.Halt.TheVariants as halts;
-ghost use Rattle.mk_race.specs.Parts.{AreReadFrom, texts_with};
 ghost use Rattle.mk_race.specs.Stages.{IsPrepared, Texts};
+ghost use Rattle.mk_run.specs.Builds.{IsReadFrom};
 ghost use Rattle.mk_run.specs.Run as spec;
 
+use crate::build::Build;
 use crate::outcome::{Outcome, outcome_of};
-use mk_foot::footprints::Footprints;
 use mk_name::fault::{Fault, Halt};
 use mk_name::report::refused_report;
-use mk_race::input::Settings;
 use mk_race::judging::judge_prepared;
 use mk_race::unused::{Noted, Unused, note_parts};
 use mk_report::answer::report;
-use mk_text::listing::Listing;
 use std::alloc::{AllocError, Global};
 
 /// What comes of the check of a build.
@@ -28,29 +26,26 @@ pub struct Checked {
     pub unused: Option<Unused>,
 }
 
-/// Checks a build whose listing and footprints were read ahead, each into what it says or its first fault: whether it is safe, reported,
-/// or by its proof where the settings ask for that. A strict build has the fault of footprints that lie unused.
+/// Checks a build that was read: whether it is safe, by the report or by its proof. A strict build has the fault of footprints that
+/// lie unused.
 ///
-/// Where these are the results of two texts below the root of the settings, the report is that of
-/// [`judge`](mk_race::judging::judge) for those texts: so a text may come in pieces, and need not be kept. Where the root is refused they
-/// count for nothing. The only error is out of memory.
-pub fn check_parts(
+/// Where the listing and the footprints are the results of two texts below the root of the settings, the report is that of
+/// [`judge`](mk_race::judging::judge) for those texts: so a text may come in pieces, and need not be kept. Whether the settings ask for the
+/// proof counts for nothing. The only error is out of memory.
+pub fn check(
     alloc: Global,
-    settings: &Settings<'_>,
-    base: &[u8],
-    makefile: &[u8],
-    listing: Result<Listing, Fault>,
-    footprints: Result<Footprints, Fault>,
+    build: Build<'_>,
+    proof: bool,
     strict: bool,
 ) -> Result<Checked, AllocError>
     // The headline is in it: where the outcome is that the build is safe, no schedule of it shows in its files.
-    ensures { IfOk result (λ checked. (listed lines : List ℕ)
-        → AreReadFrom (texts_with settings.now base.now makefile.now listed) lines listing footprints
-        → spec.IsChecked strict settings.now.proof
-        (texts_with settings.now base.now makefile.now listed) lines checked) }
+    ensures { IfOk result (λ checked. (texts : Texts) (lines : List ℕ) → IsReadFrom build.entry texts lines
+        → spec.IsChecked strict proof texts lines checked) }
 {
+    let (settings, base, makefile) = (build.settings, build.base, build.makefile);
+    let (listing, footprints) = (build.listing, build.footprints);
     match note_parts(alloc, settings, base, makefile, listing, footprints, strict) {
-        Ok(noted) => judged(alloc, noted, settings.proof),
+        Ok(noted) => judged(alloc, noted, proof),
         Err(halt) => refused(alloc, halt),
     }
 }

@@ -2,13 +2,15 @@
 //!
 //! [`run`] reads the base, the makefile, the listing and the footprints of a build to their ends, checks the build, and writes the
 //! report once; or it says which device failed, or that memory ran out. `race check` opens files, reads them by the same
-//! `build_below` of `mk_read`, and hands what was read to [`check_parts`], as [`run`] does. Read `specs/Run.antt` first.
+//! `build_below` of `mk_read`, and hands what was read to [`check`], as [`run`] does. Read `specs/Run.antt` first.
 #![tactic(auto)]
 
+pub mod build;
 pub mod checking;
 pub mod outcome;
 pub mod running;
 
-pub use crate::checking::{Checked, check_parts};
+pub use crate::build::Build;
+pub use crate::checking::{Checked, check};
 pub use crate::outcome::{IoStop, Outcome};
 pub use crate::running::run;

@@ -8,7 +8,8 @@ ghost use Rattle.mk_read.specs.Read.{GaveAll};
 ghost use Rattle.mk_run.specs.Run as spec;
 ghost use Rattle.mk_run.specs.Run.{Given, HasStopped, none_failed};
 
-use crate::checking::{Checked, check_parts};
+use crate::build::Build;
+use crate::checking::{Checked, check};
 use crate::outcome::{IoStop, Outcome};
 use mk_device::device::{Intake, Outlet, write_all};
 use mk_race::input::Settings;
@@ -156,7 +157,12 @@ fn checked_build(
         makefile,
         listing,
     } = plan;
-    let base = base.as_slice();
-    let makefile = makefile.as_slice();
-    check_parts(alloc, settings, base, makefile, listing, footprints, false)
+    let build = Build {
+        settings,
+        base: base.as_slice(),
+        makefile: makefile.as_slice(),
+        listing,
+        footprints,
+    };
+    check(alloc, build, settings.proof, false)
 }

@@ -1,7 +1,5 @@
 use Rattle.std.proofs.lemmas.Result.{IfOk-weaker}
-use Rattle.mk_program.specs.Answers.{IsCheckAnswer}
-use Rattle.mk_program.specs.Noting.{SaysNoting}
-use Rattle.mk_program.proofs.Builds.{check_ends, checked_is, of_texts}
+use Rattle.mk_program.proofs.Builds.{check_ends, checked_is}
 use Rattle.mk_program.proofs.checking.check_reply.Goals as goal
 
 pub returns-clause-status : goal.returns-clause-status
@@ -10,8 +8,6 @@ returns-clause-status c =
 
 pub returns-clause-answer : goal.returns-clause-answer
 returns-clause-answer c =
-    IfOk-weaker c.reply_of.result _ _ (λ reply h.
-    of_texts (λ texts lines. SaysNoting c.args.strict texts lines (IsCheckAnswer texts lines c.args.print_proof)
-    reply.answer.status reply.answer.text.items reply.note.items) c.args.build (λ listed lines from.
-    checked_is c.args.strict c.args.print_proof _ lines c.in_ok-checked.checked reply.answer.status reply.answer.text.items reply.note.items
-    (c.in_ok-checked.ensures listed lines from) h.0 h.1 h.2)) c.reply_of.ensures
+    IfOk-weaker c.reply_of.result _ _ (λ reply h texts lines from.
+    checked_is c.args.strict c.args.print_proof texts lines c.in_ok-checked.checked reply.answer.status reply.answer.text.items reply.note.items
+    (c.in_ok-checked.ensures texts lines from) h.0 h.1 h.2) c.reply_of.ensures

@@ -3,7 +3,7 @@ use Rattle.mk_race.specs.Fixed.{IsFixing}
 use Rattle.mk_race.specs.Parts.{texts_with}
 use Rattle.mk_program.specs.Answers.{IsFixAnswer, IsFixReported}
 use Rattle.mk_program.proofs.Answering.{refusal_not_failed}
-use Rattle.mk_program.proofs.Builds.{of_texts}
+use Rattle.mk_run.proofs.Reading.{of_texts}
 use Rattle.mk_program.proofs.Fixings.{fixed_is, unfixed_is}
 use Rattle.mk_program.proofs.fixing.fix_answer.Goals as goal
 

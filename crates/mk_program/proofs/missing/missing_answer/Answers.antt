@@ -3,7 +3,7 @@ use Rattle.mk_race.specs.Missing.{BuildsAsClean, IsMissingList}
 use Rattle.mk_race.specs.Parts.{texts_with}
 use Rattle.mk_program.specs.Answers.{IsMissingAnswer}
 use Rattle.mk_program.proofs.Answering.{refusal_not_failed}
-use Rattle.mk_program.proofs.Builds.{of_texts}
+use Rattle.mk_run.proofs.Reading.{of_texts}
 use Rattle.mk_program.proofs.MissingAnswers.{listed_is, missing_not_failed, unlisted_is}
 use Rattle.mk_program.proofs.missing.missing_answer.Goals as goal
 

@@ -3,7 +3,7 @@ use Rattle.std.proofs.lemmas.Result.{IfOk-weaker}
 use Rattle.mk_name.specs.Gives.{Answers}
 use Rattle.mk_race.specs.Stages.{IsPrepared}
 use Rattle.mk_race.specs.Unused.{IsNotedBy}
-use Rattle.mk_program.proofs.Builds.{of_texts}
+use Rattle.mk_run.proofs.Reading.{of_texts}
 use Rattle.mk_program.proofs.noting.noted_of.Goals as goal
 
 pub returns-clause-answer : goal.returns-clause-answer
