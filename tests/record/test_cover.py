@@ -113,6 +113,9 @@ class Uncovered(Recorded):
         self.assertEqual(2, found.status, found.text())
         self.assertIn(PAST, found.text())
 
+    def test_make_as_the_command(self) -> None:
+        self.wants("$(MAKE) -f in.mk", [MAKE])
+
 
 @unittest.skipUnless(os.geteuid() == 0 and shutil.which("setpriv"), "setpriv is missing (Debian: apt-get install util-linux), or not root runs this")
 class Closed(Recorded):

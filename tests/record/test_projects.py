@@ -167,7 +167,7 @@ class Makedirs(unittest.TestCase):
             self.assertEqual(1, project.record().status)
 
     def test_below_another_folder(self) -> None:
-        makefile = "all: x y\nx: ; mkdir -p out; touch x\ny: ; cd out && python3 -S ../t/make.py; touch y\n"
+        makefile = "all: x y\nx: ; mkdir -p out; touch x\ny: ; cd out && python3 -S $(CURDIR)/t/make.py; touch y\n"
         with support.Project({"Makefile": makefile, "t/make.py": "import os\nos.makedirs('new', exist_ok=True)\n"}) as project:
             self.assertEqual(1, project.record().status)
 
