@@ -9,9 +9,10 @@ import re
 import signal
 import subprocess
 import sys
+import time
 import traceback
 from importlib import import_module
-from typing import Iterator
+from typing import Iterator, List
 
 STOPPING = (signal.SIGINT, signal.SIGTERM, signal.SIGHUP)
 FAILED = 3
@@ -51,10 +52,20 @@ def traced(tracer: int) -> Iterator[int]:
             pass
 
 
+def first_traced(strace: "subprocess.Popen[bytes]") -> List[int]:
+    """The processes that strace follows. It may have just begun, and then follows none yet."""
+    until = time.monotonic() + PATIENCE
+    while True:
+        found = list(traced(strace.pid))
+        if found or strace.poll() is not None or time.monotonic() > until:
+            return found
+        time.sleep(0.02)
+
+
 def end_traced(strace: "subprocess.Popen[bytes]") -> None:
     """Ends all that strace follows, and so strace, which hears no signal itself."""
     for number in (signal.SIGTERM, signal.SIGKILL):
-        for pid in traced(strace.pid):
+        for pid in first_traced(strace):
             try:
                 os.kill(pid, number)
             except OSError:  # it has ended, or is of another user

@@ -17,10 +17,10 @@ from importlib import import_module
 from importlib.util import find_spec
 from itertools import islice
 from pathlib import Path
-from typing import Dict, List, Optional, Tuple
+from typing import Dict, List, Optional, Set, Tuple, cast
 
 from record import VERSION
-from record.entry import Stopped, end_traced, printable
+from record.entry import STOPPING, Stopped, end_traced, printable
 from record.folder import ROOMS, NotWhole, Record, Taken, accept_warm, alone, aside, is_record, reading, rewrite, what_stands
 from record.judge import find_race, judge, no_race
 from record.make.cover import Cover
@@ -131,10 +131,14 @@ def has_calls(trace: Path) -> bool:
         return any(b"(" in line for line in islice(lines, 9))
 
 
-def enter(cover: Cover, older: Older, heard: object) -> None:
-    """What the process does first that becomes strace."""
+def enter(cover: Cover, older: Older, heard: object, held: Set[signal.Signals]) -> None:
+    """What the process does first that becomes strace. `held`: the signals that it does not hear."""
     cover.enter()
     older.enter(heard)
+    for one in STOPPING[1:]:
+        if signal.getsignal(one) is not signal.SIG_IGN:
+            signal.signal(one, signal.SIG_DFL)
+    signal.pthread_sigmask(signal.SIG_SETMASK, held)
 
 
 def run_build(words: List[str], spool: Path, tops: List[str], cover: Cover) -> Tuple[int, float]:
@@ -152,12 +156,14 @@ def run_build(words: List[str], spool: Path, tops: List[str], cover: Cover) -> T
     older, pipe = Older(), Pipe(spool)
     with ThreadPoolExecutor(3) as pool:
         words = STRACE + ["-o", str(pipe.path), "--"] + words
-        process = subprocess.Popen(words, env=env, preexec_fn=lambda: enter(cover, older, heard))
+        held = cast(Set[signal.Signals], signal.pthread_sigmask(signal.SIG_BLOCK, STOPPING))  # until what has begun would be ended
+        process = subprocess.Popen(words, env=env, preexec_fn=lambda: enter(cover, older, heard, held))
         ended, filled = threading.Event(), threading.Event()
         filling = pool.submit(pipe.fill, ended.wait, Standstill(process.pid).see)
         filling.add_done_callback(lambda _: filled.set())
         sifting, loading = pool.submit(sift, pipe.file, tops, spool / "sifted", filled.wait), pool.submit(import_module, "record.importing")
         try:
+            signal.pthread_sigmask(signal.SIG_SETMASK, held)
             status, seconds = process.wait(), time.monotonic() - began
         except BaseException:
             end_traced(process)

@@ -75,6 +75,18 @@ class Signals(unittest.TestCase):
     def test_interrupted_at_a_terminal(self) -> None:
         self.stopped(signal.SIGINT, True)
 
+    def test_terminated_when_the_build_has_just_begun(self) -> None:
+        def sift(*args: object) -> None:
+            os.kill(os.getpid(), signal.SIGTERM)
+            time.sleep(0.2)  # the signal is heard before the next thread begins
+
+        with support.Project({"Makefile": "all: ; @sleep 1\n"}) as project, mock.patch("record.main.sift", sift), mock.patch.object(support, "SECONDS", 9):
+            try:
+                found = project.record()
+            except subprocess.TimeoutExpired:
+                self.fail("it waits for what never comes")
+            self.assertEqual((3, "race-record: stopped by SIGTERM; there is no verdict"), (found.status, found.stderr.decode().splitlines()[-1]))  # (make may say so, too)
+
     def test_an_interrupt_that_the_build_does_not_mind(self) -> None:
         files = {"Makefile": "all: ; @trap '' INT; touch begun; sleep 1; touch all\n"}
         with support.Project(files) as project:
