@@ -48,6 +48,12 @@ pub with_unused : {X E : Type 0} (result : Result X E) (One Other Both : X → T
 with_unused (Ok x) One Other Both both one other = both x one other
 with_unused (Err e) One Other Both both one other = tt
 
+-- no schedule shows of a build whose check comes to safe
+pub safe_checked : (strict proof : Bool) (texts : Texts) (lines : List ℕ) (checked : Checked) → IsChecked strict proof texts lines checked
+    → checked.outcome ≡ Safe → NoScheduleShows texts lines
+safe_checked strict proof texts lines checked (Ok noted, is, said) safe = said.0.headline safe
+safe_checked strict proof texts lines checked (Err reported, is, refused) safe = absurd (let e : Refused ≡ Safe = sym refused.outcome_is ∙ safe in cc)
+
 -- a build that is not strict has a fault before its footprints lie unused
 fault_is : (texts : Texts) (lines : List ℕ) (reported : Reported) → IsNotedBy false texts lines (Err reported) → IsPrepared texts lines (Err reported)
 fault_is texts lines reported (Ok noted, is, same) = absurd (let e : ◌≡◌ {A = Result Noted Reported} (Err reported) (Ok noted) = same in cc)

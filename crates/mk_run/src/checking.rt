@@ -2,6 +2,7 @@
 ghost use Rattle.std.specs.Prelude.{◌≡◌, IfOk, List, None, Ok, ℕ};
 ghost use Rattle.mk_name.specs.Reported.{Reported};
 ghost use Rattle.mk_name.specs.declared.fault.Halt.TheVariants as halts;
+ghost use Rattle.mk_race.specs.Judged.{NoScheduleShows};
 ghost use Rattle.mk_race.specs.Stages.{IsPrepared, Texts};
 ghost use Rattle.mk_run.specs.Builds.{IsReadFrom};
 ghost use Rattle.mk_run.specs.Run as spec;
@@ -38,9 +39,11 @@ pub fn check(
     proof: bool,
     strict: bool,
 ) -> Result<Checked, AllocError>
-    // The headline is in it: where the outcome is that the build is safe, no schedule of it shows in its files.
-    ensures { IfOk result (λ checked. (texts : Texts) (lines : List ℕ) → IsReadFrom build.entry texts lines
+    ensures reported { IfOk result (λ checked. (texts : Texts) (lines : List ℕ) → IsReadFrom build.entry texts lines
         → spec.IsChecked strict proof texts lines checked) }
+    // The headline: where the outcome is that the build is safe, no schedule of it shows in its files.
+    ensures headline { IfOk result (λ checked. checked.outcome ≡ Outcome.Safe
+        → (texts : Texts) (lines : List ℕ) → IsReadFrom build.entry texts lines → NoScheduleShows texts lines) }
 {
     let (settings, base, makefile) = (build.settings, build.base, build.makefile);
     let (listing, footprints) = (build.listing, build.footprints);

@@ -10,4 +10,4 @@ pub returns-clause-answer : goal.returns-clause-answer
 returns-clause-answer c =
     IfOk-weaker c.reply_of.result _ _ (λ reply h texts lines from.
     checked_is c.args.strict c.args.print_proof texts lines c.in_ok-checked.checked reply.answer.status reply.answer.text.items reply.note.items
-    (c.in_ok-checked.ensures texts lines from) h.0 h.1 h.2) c.reply_of.ensures
+    (c.in_ok-checked.ensures.reported texts lines from) h.0 h.1 h.2) c.reply_of.ensures

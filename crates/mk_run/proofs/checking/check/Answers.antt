@@ -5,11 +5,11 @@ use Rattle.mk_name.specs.declared.fault.Halt.{Halt}
 use Rattle.mk_race.specs.Stages.{IsPrepared}
 use Rattle.mk_race.specs.Unused.{IsNotedBy}
 use Rattle.mk_run.proofs.Reading.{of_texts}
-use Rattle.mk_run.proofs.Reporting.{with_unused}
+use Rattle.mk_run.proofs.Reporting.{safe_checked, with_unused}
 use Rattle.mk_run.proofs.checking.check.Goals as goal
 
-pub returns-in-Ok : goal.returns-in-Ok
-returns-in-Ok c =
+pub returns-in-Ok-clause-reported : goal.returns-in-Ok-clause-reported
+returns-in-Ok-clause-reported c =
     let a = c.args in
     with_unused c.judged.result _ _ _ (λ checked reported unused texts lines from. (
       Ok c.in-Ok.noted,
@@ -20,8 +20,8 @@ returns-in-Ok c =
       ),
     )) c.judged.ensures.reported c.judged.ensures.unused
 
-pub returns-in-Err : goal.returns-in-Err
-returns-in-Err c =
+pub returns-in-Err-clause-reported : goal.returns-in-Err-clause-reported
+returns-in-Err-clause-reported c =
     let a = c.args in
     IfOk-weaker c.refused.result _ _ (λ checked h texts lines from. (
       Err h.0,
@@ -29,3 +29,13 @@ returns-in-Err c =
           (of_texts (λ t l. HaltsAmong c.in-Err.halt (IsNotedBy a.strict t l)) a.build c.in-Err.ensures.answer texts lines from),
       h.2,
     )) c.refused.ensures
+
+pub returns-in-Ok-clause-headline : goal.returns-in-Ok-clause-headline
+returns-in-Ok-clause-headline c =
+    IfOk-weaker c.judged.result _ _ (λ checked is safe texts lines from.
+    safe_checked c.args.strict c.args.proof texts lines checked (is texts lines from) safe) (returns-in-Ok-clause-reported c)
+
+pub returns-in-Err-clause-headline : goal.returns-in-Err-clause-headline
+returns-in-Err-clause-headline c =
+    IfOk-weaker c.refused.result _ _ (λ checked is safe texts lines from.
+    safe_checked c.args.strict c.args.proof texts lines checked (is texts lines from) safe) (returns-in-Err-clause-reported c)

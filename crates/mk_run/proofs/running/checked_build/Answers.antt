@@ -12,4 +12,4 @@ returns c =
     (rw (c.as_slice.ensures.value, c.as_slice-2.ensures.value) at (is (texts_with settings c.as_slice.result.now c.as_slice-2.result.now listed) lines (record {
       texts_are = refl;
       read = record { listing = listing; footprints = footprints };
-    })))) c.check.ensures
+    })))) c.check.ensures.reported
