@@ -5,7 +5,7 @@ import sys
 import time
 from contextlib import suppress
 from dataclasses import dataclass
-from typing import IO, Callable, Optional
+from typing import IO, Callable, Dict, Optional, Tuple
 
 from record.entry import printable, traced
 
@@ -42,12 +42,19 @@ class Standstill:
                 print(printable(LINE % (PATIENCE // 60, "; this runs: " + command if command else "")), file=self.out or sys.stderr, flush=True)
 
 
+def began(pid: int) -> int:
+    """When a process began, in ticks of the clock."""
+    with open("/proc/%d/stat" % pid, errors="replace") as about:
+        return int(about.read().rpartition(")")[2].split()[19])
+
+
 def running(tracer: int) -> str:
     """The command of the recipe that runs, the innermost one: what a make or a ninja has started and is neither."""
-    found = {}
+    found: Dict[int, Tuple[str, int, str, int]] = {}
     for pid in traced(tracer):
         with suppress(OSError), open("/proc/%d/status" % pid, errors="replace") as status, open("/proc/%d/cmdline" % pid, errors="replace") as words:
             name = STATUS.match(status.read())
-            found[pid] = (name[1], int(name[2]), words.read()) if name else ("", 0, "")
-    commands = [words for pid, (name, parent, words) in sorted(found.items()) if name not in BUILDERS and found.get(parent, ("",))[0] in BUILDERS]
+            found[pid] = (name[1], int(name[2]), words.read(), began(pid)) if name else ("", 0, "", 0)
+    in_order = [found[pid] for pid in sorted(found, key=lambda pid: (found[pid][3], pid))]  # (numbers begin again)
+    commands = [words for name, parent, words, _ in in_order if name not in BUILDERS and found.get(parent, ("",))[0] in BUILDERS]
     return " ".join(commands[-1].replace("\0", " ").split())[:WIDTH] if commands else ""

@@ -15,5 +15,6 @@ STANDSTILL_GUARDS: List[Guard] = [
     Guard("standstill: names that cannot be made", STANDSTILL, "\\([^\\n]*\\) = 0\\n", "\\(", LINES + "nothing_changes"),
     Guard("standstill: changes", STANDSTILL, "now - self.changed >= STEP and CHANGE.search(lines)", "False", LINES + "something_changes"),
     Guard("standstill: names that come and go", STANDSTILL, "|\\b(?:rename|unlink|rmdir|", "|\\b(?:rmdir|", LINES + "something_changes"),
+    Guard("standstill: numbers that begin again", STANDSTILL, "key=lambda pid: (found[pid][3], pid)", "key=lambda pid: pid", RECORDED + "numbers_of_processes_begin_again", "'cc x' != 'sh x'"),
     Guard("standstill: the recipe", STANDSTILL, "found.get(parent, (\"\",))[0] in BUILDERS", "True", RECORDED + "a_recipe_that_waits"),
 ]
