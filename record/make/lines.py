@@ -10,7 +10,7 @@ NAMED = (
     (b"Considering target file '", ENDS), (b"Pruning file '", ENDS), (b"Finished prerequisites of target file '", ENDS), (b"Must remake target '", ENDS),
     (b"Successfully remade target file '", ENDS), (b"Failed to remake target file '", ENDS), (b"Still updating file '", ENDS), (b"Finished updating file '", ENDS),
     (b"Giving up on target file '", ENDS), (b"Recently tried and failed to update file '", ENDS), (b"Ignoring VPATH name '", ENDS), (b"No need to remake target '", ENDS),
-    (b"File '", (b"' does not exist.", b"' was considered already.")), (b"The prerequisites of '", (b"' are being made.",)), (b"Recipe of '", (b"' is being run.",)),
+    (b"File '", (b"' does not exist.", b"' was considered already.")), (b"Grouped target peer '", (b"' does not exist.",)), (b"The prerequisites of '", (b"' are being made.",)), (b"Recipe of '", (b"' is being run.",)),
     (b"No recipe for '", (b"' and no prerequisites actually changed.",)), (b"Target '", (b"' is double-colon and has no prerequisites.",)),
     (b"Making '", (b"' due to always-make flag.",)), (b"Makefile '", (b"' might loop; not remaking it.",)), (b"Skipping UTF-8 BOM in makefile '", (b"'",)),
 )
@@ -19,6 +19,10 @@ OF_TARGET = (b"' is newer than target '", b"' is older than target '", b"' is or
 TARGET_ENDS = (b"'.", b"' does not exist.")
 WHOLE = {b"Reading makefiles...", b"Updating makefiles....", b"Updating goal targets....", b"Removing intermediate files...", b"Skipping UTF-8 BOM in makefile buffer"}
 READ, SYMBOL = b"Reading makefile '", b"Loading symbol "
+# What GNU make says since 4.4 of its start, and of what it loads.
+SINCE = (b"Using jobserver controller ", b"Using output-sync mutex ", b"Enabled shuffle mode: ", b"Loaded shared object ", b"Unloading shared object ")
+# And what it says since then while it expands text or looks for a file, also for a recipe that it has not started: how such a line begins, goes on and ends.
+ASIDES = ((b"Directory ", b" cache invalidated (count ", b")\n"), (b"file: Failed to open '", b"': ", b"\n"), (b"", b": not recursively expanding ", b" to export to shell function\n"))
 HOW_READ = (b" (no default goal)", b" (search path)", b" (don't care)", b" (no ~ expansion)")
 VERSION = (b"# Built for ", b"# Copyright (C)", b"# License ", b"# This is free software", b"# There is NO WARR", *(b"# GNU Make %d" % digit for digit in range(10)))
 # Lines about jobs.
@@ -126,9 +130,16 @@ def is_about_names(line: bytes) -> bool:
     return any(between(line, begin, end) is not None for begin, ends in NAMED for end in ends)
 
 
+def is_aside(packet: bytes) -> bool:
+    """Whether a write is what make says while it expands text, or looks for a file."""
+    return any(packet.startswith(begin) and packet.find(middle, len(begin)) > len(begin) and packet.endswith(end) for begin, middle, end in ASIDES)
+
+
 def is_word(packet: bytes) -> bool:
     """Whether a write is a line that make writes about its work."""
     text = packet.lstrip(b" ")
+    if is_aside(packet) or text.startswith(SINCE):
+        return packet.count(b"\n") == 1
     if text.startswith(ABOUT_TOKENS) or job_in(text, BEGINS_JOB + ENDS_JOB) or number_in(text, SIGNALLED, UNREAPED) or number_in(text, b"Re-executing[", b"]:"):
         return True
     line = text[:-1] if text.endswith(b"\n") else text

@@ -20,7 +20,7 @@ except ImportError:
 from record.make.copied import Copies, now
 from record.make.given import take_input
 from record.make.limits import Kept, keep, note_cut
-from record.make.lines import TOKENS, VERSION, about_job, is_folder, is_included, is_look, is_word, may_go_on, named, place_of_end, place_of_start, remade, started
+from record.make.lines import TOKENS, VERSION, about_job, is_aside, is_folder, is_included, is_look, is_word, may_go_on, named, place_of_end, place_of_start, remade, started
 from record.make.options import WORDS, asked, asks_jobs, jobs_of_call, plain_args, speak_english, without_words
 from record.make.outputs import file_of, goes_to, is_closed, is_one_file, note_output
 
@@ -115,7 +115,7 @@ class Splitter:
         elif remade(packet) == self.next:
             self.next = None
         else:
-            return is_word(packet) and not is_included(packet)
+            return is_word(packet) and not is_included(packet) and not is_aside(packet)
         return False
 
     def is_ignored(self, packet: bytes) -> bool:
@@ -147,7 +147,7 @@ class Splitter:
     def is_of_base(self, data: bytes) -> bool:
         """Whether it is one of the many whole lines of the data base, and not its last one."""
         is_inside = self.base and self.next is None and not (self.job or self.piece or self.unclear or self.blank or self.tail)
-        return is_inside and data[-1:] == b"\n" and not data.lstrip(b"\n").startswith(END_OF_BASE)
+        return is_inside and data[-1:] == b"\n" and not ends_base(data)
 
     def cut(self, data: bytes, goes_on: bool) -> "tuple[bytes, bytes]":
         """The first part of what was read, and the rest: the words of a recipe end where make names its own number of it, and what make
@@ -156,7 +156,7 @@ class Splitter:
         if at > 0:
             return data[:at], data[at:]
         end = data.find(b"\n") + 1
-        is_own = not self.job and (goes_on or 0 < end < len(data) and not self.base and is_word(data[:end]))
+        is_own = not self.job and (goes_on or 0 < end < len(data) and not self.base and (is_word(data[:end]) or data.startswith(b"\n" + BASE)))
         end = end if at == 0 or is_own else 0
         return (data[:end], data[end:]) if end else (data, b"")
 
@@ -204,7 +204,7 @@ class Splitter:
         tail, self.tail = self.tail, False
         if self.base:
             self.log.write(packet)
-            self.base = not packet.lstrip(b"\n").startswith(END_OF_BASE)
+            self.base = not ends_base(packet)
             self.tail = not self.base and not packet.endswith(b"\n\n")
         elif packet == b"\n":
             self.blank = not tail
@@ -232,6 +232,11 @@ class Splitter:
         for packet in held:
             self.take_own(packet)
         self.release()
+
+
+def ends_base(data: bytes) -> bool:
+    """Whether the last line of a write is the last one of the data base: a newer C library writes what stands before it with it."""
+    return data.rstrip(b"\n").rpartition(b"\n")[2].startswith(END_OF_BASE)
 
 
 def open_log(spool: str, pid: int) -> Kept:

@@ -1,7 +1,8 @@
-"""Calls that are newer than strace, or than this recorder: a recorded build runs as on a kernel that does not have them.
+"""Calls that nobody can follow: a recorded build runs as on a kernel that does not have them.
 
-By its filter strace 6.1 passes over some numbers of which it knows no names. So a filter in front of it answers these as an older kernel does
-(ENOSYS), and programs go the older way, which is traced.
+These are calls that are newer than strace, or than this recorder, and `io_uring_setup`. By its filter strace 6.1 passes over some numbers of which it
+knows no names, and what a program asks of io_uring is in its memory alone. So a filter in front of strace answers these as an older kernel
+does (ENOSYS), and programs go the older way, which is traced: such as CMake, whose loop of events asks for io_uring.
 """
 
 import ctypes
@@ -22,6 +23,7 @@ MACHINES = {"x86_64": (0xC000003E, 0x40000003), "i686": (0x40000003,), "aarch64"
 LOAD, IS, FROM, ANSWER = 0x20, 0x15, 0x35, 0x06  # of a filter: load a word, compare it, answer
 ALLOW, REFUSE = 0x7FFF0000, 0x00050000 | errno.ENOSYS
 OTHER = 0x40000000  # from here on numbers are those of another kind (x32)
+URING = 425  # io_uring_setup, on all of them
 NO_NEW_RIGHTS, SECCOMP, FILTER = 38, 22, 2  # for prctl
 
 
@@ -47,15 +49,15 @@ def first_unknown() -> int:
 
 
 def filter_of(machine: str, first: int) -> bytes:
-    """The filter that refuses the calls from a number on; empty for a machine that numbers calls in its own way."""
+    """The filter that refuses io_uring and the calls from a number on; empty for a machine that numbers calls in its own way."""
     kinds = MACHINES.get(machine, ())
     steps = [(LOAD, 0, 0, 4), *((IS, len(kinds) - at, 0, kind) for at, kind in enumerate(kinds)), (ANSWER, 0, 0, ALLOW)]
-    steps += [(LOAD, 0, 0, 0), (FROM, 0, 2, first), (FROM, 1, 0, OTHER), (ANSWER, 0, 0, REFUSE), (ANSWER, 0, 0, ALLOW)]
+    steps += [(LOAD, 0, 0, 0), (IS, 2, 0, URING), (FROM, 0, 2, first), (FROM, 1, 0, OTHER), (ANSWER, 0, 0, REFUSE), (ANSWER, 0, 0, ALLOW)]
     return b"".join(struct.pack("=HBBI", *step) for step in steps) if kinds else b""
 
 
 class Older:
-    """Makes the process that calls `enter`, and all that it starts, run as on a kernel without the calls that have no names."""
+    """Makes the process that calls `enter`, and all that it starts, run as on a kernel without these calls."""
 
     def __init__(self) -> None:
         self.text = filter_of(platform.machine(), first_unknown())

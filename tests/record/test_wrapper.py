@@ -97,6 +97,30 @@ class Splits(unittest.TestCase):
         self.assertEqual(b"x\n", out)
         self.assertIn(b"A = 1\n", log)
 
+    def test_data_base_as_a_newer_library_writes_it(self) -> None:
+        """From version 2.37 on the C library of GNU writes the lines of one call at once, with what was not written before."""
+        base = (b"# Make data base, printed on Monday\n", b"\n# Variables\n", b"define d\n# Finished Make data base on x\nendef\n",
+                b"# Load=1/2\n# Finished Make data base on Monday\n\n", b"# make: Leaving directory '/x'\n")
+        for before in ((), (MUST,)):
+            out, log = split(*before, b"\n" + base[0], *base[1:])
+            self.assertEqual((b"make: Leaving directory '/x'\n", b"".join(before + base[:-1])), (out, log), before)
+        forged = b"\n# Make data base, printed on x\n"
+        self.assertEqual((forged, MUST + BEGIN + END), split(MUST, forged, BEGIN, END))
+        self.assertEqual((forged, MUST + BEGIN + END), split(MUST, BEGIN, forged, END))
+
+    def test_what_make_says_while_it_expands_text(self) -> None:
+        """From version 4.4 on, also between its line about a target and that about the recipe."""
+        for line in (b"Directory d e cache invalidated (count 1 != command 2)\n", b"file: Failed to open 'x': No such file or directory\n",
+                     b"Makefile:3: not recursively expanding A to export to shell function\n"):
+            self.assertEqual((b"", line + MUST + line + BEGIN + END + line), split(line, MUST, line, BEGIN, END, line), line)
+            self.assertEqual((line, MUST + BEGIN + END), split(MUST, BEGIN, line, END), line)
+            self.assertEqual((line[:-1], b""), split(line[:-1]), line)
+        for line in (b"Using jobserver controller fifo:/tmp/x\n", b"Using output-sync mutex /tmp/x\n", b"Enabled shuffle mode: 7\n", b"Loaded shared object m.so\n",
+                     b" Grouped target peer 'a' of file 'b' does not exist.\n"):
+            self.assertEqual((b"", line), split(line), line)
+        for line in (b"Directory cache invalidated (count 1)\n", b"file: no\n", b"x to export to shell function\n", b"Using a\n"):
+            self.assertEqual((line, b""), split(line), line)
+
     def test_folder_that_make_enters_is_shown_as_without_data_base(self) -> None:
         self.assertEqual((b"make: Entering directory '/x'\n", b""), split(b"# make: Entering directory '/x'\n"))
 
