@@ -3,10 +3,8 @@
 from functools import lru_cache
 from typing import TYPE_CHECKING, Dict, List, Set
 
-from record.make.considered import LATER
 from record.make.graph import Node
 from record.make.owners import Make
-from record.make.words import numbers_of
 from record.trace.events import AGE_TAKEN, CREATED, REMOVED
 
 if TYPE_CHECKING:
@@ -78,7 +76,7 @@ def fixed_looks(builder: "Builder") -> Set[str]:
 def remembered(builder: "Builder", node: Node, own: int) -> Set[str]:
     """The paths at which make does not look again when it decides on a target: it keeps the age that it found when it first considered each of
     them, and that look is one of its own. Only what its recipe has made is looked at anew."""
-    if builder.build.stage != "goals" or numbers_of(builder.make.words.version) >= LATER:
+    if builder.build.stage != "goals":
         return set()
     deciding = builder.deciding(node, own)
     known = {one.path for one in deciding if is_remembered(builder, one, one is node)}

@@ -13,7 +13,7 @@ import tempfile
 import unittest
 from dataclasses import dataclass
 from pathlib import Path
-from typing import Any, Callable, Dict, Iterable, List, Mapping, Optional, Sequence, Type
+from typing import Any, Callable, Dict, Iterable, List, Mapping, Optional, Sequence, Tuple, Type
 
 import forked
 from kept import CURRENT
@@ -28,6 +28,7 @@ sys.path.insert(0, str(TOP))
 
 import record.importing  # noqa: E402,F401  (once, for all recordings of this process)
 import record.main  # noqa: E402,F401
+from record.make.words import numbers_of  # noqa: E402
 from record.trace.newer import first_unknown  # noqa: E402
 from record.trace.skips import skipping  # noqa: E402
 
@@ -53,6 +54,11 @@ def warm() -> None:
         finally:
             os.chdir(here)
     gc.freeze()
+
+
+def make_version() -> Tuple[int, ...]:
+    """The version of the make that is here."""
+    return numbers_of(record.main.versions()["make"])
 
 
 def race_program() -> str:

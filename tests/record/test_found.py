@@ -53,7 +53,7 @@ FOUND: Dict[str, Small] = {
     "second_expansion_that_reads": Small("race", SECOND + "all: a b.o\na: ; echo new > list; touch a\n%.o: %.c $$(shell cat list) k ; cat $^ > $@\nk: a ; touch k\n", LISTS),
     "second_expansion_of_a_target_that_is_kept": Small("race", SECOND + "all: a b.o\na: ; echo new > list; touch a\n%.o: %.c $$(shell cat list) ; cat $^ > $@\n", {**LISTS, "b.o": "o"}, "touch -d 2001-01-01 b.c new; touch -d 2002-01-01 b.o"),
     "second_expansion_to_a_pattern": Small("race", SECOND + "X = d/*.h\nall: a b.o\na: ; rm d/n.h; touch a\n%.o: %.c $$(X) ; echo $^ > $@\n", {"b.c": "c", "d/n.h": "n", "d/k.h": "k"}),
-    "second_expansion_beside_what_recipes_read": Small("safe", SECOND + "all: a b.o\na: ; echo new > list; touch a\n%.o: %.c $$(Y) a ; echo '$(shell cat list)' > $@\n", LISTS),
+    "second_expansion_beside_what_recipes_read": Small("safe", SECOND + "all: a b.o\na: ; echo new > list; touch a\n%.o: %.c $$(Y) a ; echo '$(shell cat list)' > $@\n", LISTS, later="race"),
     # names with blanks
     "name_with_a_blank_behind_a_bar": Small("race", "all: g x\ng: ; touch a g\nx: a | a\\ b ; touch log x\na\\ b: ; touch 'a b'\n", {"a": "a", "x": "x"}, "touch -d 2001-01-01 a; touch -d 2002-01-01 x"),
     "name_with_a_blank_beside_another": Small("race", "all: x u\nx a\\ b &: ; echo new > a; touch x 'a b'\nu: a ; cp a u\n", {"a": "a"}),

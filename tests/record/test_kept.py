@@ -18,7 +18,7 @@ import support
 from patched import IS_FUNCTION, Loaded, apply
 
 FILES = {"Makefile": "all: a b\na: in ; @date +%N > a; cat a; echo said >&2\nb: ; @cat a > b; mkdir d; ln -s ../a d/l\n", "in": "x\n"}
-MODULE = "VALUE = 1\ndef one(): return VALUE\ndef two(): return [2 for _ in 'x']\nclass Some:\n    def three(self): return 3\nHAS = two()\n"
+MODULE = "VALUE = 1\nclass Some:\n    def three(self): return 3\ndef one(): return VALUE\ndef two(): return [2 for _ in 'x']\nHAS = two()\n"
 
 
 class Recordings(unittest.TestCase):

@@ -45,7 +45,7 @@ MUTANTS: Dict[str, Small] = {
     "list_of_a_recipe_before_a_search_elsewhere": Small("safe", "MAKEFLAGS += -r\n" + KEPT % ("gen/x1", "%.o: %.c ; cp $< $@\n%.o: gen/%.c ; cp $< $@"), HEADER),
     "list_of_a_recipe_before_a_search_by_way_of_others": Small("race", "MAKEFLAGS += -r\n" + KEPT % ("gen/x1", "%.o: gen/%.c ; cp $< $@\n%.o: %.s ; cp $< $@\n%.s: %.c ; cp $< $@"), HEADER),
     "list_of_a_recipe_before_a_search_in_a_path": Small("race", "MAKEFLAGS += -r\nvpath %.c gen\n" + KEPT % ("gen/x1", "%.o: %.c ; cp $< $@"), {"gen/a.c": ""}),
-    "list_of_a_recipe_that_waits_for_none": Small("safe", KEPT.replace("z: y", "z: k y gen/x1") % ("", "k: ; touch k\n%.o: %.c gen/%.h ; cp $< $@"), HEADER),
+    "list_of_a_recipe_that_waits_for_none": Small("safe", KEPT.replace("z: y", "z: k y gen/x1") % ("", "k: ; touch k\n%.o: %.c gen/%.h ; cp $< $@"), HEADER, later="race"),
     "list_of_a_folder_in_which_a_search_only_opens": Small("safe", "MAKEFLAGS += -r\n" + KEPT % ("gen/x1", "%.o: %.c gen/g.h ; cp $< $@\ngen/g.h: ; touch $@"), HEADER),
     "list_of_a_search_for_a_later_one": Small("race", LATER, HEADER),
 }

@@ -85,7 +85,7 @@ PROJECTS: Dict[str, Small] = {
     "folder_that_make_makes_ahead": Small("safe", FIRST % "" + "out/b: ; $(F)\n\techo b > $@\n"),
     "folder_that_make_makes_ahead_and_says_so": Small("safe", FIRST.replace("(F)", "(call F)") % "@echo $(@D);" + "out/b: ; $(call F)\n\techo b > $@\n"),
     "folder_that_make_makes_ahead_by_a_text_of_several_lines": Small("safe", "define G\n" + AHEAD % "" + "\nendef\nall: out/d/a out/d/b\nout/d/a out/d/b: ; $(call G)\n\techo b > $@\n"),
-    "folder_that_make_makes_ahead_in_a_line": Small("safe", "export X = $(shell echo x)\nall: out/a out/b\nout/a out/b: ; " + AHEAD % "" + "echo $@ > $@\n"),
+    "folder_that_make_makes_ahead_in_a_line": Small("safe", "export X = $(shell echo x)\nall: out/a out/b\nout/a out/b: ; " + AHEAD % "" + "echo $@ > $@\n", later="race"),
     "folder_that_make_makes_ahead_of_a_look_in_a_line": Small("race", "export X = $(shell echo x)\nall: out/a out/b\nout/a out/b: ; " + AHEAD % "" + "echo '$(wildcard out)' > $@\n"),
     "folder_that_make_makes_behind_a_look_in_a_line": Small("race", "export X = $(shell echo x)\nall: out/a out/b\nout/a out/b: ; $(shell test -d out || echo no)" + AHEAD % "" + "true; touch $@\n"),
     "folder_that_make_makes_ahead_of_one": Small("race", FIRST % "" + "out/b: ; echo b > $@\n"),

@@ -55,7 +55,7 @@ SOUGHT: Dict[str, Small] = {
     "macros_that_set_others_in_a_script": Small("safe", "set = $(eval $1 := 1)\n$(call set,X)\n" + SET % ("echo '$(X)' > a", "echo '$(X)' > b"), {"build.sh": "make all\n"}),
     "macro_that_the_flags_of_the_shell_set": Small("race", ".SHELLFLAGS = $(eval N := $(N)x)-c\n" + SET % ("echo '$(N)' > a", "echo '$(N)' > b")),
     "macro_that_a_second_expansion_sets": Small("no verdict", LATE % "$(X)", {"b.c": "c"}, says="make expands prerequisites a second time"),
-    "macro_that_a_second_expansion_sets_for_nobody": Small("safe", LATE % "$(Y)", {"b.c": "c"}),
+    "macro_that_a_second_expansion_sets_for_nobody": Small("safe", LATE % "$(Y)", {"b.c": "c"}, later="race"),
     # ages of files that somebody else has opened
     "age_of_a_file_that_is_open": Small("race", PAIR % "exec 3< a; if test /dev/fd/3 -nt b; then echo newer; fi > c"),
     "age_of_standard_input": Small("race", PAIR % "stat -c %Y - < a > c; stat -c %Y b >> c"),
