@@ -176,6 +176,14 @@ class Given(unittest.TestCase):
         with support.Project(eats) as project:
             self.assertEqual(1, project.record(["sh", "-c", "(echo; cat m) | make -f e -f /dev/stdin all"]).status)
 
+    def test_input_that_is_no_makefile(self) -> None:
+        """A recipe gets it."""
+        for command in ("make < i", "cat i | make", "cat i | make -f Makefile"):
+            with self.subTest(command), support.Project({"i": "text\n", "Makefile": "c: ; cat > c\n"}) as project:
+                outcome = project.record(["sh", "-c", command])
+                self.assertEqual(0, outcome.status, outcome.text())
+                self.assertEqual(b"text\n", (project.folder / "c").read_bytes())
+
     def test_words_that_name_it(self) -> None:
         for words, names in ((["-f", "-"], ["-"]), (["-kf-", "--", "-f", "x"], ["-"]), (["-C", "-f", "--fil=x", "-W", "-f", "--eval", "-f"], ["x"]), (["-j4", "--makefile", "m", "a"], ["m"])):
             self.assertEqual(names, names_of_makefiles(words))
