@@ -111,6 +111,8 @@ def reason(error: OSError) -> str:
 def ended(name: str, module: str, without: str) -> int:
     """Runs `main` of a module; the status of the program. `without` says what there is not where it breaks."""
     speak_utf8()
+    if sys.stderr is None:  # what is said there is lost, as that of the build, which gets no other file in its place
+        sys.stderr = open(os.devnull, "w", encoding="utf-8")
     if sys.stdout is None:  # another file may then have its number, and nobody would see the answer
         print("%s: its standard output is closed, so %s: leave it open, such as by > /dev/null" % (name, without), file=sys.stderr)
         return FAILED

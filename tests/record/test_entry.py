@@ -77,6 +77,13 @@ class Closed(unittest.TestCase):
                 self.assertEqual((3, "race-%s: its standard output is closed, so %s: leave it open, such as by > /dev/null\n" % (name, line)), (ran.returncode, ran.stderr))
             self.assertEqual(["Makefile"], sorted(os.listdir(project.folder)))
 
+    def test_closed_errors(self) -> None:
+        """The build gets none either, and no other file in their place."""
+        with Project({"Makefile": "all: ; @test -e /proc/self/fd/2 || echo closed; touch all\n"}) as project:
+            words = [sys.executable, os.fspath(TOP / "record" / "race-record"), "--race", race_program(), "--", "make"]
+            ran = subprocess.run(words, stdout=subprocess.PIPE, cwd=project.folder, text=True, timeout=60, check=False, preexec_fn=lambda: os.close(2))
+        self.assertEqual((0, "closed"), (ran.returncode, ran.stdout.splitlines()[0]))
+
 
 class Untraced(unittest.TestCase):
     """Where strace may not follow a process, as in a container: a process that is traced already starts none that can be."""
