@@ -7,7 +7,7 @@ from typing import Dict, Iterable, List, Optional, Set, Tuple
 
 from record.assumptions import Assumptions
 from record.make.ages import add_ages
-from record.make.considered import Considered, is_row
+from record.make.considered import Considered, is_row, peers
 from record.make.elsewhere import Askers, Elsewhere, add_elsewhere, find_askers
 from record.make.fixed import asked_ages, fixed_looks, remade_anyway, remembered, unasked_ages, was_absent
 from record.make.folders import Events, add_folders
@@ -199,7 +199,7 @@ class Builder:
 
     def looked_at(self, node: Node, own: int) -> List[str]:
         """The paths that decide whether a target is remade, its own first."""
-        return [one.path for one in self.deciding(node, own)]
+        return [one.path for one in self.deciding(node, own)] + peers(self, node, own)
 
     def seen(self, node: Node) -> Dict[str, int]:
         """The paths that make's looks at a target led to, and when first: links, and what stood behind them then."""

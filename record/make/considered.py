@@ -23,7 +23,9 @@ from record.trace.names import join
 if TYPE_CHECKING:
     from record.make.build import Builder
 
-LATER = (4, 4)  # from this version on, make expands all prerequisites a second time when it considers their target, and knows rows of some targets
+# From this version on, make expands all prerequisites a second time when it considers their target, knows rows of some targets, looks for each name of
+# which no rule is about, and at all targets of a recipe.
+LATER = (4, 4)
 
 
 def is_deep(base: Base, node: Node) -> bool:
@@ -53,7 +55,7 @@ class Considered:
         found = {path for path in self.searched(names) if self.is_open(path)}
         there = {path for name in {node.name, *names} for path in self.elsewhere(node, name)}
         found |= {path for path in there if self.builder.before.get(path) or self.is_open(path)}  # what it finds in a search path it looks at
-        found |= self.expanded(node) | self.cached.asked(node)
+        found |= self.expanded(node) | self.cached.asked(node) | {*peers(self.builder, node, self.builder.of_node.get(node.label, -1))}
         return {path for path in found if self.writers.get(path, set()) - self.own(node)}
 
     def own(self, node: Node) -> Set[int]:
@@ -96,10 +98,8 @@ class Considered:
                 yield self.path(name)
 
     def is_mentioned(self, name: str, node: Node) -> bool:
-        """Whether make takes a name for a file without a look: makefiles have a rule for it, or it has considered it before."""
-        base = self.base
-        has_rule = name in base.prerequisites and (name not in base.implicit or bool(base.prerequisites[name]) and name not in base.recipes)
-        return has_rule or self.first.get(name, node.first) < node.first
+        """Whether make takes a name for a file without a look when it first considers a target."""
+        return takes_for_file(self.base, self.builder.make.words.version, name, self.first.get(name, node.first) < node.first)
 
     @cached_property
     def changed(self) -> Set[str]:
@@ -161,6 +161,25 @@ class Considered:
                 folder, _, pattern = path.partition("\0")
                 found |= {one for one in self.changed if os.path.dirname(one) == folder and fnmatchcase(os.path.basename(one), pattern or "*")}
         return {path for path in found if path in self.writers}
+
+
+def takes_for_file(base: Base, version: str, name: str, is_known: bool) -> bool:
+    """Whether a search takes a name for a file without a look: makefiles have a rule for it, or before GNU make 4.4 they name it, or make has
+    considered it (`is_known`)."""
+    if numbers_of(version) >= LATER:
+        return name in base.prerequisites and name not in base.unruled
+    return is_known or name in base.prerequisites and (name not in base.implicit or bool(base.prerequisites[name]) and name not in base.recipes)
+
+
+def looked_with(base: Base, version: str, name: str) -> List[str]:
+    """The targets at which make looks where it decides on one that is there: those of the same recipe. It takes the age of the oldest."""
+    return base.also.get(name, []) if numbers_of(version) >= LATER else []
+
+
+def peers(builder: "Builder", node: Node, own: int) -> List[str]:
+    """The paths of these."""
+    others = looked_with(builder.graph.base, builder.make.words.version, node.name)
+    return [builder.path_of(one) for one in others] if others and builder.deciding(node, own)[1:] else []
 
 
 def stems_of(pattern: str, name: str) -> Iterator[Tuple[str, str]]:

@@ -46,6 +46,7 @@ class Base:
     places: Dict[str, List[Tuple[str, int]]] = field(default_factory=dict)
     implicit: Set[str] = field(default_factory=set)
     failed: Set[str] = field(default_factory=set)  # what could not be made
+    unruled: Set[str] = field(default_factory=set)  # names of which no rule is about to make them: prerequisites alone, or found by an implicit rule
     patterns: List[Tuple[List[str], List[str]]] = field(default_factory=list)
     terminal: Set[int] = field(default_factory=set)  # places of patterns with two colons
     search: List[Tuple[str, List[str]]] = field(default_factory=list)  # patterns of names, and the folders in which make looks for them
@@ -132,6 +133,7 @@ class _Files:
         first, _, second = ((match.group(3) or "") + " ").partition("| ")
         if self.name == ".NOTPARALLEL" and not self.is_other:  # (as a prerequisite alone it says nothing)
             base.serial = True
+        base.unruled.update([self.name] if self.is_other else [])
         base.prerequisites.setdefault(self.name, []).extend(cut(first))
         base.order_only.setdefault(self.name, set()).update(cut(second))
         if match.group(2) == "::":

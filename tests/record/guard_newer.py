@@ -1,0 +1,25 @@
+"""The guards of what GNU make does otherwise since version 4.4: see guard_table.py, and test_newer.py for the tests."""
+
+from typing import List
+
+from guard_table import Guard
+
+
+def version(name: str) -> str:
+    """The test of a function that knows versions."""
+    return "test_newer.Versions.test_" + name
+
+
+CONSIDERED = "make/considered.py"
+
+NEWER_GUARDS: List[Guard] = [
+    Guard("searches: names that no rule is about, since GNU make 4.4", CONSIDERED, "return name in base.prerequisites and name not in base.unruled", "return is_known or name in base.prerequisites",
+          version("names_that_a_search_takes_for_files")),
+    Guard("searches: names that a rule is about, since GNU make 4.4", CONSIDERED, "return name in base.prerequisites and name not in base.unruled", "return False",
+          version("names_that_a_search_takes_for_files")),
+    Guard("data base: names that no rule is about", "make/database.py", "base.unruled.update([self.name] if self.is_other else [])", "pass", version("names_that_a_search_takes_for_files")),
+    Guard("decisions: targets of one recipe, since GNU make 4.4", CONSIDERED, "return base.also.get(name, []) if numbers_of(version) >= LATER else []", "return []",
+          version("targets_at_which_make_looks_together")),
+    Guard("decisions: targets of one recipe, not before", CONSIDERED, "return base.also.get(name, []) if numbers_of(version) >= LATER else []", "return base.also.get(name, [])",
+          version("targets_at_which_make_looks_together")),
+]

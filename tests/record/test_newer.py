@@ -1,0 +1,52 @@
+"""What GNU make does otherwise since version 4.4: small makefiles, each with the verdict before and since, and functions that know versions."""
+
+import unittest
+from typing import Dict
+
+import support  # noqa: F401
+from record.make.considered import looked_with, takes_for_file
+from record.make.database import read_base
+from test_small import Small, test_of
+
+RULES = "%.o: %.c ; echo c > $@\n%.o: %.s ; echo s > $@\n"
+BOTH = {"x.s": "s", "x.c": "c"}
+PAIR = "w: ; echo w > b; touch w\na b &: c%s ; echo new > a; echo new > b\n"
+OLD = "touch -d 2001-01-01 b; touch -d 2002-01-01 c; touch -d 2003-01-01 a"
+NEWER: Dict[str, Small] = {
+    # a search looks for names that make has considered, unless a rule is about them
+    "search_for_a_name_of_another_target": Small("safe", "all: o g x.o\n" + RULES + "o: x.c ; touch o\ng: o ; rm x.c; touch g\n", BOTH, later="race"),
+    "search_for_a_name_of_another_target_in_order": Small("safe", "all: o x.o g\n" + RULES + "o: x.c ; touch o\ng: o x.o ; rm x.c; touch g\n", BOTH),
+    "search_for_a_name_that_a_rule_is_about": Small("safe", "all: g x.o\n" + RULES + "x.c: k ;\nk: ;\ng: ; touch x.c g\n", BOTH),
+    # with a target that is there make looks at the others of its recipe
+    "peer_that_another_recipe_makes": Small("safe", "all: w a\n" + PAIR % "", {"a": "a", "c": "c"}, OLD + "; rm b", later="race"),
+    "peer_that_is_old": Small("safe", "all: w a\n" + PAIR % "", {"a": "a", "b": "b", "c": "c"}, OLD, later="race"),
+    "peer_at_the_first_look": Small("safe", "all: w a\n" + PAIR % " | w", {"a": "a", "b": "b", "c": "c"}, OLD, later="race"),
+    "peer_that_is_in_order": Small("safe", "all: a\n" + PAIR % " | w", {"a": "a", "b": "b", "c": "c"}, OLD),
+}
+
+
+class Makefiles(unittest.TestCase):
+    """A test for each makefile."""
+
+
+for key, one in NEWER.items():
+    setattr(Makefiles, "test_" + key, test_of(key, one))
+
+
+class Versions(unittest.TestCase):
+    """What depends on the version of make."""
+
+    BASE = read_base(["# Files", "", "# Not a target:", "a.c:", "#  Implicit rule search has been done.", "", "# Not a target:", "n.c:", "", "r.c: x", "", "x:", "#  Also makes: y", "",
+                      "# files hash-table stats:"])
+
+    def test_names_that_a_search_takes_for_files(self) -> None:
+        for name, is_known, wanted in (("a.c", False, "no no"), ("a.c", True, "yes no"), ("n.c", False, "yes no"), ("r.c", False, "yes yes"), ("other", False, "no no")):
+            found = [takes_for_file(self.BASE, version, name, is_known) for version in ("4.3", "4.4.1")]
+            self.assertEqual(wanted, " ".join("yes" if one else "no" for one in found), (name, is_known))
+
+    def test_targets_at_which_make_looks_together(self) -> None:
+        self.assertEqual([[], ["y"], []], [looked_with(self.BASE, version, name) for version, name in (("4.3", "x"), ("4.4", "x"), ("4.4", "y"))])
+
+
+if __name__ == "__main__":
+    unittest.main()
