@@ -45,6 +45,7 @@ class Considered:
         self.expanding = [node for node in nodes if node.rule == 0 and self.is_expanded(node)]
         self.searches, self.last_parts = Searches(self.base), {os.path.basename(path) for path in self.writers}
         self.cached = Cached(builder, self.searched_late, self.is_expanded)
+        self.keeps_lists = keeps_lists(builder.make.words.version)
         self.named = {name for one in (".INTERMEDIATE", ".SECONDARY") for name in self.base.prerequisites.get(one, ())}
 
     def asked(self, node: Node) -> Set[str]:
@@ -55,7 +56,8 @@ class Considered:
         found = {path for path in self.searched(names) if self.is_open(path)}
         there = {path for name in {node.name, *names} for path in self.elsewhere(node, name)}
         found |= {path for path in there if self.builder.before.get(path) or self.is_open(path)}  # what it finds in a search path it looks at
-        found |= self.expanded(node) | self.cached.asked(node) | {*peers(self.builder, node, self.builder.of_node.get(node.label, -1))}
+        found |= self.expanded(node) | {*peers(self.builder, node, self.builder.of_node.get(node.label, -1))}
+        found |= self.cached.asked(node) if self.keeps_lists else set()
         return {path for path in found if self.writers.get(path, set()) - self.own(node)}
 
     def own(self, node: Node) -> Set[int]:
@@ -65,10 +67,10 @@ class Considered:
         return {at for label in labels for at in (builder.of_node.get(label, -1), builder.look_of.get(label, -1))}
 
     def is_open(self, path: str) -> bool:
-        """Whether the folder of a name was first listed when a recipe had begun: else each schedule sees what was there before."""
+        """Whether the folder of a name was first listed when a recipe had begun: else each schedule sees what was there before, if make keeps lists."""
         if path not in self.writers:
             return False
-        if self.builder.listed.get(os.path.dirname(path), (0, 1 << 60))[1] >= first_birth(self.builder):
+        if not self.keeps_lists or self.builder.listed.get(os.path.dirname(path), (0, 1 << 60))[1] >= first_birth(self.builder):
             return True
         self.builder.assumed.add("search", path)
         return False
@@ -161,6 +163,11 @@ class Considered:
                 folder, _, pattern = path.partition("\0")
                 found |= {one for one in self.changed if os.path.dirname(one) == folder and fnmatchcase(os.path.basename(one), pattern or "*")}
         return {path for path in found if path in self.writers}
+
+
+def keeps_lists(version: str) -> bool:
+    """Whether make keeps what it has found in a folder when recipes have ended."""
+    return numbers_of(version) < LATER
 
 
 def takes_for_file(base: Base, version: str, name: str, is_known: bool) -> bool:

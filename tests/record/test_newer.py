@@ -1,22 +1,29 @@
 """What GNU make does otherwise since version 4.4: small makefiles, each with the verdict before and since, and functions that know versions."""
 
 import unittest
+from types import SimpleNamespace
 from typing import Dict
 
 import support  # noqa: F401
-from record.make.considered import looked_with, takes_for_file
+from record.assumptions import Assumptions
+from record.make.considered import Considered, keeps_lists, looked_with, takes_for_file
 from record.make.database import read_base
 from test_small import Small, test_of
 
 RULES = "%.o: %.c ; echo c > $@\n%.o: %.s ; echo s > $@\n"
 BOTH = {"x.s": "s", "x.c": "c"}
 PAIR = "w: ; echo w > b; touch w\na b &: c%s ; echo new > a; echo new > b\n"
+AWAY = "all: g x.o\n%.o: d/%.c ; echo c > $@\n%.o: %.s ; echo s > $@\ng: ; mv d e; touch g\n"
+IN_FOLDER = {"x.s": "s", "d/x.c": "c"}
 OLD = "touch -d 2001-01-01 b; touch -d 2002-01-01 c; touch -d 2003-01-01 a"
 NEWER: Dict[str, Small] = {
     # a search looks for names that make has considered, unless a rule is about them
     "search_for_a_name_of_another_target": Small("safe", "all: o g x.o\n" + RULES + "o: x.c ; touch o\ng: o ; rm x.c; touch g\n", BOTH, later="race"),
     "search_for_a_name_of_another_target_in_order": Small("safe", "all: o x.o g\n" + RULES + "o: x.c ; touch o\ng: o x.o ; rm x.c; touch g\n", BOTH),
     "search_for_a_name_that_a_rule_is_about": Small("safe", "all: g x.o\n" + RULES + "x.c: k ;\nk: ;\ng: ; touch x.c g\n", BOTH),
+    # it looks on the disk, whatever it has listed before
+    "search_in_a_folder_that_goes": Small("no verdict", "X := $(wildcard d/*)\n" + AWAY + "x.o: | g\n", IN_FOLDER, says="no rule makes d/x.c", later="race"),
+    "search_in_a_folder_that_goes_later": Small("safe", "X := $(wildcard d/*)\n" + AWAY + "g: x.o\n", IN_FOLDER),
     # with a target that is there make looks at the others of its recipe
     "peer_that_another_recipe_makes": Small("safe", "all: w a\n" + PAIR % "", {"a": "a", "c": "c"}, OLD + "; rm b", later="race"),
     "peer_that_is_old": Small("safe", "all: w a\n" + PAIR % "", {"a": "a", "b": "b", "c": "c"}, OLD, later="race"),
@@ -43,6 +50,12 @@ class Versions(unittest.TestCase):
         for name, is_known, wanted in (("a.c", False, "no no"), ("a.c", True, "yes no"), ("n.c", False, "yes no"), ("r.c", False, "yes yes"), ("other", False, "no no")):
             found = [takes_for_file(self.BASE, version, name, is_known) for version in ("4.3", "4.4.1")]
             self.assertEqual(wanted, " ".join("yes" if one else "no" for one in found), (name, is_known))
+
+    def test_lists_that_make_keeps(self) -> None:
+        for version, wanted in (("4.3", [True, False, True]), ("4.4", [False, True, True])):
+            keeps = keeps_lists(version)
+            one = SimpleNamespace(writers={"d/x": {1}, "e/x": {1}}, keeps_lists=keeps, builder=SimpleNamespace(listed={"d": (1, 1), "e": (1, 7)}, began=5, assumed=Assumptions()))
+            self.assertEqual(wanted, [keeps, *(Considered.is_open(one, path) for path in ("d/x", "e/x"))], version)  # type: ignore[arg-type]
 
     def test_targets_at_which_make_looks_together(self) -> None:
         self.assertEqual([[], ["y"], []], [looked_with(self.BASE, version, name) for version, name in (("4.3", "x"), ("4.4", "x"), ("4.4", "y"))])
