@@ -178,14 +178,18 @@ def takes_for_file(base: Base, version: str, name: str, is_known: bool) -> bool:
     return is_known or name in base.prerequisites and (name not in base.implicit or bool(base.prerequisites[name]) and name not in base.recipes)
 
 
-def looked_with(base: Base, version: str, name: str) -> List[str]:
-    """The targets at which make looks where it decides on one that is there: those of the same recipe. It takes the age of the oldest."""
-    return base.also.get(name, []) if numbers_of(version) >= LATER else []
+def looked_with(base: Base, version: str, name: str, ran: Set[str]) -> List[str]:
+    """The targets at which make looks where it decides on one that is there: those of the same recipe, unless that `ran` for one of them. It takes the
+    age of the oldest."""
+    others = base.also.get(name, []) if numbers_of(version) >= LATER else []
+    return others if ran.isdisjoint(others) else []
 
 
 def peers(builder: "Builder", node: Node, own: int) -> List[str]:
     """The paths of these."""
-    others = looked_with(builder.graph.base, builder.make.words.version, node.name)
+    nodes = builder.graph.nodes
+    ran = {one for one in builder.graph.base.also.get(node.name, ()) if one in nodes and nodes[one].jobs}
+    others = looked_with(builder.graph.base, builder.make.words.version, node.name, ran)
     return [builder.path_of(one) for one in others] if others and builder.deciding(node, own)[1:] else []
 
 

@@ -21,8 +21,9 @@ NEWER_GUARDS: List[Guard] = [
     Guard("searches: lists that make keeps, not since", CONSIDERED, "return numbers_of(version) < LATER", "return True", version("lists_that_make_keeps")),
     Guard("searches: in a folder that was listed before", CONSIDERED, "if not self.keeps_lists or self.builder", "if self.builder", version("lists_that_make_keeps")),
     Guard("data base: names that no rule is about", "make/database.py", "base.unruled.update([self.name] if self.is_other else [])", "pass", version("names_that_a_search_takes_for_files")),
-    Guard("decisions: targets of one recipe, since GNU make 4.4", CONSIDERED, "return base.also.get(name, []) if numbers_of(version) >= LATER else []", "return []",
+    Guard("decisions: targets of one recipe, since GNU make 4.4", CONSIDERED, "others = base.also.get(name, []) if numbers_of(version) >= LATER else []", "others = []",
           version("targets_at_which_make_looks_together")),
-    Guard("decisions: targets of one recipe, not before", CONSIDERED, "return base.also.get(name, []) if numbers_of(version) >= LATER else []", "return base.also.get(name, [])",
+    Guard("decisions: targets of one recipe, not before", CONSIDERED, "others = base.also.get(name, []) if numbers_of(version) >= LATER else []", "others = base.also.get(name, [])",
           version("targets_at_which_make_looks_together")),
+    Guard("decisions: targets of one recipe that ran", CONSIDERED, "return others if ran.isdisjoint(others) else []", "return others", version("targets_at_which_make_looks_together")),
 ]

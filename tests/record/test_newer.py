@@ -58,7 +58,8 @@ class Versions(unittest.TestCase):
             self.assertEqual(wanted, [keeps, *(Considered.is_open(one, path) for path in ("d/x", "e/x"))], version)  # type: ignore[arg-type]
 
     def test_targets_at_which_make_looks_together(self) -> None:
-        self.assertEqual([[], ["y"], []], [looked_with(self.BASE, version, name) for version, name in (("4.3", "x"), ("4.4", "x"), ("4.4", "y"))])
+        for version, name, ran, wanted in (("4.3", "x", "", []), ("4.4", "x", "", ["y"]), ("4.4", "x", "x", ["y"]), ("4.4", "x", "y", []), ("4.4", "y", "", [])):
+            self.assertEqual(wanted, looked_with(self.BASE, version, name, {ran}), (version, name, ran))
 
 
 if __name__ == "__main__":
