@@ -140,7 +140,7 @@ class Macros:
         self.changed, self.given = changed, given
         self.named, self.ways, self.read_twice, self.whole_texts = {}, {}, {}, {}
         self.exports, self.kept, self.with_lines, self.acts = Exports(self), Kept(self), {}, {}
-        for name in ("handed_on", "names_eval", "rule_words", "some_have_lines"):
+        for name in ("handed_on", "names_eval", "rule_texts", "rule_words", "some_have_lines"):
             self.__dict__.pop(name, None)  # they are worked out anew
         return True
 
@@ -179,10 +179,15 @@ class Macros:
         return any(MAKES.search(part) for name in names for part in (name, *map(self.text_of, self.reached(name))))
 
     @cached_property
-    def rule_words(self) -> Set[str]:
-        """The words that stand behind the colons of rules, and in macros that are named there."""
+    def rule_texts(self) -> List[str]:
+        """What stands behind the colons of rules, and in macros that are named there."""
         text = "\n".join(found.group(1) for found in RULE.finditer(without_printed(self.text)))
-        return {word for one in [text, *map(self.text_of, self.reached(text))] for word in one.split()}
+        return [text, *map(self.text_of, self.reached(text))]
+
+    @cached_property
+    def rule_words(self) -> Set[str]:
+        """The words of these."""
+        return {word for one in self.rule_texts for word in one.split()}
 
     def text_of(self, name: str) -> str:
         """All texts that a macro may have."""
@@ -355,11 +360,6 @@ class Macros:
         setting = {name for name in self.names if EVAL.search(self.text_of(name)) or COMPUTED.search(self.text_of(name))}
         names = {name for name in self.reaching(setting) if self.is_exported(name)} if setting else set()
         return self.use("".join("$(%s)" % name for name in sorted(names))) if names else Use()
-
-    def set_by_expansion(self) -> Set[str]:
-        """The macros that the prerequisites of implicit rules set where make expands them a second time."""
-        text = with_functions(" ".join(word for _, asked in self.base.patterns for word in asked))
-        return {one.name for part in (text, *map(self.text_of, self.reached(text))) for one in self.evals(part)}
 
 
 def may_change(text: str) -> bool:

@@ -76,9 +76,16 @@ def reads_output(known: Macros, text: str) -> bool:
 def is_set_late(builder: "Builder") -> bool:
     """Whether a second expansion of prerequisites sets a macro that a recipe asks for."""
     known, base = builder.known, builder.graph.base
-    names = known.set_by_expansion() if known.is_used else set()
+    names = set_by_expansion(known) if known.is_used else set()
     asked = {name for node in builder.graph.nodes.values() for name in known.reached("\n".join(base.recipes.get(node.name, ())))} if names else set()
     return ANY in names or any("*" in name for name in asked if names) or not names.isdisjoint(asked) or any(map(known.is_exported, names))
+
+
+def set_by_expansion(known: Macros) -> Set[str]:
+    """The macros that prerequisites set where make expands them a second time as it considers their target: those of implicit rules, or of all."""
+    late = [one.replace("$$", "\0").replace("$", " ").replace("\0", "$") for one in (known.rule_texts if known.make.words.expands_late else ())]
+    text = with_functions(" ".join([*(word for _, asked in known.base.patterns for word in asked), *late]))
+    return {one.name for part in (text, *map(known.text_of, known.reached(text))) for one in known.evals(part)}
 
 
 def count_inherited(builder: "Builder") -> None:

@@ -125,6 +125,11 @@ class Words:
         return numbers_of(self.version) >= EXPORTING
 
     @property
+    def expands_late(self) -> bool:
+        """Whether make expands the prerequisites of each target a second time when it considers that; else those of implicit rules alone."""
+        return numbers_of(self.version) >= EXPORTING
+
+    @property
     def kept_errors(self) -> str:
         """Where its errors go, and those of its recipes: `file`, `pipe`, or nothing."""
         return self.output if self.is_joined else self.errors

@@ -10,7 +10,7 @@ def version(name: str) -> str:
     return "test_newer.Versions.test_" + name
 
 
-CONSIDERED = "make/considered.py"
+CONSIDERED, UNFILED = "make/considered.py", "make/unfiled.py"
 
 NEWER_GUARDS: List[Guard] = [
     Guard("searches: names that no rule is about, since GNU make 4.4", CONSIDERED, "return name in base.prerequisites and name not in base.unruled", "return is_known or name in base.prerequisites",
@@ -21,6 +21,11 @@ NEWER_GUARDS: List[Guard] = [
     Guard("searches: lists that make keeps, not since", CONSIDERED, "return numbers_of(version) < LATER", "return True", version("lists_that_make_keeps")),
     Guard("searches: in a folder that was listed before", CONSIDERED, "if not self.keeps_lists or self.builder", "if self.builder", version("lists_that_make_keeps")),
     Guard("data base: names that no rule is about", "make/database.py", "base.unruled.update([self.name] if self.is_other else [])", "pass", version("names_that_a_search_takes_for_files")),
+    Guard("macros: that second expansions of rules set, since GNU make 4.4", UNFILED, "known.rule_texts if known.make.words.expands_late else ()", "()",
+          version("macros_that_second_expansions_set")),
+    Guard("macros: that second expansions of rules set, not before GNU make 4.4", UNFILED, "known.rule_texts if known.make.words.expands_late else ()", "known.rule_texts",
+          version("macros_that_second_expansions_set")),
+    Guard("macros: that first expansions set", UNFILED, '.replace("$", " ").replace("\\0", "$")', '.replace("\\0", "$")', version("macros_that_second_expansions_set")),
     Guard("decisions: targets of one recipe, since GNU make 4.4", CONSIDERED, "others = base.also.get(name, []) if numbers_of(version) >= LATER else []", "others = []",
           version("targets_at_which_make_looks_together")),
     Guard("decisions: targets of one recipe, not before", CONSIDERED, "others = base.also.get(name, []) if numbers_of(version) >= LATER else []", "others = base.also.get(name, [])",

@@ -2,17 +2,22 @@
 
 import unittest
 from types import SimpleNamespace
-from typing import Dict
+from typing import Dict, cast
 
 import support  # noqa: F401
 from record.assumptions import Assumptions
 from record.make.considered import Considered, keeps_lists, looked_with, takes_for_file
-from record.make.database import read_base
+from record.make.database import Base, read_base
+from record.make.macros import Macros
+from record.make.owners import Make
+from record.make.unfiled import set_by_expansion
+from record.make.words import Words
 from test_small import Small, test_of
 
 RULES = "%.o: %.c ; echo c > $@\n%.o: %.s ; echo s > $@\n"
 BOTH = {"x.s": "s", "x.c": "c"}
 PAIR = "w: ; echo w > b; touch w\na b &: c%s ; echo new > a; echo new > b\n"
+SETS = ".SECONDEXPANSION:\nX := 1\nset = $(eval X := 2)\nall: a b\na: s ; echo $(X) > a\ns: ; touch s\n%s\n"
 AWAY = "all: g x.o\n%.o: d/%.c ; echo c > $@\n%.o: %.s ; echo s > $@\ng: ; mv d e; touch g\n"
 IN_FOLDER = {"x.s": "s", "d/x.c": "c"}
 OLD = "touch -d 2001-01-01 b; touch -d 2002-01-01 c; touch -d 2003-01-01 a"
@@ -24,6 +29,11 @@ NEWER: Dict[str, Small] = {
     # it looks on the disk, whatever it has listed before
     "search_in_a_folder_that_goes": Small("no verdict", "X := $(wildcard d/*)\n" + AWAY + "x.o: | g\n", IN_FOLDER, says="no rule makes d/x.c", later="race"),
     "search_in_a_folder_that_goes_later": Small("safe", "X := $(wildcard d/*)\n" + AWAY + "g: x.o\n", IN_FOLDER),
+    # it expands prerequisites a second time when it considers their target
+    "macro_that_a_second_expansion_of_a_rule_sets": Small("safe", SETS % "b: $$(set) ; touch b", later="no verdict"),
+    "macro_that_a_second_expansion_by_way_of_another_sets": Small("safe", SETS % "b: $(also) ; touch b\nalso = | $$(call set)", later="no verdict"),
+    "macro_that_a_first_expansion_sets": Small("safe", SETS % "b: $(set) $$(call other) ; touch b"),
+    "macro_that_a_second_expansion_of_a_rule_sets_for_nobody": Small("safe", SETS.replace("(X)", "(Y)") % "b: $$(set) ; touch b"),
     # with a target that is there make looks at the others of its recipe
     "peer_that_another_recipe_makes": Small("safe", "all: w a\n" + PAIR % "", {"a": "a", "c": "c"}, OLD + "; rm b", later="race"),
     "peer_that_is_old": Small("safe", "all: w a\n" + PAIR % "", {"a": "a", "b": "b", "c": "c"}, OLD, later="race"),
@@ -38,6 +48,13 @@ class Makefiles(unittest.TestCase):
 
 for key, one in NEWER.items():
     setattr(Makefiles, "test_" + key, test_of(key, one))
+
+
+def macros_of(text: str, values: Dict[str, str], version: str) -> Macros:
+    """The macros of a make of some version, whose makefile has this text."""
+    words = Words(7, 0, version=version, read=[["Makefile"]])
+    make = SimpleNamespace(words=words, known_text=lambda name: text, stale=set(), never_read=lambda name: False)
+    return Macros(cast(Make, make), Base(values=values))
 
 
 class Versions(unittest.TestCase):
@@ -56,6 +73,13 @@ class Versions(unittest.TestCase):
             keeps = keeps_lists(version)
             one = SimpleNamespace(writers={"d/x": {1}, "e/x": {1}}, keeps_lists=keeps, builder=SimpleNamespace(listed={"d": (1, 1), "e": (1, 7)}, began=5, assumed=Assumptions()))
             self.assertEqual(wanted, [keeps, *(Considered.is_open(one, path) for path in ("d/x", "e/x"))], version)  # type: ignore[arg-type]
+
+    def test_macros_that_second_expansions_set(self) -> None:
+        for rule, wanted in (("b: $$(set)", "none X"), ("b: $(also)", "none X"), ("b: $(set)", "none none"), ("b: $(set) $$(other)", "none none")):
+            text = "set = $(eval X := 2)\nalso = $$(set)\nother = 1\n" + rule + "\n"
+            values = {"set": "$(eval X := 2)", "also": "$$(set)", "other": "1"}
+            found = [set_by_expansion(macros_of(text, values, version)) for version in ("4.3", "4.4")]
+            self.assertEqual(wanted, " ".join("".join(sorted(one)) or "none" for one in found), rule)
 
     def test_targets_at_which_make_looks_together(self) -> None:
         for version, name, ran, wanted in (("4.3", "x", "", []), ("4.4", "x", "", ["y"]), ("4.4", "x", "x", ["y"]), ("4.4", "x", "y", []), ("4.4", "y", "", [])):
