@@ -171,8 +171,9 @@ class Builder:
         for node in self.graph.nodes.values():
             short, asked = libraries(self, node), considered.asked(node)
             own = self.first_seen(node) if short or self.is_seen_early(node, users, considered.late) else []
-            if own or asked:
+            if own or asked or considered.written(node):
                 self.first_of[node.label] = self.add(node, "first", node.label + "@first")
+                self.build.tasks[-1].writes = considered.written(node)
                 self.asked[node.label] = {*own, *short, *asked}
 
     def is_seen_early(self, node: Node, users: Dict[str, List[Node]], late: Set[str]) -> bool:

@@ -17,7 +17,7 @@ from record.make.memory import first_birth
 from record.make.searches import DEPTH, Searches, stems
 from record.make.words import Words, numbers_of
 from record.tools.shelltext import loose
-from record.trace.events import ASKS, LISTED, MAKE_LISTED
+from record.trace.events import ASKS, CHANGES, LISTED, MAKE_LISTED
 from record.trace.names import join
 
 if TYPE_CHECKING:
@@ -163,6 +163,10 @@ class Considered:
                 folder, _, pattern = path.partition("\0")
                 found |= {one for one in self.changed if os.path.dirname(one) == folder and fnmatchcase(os.path.basename(one), pattern or "*")}
         return {path for path in found if path in self.writers}
+
+    def written(self, node: Node) -> Set[str]:
+        """The paths that a second expansion of its prerequisites writes: before what it waits for has run."""
+        return {path for kind, path in self.pieces.get(node.name, ()) if kind in CHANGES and not path.endswith("/")} if node.rule == 0 else set()
 
 
 def keeps_lists(version: str) -> bool:

@@ -2,12 +2,17 @@
 
 from typing import List
 
-from guard_table import Guard
+from guard_table import YES, Guard
 
 
 def version(name: str) -> str:
     """The test of a function that knows versions."""
     return "test_newer.Versions.test_" + name
+
+
+def makefile(name: str) -> str:
+    """The test of a makefile."""
+    return "test_newer.Makefiles.test_" + name
 
 
 CONSIDERED, UNFILED = "make/considered.py", "make/unfiled.py"
@@ -21,6 +26,7 @@ NEWER_GUARDS: List[Guard] = [
     Guard("searches: lists that make keeps, not since", CONSIDERED, "return numbers_of(version) < LATER", "return True", version("lists_that_make_keeps")),
     Guard("searches: in a folder that was listed before", CONSIDERED, "if not self.keeps_lists or self.builder", "if self.builder", version("lists_that_make_keeps")),
     Guard("data base: names that no rule is about", "make/database.py", "base.unruled.update([self.name] if self.is_other else [])", "pass", version("names_that_a_search_takes_for_files")),
+    Guard("second expansions: what they write", "make/build.py", "self.build.tasks[-1].writes = considered.written(node)", "pass", makefile("file_that_a_second_expansion_writes"), YES),
     Guard("macros: that second expansions of rules set, since GNU make 4.4", UNFILED, "known.rule_texts if known.make.words.expands_late else ()", "()",
           version("macros_that_second_expansions_set")),
     Guard("macros: that second expansions of rules set, not before GNU make 4.4", UNFILED, "known.rule_texts if known.make.words.expands_late else ()", "known.rule_texts",

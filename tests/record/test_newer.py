@@ -18,6 +18,7 @@ RULES = "%.o: %.c ; echo c > $@\n%.o: %.s ; echo s > $@\n"
 BOTH = {"x.s": "s", "x.c": "c"}
 PAIR = "w: ; echo w > b; touch w\na b &: c%s ; echo new > a; echo new > b\n"
 SETS = ".SECONDEXPANSION:\nX := 1\nset = $(eval X := 2)\nall: a b\na: s ; echo $(X) > a\ns: ; touch s\n%s\n"
+WRITES = ".SECONDEXPANSION:\nall: s b.q\ns: ; cat f > s || echo none > s\n%s ; touch b.q\n"
 AWAY = "all: g x.o\n%.o: d/%.c ; echo c > $@\n%.o: %.s ; echo s > $@\ng: ; mv d e; touch g\n"
 IN_FOLDER = {"x.s": "s", "d/x.c": "c"}
 OLD = "touch -d 2001-01-01 b; touch -d 2002-01-01 c; touch -d 2003-01-01 a"
@@ -34,6 +35,9 @@ NEWER: Dict[str, Small] = {
     "macro_that_a_second_expansion_by_way_of_another_sets": Small("safe", SETS % "b: $(also) ; touch b\nalso = | $$(call set)", later="no verdict"),
     "macro_that_a_first_expansion_sets": Small("safe", SETS % "b: $(set) $$(call other) ; touch b"),
     "macro_that_a_second_expansion_of_a_rule_sets_for_nobody": Small("safe", SETS.replace("(X)", "(Y)") % "b: $$(set) ; touch b"),
+    "file_that_a_second_expansion_writes": Small("race", WRITES % "b.q: s\n%.q: $$(shell echo f > f)"),
+    "file_that_a_second_expansion_writes_in_order": Small("safe", WRITES.replace("s b.q", "b.q") % "b.q: s\n%.q: $$(shell echo f > f)"),
+    "file_that_a_second_expansion_of_a_rule_writes": Small("safe", WRITES % "b.q: s $$(shell echo f > f)", later="race"),
     # with a target that is there make looks at the others of its recipe
     "peer_that_another_recipe_makes": Small("safe", "all: w a\n" + PAIR % "", {"a": "a", "c": "c"}, OLD + "; rm b", later="race"),
     "peer_that_is_old": Small("safe", "all: w a\n" + PAIR % "", {"a": "a", "b": "b", "c": "c"}, OLD, later="race"),
