@@ -195,7 +195,7 @@ GRAPH: List[Guard] = [
     Guard("double colons: what a later rule needs", "make/graph.py", "                self.hold_back(parts)\n", "                pass\n", small("double_colon_holds_back"), FALSE_RACE),
     Guard("grouped targets wait for the one that runs", "make/graph.py", "                    member.prerequisites[name] = None\n", "                    pass\n", case("two-outputs-grouped"), FALSE_RACE),
     Guard("searches: a folder not listed before", "make/considered.py", ">= first_birth(self.builder):\n            return True", ">= first_birth(self.builder):\n            return False", small("search_sees_a_name_that_goes"), YES),
-    Guard("searches: a folder listed before", "make/considered.py", "if self.builder.listed.get(os.path.dirname(path), (0, 1 << 60))[1] >= first_birth(self.builder):", "if True:", small("search_in_an_early_listing"), FALSE_RACE),
+    Guard("searches: a folder listed before", "make/considered.py", "if not self.keeps_lists or self.builder.listed.get(os.path.dirname(path), (0, 1 << 60))[1] >= first_birth(self.builder):", "if True:", small("search_in_an_early_listing"), FALSE_RACE),
     Guard("searches: said", "make/considered.py", 'self.builder.assumed.add("search", path)', "pass", small("search_in_an_early_listing"), UNSAID),
     Guard("second rounds: one build each", "make/words.py", '        elif text.startswith("Updating makefiles"):\n            self.begin("makefiles")\n', "", small("race_among_makefiles"), YES),
 ]
