@@ -172,6 +172,11 @@ def races_of(text: str) -> List[str]:
     return re.findall(r"(?m)^RACE  (.+?)(?:  \(.*)?$", text)
 
 
+def has_missingdeps() -> bool:
+    """Whether the ninja that is here has the tool `missingdeps`: from 1.11 on."""
+    return "missingdeps" in subprocess.run(["ninja", "-t", "list"], capture_output=True, text=True, check=False, timeout=60).stdout
+
+
 def missing(folder: Path) -> List[str]:
     """The files of which `ninja -t missingdeps` says that a statement reads them, and waits for nobody who makes them."""
     output = subprocess.run(["ninja", "-C", str(folder), "-t", "missingdeps"], capture_output=True, text=True, check=False, timeout=60).stdout
