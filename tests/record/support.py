@@ -12,6 +12,7 @@ import sys
 import tempfile
 import unittest
 from dataclasses import dataclass
+from functools import lru_cache
 from pathlib import Path
 from typing import Any, Callable, Dict, Iterable, List, Mapping, Optional, Sequence, Tuple, Type
 
@@ -172,8 +173,9 @@ def races_of(text: str) -> List[str]:
     return re.findall(r"(?m)^RACE  (.+?)(?:  \(.*)?$", text)
 
 
-def has_missingdeps() -> bool:
-    """Whether the ninja that is here has the tool `missingdeps`: from 1.11 on."""
+@lru_cache(maxsize=None)
+def is_new_ninja() -> bool:
+    """Whether the ninja that is here is 1.11 or later: it has validations (`|@`), and the tool `missingdeps`."""
     return "missingdeps" in subprocess.run(["ninja", "-t", "list"], capture_output=True, text=True, check=False, timeout=60).stdout
 
 

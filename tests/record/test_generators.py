@@ -7,7 +7,7 @@ import unittest
 from typing import Dict
 
 import support
-from support import has_missingdeps, missing, races_of
+from support import is_new_ninja, missing, races_of
 
 GENERATOR = "#!/bin/sh\necho '#define N 1' > \"$1\"\necho hidden > \"$(dirname \"$1\")/hidden.txt\"\n"
 SLOW = "#!/bin/sh\ncase \"$*\" in *main.c*) sleep 2;; esac\nexec cc \"$@\"\n"
@@ -92,7 +92,7 @@ class CMake(unittest.TestCase):
         self.assertEqual(1, outcome.status, text)
         self.assertEqual(["gen.h"], races_of(text), text)
         self.assertIn("add_dependencies(prog ", text)
-        self.assertEqual(GEN_IS_MISSING if has_missingdeps() else NONE_IS_MISSING, (found, (outcome.record or {})["missingdeps"]))
+        self.assertEqual(GEN_IS_MISSING if is_new_ninja() else NONE_IS_MISSING, (found, (outcome.record or {})["missingdeps"]))
 
     def test_hidden_file_forgotten(self) -> None:
         text = CMAKE.replace("add_dependencies(use FIRST)\n", "").replace("cp hidden.txt use.txt", "sh -c 'cp hidden.txt use.txt || true'") + "add_dependencies(prog header)\n"
@@ -138,7 +138,7 @@ class Meson(unittest.TestCase):
         text = outcome.text() + outcome.stderr.decode()[-800:]
         self.assertEqual((1, {"gen.h", "hidden.txt"}), (outcome.status, set(races_of(text))), text)
         self.assertIn("into the sources of 'prog'", text)
-        self.assertEqual(GEN_IS_MISSING if has_missingdeps() else NONE_IS_MISSING, (found, (outcome.record or {})["missingdeps"]))
+        self.assertEqual(GEN_IS_MISSING if is_new_ninja() else NONE_IS_MISSING, (found, (outcome.record or {})["missingdeps"]))
 
     def test_ordered(self) -> None:
         with support.Project(files("meson.build", self.text(", gen", ", depends: gen"))) as project:
