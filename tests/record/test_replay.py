@@ -154,6 +154,7 @@ class Footprints(unittest.TestCase):
     def test_an_open_that_leads_elsewhere_is_a_hole(self) -> None:
         for flags in ("O_RDONLY", "O_WRONLY|O_CREAT, 0666"):
             self.assertEqual([], played(f'1 openat(AT_FDCWD<{TOP}>, "a", {flags}) = 3<{TOP}/a>').holes)
+            self.assertEqual([], played(f'1 openat(AT_FDCWD, "a", {flags}) = 3<{TOP}/a (deleted)>').holes)
             self.assertEqual(1, len(played(f'1 openat(AT_FDCWD<{TOP}>, "a", {flags}) = 3<{TOP}/b>').holes), flags)
 
     def test_calls_that_hide_files_are_holes(self) -> None:
