@@ -25,17 +25,21 @@ def remade_anyway(builder: "Builder", node: Node, others: List[Node]) -> bool:
     """
     if not node.jobs or builder.first_seen(node) != [node.path] or builder.before.get(node.path) is not None or not builder.is_known(node.path):
         return False
-    is_newer = all(makes_newer(builder, builder.of_node[other.label], node.path) for other in others)
+    is_newer = all(makes_newer(builder, builder.of_node[other.label], node) for other in others)
     return is_newer and {other.label for other in others} <= builder.graph.reached_from([node.label])
 
 
-def makes_newer(builder: "Builder", at: int, path: str) -> bool:
-    """Whether a task leaves a file with an age of its own time: it removes nothing, and what it moves there is a file that it made itself, as `ar` does."""
-    task = builder.build.tasks[at]
+def makes_newer(builder: "Builder", at: int, node: Node) -> bool:
+    """Whether a task gives a target later ages alone: it does not remove it, and what it moves there is a file that it made itself, as `ar` does.
+    Such a file may be older than what stood there. That makes no difference where the task has no part in what make compares with it."""
+    task, own = builder.build.tasks[at], builder.of_node.get(node.label, -1)
     events = [*builder.events(task), *builder.acts_of(task.node)]
     taken = [name.partition("\0") for kind, name in events if kind == AGE_TAKEN]
-    given = [name for name, _, _ in taken]
-    return (REMOVED, path) not in events and all(is_own(builder, at, source, given) for name, _, source in taken if name == path)
+    sources, given = [source for name, _, source in taken if name == node.path], [name for name, _, _ in taken]
+    compared = [path + "/" for path in (*builder.looked_at(node, own), *builder.followed(node, own)) if path != node.path]
+    if (REMOVED, node.path) in events or sources and any((name.partition("\0")[0] + "/").startswith(tuple(compared)) for _, name in events):
+        return False
+    return all(is_own(builder, at, source, given) for source in sources)
 
 
 def is_own(builder: "Builder", at: int, source: str, given: List[str]) -> bool:
