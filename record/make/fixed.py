@@ -20,14 +20,33 @@ def asked_ages(builder: "Builder") -> Set[str]:
 def remade_anyway(builder: "Builder", node: Node, others: List[Node]) -> bool:
     """Whether a target is remade wherever make's first look at it stands among those who write it, all of which it waits for.
 
-    It was absent before the build, and none of them removes it or gives it another age: so an earlier look finds it absent or older than
+    It was absent before the build, and none of them removes it or gives it an earlier age: so an earlier look finds it absent or older than
     the look of the serial build did, after which its recipe ran.
     """
     if not node.jobs or builder.first_seen(node) != [node.path] or builder.before.get(node.path) is not None or not builder.is_known(node.path):
         return False
-    events = (event for other in others for event in (*builder.events(builder.build.tasks[builder.of_node[other.label]]), *builder.acts_of(other)))
-    is_kept = not any(kind in (REMOVED, AGE_TAKEN) and path.partition("\0")[0] == node.path for kind, path in events)
-    return is_kept and {other.label for other in others} <= builder.graph.reached_from([node.label])
+    is_newer = all(makes_newer(builder, builder.of_node[other.label], node) for other in others)
+    return is_newer and {other.label for other in others} <= builder.graph.reached_from([node.label])
+
+
+def makes_newer(builder: "Builder", at: int, node: Node) -> bool:
+    """Whether a task gives a target later ages alone: it does not remove it, and what it moves there is a file that it made itself, as `ar` does.
+    Such a file may be older than what stood there. That makes no difference where the task has no part in what make compares with it."""
+    task, own = builder.build.tasks[at], builder.of_node.get(node.label, -1)
+    events = [*builder.events(task), *builder.acts_of(task.node)]
+    taken = [name.partition("\0") for kind, name in events if kind == AGE_TAKEN]
+    sources, given = [source for name, _, source in taken if name == node.path], [name for name, _, _ in taken]
+    compared = [path + "/" for path in (*builder.looked_at(node, own), *builder.followed(node, own)) if path != node.path]
+    if (REMOVED, node.path) in events or sources and any((name.partition("\0")[0] + "/").startswith(tuple(compared)) for _, name in events):
+        return False
+    return all(is_own(builder, at, source, given) for source in sources)
+
+
+def is_own(builder: "Builder", at: int, source: str, given: List[str]) -> bool:
+    """Whether a file was absent before the build, one task alone made it, and that gave neither it nor a folder above it another age."""
+    if builder.before.get(source) is not None or not builder.is_known(source):
+        return False
+    return builder.build.writers.get(source) == {at} and not any((source + "/").startswith(name + "/") for name in given)
 
 
 def is_foreign(builder: "Builder", node: Node, own: int) -> bool:

@@ -45,6 +45,7 @@ SOCKET = re.compile(r'sun_path="((?:[^"\\]|\\.)*)"')  # `{sa_family=AF_UNIX, sun
 ANY_PORT = re.compile(r"_port=htons\(0\)")  # `sin_port=htons(0)`: the kernel chooses the number
 GIVEN_TIME = re.compile(r"tv_[nu]sec=\d+\}(?: /\*[^*]*\*/)?\]|modtime=")  # `[.., {tv_sec=5, tv_nsec=0}]`: a time, and not UTIME_NOW or UTIME_OMIT
 MODE = re.compile(r", (0[0-7]*)$")  # of `mkdir("d", 0755)`
+GONE = " (deleted)"  # so strace 5.10 shows a name that is gone already
 GIVEN_MODE = re.compile(r", (0[0-7]+)(?:, [A-Z0-9_|]+)?$")  # of `fchmodat(AT_FDCWD</w>, "d", 0755, AT_SYMLINK_NOFOLLOW)`
 TIMED = re.compile(r"\s(-\w*w|--(wait|timeout))")  # words of a program that waits for a lock, but not for ever: `flock -w SECONDS`
 
@@ -179,7 +180,7 @@ class Calls(Started):
             self.fail_to_open(life, call, asked)
             return
         found = self.found(life, path, follow, base)
-        if call.opened.startswith("/") and call.opened != found.path and not DEVICES.match(call.opened):
+        if call.opened.startswith("/") and call.opened not in (found.path, found.path + GONE) and not DEVICES.match(call.opened):
             self.holes.append("a name leads to another file than the record says: %s is %s, and not %s" % (path, call.opened, found.path))
         life.handle = (call.result, found.path) if "O_PATH" in flags else (-1, "")
         if "O_TRUNC" not in flags and life.traits().is_shell and path != shelltext.script_of(life.argv):

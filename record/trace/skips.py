@@ -14,7 +14,7 @@ from record.trace.strace import KEPT, unescape
 PIECE, WAIT = 1 << 18, 0.05  # bytes of a piece; seconds until more may be there
 SMALL = 1 << 16  # bytes that are read in a hundredth of a second
 SYSTEM = ["usr", "lib", "lib32", "lib64", "etc", "bin", "sbin"]
-AT = r"(?:AT_FDCWD<[^>\n]*>, |)"
+AT = r"(?:AT_FDCWD(?:<[^>\n]*>|), |)"  # strace 5.10 names no folder there
 RESULT = r"(?:\d|-1 E(?:NO|INVAL))[^\n]*"
 # An open that can change nothing. Other flags may: a line that has them is read.
 READS = r", O_RDONLY(?:\|O_(?:CLOEXEC|NOCTTY|NONBLOCK|DIRECTORY|LARGEFILE|NOFOLLOW|NOATIME|PATH))*\) += "

@@ -12,7 +12,8 @@ Answer = TypeVar("Answer")
 CALL = re.compile(r"(\w+)\((.*)\)\s+= (-?\d+|0x[0-9a-f]+|\?)(?:<((?:[^<>\\]|\\.)*)>(?:\(deleted\))?)?(?: (E\w+))?(?: \(.*\))?$", re.S)
 ESCAPE = re.compile(r"\\([0-7]{1,3}|x[0-9a-f]{2}|.)", re.S)  # one byte in a text: `\303`, `\n`, `\"`
 TEXT = re.compile(r'(?<!\\)"((?:[^"\\]|\\.)*)"(\.\.\.)?')  # `"x"`, or `"xx"...` if it is cut; behind a backslash a quote is a sign in the name of a descriptor
-FOLDER = re.compile(r"(?:AT_FDCWD|\d+)<((?:[^<>\\]|\\.)*)>")  # a descriptor, and what it leads to: `AT_FDCWD</w>`, `3</w/x>`
+# A descriptor, and what it leads to: `AT_FDCWD</w>`, `3</w/x>`. strace 5.10 writes `AT_FDCWD` alone: the folder of the process.
+FOLDER = re.compile(r"(?:AT_FDCWD|\d+)<((?:[^<>\\]|\\.)*)>|AT_FDCWD(?!<)")
 BARE = re.compile(r"(?:^|, )\d+(?:,|$)")  # a descriptor of which strace knows no name
 PLAIN = {"n": "\n", "t": "\t", "r": "\r", "v": "\v", "f": "\f"}
 
@@ -112,7 +113,7 @@ def is_cut(args: str) -> bool:
 
 
 def folders(args: str) -> List[str]:
-    """The folders and files that stand behind descriptors of a call's arguments, in order."""
+    """The folders and files that stand behind descriptors of a call's arguments, in order; nothing for that of the process, where strace does not name it."""
     return [unescape(found) for found in FOLDER.findall(re.sub(TEXT, '""', args))]
 
 

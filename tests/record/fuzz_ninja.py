@@ -9,6 +9,7 @@ from dataclasses import dataclass, replace
 from typing import Callable, Dict, List, Optional
 
 from fuzz_projects import EXTRA, NEW, OLD, SHARED, STEPS, Block, Draw, Project
+from support import is_new_ninja
 
 HEAD = ("rule sh\n  command = $c\nrule again\n  command = cp next.ninja build.ninja\n  generator = 1\nrule list\n  command = $c\n  deps = gcc\n  depfile = $d\n"
         "rule spool\n  command = $c\n  rspfile = $f\n  rspfile_content = $in $out\npool one\n  depth = 1\n")
@@ -27,7 +28,8 @@ class NinjaProject(Project):
     def manifest(self) -> str:
         """The text of the manifest."""
         again = "build build.ninja: again next.ninja\n" if self.remade else ""
-        return HEAD + again + "".join(block.text for block in self.blocks)
+        text = HEAD + again + "".join(block.text for block in self.blocks)
+        return text if is_new_ninja() else text.replace(" |@ ", " || ")
 
     def all_files(self) -> Dict[str, str]:
         found = {"build.ninja": self.manifest(), **self.files}

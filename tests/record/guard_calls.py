@@ -5,6 +5,9 @@ from typing import List
 from guard_table import UNSAID, Guard
 
 
+OLDER = "test_replay.Footprints.test_folder_of_the_process_that_strace_does_not_name"
+
+
 def trace(name: str) -> str:
     """A test of lines of a trace."""
     return "test_classes.Traces.test_" + name
@@ -53,6 +56,9 @@ CALL_GUARDS: List[Guard] = [
     Guard("long names: descriptors without one", "trace/calls.py", "                self.put_bare(life, call)\n", "                pass\n", long("Traces.test_descriptors_without_a_name")),
     Guard("long names: one of two descriptors", "trace/moves.py", "if not call.error and len(where) == 1:", "if False:", long("Traces.test_descriptors_without_a_name")),
     Guard("long names: of the folder of a link", "trace/moves.py", "        if not where and BARE", "        if False and BARE", long("Traces.test_descriptors_without_a_name")),
+    Guard("folder of a process: strace does not name it", "trace/strace.py", "|AT_FDCWD(?!<)", "", OLDER),
+    Guard("lines: names that are gone", "trace/calls.py", "call.opened not in (found.path, found.path + GONE)", "call.opened != found.path", "test_replay.Footprints.test_an_open_that_leads_elsewhere_is_a_hole"),
+    Guard("folder of a process: looks are sifted", "trace/skips.py", "AT_FDCWD(?:<[^>\\n]*>|), |", "AT_FDCWD<[^>\\n]*>, |", "test_skips.Skips.test_look_by_a_strace_that_names_no_folder"),
     Guard("ends: a signal when the build has just begun", "main.py", "signal.pthread_sigmask(signal.SIG_BLOCK, STOPPING))", "signal.pthread_sigmask(signal.SIG_BLOCK, ()))", "test_ends.Signals.test_terminated_when_the_build_has_just_begun"),
     Guard("ends: an interrupt", "main.py", "    if interrupts and status != 0:\n", "    if False:\n", "test_ends.Signals.test_interrupted_at_a_terminal"),
 ]

@@ -21,6 +21,7 @@ class Case:
     files: Dict[str, str] = field(default_factory=dict)
     races: int = -1  # lines that begin with RACE, where that is asked
     missing: int = -1  # what `ninja -t missingdeps` finds, where that is asked
+    is_new: bool = False  # it is about what ninja 1.11 has, and no older one
 
 
 def sh(outputs: str, inputs: str, command: str, *more: str, rule: str = "sh") -> str:
@@ -51,7 +52,7 @@ CASES = [
     Case("implicit", SAFE, GEN + sh("a", "| g", USE)),
     Case("order-only", SAFE, GEN + sh("a", "|| g", USE)),
     Case("phony", SAFE, GEN + "build p: phony g\nbuild q: phony || p\n" + sh("a", "| q", USE)),
-    Case("validation", RACE, GEN + sh("a", "|@ g", USE)),
+    Case("validation", RACE, GEN + sh("a", "|@ g", USE), is_new=True),
     Case("implicit-output", SAFE, sh("g | h", "", "echo 1 > g; echo > h") + sh("a", "h", USE)),
     Case("two-outputs", RACE, sh("h", "", "echo 1 > g; echo > h") + sh("a", "", USE)),
     Case("pool", RACE, "pool one\n  depth = 1\n" + sh("a", "", LOG, "pool = one") + sh("b", "", LOG, "pool = one"), ["both are in the pool one, which runs one at a time"]),
@@ -118,7 +119,7 @@ CASES = [
     Case("warm-made-again", RACE, sh("g", "s", "cp s g") + sh("a", "s", USE), ["WARM", "RACE  g"], setup="touch -d 2001-01-01 s; ninja -j1 > /dev/null; sleep 0.1; touch s", files={"s": "1"}),
     Case("warm-by-log-of-headers", RACE, CC + sh("b/g.h", "s", "cp s $out") + "build a.o: cc a.c\n", ["WARM", "RACE  b/g.h"],
          setup="touch -d 2001-01-01 s a.c; ninja -j1 b/g.h a.o > /dev/null; sleep 0.1; touch s", files={"a.c": "#include \"g.h\"\nint a;\n", "s": ""}),
-    Case("warm-beside-missingdeps", NONE, CC + sh("b/g.h", "", "echo > $out") + "build a.o: cc a.c\n", ["WARM", "of earlier builds: a.o reads b/g.h"], setup="ninja -j1 > /dev/null; rm a.o", files={"a.c": "#include \"g.h\"\nint a;\n"}),
+    Case("warm-beside-missingdeps", NONE, CC + sh("b/g.h", "", "echo > $out") + "build a.o: cc a.c\n", ["WARM", "of earlier builds: a.o reads b/g.h"], setup="ninja -j1 > /dev/null; rm a.o", files={"a.c": "#include \"g.h\"\nint a;\n"}, is_new=True),
     Case("through-what-is-clean", SAFE, sh("x", "s", "cat s > x") + sh("y", "|| x", "touch y") + sh("z", "s || y", "cat x > z"), ["WARM"],
          setup="touch -d 2001-01-01 s; ninja -j1 > /dev/null; sleep 0.1; touch s", files={"s": ""}, options=["--warm"]),
     Case("part", SAFE, GEN + sh("a", "", USE) + sh("b", "g", "cat g > b"), ["recipes that nothing asked for are not judged", "(1, such as a)"], words="ninja b"),
@@ -153,7 +154,7 @@ CASES += [
     Case("dyndep-of-two", RACE, sh("dd", "", DYNDEP % ("", " | g") + "; echo 'build b: dyndep' >> dd") + GEN + sh("a", "|| dd", USE, "dyndep = dd") + sh("b", "|| dd", "cat g > b", "dyndep = dd"), races=1),
     Case("restat-by-dyndep", RACE, sh("dd", "", DYNDEP % ("", "") + "; echo '  restat = 1' >> dd") + sh("a", "|| dd", "true", "dyndep = dd") + sh("b", "", "touch a b"), ["RACE  a"]),
     Case("dep-file-that-another-writes", RACE, "rule n\n  command = touch $out\n  deps = gcc\n  depfile = m\nbuild a: n\n" + sh("b", "", "echo 'a: x' > m; touch b", ), ["RACE  m"], files={"x": ""}),
-    Case("dep-file-that-lies", NONE, LIAR + GEN + "build a: liar\n", ["ninja -t missingdeps finds that a reads g, and the record has no such race"]),
+    Case("dep-file-that-lies", NONE, LIAR + GEN + "build a: liar\n", ["ninja -t missingdeps finds that a reads g, and the record has no such race"], is_new=True),
     Case("manifest-that-changed-twice", NONE, GEN + sh("a", "g", "cat g > a; echo '#' >> build.ninja"), ["nobody kept"], words="sh ./all",
          files={"next": RULES + GEN + sh("a", "", "cat g > a; echo '#' >> build.ninja"), "all": "cp next build.ninja; exec ninja -j1\n"}),
     Case("manifest-that-a-script-changes-twice", NONE, "", ["nobody kept"], words="sh ./all",

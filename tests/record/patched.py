@@ -10,8 +10,9 @@ from contextlib import contextmanager
 from types import CodeType, FunctionType
 from typing import Any, Dict, Iterator, List, Optional, Set, Tuple
 
+HANDLERS = tuple(name for name in ("co_exceptiontable",) if hasattr(CodeType, name))  # before Python 3.11 they stand in `co_code`
 SAME = ("co_code", "co_names", "co_varnames", "co_freevars", "co_cellvars", "co_flags", "co_argcount", "co_kwonlyargcount", "co_posonlyargcount",
-        "co_exceptiontable", "co_name")
+        "co_name", *HANDLERS)
 IS_FUNCTION = 0x1  # of `co_flags`: a function has it, and a module or a class has not
 Patch = Tuple[FunctionType, CodeType]
 

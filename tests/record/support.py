@@ -12,6 +12,7 @@ import sys
 import tempfile
 import unittest
 from dataclasses import dataclass
+from functools import lru_cache
 from pathlib import Path
 from typing import Any, Callable, Dict, Iterable, List, Mapping, Optional, Sequence, Tuple, Type
 
@@ -170,6 +171,12 @@ def tasks_of(folder: Path, number: str = "001") -> Dict[str, Dict[str, Any]]:
 def races_of(text: str) -> List[str]:
     """The files on which a report shows a race."""
     return re.findall(r"(?m)^RACE  (.+?)(?:  \(.*)?$", text)
+
+
+@lru_cache(maxsize=None)
+def is_new_ninja() -> bool:
+    """Whether the ninja that is here is 1.11 or later: it has validations (`|@`), and the tool `missingdeps`."""
+    return "missingdeps" in subprocess.run(["ninja", "-t", "list"], capture_output=True, text=True, check=False, timeout=60).stdout
 
 
 def missing(folder: Path) -> List[str]:

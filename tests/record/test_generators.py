@@ -1,12 +1,13 @@
 """Projects of CMake and Meson that ninja builds, each with a fault and without, and one of CMake for make; `ninja -t missingdeps` finds no more than we do."""
 
 import os
+import re
 import shutil
 import unittest
 from typing import Dict
 
 import support
-from support import missing, races_of
+from support import is_new_ninja, missing, races_of
 
 GENERATOR = "#!/bin/sh\necho '#define N 1' > \"$1\"\necho hidden > \"$(dirname \"$1\")/hidden.txt\"\n"
 SLOW = "#!/bin/sh\ncase \"$*\" in *main.c*) sleep 2;; esac\nexec cc \"$@\"\n"
@@ -40,6 +41,9 @@ custom_target('use', output: 'use.txt', command: ['cp', '@PRIVATE@', '@OUTPUT@']
 """
 
 
+GEN_IS_MISSING, NONE_IS_MISSING = (["gen.h"], 1), ([], 0)  # what `ninja -t missingdeps` finds, and how many the record counts
+
+
 def files(name: str, text: str) -> Dict[str, str]:
     """The files of a project."""
     return {name: text, "gen.sh": GENERATOR, "main.c": MAIN, "good.c": MAIN, "slow": SLOW}
@@ -47,7 +51,7 @@ def files(name: str, text: str) -> Dict[str, str]:
 
 @unittest.skipUnless(shutil.which("cmake"), "cmake is missing (Debian: apt-get install cmake)")
 class Makefiles(unittest.TestCase):
-    """CMake runs make by its whole path."""
+    """CMake runs make by its whole path. Which of two targets it names first differs with its version: the fix is about who came second."""
 
     CUSTOM = "add_custom_command(OUTPUT gen.h COMMAND sh ${CMAKE_SOURCE_DIR}/gen.sh ${CMAKE_BINARY_DIR}/gen.h)\nadd_custom_target(header ALL DEPENDS ${CMAKE_BINARY_DIR}/gen.h)\n"
     USE = "add_custom_target(use ALL COMMAND cp hidden.txt use.txt || true)\n"
@@ -57,12 +61,13 @@ class Makefiles(unittest.TestCase):
         for use, wanted in ((self.USE, (1, ["hidden.txt"])), (self.USE + "add_dependencies(use header)\n", (0, []))):
             with support.Project(files("CMakeLists.txt", self.HEAD + self.CUSTOM + use)) as project:
                 project.sh("cmake -G 'Unix Makefiles' -S . -B b > log; cp -a b kept")
+                first, later = re.findall(r"^all: CMakeFiles/(\w+)\.dir/all$", (project.folder / "b/CMakeFiles/Makefile2").read_text(), re.MULTILINE)
                 plain = project.plain(["cmake", "--build", "b", "--target", "all", "-j", "1"])
                 project.sh("rm -r b; mv kept b")
                 outcome = project.record(["cmake", "--build", "b", "--target", "all", "-j", "1"])
             self.assertEqual(wanted, (outcome.status, races_of(outcome.text())), outcome.text() + outcome.stderr.decode()[-800:])
             self.assertEqual(plain.stdout, outcome.stdout[:len(plain.stdout)])
-            self.assertEqual(wanted[0], outcome.text().count("  fix: add_dependencies(use header)          (checked"), outcome.text())
+            self.assertEqual(wanted[0], outcome.text().count("  fix: add_dependencies(%s %s)          (checked" % (later, first)), outcome.text())
 
     def test_targets_side_by_side(self) -> None:
         """CMake counts what is built in files that both targets touch, and takes these away at the end."""
@@ -87,7 +92,7 @@ class CMake(unittest.TestCase):
         self.assertEqual(1, outcome.status, text)
         self.assertEqual(["gen.h"], races_of(text), text)
         self.assertIn("add_dependencies(prog ", text)
-        self.assertEqual((["gen.h"], 1), (found, (outcome.record or {})["missingdeps"]))
+        self.assertEqual(GEN_IS_MISSING if is_new_ninja() else NONE_IS_MISSING, (found, (outcome.record or {})["missingdeps"]))
 
     def test_hidden_file_forgotten(self) -> None:
         text = CMAKE.replace("add_dependencies(use FIRST)\n", "").replace("cp hidden.txt use.txt", "sh -c 'cp hidden.txt use.txt || true'") + "add_dependencies(prog header)\n"
@@ -133,7 +138,7 @@ class Meson(unittest.TestCase):
         text = outcome.text() + outcome.stderr.decode()[-800:]
         self.assertEqual((1, {"gen.h", "hidden.txt"}), (outcome.status, set(races_of(text))), text)
         self.assertIn("into the sources of 'prog'", text)
-        self.assertEqual((["gen.h"], 1), (found, (outcome.record or {})["missingdeps"]))
+        self.assertEqual(GEN_IS_MISSING if is_new_ninja() else NONE_IS_MISSING, (found, (outcome.record or {})["missingdeps"]))
 
     def test_ordered(self) -> None:
         with support.Project(files("meson.build", self.text(", gen", ", depends: gen"))) as project:

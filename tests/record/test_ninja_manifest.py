@@ -36,7 +36,7 @@ def manifest_of(folder: Path) -> Manifest:
 
 def ninja(folder: Path, *words: str) -> str:
     """What ninja prints."""
-    ran = subprocess.run(["ninja", "-C", str(folder), "--quiet", *words], capture_output=True, text=True, errors="surrogateescape", check=False, timeout=60)
+    ran = subprocess.run(["ninja", "-C", str(folder), *words], capture_output=True, text=True, errors="surrogateescape", check=False, timeout=60)
     if ran.returncode:
         raise AssertionError(ran.stdout + ran.stderr)
     return ran.stdout
@@ -58,7 +58,7 @@ def asked(text: str) -> Dict[str, Set[str]]:
 def compare(test: unittest.TestCase, folder: Path) -> int:
     """Holds our reader against ninja; how many commands were compared."""
     manifest = manifest_of(folder)
-    shown = json.loads(ninja(folder, "-t", "compdb"))
+    shown = json.loads(ninja(folder, "-t", "compdb"), strict=False)  # (ninja 1.10 writes the ends of lines as they are)
     test.assertEqual(sorted((e.label, e.command) for e in manifest.edges if e.waits() and not e.is_phony),
                      sorted((one["output"], one["command"]) for one in shown if one["command"] or manifest.makers[one["output"]].rule != "phony"))
     targets: List[Edge] = list({id(e): e for e in manifest.makers.values()}.values())
@@ -75,7 +75,8 @@ class Beside(unittest.TestCase):
 
     def test_all(self) -> None:
         for name, files in MANIFESTS.items():
-            with self.subTest(name), support.Project(files) as project:
+            known = files if support.is_new_ninja() else {path: text.replace(" |@ check", "") for path, text in files.items()}
+            with self.subTest(name), support.Project(known) as project:
                 self.assertGreater(compare(self, project.folder), 0)
 
     @unittest.skipUnless(shutil.which("cmake"), "cmake is missing (Debian: apt-get install cmake)")

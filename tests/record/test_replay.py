@@ -142,9 +142,19 @@ class Footprints(unittest.TestCase):
         self.assertLessEqual({("N", "sub/a"), ("W", "b"), ("W", "c")}, events_of(life))
         self.assertIn(("W", "/elsewhere/d"), life.events)
 
+    def test_folder_of_the_process_that_strace_does_not_name(self) -> None:
+        """strace 5.10 writes AT_FDCWD alone."""
+        for call, wanted in ((f'renameat(3<{TOP}/d>, "a", AT_FDCWD, "b")', {("D", "d/a"), ("C", "sub/b")}), (f'renameat2(AT_FDCWD, "a", 3<{TOP}/d>, "b", 0)', {("D", "sub/a"), ("C", "d/b")}),
+                             ('renameat2(AT_FDCWD, "a", AT_FDCWD, "b", 0)', {("D", "sub/a"), ("C", "sub/b")}), (f'linkat(3<{TOP}/d/f>, "", AT_FDCWD, "b", AT_EMPTY_PATH)', {("R", "d/f"), ("C", "sub/b")}),
+                             ('symlinkat("to", AT_FDCWD, "b")', {("C", "sub/b")}), ('openat(AT_FDCWD, "b", O_WRONLY|O_CREAT, 0666)', {("C", "sub/b")})):
+            replay = played('1 mkdir("d", 0777) = 0', '1 mkdir("sub", 0777) = 0', '1 chdir("sub") = 0', "1 %s = 0" % call)
+            self.assertLessEqual(wanted, events_of(lives_of(replay, 1)[0]), call)
+            self.assertEqual([], replay.holes, call)
+
     def test_an_open_that_leads_elsewhere_is_a_hole(self) -> None:
         for flags in ("O_RDONLY", "O_WRONLY|O_CREAT, 0666"):
             self.assertEqual([], played(f'1 openat(AT_FDCWD<{TOP}>, "a", {flags}) = 3<{TOP}/a>').holes)
+            self.assertEqual([], played(f'1 openat(AT_FDCWD, "a", {flags}) = 3<{TOP}/a (deleted)>').holes)
             self.assertEqual(1, len(played(f'1 openat(AT_FDCWD<{TOP}>, "a", {flags}) = 3<{TOP}/b>').holes), flags)
 
     def test_calls_that_hide_files_are_holes(self) -> None:

@@ -31,6 +31,13 @@ class Skips(unittest.TestCase):
     def test_look_at_a_library(self) -> None:
         self.assertEqual(1, self.kept([self.LOOK, '7 openat(AT_FDCWD</w>, "a", O_RDONLY) = 3</w/a>'], ["/w"]))
 
+    def test_look_by_a_strace_that_names_no_folder(self) -> None:
+        """strace 5.10 writes AT_FDCWD alone."""
+        look = self.LOOK.replace("AT_FDCWD</w>", "AT_FDCWD")
+        self.assertEqual(1, self.kept([look, '7 openat(AT_FDCWD, "a", O_RDONLY) = 3</w/a>'], ["/w"]))
+        for change in ('openat(AT_FDCWD, "/usr/x", O_WRONLY|O_CREAT, 0666) = 3</usr/x>', 'openat(AT_FDCWD, "x", O_WRONLY|O_CREAT, 0666) = 3</usr/lib/x>', 'mkdirat(AT_FDCWD, "/usr/x", 0777) = 0'):
+            self.assertEqual(2, self.kept([look, "8 " + change], ["/w"]), change)
+
     def test_look_where_somebody_changes_a_relative_name(self) -> None:
         for change in ('openat(AT_FDCWD</usr/lib>, "x", O_WRONLY|O_CREAT, 0666) = 3</usr/lib/x>', 'openat(3</w>, "../usr/lib/x", O_WRONLY) = 4</usr/lib/x>',
                        'openat(AT_FDCWD</w>, "link/x", O_WRONLY) = 3</usr/lib/x>', 'mkdirat(3</usr/lib>, "x", 0777) = 0', 'unlinkat(3</usr>, "x", 0) = 0',

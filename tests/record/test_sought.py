@@ -29,7 +29,7 @@ IN_ROOT = """#define _GNU_SOURCE
 #include <unistd.h>
 int main(void) {
     struct open_how how = {.flags = O_RDONLY, .resolve = RESOLVE_IN_ROOT};
-    return syscall(SYS_openat2, open("d", O_PATH | O_DIRECTORY), "/x", &how, sizeof how) < 0;
+    return syscall(__NR_openat2, open("d", O_PATH | O_DIRECTORY), "/x", &how, sizeof how) < 0;
 }
 """
 
