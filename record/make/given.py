@@ -37,7 +37,7 @@ def take_input(args: "list[str]") -> "tuple[str, bytes] | None":
     """The name by which make reads the one makefile on standard input, and what that says: make reads the same again. Nothing where there is none."""
     all_names = names_of_makefiles(args)
     names = [name for name in all_names if name == "-" or name in PATHS]
-    if names != ["-"] and (names != all_names[:1] or os.environ.get("MAKEFILES")):  # what make reads before may take some of it
+    if not names or names != ["-"] and (names != all_names[:1] or os.environ.get("MAKEFILES")):  # what make reads before may take some of it
         return None
     try:
         mode = os.fstat(0).st_mode

@@ -171,6 +171,14 @@ class Given(unittest.TestCase):
                     outcome = project.record(["sh", "-c", command])
                     self.assertEqual((status, b""), (outcome.status, (project.folder / "c").read_bytes()), outcome.text())
 
+    def test_input_that_is_no_makefile(self) -> None:
+        files = {"Makefile": "all: ; read x; echo $$x > c\n", "m": "some text\n"}
+        for command in ("make < m", "cat m | make", "cat m | make -k all"):
+            with self.subTest(command), support.Project(files) as project:
+                outcome = project.record(["sh", "-c", command])
+                self.assertEqual(0, outcome.status, outcome.text())
+                self.assertEqual("some text\n", (project.folder / "c").read_text())
+
     def test_text_that_make_may_not_have_read_as_it_stands(self) -> None:
         eats = {"e": "X := $(shell head -c 1)\n", "m": self.MAKEFILE % "a"}
         with support.Project(eats) as project:
