@@ -26,6 +26,8 @@ CALL_GUARDS: List[Guard] = [
     Guard("calls without names do not run", "trace/newer.py", "self.prctl(SECCOMP, ", "self.prctl(0, ", "test_classes.Newer.test_they_do_not_run"),
     Guard("calls without names: of this strace", "trace/newer.py", "(middle + 1, high) if is_known(middle) else (low, middle)", "(middle + 1, high)", "test_classes.Newer.test_first_that_strace_does_not_know"),
     Guard("calls: new names", "trace/calls.py", '\n           "setxattrat", "removexattrat", "file_setattr"}', "}", trace("new_names_of_old_calls")),
+    Guard("calls: open files without a name", "trace/arguments.py", " if NO_PATH.match(args) is None else None", "", trace("names_of_open_files")),
+    Guard("calls: programs that are not run", "trace/started.py", 'if call.name == "execveat" and CHECKS.search(call.args):', "if False:", trace("programs_that_are_not_run")),
     Guard("calls: old names", "trace/calls.py", '"oldstat", "oldlstat", ', "", trace("new_names_of_old_calls")),
     Guard("flags of a file", "trace/calls.py", "        if asked & CHANGING:\n", "        if False:\n", trace("flags_of_a_file")),
     Guard("flags of a file: who reads them", "trace/calls.py", " or asked & READING", "", trace("flags_of_a_file")),
