@@ -21,7 +21,7 @@ from record.trace.proc import plain_path
 from record.trace.replay import DEVICES
 from record.trace.started import Started
 from record.trace.strace import BARE, MAKES_PROCESS, Call, first_text, folders, texts, unescape
-from record.trace.system import SETTINGS
+from record.trace.system import SETTINGS, TEMPORARY
 
 # Calls by what they do to the name that is their first path.
 LOOKS = {"stat", "lstat", "access", "getxattr", "lgetxattr", "listxattr", "llistxattr", "statfs", "newfstatat",
@@ -126,7 +126,7 @@ class Calls(Started):
                 self.put(life, AGE_SEEN, found.path)
         elif traits.asks_size and found.inode is not None and found.inode.kind == "d":
             self.put(life, AGE_SEEN, found.path)
-        elif self.is_unknown(life) and "access" not in call.name and "readlink" not in call.name:
+        elif self.is_unknown(life) and "access" not in call.name and "readlink" not in call.name and (found.path not in TEMPORARY or self.is_inside(found.path)):
             self.put(life, AGE_UNKNOWN, found.path)
 
     @staticmethod

@@ -28,6 +28,7 @@ CALL_GUARDS: List[Guard] = [
     Guard("calls: new names", "trace/calls.py", '\n           "setxattrat", "removexattrat", "file_setattr"}', "}", trace("new_names_of_old_calls")),
     Guard("calls: open files without a name", "trace/arguments.py", " if NO_PATH.match(args) is None else None", "", trace("names_of_open_files")),
     Guard("calls: programs that are not run", "trace/started.py", 'if call.name == "execveat" and CHECKS.search(call.args):', "if False:", trace("programs_that_are_not_run")),
+    Guard("calls: folders for what is temporary", "trace/calls.py", " and (found.path not in TEMPORARY or self.is_inside(found.path))", "", "test_seen.Traces.test_what_an_unknown_program_looks_at"),
     Guard("calls: old names", "trace/calls.py", '"oldstat", "oldlstat", ', "", trace("new_names_of_old_calls")),
     Guard("flags of a file", "trace/calls.py", "        if asked & CHANGING:\n", "        if False:\n", trace("flags_of_a_file")),
     Guard("flags of a file: who reads them", "trace/calls.py", " or asked & READING", "", trace("flags_of_a_file")),
