@@ -4,6 +4,7 @@ A finished call of a life goes in; events of that life come out (`put`), a name 
 is printed under a yes (sockets, locks, watchers). moves.py, processes.py, opened.py and started.py have the other methods.
 """
 
+import os
 import re
 from typing import Callable, Dict, Iterable, List, Tuple
 
@@ -194,7 +195,10 @@ class Calls(Started):
         if call.error == "ENOTDIR" and "O_DIRECTORY" in asked.flags and life.traits().is_shell:
             self.look_for_folder(life, asked.path, asked.base)
             return
-        found = self.look(life, asked.path, call.error in THERE, asked.follow, base=asked.base)
+        found = self.found(life, asked.path, asked.follow, asked.base)
+        if self.makes_way(life, asked.flags, found.missing):
+            return
+        self.put_look(life, found, call.error in THERE, SEEN)
         if (asked.changes or call.name == "creat") and call.error == "ENOENT" and found.missing != found.path:
             self.put(life, ABSENT, found.missing)
 
@@ -209,6 +213,7 @@ class Calls(Started):
             return
         if "O_WRONLY" not in flags and "O_TRUNC" not in flags and not is_creat:
             self.put(life, READ, found.path)
+        self.makes_way(life, flags, os.path.dirname(found.path))
         self.write(life, found)
 
     def look_for_folder(self, life: Life, path: str, base: str) -> None:
