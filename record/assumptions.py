@@ -30,7 +30,7 @@ TEXTS = {
     "loaded": "objects that make loads (load), and $(guile ..), change no macros and keep nothing in memory from one recipe to the next: files alone settle what they do",
     "evals": "functions of make put together, or hand on, no eval, no shell and no name of a macro by which a recipe sees what another one has set",
     "handed": "what programs print, and files hold, names no macros of make where make reads it once more, in $(eval ..) or by $(call or ..)",
-    "makers": "scripts that make folders for themselves (install-sh, mkinstalldirs, libtool, cmake, ExtUtils of Perl, go build, os.makedirs of Python with exist_ok) ask no more than that it is there; libtool compares no ages, and lists folders for outputs of the same library",
+    "makers": "scripts that make folders for themselves (install-sh, mkinstalldirs, libtool, cmake, ExtUtils of Perl, go build, g++ for modules, os.makedirs of Python with exist_ok) ask no more than that it is there; libtool compares no ages, and lists folders for outputs of the same library",
     "compilers": "OCaml's and Java's compilers look in folders for modules whose names stand in what they read, and no variable of their environment (CLASSPATH, JDK_JAVAC_OPTIONS, OCAMLPARAM) asks for others",
     "bytecode": "what Python keeps in __pycache__ does what its source does, whichever recipe wrote it; its bytes may differ",
     "caches": "what ccache, cargo, go, guile, npm and fontconfig keep for themselves, and git's notes of what it looked at, change how long they take, and nothing else; what was taken from there needed no compiler, so files for which one would have looked were not seen (CCACHE_RECACHE=1 and an empty GOCACHE show them)",

@@ -4,6 +4,7 @@ Python itself would end with 1 where it breaks, which says races.
 """
 
 import errno
+import io
 import os
 import re
 import signal
@@ -86,8 +87,8 @@ def speak_utf8() -> None:
         options = ["-B"] if sys.dont_write_bytecode else []
         os.execv(sys.executable, [sys.executable, *options, "-X", "utf8", *sys.argv])
     for stream in (sys.stdout, sys.stderr):
-        if stream is not None:
-            stream.reconfigure(encoding="utf-8", errors="backslashreplace")  # type: ignore[attr-defined]
+        if isinstance(stream, io.TextIOWrapper):
+            stream.reconfigure(encoding="utf-8", errors="backslashreplace")
 
 
 def printable(text: str, has_colours: bool = False) -> str:

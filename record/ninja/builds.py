@@ -78,9 +78,16 @@ def beside(ninjas: List[Ninja], builds: List[Build], names: Names) -> "Tuple[int
         asked.add(key)
         for one in sorted(missing or (), key=lambda m: (m.user, m.path)):
             found += 1
-            if not any(is_race(build, one, names) for build in builds if isinstance(build, NinjaBuild) and build.folder == ninja.folder):
-                beyond.append(one)
+            is_said = any(is_race(build, one, names) for build in builds if isinstance(build, NinjaBuild) and build.folder == ninja.folder)
+            beyond += [] if is_said or is_of_nobody(ninja, one, builds, names) else [one]
     return found, beyond
+
+
+def is_of_nobody(ninja: Ninja, one: Missing, builds: List[Build], names: Names) -> bool:
+    """Whether no statement makes a file and no task wrote it: CMake has phony ones without inputs for all that it reads itself, so that they may be absent."""
+    edges = [stage.manifest.makers.get(one.path) for stage in ninja.stages]
+    path = names.find(ninja.folder, one.path, True).path
+    return all(edge is not None and edge.is_phony and not edge.waits() for edge in edges) and not any(path in build.writers for build in builds)
 
 
 def is_race(build: NinjaBuild, one: Missing, names: Names) -> bool:

@@ -1,4 +1,4 @@
-"""The folder that `go build -o` makes for what it builds: Go asks whether it is there, and makes it and those above if not."""
+"""Folders that compilers make for what they write, if they are not there: that of `go build -o` with those above, and where g++ keeps modules."""
 
 import os
 from typing import Sequence
@@ -6,7 +6,9 @@ from typing import Sequence
 
 def output_folder(argv: Sequence[str]) -> str:
     """The folder of the word behind `-o`; nothing where there is none. Without a slash at its end that word itself may name a folder or a file,
-    which Go asks the disk."""
+    which Go asks the disk. g++ opens the file of a module, and makes the folder where that fails."""
+    if os.path.basename("".join(argv[:1])) == "cc1plus" and {"-fmodules-ts", "-fmodules"} & {*argv}:
+        return "gcm.cache"
     if [os.path.basename("".join(argv[:1])), *argv[1:2]] != ["go", "build"]:
         return ""
     for word, value in zip(argv[2:], [*argv[3:], ""]):

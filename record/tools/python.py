@@ -9,7 +9,7 @@ import re
 from typing import Dict, Iterator, List, Sequence, Set, Tuple
 
 from record.missing.looked import BYTE_CODE
-from record.tools import shelltext
+from record.tools import pystart, shelltext
 from record.tools.makedirs import settle_made
 from record.tools.texts import text_of
 from record.trace.events import ABSENT, AGE_SEEN, LISTED, MADE_QUIETLY, MAKER_SEEN, READ, SEEN, STRICT, WAY_ABSENT
@@ -148,11 +148,12 @@ def settle_lists(life: Life, sources: Dict[str, int], own: List[str], written: D
     if not lists or not (sources or text) or LISTS.search(text) or any(lists_folders(path) or written.get(path, 0) > begun for path in own):
         return
     is_all = not any(lists_folders(path) for path in sources if path not in own)
+    wanted = pystart.patterns(life.program, life.argv, text) if text and not sources else []
     for path, place in lists.items():
         folder = path.partition("\0")[0]
         if (place > begun or is_all) and (way_of(life)[0] and folder == life.folder or any(os.path.dirname(source) == folder for source in sources)):
             del life.events[LISTED, path]
-            for pattern in MODULES:
+            for pattern in wanted or MODULES:
                 life.events.setdefault((LISTED, folder + "\0" + pattern), place)
 
 

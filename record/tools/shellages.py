@@ -22,7 +22,7 @@ READ_TIME_NAMES = re.compile(r"\b(?:st_|get)?atime\b|(?<!\S)-A\s")  # the same i
 GAP = r"(?:[ \t]|\\\n)+"  # between two words of a command
 AGE_WORDS = re.compile(r"""
       (^|\s|\[)[\"'\\]*-[\"'\\]*-?([no][\"'\\]*t|[ac]?newer[\w-]*|mtime|mmin|atime|amin|cmin|ctime|f?printf)[\"'\\]*[\s=]  # x -nt y, find -newer x, "-ot"
-    | \b(cp|mv|rsync|tar)\s+([^;|&\n]*?\s)?(-\w*u|--update)                       # cp -pu x y
+    | \b(cp|mv|rsync|tar)\s+([^;|&\n]*?\s)?(-\w*u|--update(?!=all|=none))        # cp -pu x y
     | (?:\btest|\[)GAP(?:!GAP)?(?![-!])(?:\\.|"(?:\\.|[^"\\])*"|'[^']*'|\$\([^()]*\)|`[^`]*`|[^\s"'\\`])+GAP
       -?(?:"-?\$[^"]*"|\$(?:\{[^{}]*\}|"[^"\s]*"|'[^'\s]*'|[^\s"'`;&|])+)GAP[^\s;&|\])]  # test x $how y
     | \btar\s+\w*u\w*(?![\w./])                                                   # tar uf x.tar y, and no file: tar buffer.o
@@ -39,8 +39,8 @@ SHOWS_AGES = {
     "date": re.compile(r"\s(-\w*r|--ref)"),
     "tar": re.compile(r"^\s\w*[uN]|\s(-\w*[uN]|--(ne|af|up|keep-n))"),  # --newer, --after-date, --update, --keep-newer-files
     "find": re.compile(r"\s-(f?ls|used|inum)\s"),
-    "cp": re.compile(r"\s(-\w*u|--u)"),
-    "mv": re.compile(r"\s(-\w*u|--u)"),
+    "cp": re.compile(r"\s(-\w*u|--u(?!\w*=(?:all|none)))"),  # not --update=none, as coreutils 9.3 and later have it
+    "mv": re.compile(r"\s(-\w*u|--u(?!\w*=(?:all|none)))"),
     "du": re.compile(r"\s--ti"),
 }
 TIME_OF_STAT = re.compile(r"%[-+ 0#'\d.]*[WXYZwxyzi]|\s(-\w*t|--t)")  # words of `stat` that show a time, or the number of a file, which goes by age: `-c %010Y`, `%i`, `-t`

@@ -4,6 +4,7 @@ A finished call of a life goes in; events of that life come out (`put`), a name 
 is printed under a yes (sockets, locks, watchers). moves.py, processes.py, opened.py and started.py have the other methods.
 """
 
+import os
 import re
 from typing import Callable, Dict, Iterable, List, Tuple
 
@@ -21,7 +22,7 @@ from record.trace.proc import plain_path
 from record.trace.replay import DEVICES
 from record.trace.started import Started
 from record.trace.strace import BARE, MAKES_PROCESS, Call, first_text, folders, texts, unescape
-from record.trace.system import SETTINGS
+from record.trace.system import SETTINGS, TEMPORARY
 
 # Calls by what they do to the name that is their first path.
 LOOKS = {"stat", "lstat", "access", "getxattr", "lgetxattr", "listxattr", "llistxattr", "statfs", "newfstatat",
@@ -127,7 +128,7 @@ class Calls(Started):
                 self.put(life, AGE_SEEN, found.path)
         elif traits.asks_size and found.inode is not None and found.inode.kind == "d":
             self.put(life, AGE_SEEN, found.path)
-        elif self.is_unknown(life) and "access" not in call.name and "readlink" not in call.name:
+        elif self.is_unknown(life) and "access" not in call.name and "readlink" not in call.name and (found.path not in TEMPORARY or self.is_inside(found.path)):
             self.put(life, AGE_UNKNOWN, found.path)
 
     @staticmethod
@@ -195,7 +196,10 @@ class Calls(Started):
         if call.error == "ENOTDIR" and "O_DIRECTORY" in asked.flags and life.traits().is_shell:
             self.look_for_folder(life, asked.path, asked.base)
             return
-        found = self.look(life, asked.path, call.error in THERE, asked.follow, base=asked.base)
+        found = self.found(life, asked.path, asked.follow, asked.base)
+        if self.makes_way(life, asked.flags, found.missing):
+            return
+        self.put_look(life, found, call.error in THERE, SEEN)
         if (asked.changes or call.name == "creat") and call.error == "ENOENT" and found.missing != found.path:
             self.put(life, ABSENT, found.missing)
 
@@ -210,6 +214,7 @@ class Calls(Started):
             return
         if "O_WRONLY" not in flags and "O_TRUNC" not in flags and not is_creat:
             self.put(life, READ, found.path)
+        self.makes_way(life, flags, os.path.dirname(found.path))
         self.write(life, found)
 
     def look_for_folder(self, life: Life, path: str, base: str) -> None:

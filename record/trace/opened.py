@@ -5,7 +5,7 @@ from typing import List, Set
 
 from record.tools import shelltext
 from record.trace.classes import HIDING, LEFT_OUT, SHARING, UNFOLLOWED, named
-from record.trace.events import CREATED, LOCKED, MODE_GIVEN
+from record.trace.events import CREATED, LOCKED, MAKER_SEEN, MODE_GIVEN
 from record.trace.lives import Life
 from record.trace.names import Found, Inode
 from record.trace.processes import Processes
@@ -84,6 +84,13 @@ class Opened(Processes):
         self.put(life, LOCKED, found.path)
         self.put(life, MODE_GIVEN, "%s\0%o" % (found.path, life.mask))
         life.opened.add(found.path)
+
+    def makes_way(self, life: Life, flags: str, folder: str) -> bool:
+        """Whether it is g++ that opens the file of a new module, and makes the folder for it where that is not there."""
+        is_own = "O_CREAT" in flags and shelltext.base_name(life.argv) == "cc1plus" and shelltext.makes(life.argv, folder)
+        if is_own:
+            self.put(life, MAKER_SEEN, folder)
+        return is_own
 
     def on_socket(self, life: Life, call: Call, ok: bool) -> None:
         """Datagrams go to a server without a call that connects."""

@@ -1,6 +1,7 @@
 """What it means that a process begins to run a program: who reads its text, whether it is a make, and which files count for it."""
 
 import os
+import re
 from typing import List
 
 from record.make.copies import is_other_make
@@ -15,6 +16,7 @@ from record.trace.processes import sets_others
 from record.trace.strace import Call, first_text, folders, is_cut, texts
 
 SH_IS_BASH = os.path.basename(os.path.realpath("/bin/sh")) == "bash"
+CHECKS = re.compile(r"\b(?:AT_EXECVE_CHECK|0x10000(?: /\* AT_\?\?\? \*/)?)$")  # flags of execveat by which nothing is run
 SCRIPTS = 5  # how many scripts may be the interpreter of one another; the kernel allows no more
 
 
@@ -33,6 +35,9 @@ class Started(Opened):
             return
         if not ok:
             self.fail_to_run(life, program, call.error)
+            return
+        if call.name == "execveat" and CHECKS.search(call.args):
+            self.look(life, program, True, True, READ)
             return
         words = [program, *texts(call.args)[1:]]
         was_wrapper, was_make = life.is_wrapper, life.is_make

@@ -57,6 +57,9 @@ HOLES: List[Guard] = [
     Guard("ninja, holes: a folder of no statement", "ninja/build.py", 'self.holes.append("ninja made the folder', 'str("ninja made the folder', runs("folder_that_no_statement_needs")),
     Guard("ninja, holes: a cycle", "ninja/build.py", 'self.holes.append("build statements of', 'str("build statements of', runs("statements_in_a_ring")),
     Guard("ninja, holes: what missingdeps finds", "importing.py", "for one in beyond if not record.warm and record.status == 0 else []:", "for one in []:", ninja("dep-file-that-lies"), LOST_HOLE),
+    Guard("ninja, missingdeps: phony ones", "ninja/builds.py", "[] if is_said or is_of_nobody(ninja, one, builds, names) else", "[] if is_said else", ninja("phony-that-nobody-makes")),
+    Guard("ninja, missingdeps: phony ones that are written", "ninja/builds.py", " and not any(path in build.writers for build in builds)", "", ninja("phony-that-somebody-makes"), LOST_HOLE),
+    Guard("ninja, missingdeps: phony ones with inputs", "ninja/builds.py", " and not edge.waits() for edge in edges", " for edge in edges", ninja("phony-with-an-input"), LOST_HOLE),
     Guard("ninja, missingdeps: of an earlier build", "importing.py", "for m in beyond if record.warm]", "for m in ()]", ninja("warm-beside-missingdeps"), UNSAID),
 ]
 ATTRIBUTION: List[Guard] = [

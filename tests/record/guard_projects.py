@@ -87,6 +87,8 @@ PROJECT_GUARDS: List[Guard] = [
     Guard("tops: those that are not there", "trace/names.py", "if not os.path.isdir(top):", "if False:", tops("that_is_not_there"), YES),
     Guard("tops: what was not there", "trace/names.py", "if path in self.absent:", "if False:", tops("that_is_not_there"), YES),
     Guard("ages: files behind the name of tar", "tools/shellages.py", r"(?![\w./])", "", "test_ages.Ages.test_words_that_do_not", "True is not false"),
+    Guard("ages: updates that compare none", "tools/shellages.py", "(?!=all|=none)", "", "test_ages.Ages.test_words_that_do_not", "True is not false"),
+    Guard("ages: updates that compare none, by the words of cp", "tools/shellages.py", '"cp": re.compile(r"\\s(-\\w*u|--u(?!\\w*=(?:all|none)))")', '"cp": re.compile(r"\\s(-\\w*u|--u)")', "test_ages.Ages.test_words_that_do_not", "True is not false"),
     Guard("ages: what a compiler writes", "tools/shellages.py", r'OUTPUT.sub(r"\1x", text)', "text", project("tool_that_is_linked_with_a_library"), FALSE_RACE),
     Guard("ages: what xargs runs", "tools/shellages.py", 'text if "xargs" in text else ', "", "test_ages.Ages.test_words_that_compare", "False is not true"),
     Guard("ages: of targets without a recipe", "make/build.py", "self.ageless = unasked_ages(self)", "pass", project("age_of_a_target_without_a_recipe"), FALSE_RACE),

@@ -28,6 +28,11 @@ def python(name: str) -> str:
 
 
 SEEN_GUARDS: List[Guard] = [
+    Guard("Python: what a text looks for", "tools/python.py", "for pattern in wanted or MODULES:", "for pattern in MODULES:", python("lists_of_a_text")),
+    Guard("Python: texts with imports", "tools/pystart.py", "return LOADED.issuperset(named)", "return True", python("texts_that_take_in_no_more")),
+    Guard("Python: texts that take in more by other words", "tools/pystart.py", "    if MORE.search(text):\n        return False\n", "", python("texts_that_take_in_no_more")),
+    Guard("Python: options by which it takes in more", "tools/pystart.py", " and all(map(PLAIN.fullmatch, words))", "", python("texts_that_take_in_no_more")),
+    Guard("Python: versions that look by themselves", "tools/pystart.py", "VERSION.match(program) is not None and ", "", python("texts_that_take_in_no_more")),
     Guard("Python: packed modules", "tools/python.py", ", \".zip\", \".egg\", \".whl\", \".pyz\")", ")", "test_python.Python.test_packed_module_that_lists_the_folder", YES),
     Guard("Python: what it looks for when it starts", "tools/python.py", ', "*.pth"', "", "test_python.Python.test_lists_of_imports_are_about_modules"),
     Guard("Python: modules that threads take in", "tools/python.py", "for one in life.threads or (life,) for event in one.events.items()", "for event in life.events.items()",

@@ -87,6 +87,15 @@ class Traces(unittest.TestCase):
         self.assertIn(("N", "f"), self.events('oldstat("f", 0x1) = -1 ENOENT (No such file or directory)'))
         self.assertIn(("L", "d\0*"), self.events("readdir(3<%s/d>, {}) = 1" % TOP))
 
+    def test_names_of_open_files(self) -> None:
+        for path in ("NULL", '""'):
+            self.assertEqual({("W", "f")}, {event for event in self.events('setxattrat(3<%s/f>, %s, AT_EMPTY_PATH, "user.x", {}, 16) = 0' % (TOP, path)) if event[0] in "WN"}, path)
+
+    def test_programs_that_are_not_run(self) -> None:
+        for flags in ("AT_EXECVE_CHECK", "0x10000 /* AT_??? */", "AT_SYMLINK_NOFOLLOW|AT_EXECVE_CHECK"):
+            replay = played(BEGUN, '1 execveat(AT_FDCWD<%s>, "other", ["other"], 0x1 /* 1 var */, %s) = 0' % (TOP, flags))
+            self.assertEqual((["tool", "x"], True), (lives_of(replay, 1)[0].argv, ("R", "other") in events_of(lives_of(replay, 1)[0])), flags)
+
     def test_flags_of_a_file(self) -> None:
         self.assertIn(("W", "f"), self.events("ioctl(3<%s/f>, FS_IOC_SETFLAGS, [FS_IMMUTABLE_FL]) = 0" % TOP))
         self.assertIn(("W", "f"), self.events("ioctl(3<%s/f>, FS_IOC_FSSETXATTR, {fsx_xflags=0}) = 0" % TOP))

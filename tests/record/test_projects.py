@@ -216,6 +216,26 @@ class Tops(unittest.TestCase):
         self.of(2, "all: ../out/x\n../out/x: ; touch ../out/x\n", "../out", "mkdir ../out; touch ../out/x")
 
 
+@unittest.skipUnless(shutil.which("g++"), "g++ is missing (Debian: apt-get install g++)")
+class Modules(unittest.TestCase):
+    """Modules of C++, which g++ keeps in a folder that it makes."""
+
+    def of(self, status: int, rule: str) -> None:
+        files = {"%s.cc" % name: "export module %s;\nexport int %s() { return 1; }\n" % (name, name) for name in "mn"}
+        with support.Project({"Makefile": "all: m.o n.o u\n%.o: %.cc ; g++ -std=c++20 -fmodules-ts -c $<\n" + rule, "u.cc": "import m;\nint u() { return m(); }\n", **files}) as project:
+            outcome = project.record()
+            self.assertEqual(status, outcome.status, outcome.text() + outcome.stderr.decode()[-800:])
+
+    def test_folder_that_each_makes(self) -> None:
+        self.of(0, "u: u.o ; touch u\nu.o: m.o\n")
+
+    def test_module_without_an_order(self) -> None:
+        self.of(1, "u: u.o ; touch u\n")
+
+    def test_folder_that_another_one_sees(self) -> None:
+        self.of(1, "u: ; test -d gcm.cache && touch u\n")
+
+
 @unittest.skipUnless(shutil.which("go"), "go is missing (Debian: apt-get install golang-go)")
 class Go(unittest.TestCase):
     """Programs that Go builds side by side, into a folder that it makes."""

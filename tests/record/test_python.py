@@ -6,6 +6,7 @@ import unittest
 from typing import Dict
 
 import support
+from record.tools import pystart
 from record.tools.python import given_text, is_of_python, lists_folders, own_sources, settle, settle_lists, sources_of
 from record.trace.lives import Life
 
@@ -42,6 +43,25 @@ class Python(unittest.TestCase):
         for made, text, status in (("x.txt", "import json", 0), ("x.txt", "import os; print(os.listdir(\".\"))", 1), ("json.py", "import json", 1)):
             self.of(TEXT % (made, text), SCRIPT, status, files={"lib.py": "x = 1\n"})
         self.of(TEXT % ("x.txt", "import lib"), SCRIPT, 1, files={"lib.py": "import os\nprint(os.listdir('.'))\n"})
+
+    def test_what_it_looks_for_by_itself(self) -> None:
+        for made, status in (("mkdir d; touch d/x", 0), ("touch lib.so", 0), ("touch linecache.py", 1 if sys.version_info >= (3, 13) else 0)):
+            self.of("all: b a\na: ; %s; touch a\nb: ; python3 -S -c 'import sys, os; print(1)' > b\n" % made, "", status, files={})
+
+    def test_texts_that_take_in_no_more(self) -> None:
+        for text, wanted in (("print(1)", True), ("import sys, os.path; print(sys.path)", True), ("from os import environ", True), ("import json", False), ("from . import x", False), ("__import__('x')", False),
+                             ("import os; os.popen('x')", False), ("import sys; sys.breakpointhook()", False), ("print 1", False), ("'x'.encode('idna')", False)):
+            self.assertEqual(wanted, pystart.is_alone(text), text)
+        for program, words, wanted in (("/usr/bin/python3.13", ["-c"], True), ("/usr/bin/python3.13", ["-Bc"], True), ("/usr/bin/python3.13", ["-P", "-c"], True), ("/usr/bin/python3.12", ["-c"], False),
+                                       ("/usr/bin/python3.13", ["-ic"], False), ("/usr/bin/python3.13", ["-W", "error::x.Y", "-c"], False)):
+            self.assertEqual(wanted, bool(pystart.patterns(program, ["python3", *words, "print(1)", "z"], "print(1)")), (program, words))
+
+    def test_lists_of_a_text(self) -> None:
+        for text, program, wanted in (("print(1)", "/usr/bin/python3.13", "linecache.*"), ("import json", "/usr/bin/python3.13", "*/"), ("print(1)", "/usr/bin/python3.11", "*/")):
+            life = Life(1, argv=["python3", "-c", text], folder="/w", program=program, events={("L", "/w\0*"): 1})
+            settled(life)
+            self.assertIn(("L", "/w\0" + wanted), life.events)
+            self.assertEqual(wanted == "*/", ("L", "/w\0*/") in life.events, text)
 
     def test_module_by_its_name(self) -> None:
         gen = "import sys\nopen(sys.argv[1], 'w').write('x')\n"

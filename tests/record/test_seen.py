@@ -126,6 +126,19 @@ class Traces(unittest.TestCase):
     def test_what_an_unknown_program_opens(self) -> None:
         self.assertIn(("a", "f"), self.events(f'1 openat(AT_FDCWD<{TOP}>, "f", O_RDONLY) = 4<{TOP}/f>'))
 
+    def test_what_an_unknown_program_looks_at(self) -> None:
+        for path, wanted in (("/var/x", True), ("/tmp", False)):
+            replay = played('1 execve("/opt/tool", ["tool", "x"], 0x1 /* 1 var */) = 0', '1 stat("%s", {st_mode=S_IFDIR|0777, st_size=4096, ...}) = 0' % path)
+            self.assertEqual(wanted, ("a", path) in lives_of(replay, 1)[0].events, path)
+
+    def test_folder_of_modules(self) -> None:
+        opened = '1 openat(AT_FDCWD<%s>, "gcm.cache/m.gcm~", O_RDWR|O_CREAT|O_TRUNC|O_CLOEXEC, 0666) = ' % TOP
+        lines = [opened + "-1 ENOENT (No such file or directory)", '1 mkdir("gcm.cache", 0777) = 0', opened + "3<%s/gcm.cache/m.gcm~>" % TOP]
+        for name, option, wanted in (("cc1plus", "-fmodules-ts", "KT"), ("cc1plus", "-fno-modules", "MNP"), ("other", "-fmodules-ts", "MNP")):
+            replay = played('1 execve("/opt/%s", ["%s", "%s"], 0x1 /* 1 var */) = 0' % (name, name, option), *lines)
+            kinds = {kind for kind, path in events_of(lives_of(replay, 1)[0]) if path == "gcm.cache"}
+            self.assertEqual({*wanted}, kinds & {*"KTNMP"}, (name, option))
+
     def test_attributes_of_a_link(self) -> None:
         self.assertIn(("W", "l"), self.events('1 lremovexattr("l", "trusted.x") = 0'))
 
